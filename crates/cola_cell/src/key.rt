@@ -1,0 +1,98 @@
+//! Keys.
+ghost use Rattle.std.specs.Prelude.{◌≡◌, ◌≤◌, ◌↔◌, ℕ, List, length, IsTrue, SomeIff, Some, nat_eq, refl};
+ghost use Rattle.std.specs.Ordering.{nat_cmp};
+ghost use Rattle.std.specs.Cmp.{partial_equiv_from_equiv};
+ghost use Rattle.std.specs.Cmp.Lexicographic.{pointwise, slice_cmp, nat_list_eq_equiv, nat_list_cmp_total, texts_po, texts_ties};
+ghost use Rattle.cola_cell.specs.Bytes.{IsKey};
+ghost use Rattle.cola_cell.specs.Format.{KeyFits};
+
+use crate::format::Format;
+use crate::short::Short;
+use std::cmp::Ordering;
+use std::marker::Model;
+
+/// A key: 1 to 40 bytes, any bytes. Keys are ordered as byte strings: the first byte that differs
+/// decides, and where there is none the shorter key comes first. A contract sees a key as its list.
+#[derive(Clone, Copy, Debug)]
+pub struct Key(Short<40>);
+
+impl Model for Key {
+    ghost use Rattle.std.specs.Prelude.{ℕ, List};
+    ghost use Rattle.cola_cell.specs.Bytes.{IsKey};
+
+    ghost Value = { List ℕ };
+
+    ghost view = { λ k. k.0 };
+
+    ghost invariant = { λ k. IsKey k.0 };
+
+    ghost inverse = { λ v. record { 0 = v } };
+}
+
+impl Key {
+    /// The key of these bytes. None exactly where there are none, or more than 40.
+    #[inline]
+    pub fn of(bytes: &[u8]) -> Option<Key>
+        ensures { SomeIff result (IsKey bytes.now) bytes.now }
+    {
+        if bytes.is_empty() || bytes.len() > 40 {
+            return None;
+        }
+        Some(Key(Short::of(bytes)))
+    }
+
+    /// The bytes of the key.
+    #[inline]
+    pub fn bytes(&self) -> &[u8]
+        ensures value { result.now ≡ self.now }
+        ensures limits { IsKey result.now }
+    {
+        self.0.bytes()
+    }
+
+    /// Whether the key fits the format, by its length.
+    #[inline]
+    pub fn fits(&self, format: Format) -> bool
+        ensures { IsTrue result ↔ KeyFits format self.now }
+    {
+        self.0.len() <= format.key_limit()
+    }
+}
+
+impl PartialEq for Key {
+    ghost eq = { pointwise nat_eq };
+
+    ghost laws = { partial_equiv_from_equiv nat_list_eq_equiv };
+
+    fn eq(&self, other: &Key) -> bool {
+        self.bytes() == other.bytes()
+    }
+}
+
+impl Eq for Key {
+    ghost laws = { nat_list_eq_equiv };
+}
+
+impl PartialOrd for Key {
+    ghost partial_cmp = { λ a b. Some (slice_cmp nat_cmp a b) };
+
+    ghost laws = { texts_po };
+
+    fn partial_cmp(&self, other: &Key) -> Option<Ordering> {
+        Some(self.cmp(other))
+    }
+}
+
+impl Ord for Key {
+    ghost cmp = { slice_cmp nat_cmp };
+
+    ghost total = { nat_list_cmp_total };
+
+    ghost matches_partial_cmp = { λ a b. refl };
+
+    ghost matches_eq = { texts_ties };
+
+    fn cmp(&self, other: &Key) -> Ordering {
+        self.bytes().cmp(&other.bytes())
+    }
+}

@@ -1,0 +1,20 @@
+//! Keys, values and cells of the store, and their bytes in the two formats.
+//!
+//! A store keeps cells: an item (a value or a tombstone under its key) or a lookahead cell, which
+//! carries a key of the next level's run. Contracts see a key and a value as their lists of bytes.
+//! Lookahead cells and their links are of the cache-oblivious lookahead array of Bender,
+//! Farach-Colton, Fineman, Fogel, Kuszmaul and Nelson (SPAA 2007); the formats are this store's own.
+#![tactic(auto)]
+
+mod cell;
+mod fault;
+mod format;
+mod key;
+mod short;
+mod value;
+
+pub use cell::{Cell, Item, Reader, Run};
+pub use fault::{PushFault, ReadFault, StepFault};
+pub use format::Format;
+pub use key::Key;
+pub use value::Value;
