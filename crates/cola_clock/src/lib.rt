@@ -1,10 +1,10 @@
 //! The clock of the lookahead array: which levels flip, work and sample at a clock, as pure arithmetic.
 //!
 //! A clock counts accepted mutations. Level j has periods of `2^j` mutations; `schedule` answers where a level stands in
-//! its period, and `laws` states what holds of every clock and level.
+//! its period, and `windows` states what holds of every clock and level.
 #![tactic(auto)]
 
-mod laws;
+mod windows;
 mod schedule;
 mod state;
 
