@@ -1,0 +1,42 @@
+//! The table: an ordered map with a key limit, as the session sees it, and one kept in memory.
+#![tactic(auto)]
+
+mod table;
+
+use cola_cell::Value;
+pub use table::Table;
+
+/// What an accepted put did.
+#[derive(Clone, Copy, Debug, PartialEq, Eq, Drop)]
+pub enum Put {
+    /// The key is new.
+    New,
+    /// The key had this value, which is replaced.
+    Old(Value),
+}
+
+/// What a put that depends on the stamp seen did.
+#[derive(Clone, Copy, Debug, PartialEq, Eq, Drop)]
+pub enum PutIf {
+    /// The key is new.
+    New,
+    /// The key had this value, which is replaced.
+    Old(Value),
+    /// The key has another stamp than the one seen, this one, or 0 where it is absent. Nothing changed.
+    Other(u64),
+}
+
+/// Why a put was refused. Nothing that the table holds changed.
+#[derive(Clone, Copy, Debug, PartialEq, Eq, Drop)]
+pub enum PutFault {
+    /// The key is new, and the table has as many keys as it may have.
+    Full,
+    /// No stamp is left to give. Only in format Two.
+    Worn,
+    /// The device failed.
+    Device,
+    /// The bytes of the cell of this number are no spelling. Never on a sound table.
+    BadCell(u64),
+    /// The next run of this level has no room. Never on a sound table.
+    Overfull(u8),
+}

@@ -1,0 +1,158 @@
+//! The ordered map with a key limit, as a trait.
+ghost use Rattle.std.specs.Prelude.{◌≡◌, ◌+◌, ◌≤◌, ◌<◌, ℕ, List, Option, IfOk, IfErr, OnOk, OnErr, option_map, option_copied, IsTrue, MatchResult, IfSome, OnSome};
+ghost use Rattle.cola_cell.specs.declared.format.Format.TheVariants.{Two};
+ghost use Rattle.cola_cell.specs.Format.{KeyFits, ValueFits};
+ghost use Rattle.cola_spec.specs.Map.{Map, IsMap, count};
+ghost use Rattle.cola_spec.specs.Bounds.{put_bound, get_bound, range_bound};
+ghost use Rattle.cola_table.specs.Terms.{Terms, Call, shape};
+ghost use Rattle.cola_table.specs.Answers.{PutAnswers, PutIfAnswers, DeleteAnswers, GetAnswers, StampAnswers, RangeAnswers, NextAnswers, put_cause, step_cause, read_cause, KeepsWalks, UnlessPut, UnlessDeleted};
+
+use crate::{Put, PutFault, PutIf};
+use cola_cell::{Format, Key, ReadFault, StepFault, Value};
+use cola_outside::Steps;
+use std::sync::ledger::Ledger;
+
+/// An ordered map of at most a limit of keys.
+///
+/// What a table promises of its answers it promises where it is sound, that is where it holds a map:
+/// then it keeps holding one, and every answer but a device's fault is the map's. What it promises of
+/// bounds, causes and walks holds of every table.
+///
+/// A step is one cell access. The number that a call answers beside its result is how many steps it
+/// made.
+pub trait Table {
+    /// A range that is being walked.
+    type Walk;
+
+    /// The format, the limit and the number that bounds the steps. No call changes them.
+    ghost terms: { Self → Terms };
+
+    /// A count of faults, which never falls.
+    ghost faults: { Self → ℕ };
+
+    /// The table is sound, for this map.
+    ghost holds: { Self → Map → Type 0 };
+
+    /// The walk may go on: every call but an accepted write leaves it standing.
+    ghost stands: { Self → Self.Walk → Type 0 };
+
+    /// These are the pairs that the walk has ahead, where the table is sound.
+    ghost ahead: { Self → Self.Walk → List (List ℕ × List ℕ) → Type 0 };
+
+    /// How many steps the walk may still make.
+    ghost left: { Self.Walk → ℕ };
+
+    /// At most so many pairs the walk may still give.
+    ghost most: { Self.Walk → ℕ };
+
+    /// The format of keys and values.
+    fn format(&self) -> Format
+        ensures { result ≡ (terms self.now).format };
+
+    /// The number of keys.
+    fn count(&self) -> u64
+        ensures counted { (m : Map) → holds self.now m → result ≡ count m }
+        ensures is_map { (m : Map) → holds self.now m → IsMap (shape (terms self.now)) m };
+
+    /// Gives the key a value. Full exactly where a new key meets the limit, and then worn where no
+    /// stamp is left to give.
+    fn put<L: Ledger>(
+        &mut self,
+        key: &Key,
+        value: &Value,
+        steps: &mut Steps<L>,
+    ) -> Result<(Put, u32), PutFault>
+        requires key_fits { KeyFits (terms self.old).format key.now }
+        requires value_fits { ValueFits (terms self.old).format value.now }
+        ensures answer { (m : Map) → holds self.old m → PutAnswers (shape (terms self.old)) m key.now value.now (holds self.new) result }
+        ensures call { Call (terms self.old) (terms self.new) (faults self.old) (faults self.new) steps.old steps.new (put_bound (terms self.old).depth) }
+        ensures counted { IfOk result (λ answer. steps.new ≡ steps.old + answer.1) }
+        ensures cause { IfErr result (λ refusal. put_cause refusal (faults self.old) (faults self.new)) }
+        ensures walks { OnErr result (KeepsWalks (stands self.old) (stands self.new) (ahead self.old) (ahead self.new)) };
+
+    /// A put that is made only where the key has the stamp seen, 0 where it is absent. That is tried
+    /// before the causes of a put.
+    fn put_if<L: Ledger>(
+        &mut self,
+        key: &Key,
+        seen: u64,
+        value: &Value,
+        steps: &mut Steps<L>,
+    ) -> Result<(PutIf, u32), PutFault>
+        requires stamped { (terms self.old).format ≡ Two }
+        requires key_fits { KeyFits (terms self.old).format key.now }
+        requires value_fits { ValueFits (terms self.old).format value.now }
+        ensures answer { (m : Map) → holds self.old m → PutIfAnswers (shape (terms self.old)) m key.now seen value.now (holds self.new) result }
+        ensures call { Call (terms self.old) (terms self.new) (faults self.old) (faults self.new) steps.old steps.new (put_bound (terms self.old).depth) }
+        ensures counted { IfOk result (λ answer. steps.new ≡ steps.old + answer.1) }
+        ensures cause { IfErr result (λ refusal. put_cause refusal (faults self.old) (faults self.new)) }
+        ensures walks { UnlessPut (KeepsWalks (stands self.old) (stands self.new) (ahead self.old) (ahead self.new)) result };
+
+    /// Takes the key out, and answers the value that it had.
+    fn delete<L: Ledger>(
+        &mut self,
+        key: &Key,
+        steps: &mut Steps<L>,
+    ) -> Result<(Option<Value>, u32), StepFault>
+        ensures answer { (m : Map) → holds self.old m → DeleteAnswers m key.now (holds self.new) result }
+        ensures call { Call (terms self.old) (terms self.new) (faults self.old) (faults self.new) steps.old steps.new (put_bound (terms self.old).depth) }
+        ensures counted { IfOk result (λ answer. steps.new ≡ steps.old + answer.1) }
+        ensures cause { IfErr result (λ refusal. step_cause refusal (faults self.old) (faults self.new)) }
+        ensures walks { UnlessDeleted (KeepsWalks (stands self.old) (stands self.new) (ahead self.old) (ahead self.new)) result };
+
+    /// The value of the key.
+    fn get<L: Ledger>(
+        &mut self,
+        key: &Key,
+        steps: &mut Steps<L>,
+    ) -> Result<(Option<Value>, u32), ReadFault>
+        ensures answer { (m : Map) → holds self.old m → GetAnswers m key.now (holds self.new) result }
+        ensures call { Call (terms self.old) (terms self.new) (faults self.old) (faults self.new) steps.old steps.new (get_bound (terms self.old).depth) }
+        ensures counted { IfOk result (λ answer. steps.new ≡ steps.old + answer.1) }
+        ensures cause { IfErr result (λ refusal. read_cause refusal (faults self.old) (faults self.new)) }
+        ensures walks { KeepsWalks (stands self.old) (stands self.new) (ahead self.old) (ahead self.new) };
+
+    /// The stamp of the key: the number of the put that gave its value.
+    fn stamp<L: Ledger>(
+        &mut self,
+        key: &Key,
+        steps: &mut Steps<L>,
+    ) -> Result<(Option<u64>, u32), ReadFault>
+        requires { (terms self.old).format ≡ Two }
+        ensures answer { (m : Map) → holds self.old m → StampAnswers m key.now (holds self.new) result }
+        ensures call { Call (terms self.old) (terms self.new) (faults self.old) (faults self.new) steps.old steps.new (get_bound (terms self.old).depth) }
+        ensures counted { IfOk result (λ answer. steps.new ≡ steps.old + answer.1) }
+        ensures cause { IfErr result (λ refusal. read_cause refusal (faults self.old) (faults self.new)) }
+        ensures walks { KeepsWalks (stands self.old) (stands self.new) (ahead self.old) (ahead self.new) };
+
+    /// A walk over the pairs from `low` on and below `high`, by rising keys; with no upper end where
+    /// `high` is absent.
+    fn range<L: Ledger>(
+        &mut self,
+        low: &Key,
+        high: Option<&Key>,
+        steps: &mut Steps<L>,
+    ) -> Result<Self::Walk, ReadFault>
+        ensures answer { (m : Map) → holds self.old m → RangeAnswers m low.now (option_copied high.entry) (holds self.new) (ahead self.new) result }
+        ensures stands { IfOk result (λ walk. stands self.new walk) }
+        ensures call { Call (terms self.old) (terms self.new) (faults self.old) (faults self.new) steps.old steps.new (range_bound (terms self.old).depth) }
+        ensures left { IfOk result (λ walk. steps.new + left walk ≤ steps.old + range_bound (terms self.old).depth) }
+        ensures cause { IfErr result (λ refusal. read_cause refusal (faults self.old) (faults self.new)) }
+        ensures walks { KeepsWalks (stands self.old) (stands self.new) (ahead self.old) (ahead self.new) };
+
+    /// The next pair of the walk, or none where none is left. A refused call takes none.
+    fn next<L: Ledger>(
+        &mut self,
+        walk: &mut Self::Walk,
+        steps: &mut Steps<L>,
+    ) -> Result<Option<(Key, Value)>, ReadFault>
+        requires { stands self.old walk.old }
+        ensures answer { (m : Map) (pairs : List (List ℕ × List ℕ)) → holds self.old m → ahead self.old walk.old pairs → holds self.new m × NextAnswers (ahead self.new walk.new) pairs result }
+        ensures stands { stands self.new walk.new }
+        ensures call { Call (terms self.old) (terms self.new) (faults self.old) (faults self.new) steps.old steps.new (left walk.old) }
+        ensures left { OnOk result (steps.new + left walk.new ≤ steps.old + left walk.old) }
+        ensures kept { OnErr result (left walk.new ≡ left walk.old) }
+        ensures fewer { IfOk result (λ answer. OnSome answer (most walk.new < most walk.old)) }
+        ensures cause { IfErr result (λ refusal. read_cause refusal (faults self.old) (faults self.new)) }
+        ensures walks { KeepsWalks (stands self.old) (stands self.new) (ahead self.old) (ahead self.new) };
+}
