@@ -1,12 +1,12 @@
 -- The laws of the clock: how the tests of a level follow from the parities of the periods, how they go on at the next
 -- clock, and what that says of windows and flips.
-use Rattle.std.proofs.Common.{◌≡◌, ◌⊎◌, inl, inr, ℕ, zero, suc, ◌+◌, ◌-◌, ◌*◌, ◌/◌, ◌%◌, ◌^◌, ◌<◌, ◌≤◌, Bool, true, false, not, ◌&&◌, eqb, ltb, leb, refl, sym, ◌∙◌, ap, arith}
-use Rattle.std.proofs.lemmas.Bool.{cases_Bool, eqb-true, eqb-false}
+use Rattle.std.proofs.Common.{◌≡◌, ◌⊎◌, inl, inr, ℕ, zero, suc, ◌+◌, ◌-◌, ◌*◌, ◌/◌, ◌%◌, ◌^◌, ◌<◌, ◌≤◌, Bool, true, false, not, ◌&&◌, cond, eqb, ltb, leb, refl, sym, ◌∙◌, ap, arith}
+use Rattle.std.proofs.lemmas.Bool.{cases_Bool, eqb-true, eqb-false, leb-true, leb-false, ltb-true, ltb-false, not-true, not_from_false, not_from_true, and_parts, and_cases, and_from, and_left, and_right, false≢true}
 use Rattle.std.proofs.lemmas.Bool.Decides.{nat_tests}
 use Rattle.std.proofs.lemmas.Nat.{mod_below, pow_pos}
 use Rattle.std.proofs.Math.Nat.{two-pow-succ, div-one}
 use Rattle.cola_clock.specs.Clock.{period, elapsed, is_odd, flips, works, is_before, is_over, window_step, window_length, visible_slot, ends}
-use Rattle.cola_clock.proofs.Places.{step_inside, step_over, placed, divides-next, twice, bit_cases, upper_half, second_quarter, first_quarter, last_by_halves, window_end, and_true_right}
+use Rattle.cola_clock.proofs.Places.{step_inside, step_over, placed, divides-next, twice, bit_cases, upper_half, second_quarter, first_quarter, last_by_halves, window_end, and_true_right, and_not}
 
 -- a level has been in its period for less than the period's length
 pub elapsed_below : (t j : ℕ) → elapsed t j < 2 ^ j
@@ -110,3 +110,156 @@ ends-suc t zero = rw (works-one t, flips-zero t) (and_true_right _)
 ends-suc t (suc j) =
     rw (works-suc_suc t j, flips-suc t j, flips-elapsed t j, elapsed-suc t (suc j), elapsed-suc t j)
       (window_end (period t j % 2) (period t (suc j) % 2) (2 ^ j) (2 ^ suc j) (elapsed t j) (bit_cases (period t j)) (bit_cases (period t (suc j))) (elapsed_below t j) (two-pow-succ j))
+
+-- ---- a level of 1 and more is in exactly one of three phases: its window is to come, it works, its window is over
+
+pub works-not_over : (t j : ℕ) → works t (suc j) ≡ true → is_over t (suc j) ≡ false
+works-not_over t zero h = is_over-suc t 0 ∙ not-true _ (sym (works-one t) ∙ h)
+works-not_over t (suc j) h = is_over-suc t (suc j) ∙ not-true _ (and_parts _ _ (sym (works-suc_suc t j) ∙ h)).1
+
+pub over-not_works : (t j : ℕ) → is_over t (suc j) ≡ true → works t (suc j) ≡ false
+over-not_works t j over =
+    elim (cases_Bool (works t (suc j))) [
+      inl works_now ↦ absurd (false≢true (sym (works-not_over t j works_now) ∙ over))
+    | inr rests ↦ rests
+    ]
+
+pub before-not_over : (t j : ℕ) → is_before t (suc j) ≡ true → is_over t (suc j) ≡ false
+unfolding is_before
+before-not_over t zero h = cc
+before-not_over t (suc j) h = is_over-suc t (suc j) ∙ not-true _ (and_parts _ _ (sym (is_before-suc_suc t j) ∙ h)).1
+
+pub before-not_works : (t j : ℕ) → is_before t (suc j) ≡ true → works t (suc j) ≡ false
+unfolding is_before
+before-not_works t zero h = cc
+before-not_works t (suc j) h =
+    let both : (not (is_odd (period t j)) && not (is_odd (period t (suc j)))) ≡ true = sym (is_before-suc_suc t j) ∙ h in
+    let even : is_odd (period t j) ≡ false = not-true _ (and_parts _ _ both).0 in
+    works-suc_suc t j ∙ and_left (is_odd (period t j)) (not (is_odd (period t (suc j)))) even
+
+pub before_else : (t j : ℕ) → works t (suc j) ≡ false → is_over t (suc j) ≡ false → is_before t (suc j) ≡ true
+before_else t zero h over =
+    absurd (false≢true (sym h ∙ works-one t ∙ not_from_false _ (sym (is_over-suc t 0) ∙ over)))
+before_else t (suc j) h over =
+    let above : is_odd (period t (suc j)) ≡ false = sym (is_over-suc t (suc j)) ∙ over in
+    elim (cases_Bool (is_odd (period t j))) [
+      inl odd ↦ absurd (false≢true (sym h ∙ works-suc_suc t j ∙ and_from _ _ odd (not_from_false _ above)))
+    | inr even ↦ is_before-suc_suc t j ∙ and_from _ _ (not_from_false _ even) (not_from_false _ above)
+    ]
+
+-- a level works only in even periods of the level above it
+pub works-even : (t j : ℕ) → works t (suc j) ≡ true → is_odd (period t j) ≡ false
+works-even t j h = sym (is_over-suc t j) ∙ works-not_over t j h
+
+-- ---- how the phases follow each other
+
+-- two adjacent levels of 1 and more never work in one mutation
+pub adjacent-rest : (t j : ℕ) → works t (suc j) ≡ true → works t (suc (suc j)) ≡ false
+adjacent-rest t j h = works-suc_suc t j ∙ and_left _ _ (works-even t j h)
+
+-- a level flips out of a period in which its window is over
+pub flips-over : (t j : ℕ) → flips t (suc j) ≡ true → is_over t (suc j) ≡ true
+flips-over t j h = is_over-suc t j ∙ (and_parts _ _ (sym (flips-suc t j) ∙ h)).1
+
+-- where a level flips, the level above flips too
+pub flips-above : (t j : ℕ) → flips t (suc j) ≡ true → flips t j ≡ true
+flips-above t j h = (and_parts _ _ (sym (flips-suc t j) ∙ h)).0
+
+-- a window ends where the level above flips and the level itself does not
+pub ends-flips : (t j : ℕ) → ends t (suc j) ≡ (flips t j && not (flips t (suc j)))
+ends-flips t j = rw (ends-suc t j, flips-suc t j) (and_not (flips t j) (is_odd (period t j)))
+
+pub ends-works : (t j : ℕ) → ends t j ≡ true → works t j ≡ true
+unfolding ends
+ends-works t j h = (and_parts _ _ h).0
+
+-- a level above one that does not flip stays in its odd period
+pub keeps_odd : (t j : ℕ) → is_odd (period t j) ≡ true → flips t (suc j) ≡ false → flips t j ≡ false
+keeps_odd t j odd stay =
+    elim (cases_Bool (flips t j)) [
+      inl flip ↦ absurd (false≢true (sym stay ∙ flips-suc t j ∙ and_from _ _ flip odd))
+    | inr same ↦ same
+    ]
+
+-- and one above a window that does not end in its even period
+pub keeps_even : (t j : ℕ) → is_odd (period t j) ≡ false → ends t (suc j) ≡ false → flips t j ≡ false
+keeps_even t j even goes_on =
+    elim (cases_Bool (flips t j)) [
+      inl flip ↦ absurd (false≢true (sym goes_on ∙ ends-suc t j ∙ and_from _ _ flip (not_from_false _ even)))
+    | inr same ↦ same
+    ]
+
+-- within a window, before its last mutation, neither the level nor the levels beside it flip
+pub window-keeps_above : (t j : ℕ) → works t (suc j) ≡ true → ends t (suc j) ≡ false → flips t j ≡ false
+window-keeps_above t j works_now goes_on = keeps_even t j (works-even t j works_now) goes_on
+
+pub window-keeps_self : (t j : ℕ) → works t (suc j) ≡ true → flips t (suc j) ≡ false
+window-keeps_self t j works_now = flips-suc t j ∙ and_right _ _ (works-even t j works_now)
+
+pub window-keeps_below : (t j : ℕ) → works t (suc j) ≡ true → flips t (suc (suc j)) ≡ false
+window-keeps_below t j works_now = flips-suc t (suc j) ∙ and_left _ _ (window-keeps_self t j works_now)
+
+-- it goes on at the next clock, one mutation further
+pub window-next : (t j : ℕ) → works t (suc j) ≡ true → ends t (suc j) ≡ false → works (suc t) (suc j) ≡ true
+window-next t zero works_now goes_on =
+    absurd (false≢true (sym goes_on ∙ ends-suc t 0 ∙ and_from _ _ (flips-zero t) (not_from_false _ (works-even t 0 works_now))))
+window-next t (suc j) works_now goes_on =
+    let self : flips t (suc j) ≡ false = window-keeps_above t (suc j) works_now goes_on in
+    let odd : is_odd (period t j) ≡ true = (and_parts _ _ (sym (works-suc_suc t j) ∙ works_now)).0 in
+    let above : flips t j ≡ false = keeps_odd t j odd self in
+    works-suc_suc (suc t) j
+      ∙ and_from _ _ (is_odd-next_stay t j above ∙ odd)
+          (not_from_false _ (is_odd-next_stay t (suc j) self ∙ works-even t (suc j) works_now))
+
+pub window_step-next : (t j : ℕ) → works t (suc j) ≡ true → ends t (suc j) ≡ false →
+    window_step (suc t) (suc j) ≡ suc (window_step t (suc j))
+unfolding window_step works
+window_step-next t zero works_now goes_on =
+    absurd (false≢true (sym goes_on ∙ ends-suc t 0 ∙ and_from _ _ (flips-zero t) (not_from_false _ (works-even t 0 works_now))))
+window_step-next t (suc j) works_now goes_on =
+    let next : elapsed (suc t) (suc (suc j)) ≡ suc (elapsed t (suc (suc j))) = elapsed-next_stay t (suc (suc j)) (window-keeps_self t (suc j) works_now) in
+    let begun : 2 ^ j ≤ elapsed t (suc (suc j)) = leb-true _ _ (and_parts _ _ works_now).0 in
+    omega arith
+
+-- after the last mutation of a window the window is over
+pub ends-over : (t j : ℕ) → ends t (suc j) ≡ true → is_over (suc t) (suc j) ≡ true
+ends-over t j h =
+    let both : (flips t j && not (is_odd (period t j))) ≡ true = sym (ends-suc t j) ∙ h in
+    let flip : flips t j ≡ true = (and_parts _ _ both).0 in
+    is_over-suc (suc t) j ∙ is_odd-next_flip t j flip ∙ (and_parts _ _ both).1
+
+-- a window that is over stays over until the level flips
+pub over-next : (t j : ℕ) → is_over t (suc j) ≡ true → flips t (suc j) ≡ false → is_over (suc t) (suc j) ≡ true
+over-next t j over stay =
+    let odd : is_odd (period t j) ≡ true = sym (is_over-suc t j) ∙ over in
+    is_over-suc (suc t) j ∙ is_odd-next_stay t j (keeps_odd t j odd stay) ∙ odd
+
+-- after a flip the window of the new period is not over
+pub flips-not_over : (t j : ℕ) → flips t (suc j) ≡ true → is_over (suc t) (suc j) ≡ false
+flips-not_over t j flip =
+    let odd : is_odd (period t j) ≡ true = (and_parts _ _ (sym (flips-suc t j) ∙ flip)).1 in
+    is_over-suc (suc t) j ∙ is_odd-next_flip t j (flips-above t j flip) ∙ not_from_true _ odd
+
+-- a window that is neither over nor ends now is not over at the next clock
+pub not_over-next : (t j : ℕ) → is_over t (suc j) ≡ false → ends t (suc j) ≡ false → is_over (suc t) (suc j) ≡ false
+not_over-next t j over goes_on =
+    let even : is_odd (period t j) ≡ false = sym (is_over-suc t j) ∙ over in
+    let stay : flips t j ≡ false = keeps_even t j even goes_on in
+    is_over-suc (suc t) j ∙ is_odd-next_stay t j stay ∙ even
+
+-- a window's first mutation is its mutation 0: a window that is still to come and begins next begins there
+pub window_step-first : (t j : ℕ) → works t (suc j) ≡ false → works (suc t) (suc j) ≡ true → window_step (suc t) (suc j) ≡ 0
+unfolding window_step works
+window_step-first t zero was is = refl
+window_step-first t (suc j) was is =
+    let begun : 2 ^ j ≤ elapsed (suc t) (suc (suc j)) = leb-true _ _ (and_parts _ _ is).0 in
+    let open_yet : elapsed (suc t) (suc (suc j)) < 2 ^ suc j = ltb-true _ _ (and_parts _ _ is).1 in
+    elim (cases_Bool (flips t (suc (suc j)))) [
+      inl flip ↦ let new : elapsed (suc t) (suc (suc j)) ≡ 0 = elapsed-next_flip t (suc (suc j)) flip in omega arith
+    | inr stay ↦
+        let next : elapsed (suc t) (suc (suc j)) ≡ suc (elapsed t (suc (suc j))) = elapsed-next_stay t (suc (suc j)) stay in
+        elim (and_cases _ _ was) [
+          inl early ↦ let h : elapsed t (suc (suc j)) < 2 ^ j = leb-false _ _ early in omega arith
+        | inr late ↦ let h : 2 ^ suc j ≤ elapsed t (suc (suc j)) = ltb-false _ _ late in absurd (omega arith)
+        ]
+    ]

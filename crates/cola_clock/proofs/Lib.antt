@@ -1,3 +1,4 @@
 mod Examples
+mod Calls
 pub mod Places
 pub mod Laws

@@ -103,3 +103,7 @@ window_end b c p q r bit upper h e =
       | inr c_is ↦ rw (b_is, c_is) (sym (and_right (eqb (suc r) p && true) false refl))
       ]
     ]
+
+pub and_not : (a b : Bool) → (a && not b) ≡ (a && not (a && b))
+and_not true b = refl
+and_not false b = refl
