@@ -2,3 +2,5 @@ mod Examples
 mod Calls
 pub mod Places
 pub mod Laws
+pub mod Wrap
+pub mod Counts

@@ -1,6 +1,6 @@
 -- The clock of a lookahead array: which levels flip, which work, and whose window is over, at a clock t.
 -- Everything here is plain arithmetic on natural numbers, so that a proof may take any clock and any level.
-use Rattle.std.specs.Prelude.{ℕ, zero, suc, ◌+◌, ◌-◌, ◌/◌, ◌%◌, ◌^◌, Bool, true, false, ◌==◌, ◌&&◌, nat_lt, nat_le, if◌then◌else◌}
+use Rattle.std.specs.Prelude.{◌≡◌, ℕ, zero, suc, ◌+◌, ◌-◌, ◌/◌, ◌%◌, ◌^◌, Bool, true, false, ◌==◌, ◌&&◌, nat_lt, nat_le, if◌then◌else◌}
 
 -- how many whole periods of level j, of 2^j mutations each, lie before clock t
 unfoldable pub period : ℕ → ℕ → ℕ
@@ -69,3 +69,15 @@ working_clocks t j (suc n) = working_clocks t j n + (if works (t + n) j then 1 e
 unfoldable pub working_levels : ℕ → ℕ → ℕ
 working_levels t zero = 0
 working_levels t (suc n) = working_levels t n + (if works t (suc n) then 1 else 0)
+
+-- level j cannot tell the clocks t and u apart: its place, its tests and the parity of its period are the same at both
+pub record SameSchedule (t u j : ℕ) : Type 0 where
+  pub place : elapsed t j ≡ elapsed u j
+  pub parity : is_odd (period t j) ≡ is_odd (period u j)
+  pub slot : visible_slot t j ≡ visible_slot u j
+  pub flip : flips t j ≡ flips u j
+  pub work : works t j ≡ works u j
+  pub before : is_before t j ≡ is_before u j
+  pub over : is_over t j ≡ is_over u j
+  pub step : window_step t j ≡ window_step u j
+  pub end : ends t j ≡ ends u j

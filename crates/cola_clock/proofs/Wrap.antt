@@ -1,0 +1,68 @@
+-- The clock of a store whose bottom is L counts modulo 2^(L+1): no level up to the bottom can tell.
+use Rattle.std.proofs.Common.{◌≡◌, ℕ, zero, suc, ◌+◌, ◌-◌, ◌*◌, ◌/◌, ◌%◌, ◌^◌, ◌<◌, ◌≤◌, Bool, true, false, eqb, cond, ◌⊎◌, inl, inr, refl, sym, ◌∙◌, ap, subst, arith}
+use Rattle.std.proofs.Math.Pow.{mod-mod-pow}
+use Rattle.cola_clock.specs.Clock.{period, elapsed, is_odd, flips, works, is_before, is_over, window_step, window_length, visible_slot, ends, SameSchedule}
+use Rattle.cola_clock.proofs.Laws.{is_over-suc, flips-elapsed}
+use Rattle.cola_clock.proofs.Places.{bit_cases}
+
+-- a level's place in its period is the same modulo each power of two that its period's length divides
+pub elapsed-wrap : (t n j : ℕ) → j ≤ n → elapsed (t % 2 ^ n) j ≡ elapsed t j
+unfolding elapsed
+elapsed-wrap t n j h =
+    let parts : n ≡ (n - j) + j = omega arith in
+    let P : ℕ → Type 0 = λ m. t % 2 ^ m % 2 ^ j ≡ t % 2 ^ j in
+    subst P (sym parts) (mod-mod-pow t (n - j) j)
+
+same_over : (t u j : ℕ) → elapsed t j ≡ elapsed u j → is_over t j ≡ is_over u j
+unfolding is_over
+same_over t u zero e = refl
+same_over t u (suc j) e = rw e refl
+
+same_before : (t u j : ℕ) → elapsed t j ≡ elapsed u j → is_before t j ≡ is_before u j
+unfolding is_before
+same_before t u zero e = refl
+same_before t u (suc zero) e = refl
+same_before t u (suc (suc j)) e = rw e refl
+
+same_step : (t u j : ℕ) → elapsed t j ≡ elapsed u j → window_step t j ≡ window_step u j
+unfolding window_step
+same_step t u zero e = refl
+same_step t u (suc zero) e = refl
+same_step t u (suc (suc j)) e = rw e refl
+
+same_works : (t u j : ℕ) → elapsed t j ≡ elapsed u j → works t j ≡ works u j
+unfolding works elapsed
+same_works t u zero e = refl
+same_works t u (suc zero) e = ap (λ r. eqb r 0) e
+same_works t u (suc (suc j)) e = rw e refl
+
+-- a number's last bit is what the test says
+last_bit : (n : ℕ) → n % 2 ≡ cond (is_odd n) 1 0
+unfolding is_odd
+last_bit n = elim (bit_cases n) [ inl e ↦ rw e refl | inr e ↦ rw e refl ]
+
+same_slot : (t u j : ℕ) → is_odd (period t j) ≡ is_odd (period u j) → visible_slot t j ≡ visible_slot u j
+unfolding visible_slot
+same_slot t u j odd = last_bit (period t j) ∙ ap (λ b. cond b 1 0) odd ∙ sym (last_bit (period u j))
+
+-- the tests of a level depend on its place and on the parity of its period alone
+pub same_place : (t u j : ℕ) → elapsed t j ≡ elapsed u j → elapsed t (suc j) ≡ elapsed u (suc j) → SameSchedule t u j
+unfolding ends
+same_place t u j e below =
+    let odd : is_odd (period t j) ≡ is_odd (period u j) = sym (is_over-suc t j) ∙ same_over t u (suc j) below ∙ is_over-suc u j in
+    record {
+      place = e;
+      parity = odd;
+      slot = same_slot t u j odd;
+      flip = flips-elapsed t j ∙ ap (λ r. eqb (suc r) (2 ^ j)) e ∙ sym (flips-elapsed u j);
+      work = same_works t u j e;
+      before = same_before t u j e;
+      over = same_over t u j e;
+      step = same_step t u j e;
+      end = rw (same_works t u j e, same_step t u j e) refl;
+    }
+
+-- so the clock modulo 2^(L+1) is as good as the clock, at each level up to L
+pub schedule-wrap : (t bottom j : ℕ) → j ≤ bottom → SameSchedule (t % 2 ^ suc bottom) t j
+schedule-wrap t bottom j h =
+    same_place (t % 2 ^ suc bottom) t j (elapsed-wrap t (suc bottom) j (omega arith)) (elapsed-wrap t (suc bottom) (suc j) (omega arith))
