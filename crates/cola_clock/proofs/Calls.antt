@@ -6,6 +6,10 @@ use Rattle.cola_clock.specs.Clock.{period, elapsed, is_odd, works, is_before, is
 use Rattle.cola_clock.specs.Schedule.{phase_at, part_at, below_at}
 use Rattle.cola_clock.specs.declared.state.Phase.{Phase}
 use Rattle.cola_clock.specs.declared.state.Phase.TheVariants.{Before, Inside, After}
+use Rattle.cola_clock.specs.declared.state.Part.{Part}
+use Rattle.cola_clock.specs.declared.state.Part.TheVariants.{All, Young}
+use Rattle.cola_clock.specs.declared.state.Below.{Below}
+use Rattle.cola_clock.specs.declared.state.Below.TheVariants.{Visible, Shadow, Nothing}
 use Rattle.cola_clock.proofs.Places.{bit_cases}
 use Rattle.cola_clock.proofs.Laws.{before-not_works, before-not_over, over-not_works}
 use Rattle.std.proofs.Math.Pow.{pow_mono}
@@ -33,6 +37,14 @@ tests_of t (suc (suc i)) p a b h p_is a_is b_is =
     let two : suc (suc i) - 2 ≡ i = omega arith in
     let one : suc (suc i) - 1 ≡ suc i = omega arith in
     rw (p_is, a_is, b_is, two, one) (record { works_is = refl; before_is = refl; over_is = refl; step_is = refl })
+
+pub works_from : (t j p a b : ℕ) → 2 ≤ j → p ≡ 2 ^ j → a ≡ 2 ^ (j - 2) → b ≡ 2 ^ (j - 1) → a ≤ t % p → ltb (t % p) b ≡ works t j
+works_from t j p a b h p_is a_is b_is begun =
+    rw ((tests_of t j p a b h p_is a_is b_is).works_is, le-leb a (t % p) begun) refl
+
+pub works_not_yet : (t j p a : ℕ) → 2 ≤ j → p ≡ 2 ^ j → a ≡ 2 ^ (j - 2) → t % p < a → leb a (t % p) ≡ works t j
+works_not_yet t j p a h p_is a_is early =
+    rw ((tests_of t j p a (2 ^ (j - 1)) h p_is a_is refl).works_is, lt-leb a (t % p) early) refl
 
 -- the window of a level of 2 and more begins before it ends
 pub begins_first : (j a b : ℕ) → 2 ≤ j → a ≡ 2 ^ (j - 2) → b ≡ 2 ^ (j - 1) → a ≤ b
@@ -72,3 +84,58 @@ answered t (suc j) r _ e = record {
   inside = λ h. rw (e, h) refl;
   after = λ h. rw (e, over-not_works t j h, h) refl;
 }
+
+-- the visible slot is the parity of the period
+odd_slot : (t j slot : ℕ) → slot ≡ visible_slot t j → is_odd (period t j) ≡ eqb slot 1
+unfolding visible_slot is_odd
+odd_slot t j slot e = rw e refl
+
+module _ (t j bottom slot : ℕ) where
+  pub part_bottom : j ≡ bottom → All ≡ part_at t j bottom
+  unfolding part_at
+  part_bottom e = rw (eq-eqb j bottom e) refl
+
+  pub part_odd : (j ≡ bottom → ⊥) → slot ≡ visible_slot t j → slot ≡ 1 → Young ≡ part_at t j bottom
+  unfolding part_at
+  part_odd ne e odd = rw (ne_eqb j bottom ne, odd_slot t j slot e, odd) refl
+
+  pub part_even : (j ≡ bottom → ⊥) → slot ≡ visible_slot t j → (slot ≡ 1 → ⊥) → All ≡ part_at t j bottom
+  unfolding part_at
+  part_even ne e even = rw (ne_eqb j bottom ne, odd_slot t j slot e, ne_eqb slot 1 even) refl
+
+  pub below_bottom : j ≡ bottom → Nothing ≡ below_at t j bottom
+  unfolding below_at
+  below_bottom e = rw (eq-eqb j bottom e) refl
+
+  pub below_odd : (j ≡ bottom → ⊥) → slot ≡ visible_slot t j → slot ≡ 1 → Shadow ≡ below_at t j bottom
+  unfolding below_at
+  below_odd ne e odd = rw (ne_eqb j bottom ne, odd_slot t j slot e, odd) refl
+
+  pub below_even : (j ≡ bottom → ⊥) → slot ≡ visible_slot t j → (slot ≡ 1 → ⊥) → Visible ≡ below_at t j bottom
+  unfolding below_at
+  below_even ne e even = rw (ne_eqb j bottom ne, odd_slot t j slot e, ne_eqb slot 1 even) refl
+
+-- the phase of a level of 2 and more, at each of its three places
+module _ (t j p a b : ℕ) (h : 2 ≤ j) (p_is : p ≡ 2 ^ j) (a_is : a ≡ 2 ^ (j - 2)) where
+  pub phase_before : t % p < a → Answered t j Before
+  phase_before early =
+      answered t j Before (omega arith)
+        (rw (phase_more t j p a (2 ^ (j - 1)) (tests_of t j p a (2 ^ (j - 1)) h p_is a_is refl) (begins_first j a (2 ^ (j - 1)) h a_is refl),
+             lt-ltb (t % p) a early) refl)
+
+  pub phase_inside : b ≡ 2 ^ (j - 1) → a ≤ t % p → t % p < b → Answered t j (Inside (t % p - a))
+  phase_inside b_is begun going =
+      answered t j (Inside (t % p - a)) (omega arith)
+        (rw (phase_more t j p a b (tests_of t j p a b h p_is a_is b_is) (begins_first j a b h a_is b_is), le-ltb (t % p) a begun, lt-ltb (t % p) b going) refl)
+
+  pub phase_after : b ≡ 2 ^ (j - 1) → a ≤ t % p → b ≤ t % p → Answered t j After
+  phase_after b_is begun gone =
+      answered t j After (omega arith)
+        (rw (phase_more t j p a b (tests_of t j p a b h p_is a_is b_is) (begins_first j a b h a_is b_is), le-ltb (t % p) a begun, le-ltb (t % p) b gone) refl)
+
+-- and of level 1
+pub phase_even : (t j : ℕ) → j ≡ 1 → t % 2 ≡ 0 → Answered t j (Inside 0)
+phase_even t j one even = answered t j (Inside 0) (omega arith) (rw (phase_one t j one, even) refl)
+
+pub phase_odd : (t j : ℕ) → j ≡ 1 → (t % 2 ≡ 0 → ⊥) → Answered t j After
+phase_odd t j one odd = answered t j After (omega arith) (rw (phase_one t j one, ne_eqb (t % 2) 0 odd) refl)

@@ -87,7 +87,9 @@ pub fn own_part(clock: u64, level: u8, bottom: u8) -> Part
     requires clock_in_range { clock < 2 ^ 23 }
     ensures { result ≡ part_at clock level bottom }
 {
-    if level < bottom && visible_slot(clock, level) == 1 {
+    if level == bottom {
+        Part::All
+    } else if visible_slot(clock, level) == 1 {
         Part::Young
     } else {
         Part::All
