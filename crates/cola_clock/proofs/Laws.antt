@@ -1,11 +1,13 @@
 -- The laws of the clock: how the tests of a level follow from the parities of the periods, how they go on at the next
 -- clock, and what that says of windows and flips.
-use Rattle.std.proofs.Common.{◌≡◌, ◌⊎◌, inl, inr, ℕ, zero, suc, ◌+◌, ◌-◌, ◌*◌, ◌/◌, ◌%◌, ◌^◌, ◌<◌, ◌≤◌, Bool, true, false, not, ◌&&◌, cond, eqb, ltb, leb, refl, sym, ◌∙◌, ap, arith}
-use Rattle.std.proofs.lemmas.Bool.{cases_Bool, eqb-true, eqb-false, leb-true, leb-false, ltb-true, ltb-false, not-true, not_from_false, not_from_true, and_parts, and_cases, and_from, and_left, and_right, false≢true}
+use Rattle.std.proofs.Common.{◌≡◌, ◌⊎◌, inl, inr, ℕ, zero, suc, ◌+◌, ◌-◌, ◌*◌, ◌/◌, ◌%◌, ◌^◌, ◌<◌, ◌≤◌, Bool, true, false, not, ◌&&◌, cond, eqb, ltb, leb, refl, sym, ◌∙◌, ap, subst, arith}
+use Rattle.std.proofs.lemmas.Bool.{cases_Bool, cases_order, eq-eqb, eqb-true, eqb-false, leb-true, leb-false, ltb-true, ltb-false, not-true, not_from_false, not_from_true, and_parts, and_cases, and_from, and_left, and_right, false≢true}
 use Rattle.std.proofs.lemmas.Bool.Decides.{nat_tests}
-use Rattle.std.proofs.lemmas.Nat.{mod_below, pow_pos}
+use Rattle.std.proofs.lemmas.Nat.{mod_below, pow_pos, shr-shr, div-add-mod'}
 use Rattle.std.proofs.Math.Nat.{two-pow-succ, div-one}
-use Rattle.cola_clock.specs.Clock.{period, elapsed, is_odd, flips, works, is_before, is_over, window_step, window_length, visible_slot, ends}
+use Rattle.std.proofs.Math.Numerals.{add-one}
+use Rattle.std.proofs.Math.Nat.{add-zero, add-suc}
+use Rattle.cola_clock.specs.Clock.{period, elapsed, is_odd, flips, works, is_before, is_over, window_step, window_length, visible_slot, ends, InOneWindow, SourcesStay}
 use Rattle.cola_clock.proofs.Places.{step_inside, step_over, placed, divides-next, twice, bit_cases, upper_half, second_quarter, first_quarter, last_by_halves, window_end, and_true_right, and_not}
 
 -- a level has been in its period for less than the period's length
@@ -263,3 +265,67 @@ window_step-first t (suc j) was is =
         | inr late ↦ let h : 2 ^ suc j ≤ elapsed t (suc (suc j)) = ltb-false _ _ late in absurd (omega arith)
         ]
     ]
+
+-- ---- one window
+
+-- a period of a level is two periods of the level above
+pub period-suc : (t j : ℕ) → period t (suc j) ≡ period t j / 2
+unfolding period
+period-suc t j = sym (shr-shr t j 1 ∙ ap (λ k. t / 2 ^ k) (add-one j))
+
+even_half : (n : ℕ) → is_odd n ≡ false → n ≡ n / 2 * 2
+unfolding is_odd
+even_half n even =
+    elim (bit_cases n) [
+      inl zero_bit ↦ let parts : n / 2 * 2 + n % 2 ≡ n = div-add-mod' n 2 in omega arith
+    | inr one_bit ↦ let no : eqb (n % 2) 1 ≡ true = eq-eqb _ _ one_bit in absurd (false≢true (sym even ∙ no))
+    ]
+
+-- inside its window a level's period began with the period of the level above
+pub works-period : (t j : ℕ) → works t (suc j) ≡ true → period t j ≡ period t (suc j) * 2
+works-period t j h = rw (period-suc t j) (even_half (period t j) (works-even t j h))
+
+-- throughout a window the sources stay
+pub sources-stay : (t u j : ℕ) → InOneWindow t u (suc j) → SourcesStay t u j
+sources-stay t u j h = record {
+  incoming = works-period t j h.works_first ∙ ap (λ q. q * 2) h.same_period ∙ sym (works-period u j h.works_second);
+  own = h.same_period;
+  sampled = period-suc t (suc j) ∙ ap (λ q. q / 2) h.same_period ∙ sym (period-suc u (suc j));
+  finished_first = λ odd. is_over-suc t (suc j) ∙ odd;
+  finished_second = λ odd. is_over-suc u (suc j) ∙ odd;
+}
+
+-- ---- the flips of one mutation
+
+-- the levels that flip are those from 0 to a highest one
+pub flips-closed : (t i k : ℕ) → flips t (i + k) ≡ true → flips t i ≡ true
+flips-closed t i zero h = rw (sym (add-zero i)) h
+flips-closed t i (suc k) h = flips-closed t i k (flips-above t (i + k) (rw (sym (add-suc i k)) h))
+
+pub flips-up_to : (t i j : ℕ) → i ≤ j → flips t j ≡ true → flips t i ≡ true
+flips-up_to t i j h flip =
+    let parts : j ≡ i + (j - i) = omega arith in
+    flips-closed t i (j - i) (subst (λ (k : ℕ). flips t k ≡ true) parts flip)
+
+-- where h is the highest level that flips, the window of level h + 1 ends
+pub ends-highest : (t h : ℕ) → flips t h ≡ true → flips t (suc h) ≡ false → ends t (suc h) ≡ true
+ends-highest t h flip stay = ends-flips t h ∙ and_from _ _ flip (not_from_false _ stay)
+
+-- and no other
+pub ends-only : (t h j : ℕ) → flips t h ≡ true → flips t (suc h) ≡ false → ends t (suc j) ≡ true → j ≡ h
+ends-only t h j flip stay end =
+    let both : (flips t j && not (flips t (suc j))) ≡ true = sym (ends-flips t j) ∙ end in
+    let j_flips : flips t j ≡ true = (and_parts _ _ both).0 in
+    let j_stays : flips t (suc j) ≡ false = not-true _ (and_parts _ _ both).1 in
+    elim (cases_order j h) [
+      inl same ↦ same
+    | inr apart ↦ elim apart [
+        inl below ↦ absurd (false≢true (sym j_stays ∙ flips-up_to t (suc j) h (omega arith) flip))
+      | inr above ↦ absurd (false≢true (sym stay ∙ flips-up_to t (suc h) j (omega arith) j_flips))
+      ]
+    ]
+
+-- where a level flips, no window of a level up to it ends
+pub ends-none : (t bottom j : ℕ) → flips t bottom ≡ true → j < bottom → ends t (suc j) ≡ false
+ends-none t bottom j flip below =
+    ends-flips t j ∙ and_right _ _ (not_from_true _ (flips-up_to t (suc j) bottom (omega arith) flip))

@@ -4,3 +4,4 @@ pub mod Places
 pub mod Laws
 pub mod Wrap
 pub mod Counts
+pub mod Sampled

@@ -81,3 +81,18 @@ pub record SameSchedule (t u j : ℕ) : Type 0 where
   pub over : is_over t j ≡ is_over u j
   pub step : window_step t j ≡ window_step u j
   pub end : ends t j ≡ ends u j
+
+-- two clocks lie in one window of level j
+pub record InOneWindow (t u j : ℕ) : Type 0 where
+  pub works_first : works t j ≡ true
+  pub works_second : works u j ≡ true
+  pub same_period : period t j ≡ period u j
+
+-- at both clocks level j + 1 and the levels beside it stand in the same periods, so none of them flips in between and
+-- each has the same visible run; and where the run below is sampled from its shadow, that shadow is finished at both
+pub record SourcesStay (t u j : ℕ) : Type 0 where
+  pub incoming : period t j ≡ period u j
+  pub own : period t (suc j) ≡ period u (suc j)
+  pub sampled : period t (suc (suc j)) ≡ period u (suc (suc j))
+  pub finished_first : is_odd (period t (suc j)) ≡ true → is_over t (suc (suc j)) ≡ true
+  pub finished_second : is_odd (period u (suc j)) ≡ true → is_over u (suc (suc j)) ≡ true

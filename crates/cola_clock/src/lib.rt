@@ -10,3 +10,7 @@ mod state;
 
 pub use schedule::{flips, next_of, own_part, phase, visible_slot, works};
 pub use state::{Below, Part, Phase};
+pub use windows::{
+    adjacent_levels_rest, clock_wraps, every_other_level_works, flips_follow, one_window_ends, over_in_odd_periods, parity_turns,
+    phases_exclude, sampled_shadow_is_finished, sources_stay, window_goes_on, windows_have_length,
+};
