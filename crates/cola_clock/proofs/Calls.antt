@@ -1,14 +1,12 @@
 -- The tests of the clock as the calls compute them, from p, a and b, the lengths of the periods of the level, of the
 -- second level above it and of the level above it.
-use Rattle.std.proofs.Common.{◌≡◌, ℕ, zero, suc, ◌+◌, ◌-◌, ◌/◌, ◌%◌, ◌^◌, ◌<◌, ◌≤◌, Bool, true, false, not, ◌&&◌, cond, IsTrue, eqb, ltb, leb, if◌then◌else◌, ◌==◌, ◌⊎◌, inl, inr, refl, sym, ◌∙◌, ap, arith}
+use Rattle.std.proofs.Common.{◌≡◌, ℕ, zero, suc, ◌-◌, ◌%◌, ◌^◌, ◌<◌, ◌≤◌, true, ◌&&◌, IsTrue, eqb, ltb, leb, if◌then◌else◌, ◌==◌, inl, inr, refl, arith}
 use Rattle.std.proofs.lemmas.Bool.{le-leb, lt-leb, lt-ltb, le-ltb, eq-eqb, ne_eqb, cases_lt}
 use Rattle.cola_clock.specs.Clock.{period, elapsed, is_odd, works, is_before, is_over, window_step, visible_slot}
 use Rattle.cola_clock.specs.Schedule.{phase_at, part_at, below_at}
 use Rattle.cola_clock.specs.declared.state.Phase.{Phase}
 use Rattle.cola_clock.specs.declared.state.Phase.TheVariants.{Before, Inside, After}
-use Rattle.cola_clock.specs.declared.state.Part.{Part}
 use Rattle.cola_clock.specs.declared.state.Part.TheVariants.{All, Young}
-use Rattle.cola_clock.specs.declared.state.Below.{Below}
 use Rattle.cola_clock.specs.declared.state.Below.TheVariants.{Visible, Shadow, Nothing}
 use Rattle.cola_clock.proofs.Places.{bit_cases}
 use Rattle.cola_clock.proofs.Laws.{before-not_works, before-not_over, over-not_works}
@@ -60,13 +58,13 @@ pub phase_more : (t j p a b : ℕ) → Tests t j p a b → a ≤ b →
 unfolding phase_at
 phase_more t j p a b h order =
     rw (h.works_is, h.over_is, h.step_is)
-      (elim (cases_lt (t % p) a) [
-        inl early ↦ rw (lt-leb a (t % p) early, lt-leb b (t % p) (omega arith), lt-ltb (t % p) a early) refl
+    (elim (cases_lt (t % p) a) [
+      | inl early ↦ rw (lt-leb a (t % p) early, lt-leb b (t % p) (omega arith), lt-ltb (t % p) a early) refl
       | inr begun ↦ elim (cases_lt (t % p) b) [
-          inl going ↦ rw (le-leb a (t % p) begun, lt-ltb (t % p) b going, le-ltb (t % p) a begun) refl
+        | inl going ↦ rw (le-leb a (t % p) begun, lt-ltb (t % p) b going, le-ltb (t % p) a begun) refl
         | inr gone ↦ rw (le-leb a (t % p) begun, le-ltb (t % p) b gone, le-ltb (t % p) a begun, le-leb b (t % p) gone) refl
-        ]
-      ])
+      ]
+    ])
 
 -- what a phase says of a level of 1 and more, whose three tests exclude each other
 pub record Answered (t j : ℕ) (r : Phase) : Type 0 where
@@ -120,18 +118,20 @@ module _ (t j p a b : ℕ) (h : 2 ≤ j) (p_is : p ≡ 2 ^ j) (a_is : a ≡ 2 ^ 
   pub phase_before : t % p < a → Answered t j Before
   phase_before early =
       answered t j Before (omega arith)
-        (rw (phase_more t j p a (2 ^ (j - 1)) (tests_of t j p a (2 ^ (j - 1)) h p_is a_is refl) (begins_first j a (2 ^ (j - 1)) h a_is refl),
-             lt-ltb (t % p) a early) refl)
+      (rw (
+        phase_more t j p a (2 ^ (j - 1)) (tests_of t j p a (2 ^ (j - 1)) h p_is a_is refl) (begins_first j a (2 ^ (j - 1)) h a_is refl),
+        lt-ltb (t % p) a early,
+      ) refl)
 
   pub phase_inside : b ≡ 2 ^ (j - 1) → a ≤ t % p → t % p < b → Answered t j (Inside (t % p - a))
   phase_inside b_is begun going =
       answered t j (Inside (t % p - a)) (omega arith)
-        (rw (phase_more t j p a b (tests_of t j p a b h p_is a_is b_is) (begins_first j a b h a_is b_is), le-ltb (t % p) a begun, lt-ltb (t % p) b going) refl)
+      (rw (phase_more t j p a b (tests_of t j p a b h p_is a_is b_is) (begins_first j a b h a_is b_is), le-ltb (t % p) a begun, lt-ltb (t % p) b going) refl)
 
   pub phase_after : b ≡ 2 ^ (j - 1) → a ≤ t % p → b ≤ t % p → Answered t j After
   phase_after b_is begun gone =
       answered t j After (omega arith)
-        (rw (phase_more t j p a b (tests_of t j p a b h p_is a_is b_is) (begins_first j a b h a_is b_is), le-ltb (t % p) a begun, le-ltb (t % p) b gone) refl)
+      (rw (phase_more t j p a b (tests_of t j p a b h p_is a_is b_is) (begins_first j a b h a_is b_is), le-ltb (t % p) a begun, le-ltb (t % p) b gone) refl)
 
 -- and of level 1
 pub phase_even : (t j : ℕ) → j ≡ 1 → t % 2 ≡ 0 → Answered t j (Inside 0)

@@ -1,10 +1,10 @@
 -- How many clocks of a period a level works at, and at how many levels a mutation works.
-use Rattle.std.proofs.Common.{◌≡◌, ◌⊎◌, inl, inr, ℕ, zero, suc, ◌+◌, ◌-◌, ◌*◌, ◌/◌, ◌%◌, ◌^◌, ◌<◌, ◌≤◌, min, Bool, true, false, not, ◌&&◌, cond, eqb, ltb, leb, refl, sym, ◌∙◌, ap, arith}
-use Rattle.std.proofs.lemmas.Bool.{cases_Bool, not-true, false≢true}
+use Rattle.std.proofs.Common.{◌≡◌, inl, inr, ℕ, zero, suc, ◌+◌, ◌-◌, ◌*◌, ◌%◌, ◌^◌, ◌≤◌, min, ◌&&◌, cond, ltb, leb, refl, ◌∙◌, arith}
+use Rattle.std.proofs.lemmas.Bool.{cases_Bool}
 use Rattle.std.proofs.lemmas.Bool.Decides.{nat_tests}
-use Rattle.std.proofs.lemmas.Nat.{mod-mul-add, pow_pos}
+use Rattle.std.proofs.lemmas.Nat.{mod-mul-add}
 use Rattle.std.proofs.Math.Nat.{two-pow-succ}
-use Rattle.cola_clock.specs.Clock.{period, elapsed, works, window_length, working_clocks, working_levels}
+use Rattle.cola_clock.specs.Clock.{elapsed, works, window_length, working_clocks, working_levels}
 use Rattle.cola_clock.proofs.Laws.{adjacent-rest}
 
 -- one clock more of a window from p up to twice p
@@ -28,9 +28,9 @@ window_length-counts k zero =
     rw (even, odd) refl
 window_length-counts k (suc i) =
     counted k i (2 ^ suc (suc i)) (omega arith)
-      ∙ (let e : 2 ^ suc i ≡ 2 ^ i + 2 ^ i = two-pow-succ i in
-         let e2 : 2 ^ suc (suc i) ≡ 2 ^ suc i + 2 ^ suc i = two-pow-succ (suc i) in
-         omega arith)
+    ∙ (let e : 2 ^ suc i ≡ 2 ^ i + 2 ^ i = two-pow-succ i in
+    let e2 : 2 ^ suc (suc i) ≡ 2 ^ suc i + 2 ^ suc i = two-pow-succ (suc i) in
+    omega arith)
 
 -- a mutation works at no more than every other level of 1 and more
 pub working_levels-half : (t n : ℕ) → 2 * working_levels t n ≤ n + 1
@@ -39,7 +39,7 @@ working_levels-half t zero = omega arith
 working_levels-half t (suc zero) = elim (cases_Bool (works t 1)) [ inl e ↦ rw e (omega arith) | inr e ↦ rw e (omega arith) ]
 working_levels-half t (suc (suc n)) =
     elim (cases_Bool (works t (suc n))) [
-      inl e ↦ rw (e, adjacent-rest t n e) (let before : 2 * working_levels t n ≤ n + 1 = working_levels-half t n in omega arith)
-    | inr e ↦ rw e (let before : 2 * working_levels t n ≤ n + 1 = working_levels-half t n in
-        elim (cases_Bool (works t (suc (suc n)))) [ inl f ↦ rw f (omega arith) | inr f ↦ rw f (omega arith) ])
+      | inl e ↦ rw (e, adjacent-rest t n e) (let before : 2 * working_levels t n ≤ n + 1 = working_levels-half t n in omega arith)
+      | inr e ↦ rw e (let before : 2 * working_levels t n ≤ n + 1 = working_levels-half t n in
+          elim (cases_Bool (works t (suc (suc n)))) [ inl f ↦ rw f (omega arith) | inr f ↦ rw f (omega arith) ])
     ]

@@ -1,13 +1,13 @@
 -- The laws of the clock: how the tests of a level follow from the parities of the periods, how they go on at the next
 -- clock, and what that says of windows and flips.
-use Rattle.std.proofs.Common.{◌≡◌, ◌⊎◌, inl, inr, ℕ, zero, suc, ◌+◌, ◌-◌, ◌*◌, ◌/◌, ◌%◌, ◌^◌, ◌<◌, ◌≤◌, Bool, true, false, not, ◌&&◌, cond, eqb, ltb, leb, refl, sym, ◌∙◌, ap, subst, arith}
+use Rattle.std.proofs.Common.{◌≡◌, inl, inr, ℕ, zero, suc, ◌+◌, ◌-◌, ◌*◌, ◌/◌, ◌%◌, ◌^◌, ◌<◌, ◌≤◌, true, false, not, ◌&&◌, eqb, refl, sym, ◌∙◌, ap, subst, arith}
 use Rattle.std.proofs.lemmas.Bool.{cases_Bool, cases_order, eq-eqb, eqb-true, eqb-false, leb-true, leb-false, ltb-true, ltb-false, not-true, not_from_false, not_from_true, and_parts, and_cases, and_from, and_left, and_right, false≢true}
 use Rattle.std.proofs.lemmas.Bool.Decides.{nat_tests}
 use Rattle.std.proofs.lemmas.Nat.{mod_below, pow_pos, shr-shr, div-add-mod'}
 use Rattle.std.proofs.Math.Nat.{two-pow-succ, div-one}
 use Rattle.std.proofs.Math.Numerals.{add-one}
 use Rattle.std.proofs.Math.Nat.{add-zero, add-suc}
-use Rattle.cola_clock.specs.Clock.{period, elapsed, is_odd, flips, works, is_before, is_over, window_step, window_length, visible_slot, ends, InOneWindow, SourcesStay}
+use Rattle.cola_clock.specs.Clock.{period, elapsed, is_odd, flips, works, is_before, is_over, window_step, window_length, ends, InOneWindow, SourcesStay}
 use Rattle.cola_clock.proofs.Places.{step_inside, step_over, placed, divides-next, twice, bit_cases, upper_half, second_quarter, first_quarter, last_by_halves, window_end, and_true_right, and_not}
 
 -- a level has been in its period for less than the period's length
@@ -25,8 +25,8 @@ pub is_odd-suc : (n : ℕ) → is_odd (suc n) ≡ not (is_odd n)
 unfolding is_odd
 is_odd-suc n =
     elim (bit_cases n) [
-      inl e ↦ rw ((step_inside n (n / 2) 2 (n % 2) (placed n 2) (omega arith)).0, e) refl
-    | inr e ↦ rw ((step_over n (n / 2) 2 (n % 2) (placed n 2) (omega arith)).0, e) refl
+      | inl e ↦ rw ((step_inside n (n / 2) 2 (n % 2) (placed n 2) (omega arith)).0, e) refl
+      | inr e ↦ rw ((step_over n (n / 2) 2 (n % 2) (placed n 2) (omega arith)).0, e) refl
     ]
 
 -- a window is over exactly where the level above stands in an odd period
@@ -45,14 +45,14 @@ pub works-suc_suc : (t j : ℕ) → works t (suc (suc j)) ≡ (is_odd (period t 
 unfolding works is_odd
 works-suc_suc t j =
     rw (elapsed-suc t (suc j), elapsed-suc t j)
-      (second_quarter (period t j % 2) (period t (suc j) % 2) (2 ^ j) (2 ^ suc j) (elapsed t j) (bit_cases (period t j)) (bit_cases (period t (suc j))) (elapsed_below t j) (two-pow-succ j))
+    (second_quarter (period t j % 2) (period t (suc j) % 2) (2 ^ j) (2 ^ suc j) (elapsed t j) (bit_cases (period t j)) (bit_cases (period t (suc j))) (elapsed_below t j) (two-pow-succ j))
 
 -- the window of a level of 2 and more is still to come where both levels above it stand in even periods
 pub is_before-suc_suc : (t j : ℕ) → is_before t (suc (suc j)) ≡ (not (is_odd (period t j)) && not (is_odd (period t (suc j))))
 unfolding is_before is_odd
 is_before-suc_suc t j =
     rw (elapsed-suc t (suc j), elapsed-suc t j)
-      (first_quarter (period t j % 2) (period t (suc j) % 2) (2 ^ j) (2 ^ suc j) (elapsed t j) (bit_cases (period t j)) (bit_cases (period t (suc j))) (elapsed_below t j) (two-pow-succ j))
+    (first_quarter (period t j % 2) (period t (suc j) % 2) (2 ^ j) (2 ^ suc j) (elapsed t j) (bit_cases (period t j)) (bit_cases (period t (suc j))) (elapsed_below t j) (two-pow-succ j))
 
 -- a level flips after the last mutation of its period
 pub flips-elapsed : (t j : ℕ) → flips t j ≡ eqb (suc (elapsed t j)) (2 ^ j)
@@ -68,7 +68,7 @@ pub flips-suc : (t j : ℕ) → flips t (suc j) ≡ (flips t j && is_odd (period
 unfolding is_odd
 flips-suc t j =
     rw (flips-elapsed t (suc j), flips-elapsed t j, elapsed-suc t j)
-      (last_by_halves (period t j % 2) (2 ^ j) (2 ^ suc j) (elapsed t j) (bit_cases (period t j)) (elapsed_below t j) (two-pow-succ j))
+    (last_by_halves (period t j % 2) (2 ^ j) (2 ^ suc j) (elapsed t j) (bit_cases (period t j)) (elapsed_below t j) (two-pow-succ j))
 
 -- where a level flips, its next period begins
 pub period-next_flip : (t j : ℕ) → flips t j ≡ true → period (suc t) j ≡ suc (period t j)
@@ -111,7 +111,7 @@ unfolding ends window_step window_length is_odd
 ends-suc t zero = rw (works-one t, flips-zero t) (and_true_right _)
 ends-suc t (suc j) =
     rw (works-suc_suc t j, flips-suc t j, flips-elapsed t j, elapsed-suc t (suc j), elapsed-suc t j)
-      (window_end (period t j % 2) (period t (suc j) % 2) (2 ^ j) (2 ^ suc j) (elapsed t j) (bit_cases (period t j)) (bit_cases (period t (suc j))) (elapsed_below t j) (two-pow-succ j))
+    (window_end (period t j % 2) (period t (suc j) % 2) (2 ^ j) (2 ^ suc j) (elapsed t j) (bit_cases (period t j)) (bit_cases (period t (suc j))) (elapsed_below t j) (two-pow-succ j))
 
 -- ---- a level of 1 and more is in exactly one of three phases: its window is to come, it works, its window is over
 
@@ -122,8 +122,8 @@ works-not_over t (suc j) h = is_over-suc t (suc j) ∙ not-true _ (and_parts _ _
 pub over-not_works : (t j : ℕ) → is_over t (suc j) ≡ true → works t (suc j) ≡ false
 over-not_works t j over =
     elim (cases_Bool (works t (suc j))) [
-      inl works_now ↦ absurd (false≢true (sym (works-not_over t j works_now) ∙ over))
-    | inr rests ↦ rests
+      | inl works_now ↦ absurd (false≢true (sym (works-not_over t j works_now) ∙ over))
+      | inr rests ↦ rests
     ]
 
 pub before-not_over : (t j : ℕ) → is_before t (suc j) ≡ true → is_over t (suc j) ≡ false
@@ -145,8 +145,8 @@ before_else t zero h over =
 before_else t (suc j) h over =
     let above : is_odd (period t (suc j)) ≡ false = sym (is_over-suc t (suc j)) ∙ over in
     elim (cases_Bool (is_odd (period t j))) [
-      inl odd ↦ absurd (false≢true (sym h ∙ works-suc_suc t j ∙ and_from _ _ odd (not_from_false _ above)))
-    | inr even ↦ is_before-suc_suc t j ∙ and_from _ _ (not_from_false _ even) (not_from_false _ above)
+      | inl odd ↦ absurd (false≢true (sym h ∙ works-suc_suc t j ∙ and_from _ _ odd (not_from_false _ above)))
+      | inr even ↦ is_before-suc_suc t j ∙ and_from _ _ (not_from_false _ even) (not_from_false _ above)
     ]
 
 -- a level works only in even periods of the level above it
@@ -179,16 +179,16 @@ ends-works t j h = (and_parts _ _ h).0
 pub keeps_odd : (t j : ℕ) → is_odd (period t j) ≡ true → flips t (suc j) ≡ false → flips t j ≡ false
 keeps_odd t j odd stay =
     elim (cases_Bool (flips t j)) [
-      inl flip ↦ absurd (false≢true (sym stay ∙ flips-suc t j ∙ and_from _ _ flip odd))
-    | inr same ↦ same
+      | inl flip ↦ absurd (false≢true (sym stay ∙ flips-suc t j ∙ and_from _ _ flip odd))
+      | inr same ↦ same
     ]
 
 -- and one above a window that does not end in its even period
 pub keeps_even : (t j : ℕ) → is_odd (period t j) ≡ false → ends t (suc j) ≡ false → flips t j ≡ false
 keeps_even t j even goes_on =
     elim (cases_Bool (flips t j)) [
-      inl flip ↦ absurd (false≢true (sym goes_on ∙ ends-suc t j ∙ and_from _ _ flip (not_from_false _ even)))
-    | inr same ↦ same
+      | inl flip ↦ absurd (false≢true (sym goes_on ∙ ends-suc t j ∙ and_from _ _ flip (not_from_false _ even)))
+      | inr same ↦ same
     ]
 
 -- within a window, before its last mutation, neither the level nor the levels beside it flip
@@ -210,8 +210,8 @@ window-next t (suc j) works_now goes_on =
     let odd : is_odd (period t j) ≡ true = (and_parts _ _ (sym (works-suc_suc t j) ∙ works_now)).0 in
     let above : flips t j ≡ false = keeps_odd t j odd self in
     works-suc_suc (suc t) j
-      ∙ and_from _ _ (is_odd-next_stay t j above ∙ odd)
-          (not_from_false _ (is_odd-next_stay t (suc j) self ∙ works-even t (suc j) works_now))
+    ∙ and_from _ _ (is_odd-next_stay t j above ∙ odd)
+    (not_from_false _ (is_odd-next_stay t (suc j) self ∙ works-even t (suc j) works_now))
 
 pub window_step-next : (t j : ℕ) → works t (suc j) ≡ true → ends t (suc j) ≡ false →
     window_step (suc t) (suc j) ≡ suc (window_step t (suc j))
@@ -257,13 +257,13 @@ window_step-first t (suc j) was is =
     let begun : 2 ^ j ≤ elapsed (suc t) (suc (suc j)) = leb-true _ _ (and_parts _ _ is).0 in
     let open_yet : elapsed (suc t) (suc (suc j)) < 2 ^ suc j = ltb-true _ _ (and_parts _ _ is).1 in
     elim (cases_Bool (flips t (suc (suc j)))) [
-      inl flip ↦ let new : elapsed (suc t) (suc (suc j)) ≡ 0 = elapsed-next_flip t (suc (suc j)) flip in omega arith
-    | inr stay ↦
-        let next : elapsed (suc t) (suc (suc j)) ≡ suc (elapsed t (suc (suc j))) = elapsed-next_stay t (suc (suc j)) stay in
-        elim (and_cases _ _ was) [
-          inl early ↦ let h : elapsed t (suc (suc j)) < 2 ^ j = leb-false _ _ early in omega arith
-        | inr late ↦ let h : 2 ^ suc j ≤ elapsed t (suc (suc j)) = ltb-false _ _ late in absurd (omega arith)
-        ]
+      | inl flip ↦ let new : elapsed (suc t) (suc (suc j)) ≡ 0 = elapsed-next_flip t (suc (suc j)) flip in omega arith
+      | inr stay ↦
+          let next : elapsed (suc t) (suc (suc j)) ≡ suc (elapsed t (suc (suc j))) = elapsed-next_stay t (suc (suc j)) stay in
+          elim (and_cases _ _ was) [
+            | inl early ↦ let h : elapsed t (suc (suc j)) < 2 ^ j = leb-false _ _ early in omega arith
+            | inr late ↦ let h : 2 ^ suc j ≤ elapsed t (suc (suc j)) = ltb-false _ _ late in absurd (omega arith)
+          ]
     ]
 
 -- ---- one window
@@ -277,8 +277,8 @@ even_half : (n : ℕ) → is_odd n ≡ false → n ≡ n / 2 * 2
 unfolding is_odd
 even_half n even =
     elim (bit_cases n) [
-      inl zero_bit ↦ let parts : n / 2 * 2 + n % 2 ≡ n = div-add-mod' n 2 in omega arith
-    | inr one_bit ↦ let no : eqb (n % 2) 1 ≡ true = eq-eqb _ _ one_bit in absurd (false≢true (sym even ∙ no))
+      | inl zero_bit ↦ let parts : n / 2 * 2 + n % 2 ≡ n = div-add-mod' n 2 in omega arith
+      | inr one_bit ↦ let no : eqb (n % 2) 1 ≡ true = eq-eqb _ _ one_bit in absurd (false≢true (sym even ∙ no))
     ]
 
 -- inside its window a level's period began with the period of the level above
@@ -318,10 +318,10 @@ ends-only t h j flip stay end =
     let j_flips : flips t j ≡ true = (and_parts _ _ both).0 in
     let j_stays : flips t (suc j) ≡ false = not-true _ (and_parts _ _ both).1 in
     elim (cases_order j h) [
-      inl same ↦ same
-    | inr apart ↦ elim apart [
-        inl below ↦ absurd (false≢true (sym j_stays ∙ flips-up_to t (suc j) h (omega arith) flip))
-      | inr above ↦ absurd (false≢true (sym stay ∙ flips-up_to t (suc h) j (omega arith) j_flips))
+      | inl same ↦ same
+      | inr apart ↦ elim apart [
+        | inl below ↦ absurd (false≢true (sym j_stays ∙ flips-up_to t (suc j) h (omega arith) flip))
+        | inr above ↦ absurd (false≢true (sym stay ∙ flips-up_to t (suc h) j (omega arith) j_flips))
       ]
     ]
 

@@ -1,9 +1,8 @@
 -- A number t by its place in a period of p numbers: the quotient q and the remainder r, and how both go on at t + 1.
-use Rattle.std.proofs.Common.{◌≡◌, ◌≢◌, ◌⊎◌, inl, inr, ℕ, zero, suc, ◌+◌, ◌-◌, ◌*◌, ◌/◌, ◌%◌, ◌^◌, ◌<◌, ◌≤◌, Bool, true, false, not, ◌&&◌, eqb, ltb, leb, refl, sym, ◌∙◌, ap, arith}
+use Rattle.std.proofs.Common.{◌≡◌, ◌⊎◌, inl, inr, ℕ, suc, ◌+◌, ◌-◌, ◌*◌, ◌/◌, ◌%◌, ◌^◌, ◌<◌, Bool, true, false, not, ◌&&◌, eqb, ltb, leb, refl, sym, ◌∙◌, arith}
 use Rattle.std.proofs.lemmas.Bool.{eq-eqb, ne_eqb, le-leb, lt-leb, lt-ltb, le-ltb, cases_eq, and_left, and_right}
 use Rattle.std.proofs.lemmas.Bool.Decides.{nat_tests}
-use Rattle.std.proofs.lemmas.Nat.{div-mul-add, mod-mul-add, div-add-mod', mod_below, mod-pow-add, pow_pos}
-use Rattle.std.proofs.Math.Nat.{two-pow-succ}
+use Rattle.std.proofs.lemmas.Nat.{div-mul-add, mod-mul-add, div-add-mod', mod_below, mod-pow-add}
 use Rattle.std.proofs.Math.Numerals.{add-one, one-add}
 
 -- inside a period the remainder goes up by one and the quotient stays
@@ -27,10 +26,10 @@ placed t p = sym (div-add-mod' t p)
 pub divides-next : (t q p r : ℕ) → t ≡ q * p + r → r < p → eqb ((t + 1) % p) 0 ≡ eqb (suc r) p
 divides-next t q p r e h =
     elim (cases_eq (suc r) p) [
-      inl last ↦ rw (add-one, (step_over t q p r e last).0, eq-eqb (suc r) p last) refl
-    | inr before ↦
-        let inside : suc r < p = omega arith in
-        rw (add-one, (step_inside t q p r e inside).0, ne_eqb (suc r) p before) (ne_eqb (suc r) 0 (λ e. cc))
+      | inl last ↦ rw (add-one, (step_over t q p r e last).0, eq-eqb (suc r) p last) refl
+      | inr before ↦
+          let inside : suc r < p = omega arith in
+          rw (add-one, (step_inside t q p r e inside).0, ne_eqb (suc r) p before) (ne_eqb (suc r) 0 (λ e. cc))
     ]
 
 -- the remainder of twice the period: the last bit of the quotient, and the remainder
@@ -45,8 +44,8 @@ bit_cases n = elim (cases_eq (n % 2) 0) [ inl e ↦ inl e | inr h ↦ inr (let b
 pub upper_half : (b p r : ℕ) → (b ≡ 0) ⊎ (b ≡ 1) → r < p → leb p (b * p + r) ≡ eqb b 1
 upper_half b p r bit h =
     elim bit [
-      inl e ↦ rw e (lt-leb p (0 * p + r) (omega arith))
-    | inr e ↦ rw e (le-leb p (1 * p + r) (omega arith))
+      | inl e ↦ rw e (lt-leb p (0 * p + r) (omega arith))
+      | inr e ↦ rw e (le-leb p (1 * p + r) (omega arith))
     ]
 
 -- the same by its quarters: c says which half of the period, b which half of that
@@ -54,13 +53,13 @@ pub second_quarter : (b c p q r : ℕ) → (b ≡ 0) ⊎ (b ≡ 1) → (c ≡ 0)
     (leb p (c * q + (b * p + r)) && ltb (c * q + (b * p + r)) q) ≡ (eqb b 1 && not (eqb c 1))
 second_quarter b c p q r bit upper h e =
     elim bit [
-      inl b_is ↦ elim upper [
-        inl c_is ↦ rw (b_is, c_is, lt-leb p (0 * q + (0 * p + r)) (omega arith)) refl
-      | inr c_is ↦ rw (b_is, c_is, le-ltb (1 * q + (0 * p + r)) q (omega arith), le-leb p (1 * q + (0 * p + r)) (omega arith)) refl
+      | inl b_is ↦ elim upper [
+        | inl c_is ↦ rw (b_is, c_is, lt-leb p (0 * q + (0 * p + r)) (omega arith)) refl
+        | inr c_is ↦ rw (b_is, c_is, le-ltb (1 * q + (0 * p + r)) q (omega arith), le-leb p (1 * q + (0 * p + r)) (omega arith)) refl
       ]
-    | inr b_is ↦ elim upper [
-        inl c_is ↦ rw (b_is, c_is, le-leb p (0 * q + (1 * p + r)) (omega arith), lt-ltb (0 * q + (1 * p + r)) q (omega arith)) refl
-      | inr c_is ↦ rw (b_is, c_is, le-ltb (1 * q + (1 * p + r)) q (omega arith), le-leb p (1 * q + (1 * p + r)) (omega arith)) refl
+      | inr b_is ↦ elim upper [
+        | inl c_is ↦ rw (b_is, c_is, le-leb p (0 * q + (1 * p + r)) (omega arith), lt-ltb (0 * q + (1 * p + r)) q (omega arith)) refl
+        | inr c_is ↦ rw (b_is, c_is, le-ltb (1 * q + (1 * p + r)) q (omega arith), le-leb p (1 * q + (1 * p + r)) (omega arith)) refl
       ]
     ]
 
@@ -68,13 +67,13 @@ pub first_quarter : (b c p q r : ℕ) → (b ≡ 0) ⊎ (b ≡ 1) → (c ≡ 0) 
     ltb (c * q + (b * p + r)) p ≡ (not (eqb b 1) && not (eqb c 1))
 first_quarter b c p q r bit upper h e =
     elim bit [
-      inl b_is ↦ elim upper [
-        inl c_is ↦ rw (b_is, c_is, lt-ltb (0 * q + (0 * p + r)) p (omega arith)) refl
-      | inr c_is ↦ rw (b_is, c_is, le-ltb (1 * q + (0 * p + r)) p (omega arith)) refl
+      | inl b_is ↦ elim upper [
+        | inl c_is ↦ rw (b_is, c_is, lt-ltb (0 * q + (0 * p + r)) p (omega arith)) refl
+        | inr c_is ↦ rw (b_is, c_is, le-ltb (1 * q + (0 * p + r)) p (omega arith)) refl
       ]
-    | inr b_is ↦ elim upper [
-        inl c_is ↦ rw (b_is, c_is, le-ltb (0 * q + (1 * p + r)) p (omega arith)) refl
-      | inr c_is ↦ rw (b_is, c_is, le-ltb (1 * q + (1 * p + r)) p (omega arith)) refl
+      | inr b_is ↦ elim upper [
+        | inl c_is ↦ rw (b_is, c_is, le-ltb (0 * q + (1 * p + r)) p (omega arith)) refl
+        | inr c_is ↦ rw (b_is, c_is, le-ltb (1 * q + (1 * p + r)) p (omega arith)) refl
       ]
     ]
 
@@ -83,8 +82,8 @@ pub last_by_halves : (b p q r : ℕ) → (b ≡ 0) ⊎ (b ≡ 1) → r < p → q
     eqb (suc (b * p + r)) q ≡ (eqb (suc r) p && eqb b 1)
 last_by_halves b p q r bit h e =
     elim bit [
-      inl b_is ↦ rw (b_is, ne_eqb (suc (0 * p + r)) q (λ g. omega arith)) (sym (and_right (eqb (suc r) p) false refl))
-    | inr b_is ↦ grind (arith, nat_tests, b_is)
+      | inl b_is ↦ rw (b_is, ne_eqb (suc (0 * p + r)) q (λ g. omega arith)) (sym (and_right (eqb (suc r) p) false refl))
+      | inr b_is ↦ grind (arith, nat_tests, b_is)
     ]
 
 pub and_true_right : (b : Bool) → (b && true) ≡ b
@@ -96,11 +95,11 @@ pub window_end : (b c p q r : ℕ) → (b ≡ 0) ⊎ (b ≡ 1) → (c ≡ 0) ⊎
     ((eqb b 1 && not (eqb c 1)) && eqb (suc (c * q + (b * p + r) - p)) p) ≡ ((eqb (suc r) p && eqb b 1) && not (eqb c 1))
 window_end b c p q r bit upper h e =
     elim bit [
-      inl b_is ↦ rw b_is (sym (and_left (eqb (suc r) p && false) (not (eqb c 1)) (and_right (eqb (suc r) p) false refl)))
-    | inr b_is ↦ elim upper [
-        inl c_is ↦ let same : 0 * q + (1 * p + r) - p ≡ r = omega arith in
-          rw (b_is, c_is, same) (sym (and_true_right (eqb (suc r) p && true) ∙ and_true_right (eqb (suc r) p)))
-      | inr c_is ↦ rw (b_is, c_is) (sym (and_right (eqb (suc r) p && true) false refl))
+      | inl b_is ↦ rw b_is (sym (and_left (eqb (suc r) p && false) (not (eqb c 1)) (and_right (eqb (suc r) p) false refl)))
+      | inr b_is ↦ elim upper [
+        | inl c_is ↦ let same : 0 * q + (1 * p + r) - p ≡ r = omega arith in
+            rw (b_is, c_is, same) (sym (and_true_right (eqb (suc r) p && true) ∙ and_true_right (eqb (suc r) p)))
+        | inr c_is ↦ rw (b_is, c_is) (sym (and_right (eqb (suc r) p && true) false refl))
       ]
     ]
 

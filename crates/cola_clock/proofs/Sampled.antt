@@ -1,9 +1,8 @@
 -- Which run below a level's next run is sampled from.
-use Rattle.std.proofs.Common.{◌≡◌, ℕ, suc, Bool, true, false, cond, eqb, refl, sym, ◌∙◌}
-use Rattle.std.proofs.lemmas.Bool.{cases_Bool, eqb-true, eq-eqb}
+use Rattle.std.proofs.Common.{◌≡◌, ℕ, suc, Bool, true, false, cond, eqb, refl, ◌∙◌}
+use Rattle.std.proofs.lemmas.Bool.{eqb-true, eq-eqb}
 use Rattle.cola_clock.specs.Clock.{period, is_odd, is_over}
 use Rattle.cola_clock.specs.Schedule.{below_at}
-use Rattle.cola_clock.specs.declared.state.Below.{Below}
 use Rattle.cola_clock.specs.declared.state.Below.TheVariants.{Visible, Shadow, Nothing}
 use Rattle.cola_clock.proofs.Laws.{is_over-suc}
 

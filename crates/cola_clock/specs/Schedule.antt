@@ -1,5 +1,5 @@
 -- What the calls on the clock answer, in the program's own enums.
-use Rattle.std.specs.Prelude.{ℕ, suc, Bool, true, false, ◌==◌, if◌then◌else◌}
+use Rattle.std.specs.Prelude.{ℕ, ◌==◌, if◌then◌else◌}
 use Rattle.cola_clock.specs.Clock.{period, is_odd, works, is_over, window_step}
 use Rattle.cola_clock.specs.declared.state.Phase.{Phase}
 use Rattle.cola_clock.specs.declared.state.Phase.TheVariants.{Before, Inside, After}

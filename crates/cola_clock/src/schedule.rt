@@ -57,7 +57,11 @@ pub fn phase(clock: u64, level: u8) -> Phase
     ensures after { IsTrue (is_over clock level) → result ≡ Phase.After }
 {
     if level == 1 {
-        return if clock % 2 == 0 { Phase::Inside(0) } else { Phase::After };
+        return if clock % 2 == 0 {
+            Phase::Inside(0)
+        } else {
+            Phase::After
+        };
     }
     let elapsed = clock % period_length(level);
     let begin = period_length(level - 2);

@@ -9,15 +9,13 @@ ghost use Rattle.cola_clock.specs.declared.state.Below.{Below};
 /// Two adjacent levels of 1 and more never work in one mutation. The lemma is `adjacent-rest` of `proofs/Laws.antt`.
 pub fn adjacent_levels_rest()
     ensures { (t j : ℕ) → works t (suc j) ≡ true → works t (suc (suc j)) ≡ false }
-{
-}
+{}
 
 /// So a mutation works at no more than every other level of 1 and more: at `(n + 1) / 2` of the levels 1 to n at most.
 /// The lemma is `working_levels-half` of `proofs/Counts.antt`.
 pub fn every_other_level_works()
     ensures { (t n : ℕ) → 2 * working_levels t n ≤ n + 1 }
-{
-}
+{}
 
 /// A level of 1 and more is in exactly one of three phases: its window is still to come in this period, it works, or its
 /// window is over. The lemmas are `before-not_works`, `before-not_over`, `works-not_over` and `before_else` of
@@ -27,8 +25,7 @@ pub fn phases_exclude()
     ensures before_not_over { (t j : ℕ) → is_before t (suc j) ≡ true → is_over t (suc j) ≡ false }
     ensures works_not_over { (t j : ℕ) → works t (suc j) ≡ true → is_over t (suc j) ≡ false }
     ensures one_of_three { (t j : ℕ) → works t (suc j) ≡ false → is_over t (suc j) ≡ false → is_before t (suc j) ≡ true }
-{
-}
+{}
 
 /// Each source of a level's next run stays throughout the level's window: at any two clocks of one window of level
 /// j + 1, the levels j, j + 1 and j + 2 stand in the same periods, so that none of them flips in between, and in an odd
@@ -36,8 +33,7 @@ pub fn phases_exclude()
 /// `proofs/Laws.antt`.
 pub fn sources_stay()
     ensures { (t u j : ℕ) → InOneWindow t u (suc j) → SourcesStay t u j }
-{
-}
+{}
 
 /// From one mutation of a window to the next no source flips, and the window goes on one mutation further. The lemmas
 /// are those on `window` of `proofs/Laws.antt`.
@@ -48,8 +44,7 @@ pub fn window_goes_on()
     ensures works_next { (t j : ℕ) → works t (suc j) ≡ true → ends t (suc j) ≡ false → works (suc t) (suc j) ≡ true }
     ensures step_next { (t j : ℕ) → works t (suc j) ≡ true → ends t (suc j) ≡ false → window_step (suc t) (suc j) ≡ suc (window_step t (suc j)) }
     ensures first { (t j : ℕ) → works t (suc j) ≡ false → works (suc t) (suc j) ≡ true → window_step (suc t) (suc j) ≡ 0 }
-{
-}
+{}
 
 /// A shadow that is sampled belongs to a level whose window is over, at every level, 0 among them. The lemma is
 /// `sampled-over` of `proofs/Sampled.antt`.
@@ -58,15 +53,13 @@ pub fn sampled_shadow_is_finished()
     ensures not_over { (t j bottom : ℕ) → below_at t j bottom ≡ Below.Visible → is_over t (suc j) ≡ false }
     ensures at_bottom { (t j bottom : ℕ) → below_at t j bottom ≡ Below.Nothing → j ≡ bottom }
     ensures above_bottom { (t bottom : ℕ) → below_at t bottom bottom ≡ Below.Nothing }
-{
-}
+{}
 
 /// A level's window is over exactly where the level above it, the one before it in number order, stands in an odd
 /// period. The lemma is `is_over-suc` of `proofs/Laws.antt`.
 pub fn over_in_odd_periods()
     ensures { (t j : ℕ) → is_over t (suc j) ≡ is_odd (period t j) }
-{
-}
+{}
 
 /// Level 0 flips after every mutation, and each other level where the level above it flips out of an odd period. A level
 /// flips only where its window is over, and its next window is then not over. The lemmas are `flips-zero`, `flips-suc`,
@@ -77,16 +70,14 @@ pub fn flips_follow()
     ensures finished { (t j : ℕ) → flips t (suc j) ≡ true → is_over t (suc j) ≡ true }
     ensures begins_anew { (t j : ℕ) → flips t (suc j) ≡ true → is_over (suc t) (suc j) ≡ false }
     ensures over_until { (t j : ℕ) → is_over t (suc j) ≡ true → flips t (suc j) ≡ false → is_over (suc t) (suc j) ≡ true }
-{
-}
+{}
 
 /// The parity of a level's period turns exactly where the level flips. The lemmas are `is_odd-next_flip` and
 /// `is_odd-next_stay` of `proofs/Laws.antt`.
 pub fn parity_turns()
     ensures flips_turn { (t j : ℕ) → flips t j ≡ true → is_odd (period (suc t) j) ≡ not (is_odd (period t j)) }
     ensures others_stay { (t j : ℕ) → flips t j ≡ false → period (suc t) j ≡ period t j }
-{
-}
+{}
 
 /// Where h is the highest level that flips after a mutation, exactly one window ends with it, that of level h + 1, and is
 /// over at the next clock. Where a level flips, no window up to it ends; so where the bottom flips, none does. The lemmas
@@ -96,19 +87,16 @@ pub fn one_window_ends()
     ensures no_other { (t h j : ℕ) → flips t h ≡ true → flips t (suc h) ≡ false → ends t (suc j) ≡ true → j ≡ h }
     ensures none_at_bottom { (t bottom j : ℕ) → flips t bottom ≡ true → j < bottom → ends t (suc j) ≡ false }
     ensures then_over { (t j : ℕ) → ends t (suc j) ≡ true → is_over (suc t) (suc j) ≡ true }
-{
-}
+{}
 
 /// In each period k a level of 1 and more works at as many clocks as its window is long: 1 at level 1, `2^(j-2)` at a
 /// level j of 2 and more. The lemma is `window_length-counts` of `proofs/Counts.antt`.
 pub fn windows_have_length()
     ensures { (k j : ℕ) → working_clocks (k * 2 ^ suc j) (suc j) (2 ^ suc j) ≡ window_length (suc j) }
-{
-}
+{}
 
 /// A clock that counts modulo `2^(bottom+1)` serves as well: no level up to the bottom can tell. The lemma is
 /// `schedule-wrap` of `proofs/Wrap.antt`.
 pub fn clock_wraps()
     ensures { (t bottom j : ℕ) → j ≤ bottom → SameSchedule (t % 2 ^ suc bottom) t j }
-{
-}
+{}

@@ -1,4 +1,4 @@
-use Rattle.std.proofs.Common.{◌≡◌, ◌+◌, ◌%◌, nat_eq, ap}
+use Rattle.std.proofs.Common.{◌+◌, ◌%◌, nat_eq, ap}
 use Rattle.cola_clock.specs.Clock.{flips}
 use Rattle.cola_clock.proofs.schedule.flips.Goals as goal
 

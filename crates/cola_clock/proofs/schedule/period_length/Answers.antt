@@ -1,4 +1,4 @@
-use Rattle.std.proofs.Common.{◌≡◌, ◌≤◌, ◌^◌, arith}
+use Rattle.std.proofs.Common.{◌≤◌, ◌^◌, arith}
 use Rattle.std.proofs.Math.Pow.{pow_mono}
 use Rattle.cola_clock.proofs.schedule.period_length.Goals as goal
 

@@ -1,4 +1,4 @@
-use Rattle.std.proofs.Common.{◌≡◌, ◌/◌, ◌%◌, ap}
+use Rattle.std.proofs.Common.{◌/◌, ◌%◌, ap}
 use Rattle.cola_clock.specs.Clock.{period, visible_slot}
 use Rattle.cola_clock.proofs.schedule.visible_slot.Goals as goal
 
