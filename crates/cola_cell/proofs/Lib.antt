@@ -1,1 +1,4 @@
+pub mod Numbers
 pub mod Padding
+pub mod Parts
+pub mod Unique

@@ -10,6 +10,7 @@ mod cell;
 mod fault;
 mod format;
 mod key;
+mod law;
 mod short;
 mod value;
 
@@ -17,4 +18,5 @@ pub use cell::{Cell, Item, Reader, Run};
 pub use fault::{PushFault, ReadFault, StepFault};
 pub use format::Format;
 pub use key::Key;
+pub use law::{cell_is_one, decoding_gives_back, spelling_is_one};
 pub use value::Value;
