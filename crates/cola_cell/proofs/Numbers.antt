@@ -1,6 +1,6 @@
 -- Little-endian numbers: bytes are those of the number that they read as, for all widths.
-use Rattle.std.proofs.Common.{◌/◌, ◌%◌, ◌≡◌, ℕ, zero, suc, ◌+◌, ◌*◌, ◌^◌, ◌<◌, ◌≤◌, List, [], ◌∷◌, ◌++◌, length, take, slice_index, refl, sym, ap, ◌∙◌, arith}
-use Rattle.std.proofs.lemmas.List.{length-take-le, get_or-take}
+use Rattle.std.proofs.Common.{◌/◌, ◌%◌, ◌≡◌, ℕ, zero, suc, ◌+◌, ◌*◌, ◌^◌, ◌<◌, ◌≤◌, List, [], ◌∷◌, ◌++◌, length, take, drop, slice_index, refl, sym, ap, ◌∙◌, arith}
+use Rattle.std.proofs.lemmas.List.{length-take-le, get_or-drop}
 use Rattle.std.proofs.Math.Nat.{div-one, div-div-eq-div-mul, pow-suc}
 use Rattle.std.specs.Int.{byte_at, bytes_low_first}
 use Rattle.byteorder.specs.Endian.{little_from, little_number, little_bytes}
@@ -33,14 +33,19 @@ digits (suc k) j x (a ∷ xs) len small reads =
 pub bytes-of-number : (n : ℕ) (xs : List ℕ) → length xs ≡ n → AreBytes xs → little_bytes n (little_number n xs) ≡ xs
 bytes-of-number n xs len small = digits n 0 (little_number n xs) xs len small (div-one (little_number n xs))
 
+-- the front of a list of bytes is one
+pub take-bytes : (n : ℕ) (xs : List ℕ) → AreBytes xs → AreBytes (take n xs)
+take-bytes zero xs small k = omega arith
+take-bytes (suc n) [] small k = small k
+take-bytes (suc n) (x ∷ xs) small zero = small zero
+take-bytes (suc n) (x ∷ xs) small (suc k) = take-bytes n xs (λ i. small (suc i)) k
+
+-- the rest of a list of bytes is one
+pub drop-bytes : (n : ℕ) (xs : List ℕ) → AreBytes xs → AreBytes (drop n xs)
+drop-bytes n xs small k = rw get_or-drop (small (n + k))
+
 -- the same of the first n bytes of a longer list
 pub bytes-of-first : (n : ℕ) (xs : List ℕ) → n ≤ length xs → AreBytes xs → little_bytes n (little_number n xs) ≡ take n xs
 bytes-of-first n xs fits small =
     ap (little_bytes n) (sym (little_from-take 0 n n xs (omega arith)))
-    ∙ bytes-of-number n (take n xs) (length-take-le n xs fits) (taken n xs small)
-  where
-    taken : (n : ℕ) (xs : List ℕ) → AreBytes xs → AreBytes (take n xs)
-    taken zero xs small k = omega arith
-    taken (suc n) [] small k = small k
-    taken (suc n) (x ∷ xs) small zero = small zero
-    taken (suc n) (x ∷ xs) small (suc k) = taken n xs (λ i. small (suc i)) k
+    ∙ bytes-of-number n (take n xs) (length-take-le n xs fits) (take-bytes n xs small)

@@ -35,16 +35,16 @@ pub one-spelling : (format : Format) (cell : Cell) (first second : List ℕ) →
 one-spelling One cell xs ys a b =
     with-head xs ys (omega (arith, a.size)) (omega (arith, b.size)) (a.kind ∙ sym b.kind) (a.young ∙ sym b.young)
         (a.key_length ∙ sym b.key_length) (a.value_length ∙ sym b.value_length)
-    (with-part 4 4 8 xs ys refl (a.link ∙ sym b.link)
-    (with-part 8 24 32 xs ys refl (a.key ∙ sym b.key)
-    (with-part 32 32 64 xs ys refl (a.value ∙ sym b.value) (no-rest 64 xs ys a.size b.size))))
+    (with-part 4 8 xs ys (omega arith) (a.link ∙ sym b.link)
+    (with-part 8 32 xs ys (omega arith) (a.key ∙ sym b.key)
+    (with-part 32 64 xs ys (omega arith) (a.value ∙ sym b.value) (no-rest 64 xs ys a.size b.size))))
 one-spelling Two cell xs ys a b =
     with-head xs ys (omega (arith, a.size)) (omega (arith, b.size)) (a.kind ∙ sym b.kind) (a.young ∙ sym b.young)
         (a.key_length ∙ sym b.key_length) (a.value_length ∙ sym b.value_length)
-    (with-part 4 4 8 xs ys refl (a.link ∙ sym b.link)
-    (with-part 8 8 16 xs ys refl (a.stamp ∙ sym b.stamp)
-    (with-part 16 40 56 xs ys refl (a.key ∙ sym b.key)
-    (with-part 56 72 128 xs ys refl (a.value ∙ sym b.value) (no-rest 128 xs ys a.size b.size)))))
+    (with-part 4 8 xs ys (omega arith) (a.link ∙ sym b.link)
+    (with-part 8 16 xs ys (omega arith) (a.stamp ∙ sym b.stamp)
+    (with-part 16 56 xs ys (omega arith) (a.key ∙ sym b.key)
+    (with-part 56 128 xs ys (omega arith) (a.value ∙ sym b.value) (no-rest 128 xs ys a.size b.size)))))
 
 -- numbers that have the same bytes are the same
 same-number : (n x y : ℕ) → x < 256 ^ n → y < 256 ^ n → little_bytes n x ≡ little_bytes n y → x ≡ y

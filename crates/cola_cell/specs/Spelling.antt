@@ -1,5 +1,5 @@
 -- The bytes of a cell in each format.
-use Rattle.std.specs.Prelude.{◌≡◌, ℕ, ◌+◌, ◌≤◌, ◌<◌, ◌^◌, List, length, take, drop, slice_index, Option, MatchOption}
+use Rattle.std.specs.Prelude.{◌≡◌, ℕ, ◌-◌, ◌≤◌, ◌<◌, ◌^◌, List, length, take, drop, slice_index, Option, MatchOption}
 use Rattle.byteorder.specs.Endian.{little_bytes}
 use Rattle.cola_cell.specs.declared.format.Format.{Format}
 use Rattle.cola_cell.specs.declared.format.Format.TheVariants.{One, Two}
@@ -18,14 +18,14 @@ abbrev pub value_at : Format → ℕ
 value_at One = 32
 value_at Two = 56
 
--- the n bytes from a place
+-- the bytes from one place up to another
 abbrev pub part : ℕ → ℕ → List ℕ → List ℕ
-part place n bytes = take n (drop place bytes)
+part from to bytes = take (to - from) (drop from bytes)
 
 -- format Two has the stamp in bytes 8 to 15; format One has no stamp but 0
 abbrev pub StampIs : Format → ℕ → List ℕ → Type 0
 StampIs One stamp bytes = stamp ≡ 0
-StampIs Two stamp bytes = part 8 8 bytes ≡ little_bytes 8 stamp
+StampIs Two stamp bytes = part 8 16 bytes ≡ little_bytes 8 stamp
 
 -- the bytes spell the cell in the format, part by part. Numbers are little-endian.
 pub record IsSpelling (format : Format) (cell : Cell) (bytes : List ℕ) : Type 0 where
@@ -46,13 +46,13 @@ pub record IsSpelling (format : Format) (cell : Cell) (bytes : List ℕ) : Type 
   -- byte 3: the length of the value, 0 where there is none
   pub value_length : slice_index bytes 3 ≡ length (value_of cell)
   -- bytes 4 to 7: the link
-  pub link : part 4 4 bytes ≡ little_bytes 4 (link_of cell)
+  pub link : part 4 8 bytes ≡ little_bytes 4 (link_of cell)
   -- bytes 8 to 15 in format Two: the stamp, 0 where there is no value
   pub stamp : StampIs format (stamp_of cell) bytes
   -- bytes 8 to 31 in format One, 16 to 55 in format Two: the key, then zeros
-  pub key : part (key_at format) (key_limit format) bytes ≡ padded (key_limit format) (key_of cell)
+  pub key : part (key_at format) (value_at format) bytes ≡ padded (key_limit format) (key_of cell)
   -- bytes 32 to 63 in format One, 56 to 127 in format Two: the value, then zeros
-  pub value : part (value_at format) (value_limit format) bytes ≡ padded (value_limit format) (value_of cell)
+  pub value : part (value_at format) (width format) bytes ≡ padded (value_limit format) (value_of cell)
 
 -- the bytes are the spelling of no cell
 abbrev pub IsNoSpelling : Format → List ℕ → Type 0

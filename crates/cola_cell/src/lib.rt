@@ -12,6 +12,7 @@ mod format;
 mod key;
 mod law;
 mod short;
+mod spelling;
 mod value;
 
 pub use cell::{Cell, Item, Reader, Run};
@@ -19,4 +20,5 @@ pub use fault::{PushFault, ReadFault, StepFault};
 pub use format::Format;
 pub use key::Key;
 pub use law::{cell_is_one, decoding_gives_back, spelling_is_one};
+pub use spelling::{decode, decode_wide, encode, encode_wide};
 pub use value::Value;
