@@ -52,7 +52,7 @@ padded-twice small large xs fits order =
     let sum : (small - length xs) + (large - length (padded small xs)) ≡ large - length xs = omega arith in
     append_assoc xs (replicate (small - length xs) 0) (replicate (large - length (padded small xs)) 0)
     ∙ ap (λ (ys : List ℕ). xs ++ ys)
-        (replicate-append-replicate (small - length xs) (large - length (padded small xs)) 0 ∙ ap (λ (m : ℕ). replicate m 0) sum)
+    (replicate-append-replicate (small - length xs) (large - length (padded small xs)) 0 ∙ ap (λ (m : ℕ). replicate m 0) sum)
 
 -- the list of a room that was checked
 pub fills : (room : List ℕ) (n : ℕ) → n ≤ length room → ((k : ℕ) → n ≤ k → slice_index room k ≡ 0) → Fills room n (take n room)
@@ -67,9 +67,10 @@ fills-zero room n list f k low = ap (λ (xs : List ℕ). slice_index xs k) f.is 
 pub copied : (size len : ℕ) (room whole : List ℕ) → len ≤ length room → length room ≤ size → ((k : ℕ) → len ≤ k → slice_index room k ≡ 0)
     → whole ≡ padded size room → (whole ≡ padded size (take len room)) × (take len whole ≡ take len room)
 copied size len room whole fits order all is =
-    let front = length-take-le len room fits in
-    (is ∙ ap (padded size) (padded-from len room fits all) ∙ padded-twice (length room) size (take len room) (omega arith) order,
-     ap (take len) is ∙ take-append-le len room (replicate (size - length room) 0) fits)
+    let front = length-take-le len room fits in (
+      is ∙ ap (padded size) (padded-from len room fits all) ∙ padded-twice (length room) size (take len room) (omega arith) order,
+      ap (take len) is ∙ take-append-le len room (replicate (size - length room) 0) fits,
+    )
 
 -- what that makes of the larger room
 pub holds-copied : (size len : ℕ) (room whole : List ℕ) → len ≤ length room → length room ≤ size → ((k : ℕ) → len ≤ k → slice_index room k ≡ 0)

@@ -72,7 +72,8 @@ impl Key {
     pub(crate) fn room(&self, n: usize) -> &[u8]
         requires holds { length self.now ≤ n }
         requires fits { n ≤ 40 }
-        ensures { result.now ≡ padded n self.now }
+        ensures value { result.now ≡ padded n self.now }
+        ensures limits { IsKey self.now }
     {
         self.0.room(n)
     }

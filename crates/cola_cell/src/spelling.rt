@@ -1,11 +1,11 @@
 //! Cells as bytes. Numbers are little-endian.
-ghost use Rattle.std.specs.Prelude.{◌≡◌, ◌≤◌, ◌∷◌, [], ◌^◌, ℕ, List, length, replicate, MatchOption};
+ghost use Rattle.std.specs.Prelude.{◌≡◌, ◌+◌, ◌≤◌, ◌^◌, ℕ, List, [], ◌∷◌, ◌++◌, length, take, replicate, MatchOption};
 ghost use Rattle.cola_cell.specs.declared.cell.Cell.{Cell as AnyCell};
 ghost use Rattle.cola_cell.specs.declared.format.Format.TheVariants.{One, Two};
-ghost use Rattle.cola_cell.specs.Bytes.{padded};
+ghost use Rattle.cola_cell.specs.Bytes.{padded, IsKey, IsValue};
 ghost use Rattle.cola_cell.specs.Cell.{key_of, kind_of, young_of, value_of, stamp_of, HasParts};
-ghost use Rattle.cola_cell.specs.Format.{width, stamp_limit, CellFits, ValueFits, value_limit};
-ghost use Rattle.cola_cell.specs.Spelling.{IsSpelling, Decodes, StampIs};
+ghost use Rattle.cola_cell.specs.Format.{width, CellFits};
+ghost use Rattle.cola_cell.specs.Spelling.{IsSpelling, Decodes, StampIs, key_at, stamp_bytes};
 
 use crate::cell::{Cell, Item};
 use crate::format::Format;
@@ -39,6 +39,7 @@ pub fn encode_wide(cell: &Cell, into: &mut [u8; 128])
     requires { stamp_of cell.now ≤ 2 ^ 63 }
     ensures { IsSpelling Two cell.now into.new }
 {
+    know_limits(cell);
     encode_in(Format::Two, cell, into);
 }
 
@@ -55,13 +56,55 @@ fn encode_in(format: Format, cell: &Cell, into: &mut [u8])
     requires fits { CellFits format cell.now }
     ensures { IsSpelling format cell.now into.new }
 {
-    into[..4].copy_from_slice(&head(cell));
-    LittleEndian::write_u32(&mut into[4..8], cell.link());
-    if let Format::Two = format {
-        LittleEndian::write_u64(&mut into[8..16], stamp(cell));
+    let mut link = [0u8; 4];
+    LittleEndian::write_u32(&mut link, cell.link());
+    put(into, 0, &head(cell));
+    put(into, 4, &link);
+    put_stamp(format, stamp(cell), into);
+    put(into, format.key_at(), cell.key().room(format.key_limit()));
+    put(
+        into,
+        format.value_at(),
+        value_room(cell, format.value_limit()),
+    );
+}
+
+// Does nothing: it says that key and value of a cell are within the limits of their types.
+#[inline(always)]
+fn know_limits(cell: &Cell)
+    ensures key { IsKey (key_of cell.now) }
+    ensures value { IsValue (value_of cell.now) }
+{
+    let _ = cell.key().len();
+    if let Cell::Item { item, .. } = cell
+        && let Item::Value { value, .. } = item
+    {
+        let _ = value.len();
     }
-    into[format.key_at()..format.value_at()].copy_from_slice(cell.key().room(format.key_limit()));
-    into[format.value_at()..].copy_from_slice(value_room(cell, format.value_limit()));
+}
+
+// Writes the part at the place.
+#[inline(always)]
+fn put(into: &mut [u8], place: usize, part: &[u8])
+    requires { place + length part.now ≤ length into.old }
+    ensures front { take (place + length part.now) into.new ≡ take place into.old ++ part.now }
+    ensures size { length into.new ≡ length into.old }
+{
+    into[place..place + part.len()].copy_from_slice(part);
+}
+
+// Writes the stamp of a cell, where the format has one.
+#[inline(always)]
+fn put_stamp(format: Format, stamp: u64, into: &mut [u8])
+    requires { length into.old ≡ width format }
+    ensures front { take (key_at format) into.new ≡ take 8 into.old ++ stamp_bytes format stamp }
+    ensures size { length into.new ≡ length into.old }
+{
+    if let Format::Two = format {
+        let mut number = [0u8; 8];
+        LittleEndian::write_u64(&mut number, stamp);
+        put(into, 8, &number);
+    }
 }
 
 // Bytes 0 to 3: kind, youth, and the lengths of key and value.
@@ -70,7 +113,12 @@ fn head(cell: &Cell) -> [u8; 4]
     ensures { result ≡ kind_of cell.now ∷ young_of cell.now ∷ length (key_of cell.now) ∷ length (value_of cell.now) ∷ [] }
 {
     match cell {
-        Cell::Item { key, item, young, .. } => match item {
+        Cell::Item {
+            key,
+            item,
+            young,
+            ..
+        } => match item {
             Item::Value { value, .. } => [0, *young as u8, key.len() as u8, value.len() as u8],
             Item::Tombstone => [1, *young as u8, key.len() as u8, 0],
         },
@@ -84,7 +132,10 @@ fn stamp(cell: &Cell) -> u64
     ensures { result ≡ stamp_of cell.now }
 {
     match cell {
-        Cell::Item { item: Item::Value { stamp, .. }, .. } => *stamp,
+        Cell::Item {
+            item: Item::Value { stamp, .. },
+            ..
+        } => *stamp,
         _ => 0,
     }
 }
@@ -97,9 +148,21 @@ fn value_room(cell: &Cell, n: usize) -> &[u8]
     ensures { result.now ≡ padded n (value_of cell.now) }
 {
     match cell {
-        Cell::Item { item: Item::Value { value, .. }, .. } => value.room(n),
-        _ => &NO_VALUE[..n],
+        Cell::Item { item, .. } => match item {
+            Item::Value { value, .. } => value.room(n),
+            Item::Tombstone => zeros(n),
+        },
+        Cell::Look { .. } => zeros(n),
     }
+}
+
+// A room of `n` zeros.
+#[inline(always)]
+fn zeros(n: usize) -> &'static [u8]
+    requires { n ≤ 72 }
+    ensures { result.now ≡ replicate n 0 }
+{
+    &NO_VALUE[..n]
 }
 
 #[inline(always)]
@@ -118,7 +181,7 @@ fn decode_in(format: Format, bytes: &[u8]) -> Option<Cell>
 #[inline(always)]
 fn stamp_in(format: Format, bytes: &[u8]) -> Option<u64>
     requires { length bytes.now ≡ width format }
-    ensures { MatchOption result ((stamp : ℕ) → stamp ≤ stamp_limit format → ¬ StampIs format stamp bytes.now) (λ stamp. (stamp ≤ stamp_limit format) × StampIs format stamp bytes.now) }
+    ensures { MatchOption result ((stamp : ℕ) → ¬ StampIs format stamp bytes.now) (λ stamp. StampIs format stamp bytes.now) }
 {
     if let Format::One = format {
         return Some(0);
@@ -141,14 +204,24 @@ fn cell_of(kind: u8, young: u8, key: Key, value: Value, stamp: u64, link: u32) -
     let young = young == 1;
     if kind == 0 {
         let item = Item::Value { value, stamp };
-        return Some(Cell::Item { key, item, young, link });
+        return Some(Cell::Item {
+            key,
+            item,
+            young,
+            link,
+        });
     }
     if value.len() != 0 || stamp != 0 {
         return None;
     }
     if kind == 1 {
         let item = Item::Tombstone;
-        return Some(Cell::Item { key, item, young, link });
+        return Some(Cell::Item {
+            key,
+            item,
+            young,
+            link,
+        });
     }
     if kind != 2 || young {
         return None;
