@@ -1,1 +1,8 @@
+pub mod Limits
+pub mod Numbers
 pub mod Padding
+pub mod Parts
+pub mod Reading
+pub mod Unique
+pub mod Words
+pub mod Writing

@@ -44,3 +44,30 @@ pub enum Reader {
     Incoming,
     Sample,
 }
+
+impl Cell {
+    ghost use Rattle.std.specs.Prelude.{◌≡◌};
+    ghost use Rattle.cola_cell.specs.Cell.{key_of, link_of};
+
+    /// The key of the cell.
+    #[inline]
+    pub fn key(&self) -> &Key
+        ensures { result.now ≡ key_of self.now }
+    {
+        match self {
+            Cell::Item { key, .. } => key,
+            Cell::Look { key, .. } => key,
+        }
+    }
+
+    /// The link of the cell.
+    #[inline]
+    pub fn link(&self) -> u32
+        ensures { result ≡ link_of self.now }
+    {
+        match self {
+            Cell::Item { link, .. } => *link,
+            Cell::Look { link, .. } => *link,
+        }
+    }
+}

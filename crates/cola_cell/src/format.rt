@@ -12,6 +12,7 @@ pub enum Format {
 impl Format {
     ghost use Rattle.std.specs.Prelude.{◌≡◌};
     ghost use Rattle.cola_cell.specs.Format.{width, key_limit, value_limit};
+    ghost use Rattle.cola_cell.specs.Spelling.{key_at, value_at};
 
     /// The size of a cell, in bytes: 64 or 128.
     #[inline]
@@ -43,6 +44,28 @@ impl Format {
         match self {
             Format::One => 32,
             Format::Two => 72,
+        }
+    }
+
+    /// Where a cell's key starts, in bytes.
+    #[inline]
+    pub(crate) fn key_at(self) -> usize
+        ensures { result ≡ key_at self }
+    {
+        match self {
+            Format::One => 8,
+            Format::Two => 16,
+        }
+    }
+
+    /// Where a cell's value starts, in bytes.
+    #[inline]
+    pub(crate) fn value_at(self) -> usize
+        ensures { result ≡ value_at self }
+    {
+        match self {
+            Format::One => 32,
+            Format::Two => 56,
         }
     }
 }

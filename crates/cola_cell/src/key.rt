@@ -1,9 +1,9 @@
 //! Keys.
-ghost use Rattle.std.specs.Prelude.{◌≡◌, ◌≤◌, ◌↔◌, ℕ, List, length, IsTrue, SomeIff, Some, nat_eq, refl};
+ghost use Rattle.std.specs.Prelude.{◌≡◌, ◌≤◌, ◌%◌, ◌↔◌, MatchOption, ℕ, List, length, IsTrue, SomeIff, Some, nat_eq, refl};
 ghost use Rattle.std.specs.Ordering.{nat_cmp};
 ghost use Rattle.std.specs.Cmp.{partial_equiv_from_equiv};
 ghost use Rattle.std.specs.Cmp.Lexicographic.{pointwise, slice_cmp, nat_list_eq_equiv, nat_list_cmp_total, texts_po, texts_ties};
-ghost use Rattle.cola_cell.specs.Bytes.{IsKey};
+ghost use Rattle.cola_cell.specs.Bytes.{IsKey, Fills, padded};
 ghost use Rattle.cola_cell.specs.Format.{KeyFits};
 
 use crate::format::Format;
@@ -56,6 +56,39 @@ impl Key {
         ensures { IsTrue result ↔ KeyFits format self.now }
     {
         self.0.len() <= format.key_limit()
+    }
+
+    /// The length of the key, in bytes.
+    #[inline(always)]
+    pub(crate) fn len(&self) -> usize
+        ensures value { result ≡ length self.now }
+        ensures limits { IsKey self.now }
+    {
+        self.0.len()
+    }
+
+    /// The key, then zeros to the end of a room of `n` bytes.
+    #[inline(always)]
+    pub(crate) fn room(&self, n: usize) -> &[u8]
+        requires holds { length self.now ≤ n }
+        requires fits { n ≤ 40 }
+        ensures value { result.now ≡ padded n self.now }
+        ensures limits { IsKey self.now }
+    {
+        self.0.room(n)
+    }
+
+    /// The key of `len` bytes that fills `room`, or none where no key does.
+    #[inline(always)]
+    pub(crate) fn in_room(room: &[u8], len: u8) -> Option<Key>
+        requires words { length room.now % 8 ≡ 0 }
+        requires fits { length room.now ≤ 40 }
+        ensures { MatchOption result ((list : List ℕ) → IsKey list → ¬ Fills room.now len list) (λ key. IsKey key × Fills room.now len key) }
+    {
+        if len == 0 {
+            return None;
+        }
+        Some(Key(Short::in_room(room, len)?))
     }
 }
 

@@ -10,11 +10,15 @@ mod cell;
 mod fault;
 mod format;
 mod key;
+mod law;
 mod short;
+mod spelling;
 mod value;
 
 pub use cell::{Cell, Item, Reader, Run};
 pub use fault::{PushFault, ReadFault, StepFault};
 pub use format::Format;
 pub use key::Key;
+pub use law::{cell_is_one, decoding_gives_back, spelling_is_one};
+pub use spelling::{decode, decode_wide, encode, encode_wide};
 pub use value::Value;

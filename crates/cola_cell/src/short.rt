@@ -1,6 +1,8 @@
 //! Short lists of bytes that lie in the value itself.
-ghost use Rattle.std.specs.Prelude.{◌≡◌, ◌≤◌, length};
+ghost use Rattle.std.specs.Prelude.{◌≡◌, ◌≤◌, ◌%◌, ◌↔◌, ℕ, List, length, slice_index, IsTrue, MatchOption};
+ghost use Rattle.cola_cell.specs.Bytes.{padded, Fills};
 
+use byteorder::{ByteOrder, LittleEndian};
 use std::marker::Model;
 
 /// A list of at most `N` bytes, with zeros behind it. A contract sees it as the list.
@@ -63,4 +65,47 @@ impl<const N: usize> Short<N> {
     {
         &self.bytes[..self.len as usize]
     }
+
+    /// The list, then zeros to the end of a room of `n` bytes.
+    #[inline(always)]
+    pub fn room(&self, n: usize) -> &[u8]
+        requires holds { length self.now ≤ n }
+        requires fits { n ≤ N }
+        ensures { result.now ≡ padded n self.now }
+    {
+        &self.bytes[..n]
+    }
+
+    /// The list of `len` bytes that fills `room`. None exactly where no list does: where `len` is
+    /// more than the room has, or a byte behind the list isn't zero.
+    #[inline(always)]
+    pub fn in_room(room: &[u8], len: u8) -> Option<Short<N>>
+        requires words { length room.now % 8 ≡ 0 }
+        requires fits { length room.now ≤ N }
+        requires small { N ≤ 255 }
+        ensures { MatchOption result ((list : List ℕ) → ¬ Fills room.now len list) (Fills room.now len) }
+    {
+        if len as usize > room.len() || !is_zero_from(room, len as usize) {
+            return None;
+        }
+        let mut bytes = [0u8; N];
+        bytes[..room.len()].copy_from_slice(room);
+        Some(Short { bytes, len })
+    }
+}
+
+/// Whether every byte of the room from `start` on is zero. A room is whole words of 8 bytes.
+#[inline(always)]
+pub fn is_zero_from(room: &[u8], start: usize) -> bool
+    requires words { length room.now % 8 ≡ 0 }
+    ensures { IsTrue result ↔ ((k : ℕ) → start ≤ k → slice_index room.now k ≡ 0) }
+{
+    for word in 0..room.len() / 8 {
+        let used = start.saturating_sub(8 * word).min(8) as u32;
+        let half = LittleEndian::read_u64(&room[8 * word..]) >> (4 * used);
+        if half >> (4 * used) != 0 {
+            return false;
+        }
+    }
+    true
 }

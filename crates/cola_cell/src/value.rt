@@ -1,8 +1,8 @@
 //! Values.
-ghost use Rattle.std.specs.Prelude.{◌≡◌, ◌≤◌, ◌↔◌, ℕ, List, length, IsTrue, SomeIff, nat_eq};
+ghost use Rattle.std.specs.Prelude.{◌≡◌, ◌≤◌, ◌%◌, ◌↔◌, MatchOption, ℕ, List, length, IsTrue, SomeIff, nat_eq};
 ghost use Rattle.std.specs.Cmp.{partial_equiv_from_equiv};
 ghost use Rattle.std.specs.Cmp.Lexicographic.{pointwise, nat_list_eq_equiv};
-ghost use Rattle.cola_cell.specs.Bytes.{IsValue};
+ghost use Rattle.cola_cell.specs.Bytes.{IsValue, Fills, padded};
 ghost use Rattle.cola_cell.specs.Format.{ValueFits};
 
 use crate::format::Format;
@@ -53,6 +53,35 @@ impl Value {
         ensures { IsTrue result ↔ ValueFits format self.now }
     {
         self.0.len() <= format.value_limit()
+    }
+
+    /// The length of the value, in bytes.
+    #[inline(always)]
+    pub(crate) fn len(&self) -> usize
+        ensures value { result ≡ length self.now }
+        ensures limit { IsValue self.now }
+    {
+        self.0.len()
+    }
+
+    /// The value, then zeros to the end of a room of `n` bytes.
+    #[inline(always)]
+    pub(crate) fn room(&self, n: usize) -> &[u8]
+        requires holds { length self.now ≤ n }
+        requires fits { n ≤ 72 }
+        ensures { result.now ≡ padded n self.now }
+    {
+        self.0.room(n)
+    }
+
+    /// The value of `len` bytes that fills `room`, or none where no value does.
+    #[inline(always)]
+    pub(crate) fn in_room(room: &[u8], len: u8) -> Option<Value>
+        requires words { length room.now % 8 ≡ 0 }
+        requires fits { length room.now ≤ 72 }
+        ensures { MatchOption result ((list : List ℕ) → ¬ Fills room.now len list) (λ value. IsValue value × Fills room.now len value) }
+    {
+        Some(Value(Short::in_room(room, len)?))
     }
 }
 
