@@ -1,2 +1,6 @@
 pub mod Streams
 pub mod FailedCalls
+pub mod Reading
+pub mod Buffered
+pub mod Finished
+pub mod NextLine

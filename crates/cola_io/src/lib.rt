@@ -4,6 +4,10 @@
 //! implementations in memory tell everything, those over std's readers and writers nothing.
 #![tactic(auto)]
 
+mod buffer;
+mod held;
+mod line_reader;
+mod next;
 mod sink;
 mod sink_memory;
 mod sink_std;
@@ -11,6 +15,8 @@ mod source;
 mod source_memory;
 mod source_std;
 
+pub use line_reader::LineReader;
+pub use next::Next;
 pub use sink::{Sink, SinkFault, put_all};
 pub use sink_memory::MemorySink;
 pub use sink_std::StdSink;

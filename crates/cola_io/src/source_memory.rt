@@ -38,7 +38,18 @@ impl Source for MemorySource {
 
     ghost faults = { λ s. failed_calls s.failing.items s.calls };
 
-    fn read(&mut self, into: &mut [u8]) -> Result<usize, SourceFault> {
+    fn read(&mut self, into: &mut [u8]) -> Result<usize, SourceFault>
+        requires { 0 < length into.old }
+        ensures bound { IfOk result (λ n. n ≤ length into.new) }
+        ensures bytes { ReadTakes result into.new (Some (drop self.old.at self.old.bytes.items)) (Some (drop self.new.at self.new.bytes.items)) }
+        ensures end { IfOk result (λ n. n ≡ 0 → IsAtEnd (Some (drop self.new.at self.new.bytes.items))) }
+        ensures cause { HasCause result (failed_calls self.old.failing.items self.old.calls) (failed_calls self.new.failing.items self.new.calls) }
+        ensures faults_kept { failed_calls self.old.failing.items self.old.calls ≤ failed_calls self.new.failing.items self.new.calls }
+        ensures fails { IsErr result ↔ ((self.old.calls < 2 ^ 64 - 1) × (is_listed self.old.failing.items (self.old.calls + 1) ≡ true)) }
+        ensures amount { IfOk result (λ n. n ≡ min (length into.old) (vec_len self.old.bytes - self.old.at)) }
+        ensures counted { self.new.calls ≡ min (self.old.calls + 1) (2 ^ 64 - 1) }
+        ensures same { (self.new.bytes ≡ self.old.bytes) × (self.new.failing ≡ self.old.failing) }
+    {
         if self.is_failing() {
             return Err(SourceFault);
         }
