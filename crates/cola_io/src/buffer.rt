@@ -1,10 +1,10 @@
 //! The bytes between a source and its lines.
-ghost use Rattle.std.specs.Prelude.{◌≡◌, ◌<◌, ◌≤◌, ◌+◌, ◌-◌, ◌++◌, ◌↔◌, if◌then◌else◌, IsTrue, ◌∷◌, ℕ, List, [], Some, None, drop, take, length, unwrap_or, IfNone, IfSome, IfOk, OnErr};
+ghost use Rattle.std.specs.Prelude.{◌≡◌, ◌<◌, ◌≤◌, ◌+◌, ◌-◌, ◌++◌, ◌↔◌, IsTrue, ◌∷◌, ℕ, List, [], Some, None, drop, take, length, unwrap_or, IfNone, IfSome, IfOk, OnErr, position};
 ghost use Rattle.cola_spec.specs.Lines.{is_line_feed, line_limit, without_return};
 ghost use Rattle.cola_outside.specs.Faults.{HasCause};
 ghost use Rattle.std.specs.Io.KnownBytes.{IsAtEnd};
 ghost use Rattle.cola_io.specs.Streams.{Taken};
-ghost use Rattle.cola_io.specs.Buffered.{HasNoFeed, kept_part};
+ghost use Rattle.cola_io.specs.Buffered.{HasNoFeed, kept_part, line_held, part_held};
 ghost use Rattle.cola_io.specs.Finished.{Finished, LastFinished, CutOff};
 
 use super::held::Held;
@@ -37,14 +37,48 @@ impl Model for Buffer {
     ghost invariant = { λ b. (b.from ≤ b.to) × (b.to ≤ 512) × (length b.bytes.items ≤ 160) };
 }
 
-/// Appends the bytes of the chunk from `from` on, up to `end`, where there is room for them all.
-fn extend(bytes: &mut ArrayVec<u8, 160>, chunk: &[u8], from: usize, end: usize) -> bool
+/// Appends the bytes of the chunk from `from` on, up to `end`, to what is held of a line, and answers
+/// what is held then.
+fn hold(bytes: &mut ArrayVec<u8, 160>, held: Held, chunk: &[u8], from: usize, end: usize) -> Held
     requires ordered { from ≤ end }
     requires within { end ≤ length chunk.now }
-    ensures room { IsTrue result ↔ (length bytes.old.items + (end - from) ≤ 160) }
-    ensures items { bytes.new.items ≡ (if result then bytes.old.items ++ take (end - from) (drop from chunk.now) else bytes.old.items) }
+    requires line { line_held held bytes.old.items ≡ None }
+    requires fits { length bytes.old.items ≤ 160 }
+    ensures line { line_held result bytes.new.items ≡ None }
+    ensures part { part_held result bytes.new.items ≡ kept_part (part_held held bytes.old.items ++ take (end - from) (drop from chunk.now)) }
+    ensures fits { length bytes.new.items ≤ 160 }
 {
-    bytes.try_extend_from_slice(&chunk[from..end]).is_ok()
+    match held {
+        Held::Line => Held::Line,
+        Held::Long => Held::Long,
+        Held::Part => {
+            if bytes.try_extend_from_slice(&chunk[from..end]).is_err() {
+                return Held::Long;
+            }
+            Held::Part
+        }
+    }
+}
+
+/// Where the first line feed is.
+fn feed_at(bytes: &[u8]) -> Option<usize>
+    ensures found { result ≡ position is_line_feed bytes.now }
+    ensures none { IfNone result (HasNoFeed bytes.now) }
+{
+    bytes.iter().position(|byte| *byte == b'\n')
+}
+
+/// Drops one carriage return from the end of the bytes.
+fn drop_return(bytes: &mut ArrayVec<u8, 160>)
+    requires { length bytes.old.items ≤ 160 }
+    ensures text { bytes.new.items ≡ without_return bytes.old.items }
+    ensures fits { length bytes.new.items ≤ 160 }
+{
+    if let Some(byte) = bytes.pop() {
+        if byte != b'\r' {
+            bytes.push(byte);
+        }
+    }
 }
 
 impl Buffer {
@@ -91,14 +125,7 @@ impl Buffer {
         ensures { self.new ≡ record self.old { begun = kept_part (self.old.begun ++ take count self.old.rest); rest = drop count self.old.rest } }
     {
         let end = self.from + count;
-        match self.held {
-            Held::Line | Held::Long => {}
-            Held::Part => {
-                if !extend(&mut self.bytes, &self.chunk, self.from, end) {
-                    self.held = Held::Long;
-                }
-            }
-        }
+        self.held = hold(&mut self.bytes, self.held, &self.chunk, self.from, end);
         self.from = end;
     }
 
@@ -109,21 +136,14 @@ impl Buffer {
         ensures begun { self.new.begun ≡ [] }
         ensures rest { self.new.rest ≡ self.old.rest }
     {
-        match self.held {
-            Held::Long => {
-                self.bytes.clear();
-                self.held = Held::Part;
-                Next::TooLong
-            }
-            Held::Line | Held::Part => {
-                match self.bytes.pop() {
-                    Some(b'\r') | None => {}
-                    Some(byte) => self.bytes.push(byte),
-                }
-                self.held = Held::Line;
-                Next::Line
-            }
+        if let Held::Long = self.held {
+            self.bytes.clear();
+            self.held = Held::Part;
+            return Next::TooLong;
         }
+        drop_return(&mut self.bytes);
+        self.held = Held::Line;
+        Next::Line
     }
 
     /// Cuts off the next line that a line feed ends. Where there is none, all bytes are the
@@ -135,16 +155,14 @@ impl Buffer {
         ensures none { IfNone result (HasNoFeed self.old.rest) }
         ensures kept { IfNone result (self.new ≡ record { line = None; begun = kept_part (self.old.begun ++ self.old.rest); rest = [] }) }
     {
-        let rest = &self.chunk[self.from..self.to];
-        let count = rest.len();
-        match rest.iter().position(|byte| *byte == b'\n') {
+        match feed_at(&self.chunk[self.from..self.to]) {
             Some(at) => {
                 self.gather(at);
                 self.from += 1;
                 Some(self.finish())
             }
             None => {
-                self.gather(count);
+                self.gather(self.to - self.from);
                 None
             }
         }
@@ -158,9 +176,20 @@ impl Buffer {
         ensures begun { self.new.begun ≡ [] }
         ensures rest { self.new.rest ≡ [] }
     {
+        if self.is_blank() {
+            return Next::End;
+        }
+        self.finish()
+    }
+
+    /// No byte of the next line is held.
+    fn is_blank(&self) -> bool
+        ensures { IsTrue result ↔ (self.now.begun ≡ []) }
+    {
         match self.held {
-            Held::Part if self.bytes.is_empty() => Next::End,
-            _ => self.finish(),
+            Held::Line => true,
+            Held::Part => self.bytes.is_empty(),
+            Held::Long => false,
         }
     }
 
