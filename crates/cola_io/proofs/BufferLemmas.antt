@@ -1,15 +1,15 @@
 -- What the held bytes of a buffer stand for.
-use Rattle.std.proofs.Common.{◌≡◌, ◌≢◌, ◌⊎◌, ℕ, ◌+◌, ◌-◌, ◌<◌, ◌≤◌, Bool, true, false, nat_le, nat_eq, if◌then◌else◌, List, [], ◌∷◌, ◌++◌, length, take, drop, get_or, Option, Some, None, refl, inl, inr, ap, sym, ◌∙◌, subst, arith, length-append, length-take, length-drop, append_assoc, add-one, eq-eqb, suc, zero}
+use Rattle.std.proofs.Common.{◌≡◌, ℕ, ◌+◌, ◌-◌, ◌<◌, ◌≤◌, Bool, true, false, nat_eq, if◌then◌else◌, List, [], ◌∷◌, ◌++◌, length, take, drop, get_or, Option, Some, None, refl, inl, inr, ap, sym, ◌∙◌, subst, arith, length-append, length-take, length-drop, append_assoc, suc}
 use Rattle.std.specs.List.{position}
 use Rattle.std.proofs.lemmas.Bool.{le-leb, lt-leb, eqb-true}
 use Rattle.std.proofs.lemmas.Bool.Decides.{leb_tells}
-use Rattle.std.proofs.lemmas.List.{take_all, take-take, take-append-drop, drop-drop, drop-take, get_or-take, get_or_default}
-use Rattle.std.proofs.lemmas.List.Elements.{All-append, All-take, All-replicate}
+use Rattle.std.proofs.lemmas.List.{take-take, take-append-drop, drop-drop, drop-take, get_or-take, get_or_default}
+use Rattle.std.proofs.lemmas.List.Elements.{All-append, All-replicate}
 use Rattle.std.proofs.lemmas.List.Quantifiers.{position-Some}
 use Rattle.std.proofs.Math.Seq.{drop-cons}
 use Rattle.cola_spec.specs.Lines.{line_limit, without_return, is_line_feed}
 use Rattle.cola_io.specs.declared.held.Held.{Held}
-use Rattle.cola_io.specs.declared.held.Held.TheVariants.{Line, Part, Long}
+use Rattle.cola_io.specs.declared.held.Held.TheVariants.{Long}
 use Rattle.cola_io.specs.declared.next.Next.{Next}
 use Rattle.cola_io.specs.declared.next.Next.TheVariants as next
 use Rattle.cola_io.specs.Buffered.{Buffered, HasNoFeed, long_part, kept_part, line_held, part_held}
@@ -61,7 +61,7 @@ hold_long held bytes more e =
 
 -- buffers with the same parts
 same_buffered : (l l' : Option (List ℕ)) (b b' r r' : List ℕ) → l ≡ l' → b ≡ b' → r ≡ r'
-  → ◌≡◌ {A = Buffered} (record { line = l; begun = b; rest = r }) (record { line = l'; begun = b'; rest = r' })
+    → ◌≡◌ {A = Buffered} (record { line = l; begun = b; rest = r }) (record { line = l'; begun = b'; rest = r' })
 same_buffered l l' b b' r r' p q s = λ i. record { line = p i; begun = q i; rest = s i }
 
 -- the bytes of the chunk that were not looked at
@@ -78,10 +78,10 @@ part_of_chunk chunk from to count ordered within =
 
 -- a buffer after `count` bytes were moved to the beginning of the next line
 pub gathered : (held held' : Held) (bytes bytes' chunk : List ℕ) (from to count : ℕ) (now : Buffered)
-  → ◌≡◌ {A = Buffered} (record { line = line_held held bytes; begun = part_held held bytes; rest = drop from (take to chunk) }) now → now.line ≡ None
-  → count ≤ length now.rest → from ≤ to → line_held held' bytes' ≡ None → part_held held' bytes' ≡ kept_part (part_held held bytes ++ take (from + count - from) (drop from chunk))
-  → ◌≡◌ {A = Buffered} (record { line = line_held held' bytes'; begun = part_held held' bytes'; rest = drop (from + count) (take to chunk) })
-      (record { line = now.line; begun = kept_part (now.begun ++ take count now.rest); rest = drop count now.rest })
+    → ◌≡◌ {A = Buffered} (record { line = line_held held bytes; begun = part_held held bytes; rest = drop from (take to chunk) }) now → now.line ≡ None
+    → count ≤ length now.rest → from ≤ to → line_held held' bytes' ≡ None → part_held held' bytes' ≡ kept_part (part_held held bytes ++ take (from + count - from) (drop from chunk))
+    → ◌≡◌ {A = Buffered} (record { line = line_held held' bytes'; begun = part_held held' bytes'; rest = drop (from + count) (take to chunk) })
+    (record { line = now.line; begun = kept_part (now.begun ++ take count now.rest); rest = drop count now.rest })
 gathered held held' bytes bytes' chunk from to count now view line there ordered line' part' =
     let begun : part_held held bytes ≡ now.begun = ap (λ b. b.begun) view in
     let rest : drop from (take to chunk) ≡ now.rest = ap (λ b. b.rest) view in
@@ -94,7 +94,7 @@ gathered held held' bytes bytes' chunk from to count now view line there ordered
 
 -- a beginning that is held as a long one is long
 pub finish_long : (held : Held) (bytes rest : List ℕ) (now : Buffered) → ◌≡◌ {A = Buffered} (record { line = line_held held bytes; begun = part_held held bytes; rest = rest }) now
-  → held ≡ Long → line_limit < length now.begun
+    → held ≡ Long → line_limit < length now.begun
 finish_long held bytes rest now view e =
     let begun : now.begun ≡ long_part = sym (ap (λ b. b.begun) view) ∙ ap (λ h. part_held h bytes) e in
     rw begun (omega (arith, length-long_part))
@@ -111,9 +111,9 @@ Finished-long raw other next.Budget line long long' h = h
 pub Finished-kept : (raw : List ℕ) (answer : Next) (line : Option (List ℕ)) → Finished (kept_part raw) answer line → Finished raw answer line
 Finished-kept raw answer line h =
     elim (leb_tells (length raw) line_limit) [
-      inl short ↦ subst (λ t. Finished t answer line) (kept_part-short raw short.1) h
-    | inr long ↦
-        Finished-long long_part raw answer line (omega (arith, length-long_part)) long.1 (subst (λ t. Finished t answer line) (kept_part-long raw long.1) h)
+      | inl short ↦ subst (λ t. Finished t answer line) (kept_part-short raw short.1) h
+      | inr long ↦
+          Finished-long long_part raw answer line (omega (arith, length-long_part)) long.1 (subst (λ t. Finished t answer line) (kept_part-long raw long.1) h)
     ]
 
 -- the bytes up to the first line feed, and those behind it
@@ -123,19 +123,18 @@ at_feed bytes at e =
     let here : at < length bytes = found.0 in
     let feed : get_or bytes at 0 ≡ 10 = eqb-true (get_or bytes at 0) 10 found.1 in
     let next : suc at ≡ at + 1 = omega arith in
-    let behind : drop (suc at) bytes ≡ drop 1 (drop at bytes) = ap (λ n. drop n bytes) next ∙ sym (drop-drop 1 at bytes) in
-    (
+    let behind : drop (suc at) bytes ≡ drop 1 (drop at bytes) = ap (λ n. drop n bytes) next ∙ sym (drop-drop 1 at bytes) in (
       λ k d l.
           let below : k < at = omega (arith, l, length-take at bytes) in
           let within : k < length bytes = omega arith in
           rw (get_or-take at bytes k d below, get_or_default bytes k d 0 within) ((position-Some is_line_feed bytes at 0 e).2 k below),
-      drop-cons bytes at 0 here ∙ (λ i. feed i ∷ behind i)
+      drop-cons bytes at 0 here ∙ (λ i. feed i ∷ behind i),
     )
 
 -- a whole line was cut off
 pub cut_off : (now gathered finished : Buffered) (answer : Next) (at : ℕ) → HasNoFeed now.begun → position is_line_feed now.rest ≡ Some at
-  → gathered.begun ≡ kept_part (now.begun ++ take at now.rest) → gathered.rest ≡ drop at now.rest → Finished gathered.begun answer finished.line
-  → finished.begun ≡ [] → finished.rest ≡ drop 1 gathered.rest → CutOff now answer finished
+    → gathered.begun ≡ kept_part (now.begun ++ take at now.rest) → gathered.rest ≡ drop at now.rest → Finished gathered.begun answer finished.line
+    → finished.begun ≡ [] → finished.rest ≡ drop 1 gathered.rest → CutOff now answer finished
 cut_off now gathered finished answer at no_feed feed begun rest done nothing behind =
     let found = at_feed now.rest at feed in
     record {
@@ -145,7 +144,7 @@ cut_off now gathered finished answer at no_feed feed begun rest done nothing beh
           ap (λ t. now.begun ++ t) (sym (take-append-drop at now.rest) ∙ ap (λ t. take at now.rest ++ t) (found.1 ∙ ap (λ t. 10 ∷ t) (ap (drop 1) (sym rest) ∙ sym behind)))
           ∙ sym (append_assoc now.begun (take at now.rest) (10 ∷ finished.rest));
       finished = Finished-kept (now.begun ++ take at now.rest) answer finished.line (subst (λ t. Finished t answer finished.line) begun done);
-      nothing_begun = nothing
+      nothing_begun = nothing;
     }
 
 -- the answer to the last bytes, where there are some

@@ -1,16 +1,16 @@
 -- What a call of `next_line` keeps while it goes on, and what it answers in the end.
-use Rattle.std.proofs.Common.{◌≡◌, ◌⊎◌, ℕ, ◌+◌, ◌-◌, ◌<◌, ◌≤◌, ◌||◌, Bool, true, false, nat_eq, List, [], ◌∷◌, ◌++◌, length, take, drop, Option, Some, None, refl, inl, inr, ap, sym, ◌∙◌, subst, arith, length-append, append_assoc, append-nil}
+use Rattle.std.proofs.Common.{◌≡◌, ◌⊎◌, ℕ, ◌+◌, ◌-◌, ◌<◌, ◌≤◌, ◌||◌, Bool, true, false, nat_eq, List, [], ◌∷◌, ◌++◌, length, Option, None, refl, inl, inr, ap, sym, ◌∙◌, subst, arith, length-append, append_assoc, append-nil}
 use Rattle.std.specs.List.{list_any}
 use Rattle.std.proofs.lemmas.Bool.{ne_eqb, eqb-true, false≢true}
 use Rattle.std.proofs.lemmas.Bool.Decides.{leb_tells}
 use Rattle.std.proofs.lemmas.List.{take_at, drop_at}
 use Rattle.std.proofs.lemmas.List.Elements.{All-append, All-take, All-drop, All-head, All-tail}
 use Rattle.std.proofs.lemmas.List.Folds.{list_any_none}
-use Rattle.cola_spec.specs.Lines.{line_limit, without_return, is_line_feed}
+use Rattle.cola_spec.specs.Lines.{line_limit, is_line_feed}
 use Rattle.cola_io.specs.Reading.{Reading}
-use Rattle.cola_io.specs.Buffered.{Buffered, HasNoFeed, long_part, kept_part}
+use Rattle.cola_io.specs.Buffered.{Buffered, HasNoFeed, kept_part}
 use Rattle.cola_io.specs.Finished.{Finished, LastFinished, CutOff}
-use Rattle.cola_io.specs.NextLine.{NextLine, Answers, FirstLine, FedLine, LastLine, Waits, Nothing, is_settled}
+use Rattle.cola_io.specs.NextLine.{NextLine, Answers, FirstLine, Waits, is_settled}
 use Rattle.cola_io.specs.declared.next.Next.{Next}
 use Rattle.cola_io.specs.declared.next.Next.TheVariants.{Line, TooLong, End, Fault, Budget}
 use Rattle.cola_io.proofs.BufferLemmas.{kept_part-short, kept_part-long, length-long_part, no_feed_long, Finished-long, Finished-kept}
@@ -67,11 +67,11 @@ answers_of_line bytes raw Budget now first done = absurd done
 
 -- a call begins
 pub going_first : (old : Reading) (before after : Buffered) (ended : Bool) (allowed : ℕ)
-  → ◌≡◌ {A = Reading} (record { pending = before.begun ++ before.rest; line = before.line; ended = ended; allowed = allowed }) old → HasNoFeed before.begun
-  → (ended ≡ true → (0 < allowed) × (before.rest ≡ [])) → after ≡ record before { line = None } → Going old [] after.begun after.rest ended allowed
+    → ◌≡◌ {A = Reading} (record { pending = before.begun ++ before.rest; line = before.line; ended = ended; allowed = allowed }) old → HasNoFeed before.begun
+    → (ended ≡ true → (0 < allowed) × (before.rest ≡ [])) → after ≡ record before { line = None } → Going old [] after.begun after.rest ended allowed
 going_first old before after ended allowed view no_feed at_end forgot =
     let same : (b : Buffered) → b ≡ record before { line = None } → HasNoFeed b.begun × (b.begun ++ b.rest ≡ before.begun ++ before.rest) × (b.rest ≡ before.rest) =
-        λ b e. (subst HasNoFeed (sym (ap (λ x. x.begun) e)) no_feed, ap (λ x. x.begun ++ x.rest) e, ap (λ x. x.rest) e) in
+    λ b e. (subst HasNoFeed (sym (ap (λ x. x.begun) e)) no_feed, ap (λ x. x.begun ++ x.rest) e, ap (λ x. x.rest) e) in
     let facts = same after forgot in
     record {
       front = after.begun;
@@ -82,12 +82,12 @@ going_first old before after ended allowed view no_feed at_end forgot =
       counted = omega (arith, ap (λ r. r.allowed) view);
       stays_ended = λ e. ap (λ r. r.ended) view ∙ e;
       at_end = λ e. ((at_end e).0, facts.2 ∙ (at_end e).1);
-      settled = λ _. refl
+      settled = λ _. refl;
     }
 
 -- what stands for the front, with more behind it, is answered as the front with that is
 finished_front : (front begun more : List ℕ) (answer : Next) (line : Option (List ℕ)) → (begun ≡ front) ⊎ ((line_limit < length front) × (line_limit < length begun))
-  → Finished (begun ++ more) answer line → Finished (front ++ more) answer line
+    → Finished (begun ++ more) answer line → Finished (front ++ more) answer line
 finished_front front begun more answer line (inl same) h = subst (λ t. Finished (t ++ more) answer line) same h
 finished_front front begun more answer line (inr long) h =
     Finished-long (begun ++ more) (front ++ more) answer line (omega (arith, long.1, length-append begun more)) (omega (arith, long.0, length-append front more)) h
@@ -97,25 +97,25 @@ pub found_going : (old : Reading) (took : List ℕ) (ended : Bool) (allowed : �
 found_going old took ended allowed before after answer g cut =
     let split = before_feed before.begun before.rest cut.raw after.rest g.begun_no_feed cut.whole in
     not_ended ended (λ e. nothing_behind split.0 after.rest (sym split.2 ∙ (g.at_end e).1))
-    where
-      not_ended : (b : Bool) → (b ≡ true → ⊥) → b ≡ false
-      not_ended true h = absurd (h refl)
-      not_ended false h = refl
+  where
+    not_ended : (b : Bool) → (b ≡ true → ⊥) → b ≡ false
+    not_ended true h = absurd (h refl)
+    not_ended false h = refl
 
-      nothing_behind : (more behind : List ℕ) → more ++ 10 ∷ behind ≡ [] → ⊥
-      nothing_behind [] behind e = cc
-      nothing_behind (x ∷ more) behind e = cc
+    nothing_behind : (more behind : List ℕ) → more ++ 10 ∷ behind ≡ [] → ⊥
+    nothing_behind [] behind e = cc
+    nothing_behind (x ∷ more) behind e = cc
 
 -- a line that a line feed ends was found
 pub going_found : (old : Reading) (took : List ℕ) (ended : Bool) (allowed : ℕ) (before after : Buffered) (answer : Next) → Going old took before.begun before.rest ended allowed → CutOff before answer after
-  → NextLine old took answer (record { pending = after.begun ++ after.rest; line = after.line; ended = ended; allowed = allowed })
+    → NextLine old took answer (record { pending = after.begun ++ after.rest; line = after.line; ended = ended; allowed = allowed })
 going_found old took ended allowed before after answer g cut =
     let split = before_feed before.begun before.rest cut.raw after.rest g.begun_no_feed cut.whole in
     let more = split.0 in
     let pending : after.begun ++ after.rest ≡ after.rest = ap (λ t. t ++ after.rest) cut.nothing_begun in
     let going : ended ≡ false = found_going old took ended allowed before after answer g cut in
     let whole : old.pending ++ took ≡ (g.front ++ more) ++ 10 ∷ (after.begun ++ after.rest) =
-        g.whole ∙ ap (λ t. g.front ++ t) split.2 ∙ sym (append_assoc g.front more (10 ∷ after.rest)) ∙ ap (λ t. (g.front ++ more) ++ 10 ∷ t) (sym pending) in
+    g.whole ∙ ap (λ t. g.front ++ t) split.2 ∙ sym (append_assoc g.front more (10 ∷ after.rest)) ∙ ap (λ t. (g.front ++ more) ++ 10 ∷ t) (sym pending) in
     let no_feed : HasNoFeed (g.front ++ more) = All-append (λ byte. is_line_feed byte ≡ false) g.front more g.no_feed (no_feed_right before.begun more (subst HasNoFeed split.1 cut.no_feed)) in
     record {
       counted = g.counted;
@@ -124,7 +124,7 @@ going_found old took ended allowed before after answer g cut =
       ended_within = λ e. (g.at_end e).0;
       answered =
           answers_of_line (old.pending ++ took) (g.front ++ more) answer _ (inl (record { no_feed = no_feed; whole = whole; going = going }))
-          (finished_front g.front before.begun more answer after.line g.stands (subst (λ t. Finished t answer after.line) split.1 cut.finished))
+          (finished_front g.front before.begun more answer after.line g.stands (subst (λ t. Finished t answer after.line) split.1 cut.finished));
     }
 
 -- what is kept of what stands for the front with more behind it
@@ -137,13 +137,13 @@ kept_front front begun more (inr long) =
 pub no_feed_kept : (bytes : List ℕ) → HasNoFeed bytes → HasNoFeed (kept_part bytes)
 no_feed_kept bytes h =
     elim (leb_tells (length bytes) line_limit) [
-      inl short ↦ subst HasNoFeed (sym (kept_part-short bytes short.1)) h
-    | inr long ↦ subst HasNoFeed (sym (kept_part-long bytes long.1)) no_feed_long
+      | inl short ↦ subst HasNoFeed (sym (kept_part-short bytes short.1)) h
+      | inr long ↦ subst HasNoFeed (sym (kept_part-long bytes long.1)) no_feed_long
     ]
 
 -- no line feed was found, and all bytes are kept as the beginning of a line
 pub going_gathered : (old : Reading) (took : List ℕ) (ended : Bool) (allowed : ℕ) (before after : Buffered) → Going old took before.begun before.rest ended allowed → HasNoFeed before.rest
-  → ◌≡◌ {A = Buffered} after (record { line = None; begun = kept_part (before.begun ++ before.rest); rest = [] }) → Gathered old took after.begun ended allowed
+    → ◌≡◌ {A = Buffered} after (record { line = None; begun = kept_part (before.begun ++ before.rest); rest = [] }) → Gathered old took after.begun ended allowed
 going_gathered old took ended allowed before after g no_feed kept =
     let all : HasNoFeed (old.pending ++ took) = subst HasNoFeed (sym g.whole) (All-append (λ byte. is_line_feed byte ≡ false) g.front before.rest g.no_feed no_feed) in
     let begun : after.begun ≡ kept_part (before.begun ++ before.rest) = ap (λ b. b.begun) kept in
@@ -154,7 +154,7 @@ going_gathered old took ended allowed before after g no_feed kept =
       counted = g.counted;
       stays_ended = g.stays_ended;
       at_end = λ e. (g.at_end e).0;
-      settled = g.settled
+      settled = g.settled;
     }
 
 -- the last bytes are answered as a line, where there are some
@@ -167,21 +167,21 @@ last_answers (byte ∷ bytes) begun answer now no_feed kept done nothing ended =
     answers_of_line (byte ∷ bytes) (byte ∷ bytes) answer now
     (inr (record { no_feed = no_feed; whole = refl; some = λ e. cc; nothing_left = nothing; at_end = ended }))
     (Finished-kept (byte ∷ bytes) answer now.line (last_some begun (kept_part (byte ∷ bytes)) answer now.line kept (kept_some (byte ∷ bytes) (λ e. cc)) done))
-    where
-      kept_some : (part : List ℕ) → (part ≡ [] → ⊥) → kept_part part ≡ [] → ⊥
-      kept_some part some e =
-          elim (leb_tells (length part) line_limit) [
-            inl short ↦ some (sym (kept_part-short part short.1) ∙ e)
+  where
+    kept_some : (part : List ℕ) → (part ≡ [] → ⊥) → kept_part part ≡ [] → ⊥
+    kept_some part some e =
+        elim (leb_tells (length part) line_limit) [
+          | inl short ↦ some (sym (kept_part-short part short.1) ∙ e)
           | inr long ↦ absurd (omega (arith, ap length (sym (kept_part-long part long.1) ∙ e), length-long_part))
-          ]
+        ]
 
-      last_some : (begun part : List ℕ) (answer : Next) (line : Option (List ℕ)) → begun ≡ part → (part ≡ [] → ⊥) → LastFinished begun answer line → Finished part answer line
-      last_some [] part answer line e some done = absurd (some (sym e))
-      last_some (b ∷ begun) part answer line e some done = subst (λ t. Finished t answer line) e done
+    last_some : (begun part : List ℕ) (answer : Next) (line : Option (List ℕ)) → begun ≡ part → (part ≡ [] → ⊥) → LastFinished begun answer line → Finished part answer line
+    last_some [] part answer line e some done = absurd (some (sym e))
+    last_some (b ∷ begun) part answer line e some done = subst (λ t. Finished t answer line) e done
 
 -- the end of the source was seen
 pub gathered_last : (old : Reading) (took begun : List ℕ) (ended : Bool) (allowed : ℕ) (after : Buffered) (answer : Next) → Gathered old took begun ended allowed → ended ≡ true
-  → LastFinished begun answer after.line → after.begun ≡ [] → after.rest ≡ [] → NextLine old took answer (record { pending = after.begun ++ after.rest; line = after.line; ended = ended; allowed = allowed })
+    → LastFinished begun answer after.line → after.begun ≡ [] → after.rest ≡ [] → NextLine old took answer (record { pending = after.begun ++ after.rest; line = after.line; ended = ended; allowed = allowed })
 gathered_last old took begun ended allowed after answer g end done nothing behind =
     let pending : after.begun ++ after.rest ≡ [] = ap (λ t. t ++ after.rest) nothing ∙ behind in
     record {
@@ -189,17 +189,17 @@ gathered_last old took begun ended allowed after answer g end done nothing behin
       settled = g.settled;
       stays_ended = g.stays_ended;
       ended_within = g.at_end;
-      answered = last_answers (old.pending ++ took) begun answer _ g.no_feed g.kept done pending end
+      answered = last_answers (old.pending ++ took) begun answer _ g.no_feed g.kept done pending end;
     }
 
 -- no line is found, and the call does not go on
 waits : (old : Reading) (took begun rest : List ℕ) (allowed : ℕ) (ended : Bool) (line : Option (List ℕ)) → Gathered old took begun ended allowed → ended ≡ false → line ≡ None → rest ≡ []
-  → Waits (old.pending ++ took) (record { pending = begun ++ rest; line = line; ended = ended; allowed = allowed })
+    → Waits (old.pending ++ took) (record { pending = begun ++ rest; line = line; ended = ended; allowed = allowed })
 waits old took begun rest allowed ended line g going none behind =
     record { no_feed = g.no_feed; kept = ap (λ t. begun ++ t) behind ∙ append-nil begun ∙ g.kept; going = going; no_line = none }
 
 pub gathered_budget : (old : Reading) (took begun rest : List ℕ) (ended : Bool) (allowed : ℕ) (line : Option (List ℕ)) → Gathered old took begun ended allowed → ended ≡ false → line ≡ None → rest ≡ []
-  → allowed ≡ 0 → NextLine old took Budget (record { pending = begun ++ rest; line = line; ended = ended; allowed = allowed })
+    → allowed ≡ 0 → NextLine old took Budget (record { pending = begun ++ rest; line = line; ended = ended; allowed = allowed })
 gathered_budget old took begun rest ended allowed line g going none behind budget = record {
   counted = g.counted;
   settled = g.settled;
@@ -209,7 +209,7 @@ gathered_budget old took begun rest ended allowed line g going none behind budge
 }
 
 pub gathered_fault : (old : Reading) (took begun rest : List ℕ) (ended : Bool) (allowed : ℕ) (line : Option (List ℕ)) → Gathered old took begun ended allowed → ended ≡ false → line ≡ None → rest ≡ []
-  → 0 < allowed → NextLine old took Fault (record { pending = begun ++ rest; line = line; ended = ended; allowed = allowed })
+    → 0 < allowed → NextLine old took Fault (record { pending = begun ++ rest; line = line; ended = ended; allowed = allowed })
 gathered_fault old took begun rest ended allowed line g going none behind some = record {
   counted = g.counted;
   settled = g.settled;
@@ -226,14 +226,14 @@ not_settled old took begun ended allowed g going some settled =
     let r : nat_eq old.allowed 0 ≡ false = ne_eqb old.allowed 0 (λ e. omega (arith, g.counted)) in
     let none : is_settled old ≡ false = λ i. p i || q i || r i in
     false≢true (sym none ∙ settled)
-    where
-      was_going : (a b : Bool) → (a ≡ true → b ≡ true) → b ≡ false → a ≡ false
-      was_going false b h e = refl
-      was_going true b h e = absurd (false≢true (sym e ∙ h refl))
+  where
+    was_going : (a b : Bool) → (a ≡ true → b ≡ true) → b ≡ false → a ≡ false
+    was_going false b h e = refl
+    was_going true b h e = absurd (false≢true (sym e ∙ h refl))
 
 -- more bytes were read
 pub gathered_fill : (old : Reading) (took begun more : List ℕ) (ended : Bool) (allowed count : ℕ) → Gathered old took begun ended allowed → ended ≡ false → 0 < allowed → length more ≡ count → count ≤ allowed
-  → Going old (took ++ more) begun more (nat_eq count 0) (allowed - count)
+    → Going old (took ++ more) begun more (nat_eq count 0) (allowed - count)
 gathered_fill old took begun more ended allowed count g going some amount within = record {
   front = old.pending ++ took;
   whole = sym (append_assoc old.pending took more);
@@ -249,8 +249,8 @@ gathered_fill old took begun more ended allowed count g going some amount within
     kept_stands : (part begun : List ℕ) → begun ≡ kept_part part → (begun ≡ part) ⊎ ((line_limit < length part) × (line_limit < length begun))
     kept_stands part begun e =
         elim (leb_tells (length part) line_limit) [
-          inl short ↦ inl (e ∙ kept_part-short part short.1)
-        | inr long ↦ inr (long.1, omega (arith, ap length (e ∙ kept_part-long part long.1), length-long_part))
+          | inl short ↦ inl (e ∙ kept_part-short part short.1)
+          | inr long ↦ inr (long.1, omega (arith, ap length (e ∙ kept_part-long part long.1), length-long_part))
         ]
 
     no_bytes : (xs : List ℕ) → length xs ≡ 0 → xs ≡ []

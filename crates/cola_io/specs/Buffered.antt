@@ -1,5 +1,5 @@
 -- What the buffer of a line reader holds.
-use Rattle.std.specs.Prelude.{◌≡◌, ℕ, false, nat_le, if◌then◌else◌, List, [], ◌++◌, All, length, Option, Some, None, replicate}
+use Rattle.std.specs.Prelude.{◌≡◌, ℕ, false, nat_le, if◌then◌else◌, List, [], All, length, Option, Some, None, replicate}
 use Rattle.cola_spec.specs.Lines.{is_line_feed, line_limit}
 use Rattle.cola_io.specs.declared.held.Held.{Held}
 use Rattle.cola_io.specs.declared.held.Held.TheVariants.{Line, Part, Long}

@@ -3,7 +3,7 @@ use Rattle.std.specs.Prelude.{◌≡◌, ℕ, ◌<◌, ◌≤◌, List, [], ◌�
 use Rattle.cola_spec.specs.Lines.{line_limit, without_return}
 use Rattle.cola_io.specs.Buffered.{Buffered, HasNoFeed}
 use Rattle.cola_io.specs.declared.next.Next.{Next}
-use Rattle.cola_io.specs.declared.next.Next.TheVariants.{Line, TooLong, End, Fault, Budget}
+use Rattle.cola_io.specs.declared.next.Next.TheVariants.{Line, TooLong, End}
 
 -- the answer to a line, with its text where it is not too long
 abbrev pub Finished : List ℕ → Next → Option (List ℕ) → Type 0

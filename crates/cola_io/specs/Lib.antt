@@ -4,3 +4,4 @@ pub mod Reading
 pub mod Buffered
 pub mod Finished
 pub mod NextLine
+pub mod Law

@@ -6,6 +6,7 @@
 
 mod buffer;
 mod held;
+mod law;
 mod line_reader;
 mod next;
 mod sink;
@@ -15,6 +16,7 @@ mod source;
 mod source_memory;
 mod source_std;
 
+pub use law::lines_are_read;
 pub use line_reader::LineReader;
 pub use next::Next;
 pub use sink::{Sink, SinkFault, put_all};

@@ -1,4 +1,4 @@
-use Rattle.std.proofs.Common.{◌<◌, ℕ, length, arith, ap}
+use Rattle.std.proofs.Common.{◌<◌, length, arith, ap}
 use Rattle.cola_spec.specs.Lines.{line_limit}
 use Rattle.cola_io.proofs.BufferLemmas.{finish_long}
 use Rattle.cola_io.proofs.buffer.Buffer.is_blank.Goals as goal

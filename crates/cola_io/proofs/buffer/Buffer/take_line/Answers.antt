@@ -1,4 +1,4 @@
-use Rattle.std.proofs.Common.{◌≡◌, ◌+◌, ◌∙◌, ap, sym, drop, take, length, List, ℕ, Some}
+use Rattle.std.proofs.Common.{◌≡◌, ◌∙◌, ap, sym, drop, take, Some}
 use Rattle.std.specs.List.{position}
 use Rattle.std.proofs.lemmas.List.{drop-drop}
 use Rattle.std.proofs.lemmas.List.Quantifiers.{position-Some}

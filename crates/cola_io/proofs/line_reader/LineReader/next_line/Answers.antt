@@ -1,4 +1,4 @@
-use Rattle.std.proofs.Common.{◌≡◌, ◌<◌, ◌-◌, ℕ, [], ◌++◌, true, false, nat_eq, None, refl, ap, sym, ◌∙◌, subst, arith}
+use Rattle.std.proofs.Common.{◌≡◌, ◌<◌, ◌-◌, [], ◌++◌, false, nat_eq, refl, ap, sym, ◌∙◌, subst, arith}
 use Rattle.std.proofs.lemmas.Bool.{eqb-true, false≢true}
 use Rattle.cola_io.specs.Buffered.{HasNoFeed}
 use Rattle.cola_io.specs.Streams.{Taken}
@@ -23,9 +23,9 @@ invariant_of-self g c =
     let cut = c.in-Some.ensures.found in
     let going : inside.ended ≡ false = found_going _ _ inside.ended inside.allowed inside.buffer c.take_line.new.self c.in-Some.next c.loop-next.invariant.going cut in
     (subst HasNoFeed (sym cut.nothing_begun) no_bytes, λ e. absurd (false≢true (sym going ∙ e)))
-    where
-      no_bytes : HasNoFeed []
-      no_bytes = λ k d h. absurd (omega (arith, h))
+  where
+    no_bytes : HasNoFeed []
+    no_bytes = λ k d h. absurd (omega (arith, h))
 
 pub returns-in-Some-clause-lines : goal.returns-in-Some-clause-lines
 returns-in-Some-clause-lines g c =
@@ -71,7 +71,7 @@ loop-next-preserved g c =
       no_line = ap (λ b. b.line) filled ∙ ap (λ b. b.line) now;
       seen = λ _ e. c.in-Ok.ensures.end (eqb-true c.in-Ok.count 0 e);
       unasked = λ e. absurd (not_settled _ _ _ inside.ended inside.allowed gathered c.if-self.false some e);
-      kept = omega (arith, kept.kept, c.in-Ok.ensures.faults_kept)
+      kept = omega (arith, kept.kept, c.in-Ok.ensures.faults_kept);
     }
 
 pub invariant_of-self-in-Err : goal.invariant_of-self-in-Err
@@ -87,12 +87,11 @@ returns-in-Err-clause-lines g c =
     let now = c.in_default.ensures.kept in
     let gathered = going_gathered _ _ inside.ended inside.allowed inside.buffer c.take_line.new.self kept.going c.in_default.ensures.none now in
     let some : 0 < inside.allowed = omega (arith, c.if-self-eq0.false) in
-    let failed = c.in-Err.ensures.kept in
-    (
+    let failed = c.in-Err.ensures.kept in (
       kept.took,
       subst (Taken kept.took (g.S.Source.left c.args.source.now)) (sym c.in-Err.ensures.err.1) kept.taken,
       gathered_fault _ _ _ _ inside.ended inside.allowed _ (subst (λ t. Gathered c.args.self.now kept.took t inside.ended inside.allowed) (sym (ap (λ b. b.begun) failed)) gathered)
-      c.if-self.false (ap (λ b. b.line) failed ∙ ap (λ b. b.line) now) c.in-Err.ensures.err.0 some
+          c.if-self.false (ap (λ b. b.line) failed ∙ ap (λ b. b.line) now) c.in-Err.ensures.err.0 some,
     )
 
 pub returns-in-Err-clause-unasked : goal.returns-in-Err-clause-unasked

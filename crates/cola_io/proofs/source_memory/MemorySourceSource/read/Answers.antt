@@ -1,4 +1,4 @@
-use Rattle.std.proofs.Common.{◌≡◌, ◌+◌, ◌-◌, ℕ, take, drop, length, ◌∙◌, ap, arith}
+use Rattle.std.proofs.Common.{◌≡◌, ◌+◌, ◌-◌, take, drop, length, ◌∙◌, ap, arith}
 use Rattle.cola_io.proofs.StreamLemmas.{left_behind}
 use Rattle.cola_io.proofs.source_memory.MemorySourceSource.read.Goals as goal
 
