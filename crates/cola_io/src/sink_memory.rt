@@ -28,7 +28,7 @@ impl MemorySink {
         ensures empty { IfOk result (λ s. s.bytes.items ≡ []) }
         ensures room { IfOk result (λ s. s.room ≡ room) }
         ensures failing { IfOk result (λ s. s.failing ≡ failing) }
-        ensures calls { IfOk result (λ s. s.calls ≡ 0) }
+        ensures counts { IfOk result (λ s. (s.calls ≡ 0) × (s.faults ≡ 0)) }
     {
         let bytes = Vec::with_capacity(alloc, room)?;
         Ok(MemorySink {

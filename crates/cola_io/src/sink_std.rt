@@ -1,5 +1,5 @@
 //! A sink over a writer of std.
-ghost use Rattle.std.specs.Prelude.{None};
+ghost use Rattle.std.specs.Prelude.{◌≡◌, None};
 
 use super::{Sink, SinkFault};
 use cola_outside::one_more;
@@ -15,7 +15,9 @@ pub struct StdSink<W> {
 
 impl<W> StdSink<W> {
     /// A sink that gives the writer what it takes.
-    pub fn new(inner: W) -> StdSink<W> {
+    pub fn new(inner: W) -> StdSink<W>
+        ensures { result ≡ record { inner = inner; faults = 0 } }
+    {
         StdSink { inner, faults: 0 }
     }
 }

@@ -1,5 +1,5 @@
 //! A source over a reader of std.
-ghost use Rattle.std.specs.Prelude.{None};
+ghost use Rattle.std.specs.Prelude.{◌≡◌, None};
 
 use super::{Source, SourceFault};
 use cola_outside::one_more;
@@ -15,7 +15,9 @@ pub struct StdSource<R> {
 
 impl<R> StdSource<R> {
     /// A source that gives what the reader gives.
-    pub fn new(inner: R) -> StdSource<R> {
+    pub fn new(inner: R) -> StdSource<R>
+        ensures { result ≡ record { inner = inner; faults = 0 } }
+    {
         StdSource { inner, faults: 0 }
     }
 }
