@@ -1,0 +1,4 @@
+pub mod StreamLemmas
+pub mod BufferLemmas
+pub mod Going
+pub mod LineLaws

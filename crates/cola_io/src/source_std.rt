@@ -1,0 +1,39 @@
+//! A source over a reader of std.
+ghost use Rattle.std.specs.Prelude.{◌≡◌, None};
+
+use super::{Source, SourceFault};
+use cola_outside::one_more;
+use std::io::Read;
+
+/// A reader of std as a source, such as that of standard input. It tells nothing of its bytes, and
+/// each error of the reader is a fault.
+#[derive(Drop)]
+pub struct StdSource<R> {
+    inner: R,
+    faults: u64,
+}
+
+impl<R> StdSource<R> {
+    /// A source that gives what the reader gives.
+    pub fn new(inner: R) -> StdSource<R>
+        ensures { result ≡ record { inner = inner; faults = 0 } }
+    {
+        StdSource { inner, faults: 0 }
+    }
+}
+
+impl<R: Read> Source for StdSource<R> {
+    ghost left = { λ _. None };
+
+    ghost faults = { λ s. s.faults };
+
+    fn read(&mut self, into: &mut [u8]) -> Result<usize, SourceFault> {
+        match self.inner.read(into) {
+            Ok(count) => Ok(count),
+            Err(_) => {
+                self.faults = one_more(self.faults);
+                Err(SourceFault)
+            }
+        }
+    }
+}

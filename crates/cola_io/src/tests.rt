@@ -1,0 +1,172 @@
+//! Worked examples of lines, faults and rooms.
+ghost use Rattle.std.specs.Prelude.{None};
+
+use super::{
+    LineReader, MemorySink, MemorySource, Next, Sink, SinkFault, Source, SourceFault, StdSink,
+    StdSource, put_all,
+};
+use arrayvec::ArrayVec;
+use std::alloc::{AllocError, Global};
+use std::test::Fail;
+
+/// Gives one byte at a time.
+#[derive(Drop)]
+struct Bytewise {
+    bytes: Vec<u8>,
+    at: usize,
+}
+
+impl Source for Bytewise {
+    ghost left = { λ _. None };
+
+    ghost faults = { λ _. 0 };
+
+    fn read(&mut self, into: &mut [u8]) -> Result<usize, SourceFault> {
+        if self.at >= self.bytes.len() {
+            return Ok(0);
+        }
+        into[0] = self.bytes[self.at];
+        self.at += 1;
+        Ok(1)
+    }
+}
+
+/// Takes one byte at a time.
+#[derive(Drop)]
+struct Slow {
+    sink: MemorySink,
+}
+
+impl Sink for Slow {
+    ghost written = { λ s. ⟦<MemorySink as Sink>⟧.written s.sink };
+
+    ghost faults = { λ s. ⟦<MemorySink as Sink>⟧.faults s.sink };
+
+    fn write(&mut self, from: &[u8]) -> Result<usize, SinkFault> {
+        self.sink.write(&from[..1])
+    }
+}
+
+/// The answers of a reader, a line each, up to the end or the budget.
+fn answers<S: Source>(source: &mut S, limit: u64, alloc: Global) -> Result<Vec<u8>, AllocError> {
+    let mut reader = LineReader::new(limit);
+    let mut out = Vec::new(alloc);
+    for _ in 0..20 {
+        match reader.next_line(source) {
+            Next::Line => {
+                out.extend_from_slice(reader.text())?;
+                out.push(b'\n')?;
+            }
+            Next::TooLong => out.extend_from_slice(b"<long>\n")?,
+            Next::Fault => out.extend_from_slice(b"<fault>\n")?,
+            Next::End => {
+                out.extend_from_slice(b"<end>")?;
+                return Ok(out);
+            }
+            Next::Budget => {
+                out.extend_from_slice(b"<budget>")?;
+                return Ok(out);
+            }
+        }
+    }
+    Ok(out)
+}
+
+fn bytes_of(text: &[u8], alloc: Global) -> Result<Vec<u8>, AllocError> {
+    text.to_vec(alloc)
+}
+
+#[test]
+fn lines_in_any_pieces(rt: HostRuntime) -> Result<(), Fail> {
+    let alloc = rt.alloc();
+    for (input, limit, want) in [
+        (
+            b"put a 1\nget a\n".as_slice(),
+            8,
+            b"put a 1\n<budget>".as_slice(),
+        ),
+        (b"put a 1\nget a\n", 14, b"put a 1\nget a\n<budget>"),
+        (b"put a 1\nget a\n", 15, b"put a 1\nget a\n<end>"),
+        (b"", 1, b"<end>"),
+        (b"", 0, b"<budget>"),
+        (b"a\r\n\r\n\nb\r\r\nc\r", 100, b"a\n\n\nb\r\nc\n<end>"),
+    ] {
+        let mut whole = MemorySource {
+            bytes: bytes_of(input, alloc)?,
+            at: 0,
+            calls: 0,
+            failing: Vec::new(alloc),
+        };
+        assert_eq!(rt; answers(&mut whole, limit, alloc)?.as_slice(), want);
+        let mut pieces = Bytewise {
+            bytes: bytes_of(input, alloc)?,
+            at: 0,
+        };
+        assert_eq!(rt; answers(&mut pieces, limit, alloc)?.as_slice(), want);
+    }
+    Ok(())
+}
+
+#[test]
+fn long_lines(rt: HostRuntime) -> Result<(), Fail> {
+    let alloc = rt.alloc();
+    let mut input = vec![in alloc; b'x'; 160]?;
+    input.extend_from_slice(b"\n")?;
+    for _ in 0..161 {
+        input.push(b'y')?;
+    }
+    input.extend_from_slice(b"\nget a\n")?;
+    let mut want = vec![in alloc; b'x'; 160]?;
+    want.extend_from_slice(b"\n<long>\nget a\n<end>")?;
+    let mut pieces = Bytewise {
+        bytes: bytes_of(input.as_slice(), alloc)?,
+        at: 0,
+    };
+    assert_eq!(rt;
+        answers(&mut pieces, 1000, alloc)?.as_slice(),
+        want.as_slice()
+    );
+    let mut reader = StdSource::new(input.as_slice());
+    assert_eq!(rt;
+        answers(&mut reader, 1000, alloc)?.as_slice(),
+        want.as_slice()
+    );
+    Ok(())
+}
+
+#[test]
+fn fault_in_mid_stream(rt: HostRuntime) -> Result<(), Fail> {
+    let alloc = rt.alloc();
+    let mut source = MemorySource {
+        bytes: bytes_of(b"put a 1\nget", alloc)?,
+        at: 0,
+        calls: 0,
+        failing: vec![in alloc; 2u64]?,
+    };
+    assert_eq!(rt;
+        answers(&mut source, 100, alloc)?.as_slice(),
+        b"put a 1\n<fault>\nget\n<end>".as_slice()
+    );
+    assert_eq!(rt; source.calls, 3);
+    Ok(())
+}
+
+#[test]
+fn sinks_with_room(rt: HostRuntime) -> Result<(), Fail> {
+    let alloc = rt.alloc();
+    let mut sink = MemorySink::new(alloc, 4, Vec::new(alloc))?;
+    assert_eq!(rt; put_all(&mut sink, b"abc"), Ok(()));
+    assert_eq!(rt; put_all(&mut sink, b"def"), Err(SinkFault));
+    assert_eq!(rt; sink.bytes(), b"abcd".as_slice());
+    let mut slow = Slow {
+        sink: MemorySink::new(alloc, 9, vec![in alloc; 3u64]?)?,
+    };
+    assert_eq!(rt; put_all(&mut slow, b"abc"), Err(SinkFault));
+    assert_eq!(rt; put_all(&mut slow, b"def"), Ok(()));
+    assert_eq!(rt; slow.sink.bytes(), b"abdef".as_slice());
+    let held: ArrayVec<u8, 2> = ArrayVec::new();
+    let mut real = StdSink::new(held);
+    assert_eq!(rt; put_all(&mut real, b"ab"), Ok(()));
+    assert_eq!(rt; put_all(&mut real, b"c"), Err(SinkFault));
+    Ok(())
+}
