@@ -1,6 +1,8 @@
 //! The table: an ordered map with a key limit, as the session sees it, and one kept in memory.
 #![tactic(auto)]
 
+mod entries;
+mod entry;
 mod table;
 
 use cola_cell::Value;
