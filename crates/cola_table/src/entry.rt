@@ -20,3 +20,28 @@ impl Model for Entry {
 
     ghost inverse = { λ v. record { key = v.0; value = v.1.value } };
 }
+
+impl Entry {
+    ghost use Rattle.std.specs.Prelude.{◌≡◌};
+
+    /// The entry of a key and a value.
+    pub fn new(key: Key, value: Value) -> Entry
+        ensures { result ≡ (key, record { value = value; stamp = 0 }) }
+    {
+        Entry { key, value }
+    }
+
+    /// The key.
+    pub fn key(&self) -> &Key
+        ensures { result.now ≡ self.now.0 }
+    {
+        &self.key
+    }
+
+    /// The value.
+    pub fn value(&self) -> &Value
+        ensures { result.now ≡ self.now.1.value }
+    {
+        &self.value
+    }
+}

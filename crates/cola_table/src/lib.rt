@@ -3,9 +3,11 @@
 
 mod entries;
 mod entry;
+mod flat;
 mod table;
 
 use cola_cell::Value;
+pub use flat::{FlatTable, FlatWalk};
 pub use table::Table;
 
 /// What an accepted put did.
