@@ -1,7 +1,7 @@
 -- The map of sorted entries: what it answers, and what an edit of the entries makes of it.
-use Rattle.std.proofs.Common.{◌≡◌, ℕ, zero, suc, ◌+◌, ◌<◌, ◌≤◌, Bool, true, false, cond, not, ◌&&◌, IsTrue, T, List, [], ◌∷◌, ◌++◌, length, get_or, set, take, drop, map, Option, Some, None, refl, ap, sym, subst, ◌∙◌, arith}
-use Rattle.std.proofs.lemmas.Bool.{and_parts, and_from, le-leb, lt-leb}
-use Rattle.std.specs.Ordering.{is_lt, is_eq, is_le, eq_by_cmp, ordering_reverse, nat_cmp}
+use Rattle.std.proofs.Common.{◌≡◌, ℕ, suc, ◌<◌, ◌≤◌, Bool, true, false, cond, not, IsTrue, T, List, [], ◌∷◌, length, get_or, set, take, drop, Option, Some, None, refl, ap, sym, subst, ◌∙◌, arith}
+use Rattle.std.proofs.lemmas.Bool.{and_from, le-leb, lt-leb}
+use Rattle.std.specs.Ordering.{is_eq, eq_by_cmp, ordering_reverse}
 use Rattle.std.specs.declared.cmp.Ordering.{Ordering}
 use Rattle.std.specs.declared.cmp.Ordering.TheVariants.{Less, Equal, Greater}
 use Rattle.std.specs.Cmp.{IsTotalOrder, alike_right, tied_itself}
@@ -10,14 +10,13 @@ use Rattle.std.specs.List.{insert, remove}
 use Rattle.std.specs.FinMap as finite
 use Rattle.std.specs.FinMap.{FinMap, find, put, is_sorted, IsAntisymmetric, nat_cmp-IsAntisymmetric, slice_cmp-IsAntisymmetric, same_entries_map, entries-from_sorted, get-from_sorted, entries-insert, get-remove, same_map, len-entries, empty_of_len}
 use Rattle.std.specs.FinMap.Entries.{where_key, is_sorted-put, is_sorted-where_key, find-where_key}
-use Rattle.std.proofs.lemmas.List.{length-set, get_or_default}
+use Rattle.std.proofs.lemmas.List.{length-set}
 use Rattle.std.proofs.lemmas.List.Edits.{length-insert, length-remove}
 use Rattle.std.proofs.lemmas.List.Elements.{All-append, All-set, All-cons, All-take, All-drop}
-use Rattle.std.specs.List.{All}
 use Rattle.cola_cell.specs.declared.format.Format.TheVariants.{One}
-use Rattle.cola_spec.specs.Map.{Map, Shape, Stored, EntryFits, PutOutcome, New, Old, Full, key_cmp, empty_map, put_outcome, after_put, after_delete, value_of}
+use Rattle.cola_spec.specs.Map.{Stored, EntryFits, New, Old, Full, key_cmp, empty_map, put_outcome, after_put, after_delete, value_of}
 use Rattle.cola_table.specs.Terms.{shape_of}
-use Rattle.cola_table.specs.Flat.{AreFlat, place_of, map_of, HasKeyAt, LacksKey}
+use Rattle.cola_table.specs.Flat.{AreFlat, map_of, HasKeyAt, LacksKey}
 use Rattle.cola_table.proofs.Places.{find-place, put-present, put-absent, without-present}
 
 -- the order of keys tells all keys apart

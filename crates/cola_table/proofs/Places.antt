@@ -1,17 +1,17 @@
 -- Where a key stands among entries by rising keys, and what that says of looking up and of editing.
-use Rattle.std.proofs.Common.{◌≡◌, ℕ, zero, suc, ◌+◌, ◌<◌, ◌≤◌, Bool, true, false, cond, not, ◌&&◌, IsTrue, T, List, [], ◌∷◌, ◌++◌, length, get_or, set, take, drop, map, Option, Some, None, refl, ap, sym, subst, ◌∙◌, arith}
+use Rattle.std.proofs.Common.{◌≡◌, ℕ, zero, suc, ◌<◌, ◌≤◌, true, false, cond, not, IsTrue, List, [], ◌∷◌, length, get_or, set, Some, None, refl, ap, sym, ◌∙◌, arith}
 use Rattle.std.proofs.lemmas.Bool.{and_parts}
-use Rattle.std.specs.Ordering.{is_lt, is_eq, is_le, eq_by_cmp, ordering_reverse}
+use Rattle.std.specs.Ordering.{is_lt, is_eq, eq_by_cmp, ordering_reverse}
 use Rattle.std.specs.declared.cmp.Ordering.{Ordering}
 use Rattle.std.specs.declared.cmp.Ordering.TheVariants.{Less, Equal, Greater}
-use Rattle.std.specs.Cmp.{IsTotalOrder, alike_right, tied_itself, tied_back}
+use Rattle.std.specs.Cmp.{IsTotalOrder}
 use Rattle.std.specs.List.{insert, remove}
 use Rattle.std.specs.FinMap.{find, put, is_sorted}
 use Rattle.std.specs.FinMap.Entries.{below_all, where_key}
 use Rattle.cola_table.specs.Flat.{place_of}
 
 -- a comparison that answers less is `Less`, and one that does not is one of the others
-is_less : (r : Ordering) → is_lt r ≡ true → r ≡ Less
+pub is_less : (r : Ordering) → is_lt r ≡ true → r ≡ Less
 is_less Less e = refl
 is_less Equal e = absurd (cc)
 is_less Greater e = absurd (cc)
@@ -32,11 +32,11 @@ module _ {K X : Type 0} (R : K → K → Ordering) (o : IsTotalOrder R) where
       ]
 
   -- an entry with a smaller key is before the place
-  pub place-above : (k : K) (l : List (K × X)) (i : ℕ) (d : K × X) → IsTrue (is_sorted R l) → i < length l → R (get_or l i d).0 k ≡ Less → i < place_of R k l
+  pub place-above : (k : K) (l : List (K × X)) (i : ℕ) (d : K × X) → IsTrue (is_sorted R l) → i < length l → is_lt (R (get_or l i d).0 k) ≡ true → i < place_of R k l
   place-above k [] i d s lt less = absurd (omega arith)
   place-above k (e ∷ es) zero d s lt less = rw less (omega arith)
   place-above k (e ∷ es) (suc i) d s lt less =
-      let head : R e.0 k ≡ Less = o.trans _ _ _ (below_at e.0 es i d (and_parts _ _ s).0 (omega arith)) less in
+      let head : R e.0 k ≡ Less = o.trans _ _ _ (below_at e.0 es i d (and_parts _ _ s).0 (omega arith)) (is_less _ less) in
       rw head (omega (arith, place-above k es i d (and_parts _ _ s).1 (omega arith) less))
 
   -- an entry whose key is not smaller is at the place, or after it

@@ -1,7 +1,7 @@
 -- A table in memory: what contracts see of it, and of a walk over it.
-use Rattle.std.specs.Prelude.{ℕ, suc, ◌≡◌, ◌≤◌, ◌<◌, Bool, true, List, [], ◌∷◌, length, All, filter, drop, map, Option, Some, None, if◌then◌else◌, IsTrue, slice_index_or, refl}
+use Rattle.std.specs.Prelude.{ℕ, suc, ◌≡◌, ◌≤◌, ◌<◌, List, [], ◌∷◌, length, All, filter, drop, map, Option, None, if◌then◌else◌, IsTrue, slice_index_or, refl}
 use Rattle.std.specs.declared.cmp.Ordering.{Ordering}
-use Rattle.std.specs.Ordering.{is_lt, is_eq}
+use Rattle.std.specs.Ordering.{is_lt}
 use Rattle.std.specs.FinMap as finite
 use Rattle.std.specs.Coded.{Coded, code_by, coded×, coded_list, coded_ℕ}
 use Rattle.cola_cell.specs.declared.format.Format.TheVariants.{One}

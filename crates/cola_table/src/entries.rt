@@ -1,5 +1,5 @@
 //! Entries in the order in which they lie in memory, in room that is taken once.
-ghost use Rattle.std.specs.Prelude.{◌≡◌, ◌+◌, ◌≤◌, ◌<◌, ◌↔◌, ℕ, [], List, length, IfOk, IsTrue, slice_index_or, slice_set};
+ghost use Rattle.std.specs.Prelude.{◌≡◌, ◌+◌, ◌^◌, ◌≤◌, ◌<◌, ◌↔◌, ℕ, [], List, length, IfOk, IsTrue, slice_index_or, slice_set};
 ghost use Rattle.std.specs.List.{insert, remove};
 ghost use Rattle.cola_spec.specs.Map.{Stored};
 
@@ -38,8 +38,10 @@ impl Entries {
 
     /// How many entries there are.
     pub fn len(&self) -> usize
-        ensures { result ≡ length self.now.list }
+        ensures value { result ≡ length self.now.list }
+        ensures small { result < 2 ^ 32 }
     {
+        prove!(self.entries.len() <= self.limit as usize);
         self.entries.len()
     }
 

@@ -22,12 +22,14 @@ impl Model for Entry {
 }
 
 impl Entry {
-    ghost use Rattle.std.specs.Prelude.{◌≡◌};
+    ghost use Rattle.std.specs.Prelude.{◌≡◌, ◌≤◌, length};
 
     /// The entry of a key and a value.
     pub fn new(key: Key, value: Value) -> Entry
-        ensures { result ≡ (key, record { value = value; stamp = 0 }) }
+        ensures value { result ≡ (key, record { value = value; stamp = 0 }) }
+        ensures some { 1 ≤ length result.0 }
     {
+        prove!(!key.bytes().is_empty());
         Entry { key, value }
     }
 

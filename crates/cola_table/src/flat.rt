@@ -1,9 +1,9 @@
 //! The table in memory: a sorted vector, reserved at the start.
-ghost use Rattle.std.specs.FinMap.{is_sorted};
-ghost use Rattle.std.specs.Prelude.{◌≡◌, ◌+◌, ◌-◌, ◌^◌, ◌≤◌, ◌<◌, ℕ, length, IsTrue, List, Option, IfOk, IfErr, OnOk, OnErr, option_copied, OnSome};
+ghost use Rattle.std.specs.FinMap.{is_sorted, find};
+ghost use Rattle.std.specs.Prelude.{◌≡◌, ◌+◌, ◌-◌, ◌^◌, ◌≤◌, ◌<◌, ℕ, length, IsTrue, List, Option, IfOk, IfErr, OnOk, OnErr, option_copied, option_map, OnSome};
 ghost use Rattle.cola_cell.specs.declared.format.Format.TheVariants.{One, Two};
 ghost use Rattle.cola_cell.specs.Format.{KeyFits, ValueFits};
-ghost use Rattle.cola_spec.specs.Map.{Map, IsMap, Stored, count, key_cmp, empty_map};
+ghost use Rattle.cola_spec.specs.Map.{Map, IsMap, Stored, count, key_cmp, empty_map, is_before};
 ghost use Rattle.cola_spec.specs.Bounds.{put_bound, get_bound, range_bound};
 ghost use Rattle.cola_table.specs.Terms.{Terms, Call, shape};
 ghost use Rattle.cola_table.specs.Answers.{PutAnswers, PutIfAnswers, DeleteAnswers, GetAnswers, StampAnswers, RangeAnswers, NextAnswers, put_cause, step_cause, read_cause, KeepsWalks, UnlessPut, UnlessDeleted};
@@ -62,6 +62,7 @@ fn place_of(entries: &Entries, key: &Key) -> usize
     requires { IsTrue (is_sorted key_cmp entries.now.list) }
     ensures place { result ≡ place_of key_cmp key.now entries.now.list }
     ensures in_range { result ≤ length entries.now.list }
+    ensures small { result < 2 ^ 32 }
 {
     let mut low = 0;
     let mut high = entries.len();
@@ -87,5 +88,150 @@ fn search(entries: &Entries, key: &Key) -> Result<usize, usize>
         Ok(place)
     } else {
         Err(place)
+    }
+}
+
+// The value of a key.
+fn find(entries: &Entries, key: &Key) -> Option<Value>
+    requires { IsTrue (is_sorted key_cmp entries.now.list) }
+    ensures { result ≡ option_map (λ s. s.value) (find key_cmp key.now entries.now.list) }
+{
+    match search(entries, key) {
+        Ok(place) => Some(*entries.at(place).value()),
+        Err(_) => None,
+    }
+}
+
+impl Table for FlatTable {
+    ghost use Rattle.std.specs.Prelude.{◌≡◌, ◌+◌, ◌-◌, ◌^◌, ◌≤◌, ◌<◌, ℕ, List, Option, IfOk, IfErr, OnOk, OnErr, option_copied, OnSome};
+    ghost use Rattle.cola_cell.specs.declared.format.Format.TheVariants.{One, Two};
+    ghost use Rattle.cola_cell.specs.Format.{KeyFits, ValueFits};
+    ghost use Rattle.cola_spec.specs.Map.{Map, IsMap, count};
+    ghost use Rattle.cola_spec.specs.Bounds.{put_bound, get_bound, range_bound};
+    ghost use Rattle.cola_table.specs.Terms.{Terms, Call, shape};
+    ghost use Rattle.cola_table.specs.Answers.{PutAnswers, PutIfAnswers, DeleteAnswers, GetAnswers, StampAnswers, RangeAnswers, NextAnswers, put_cause, step_cause, read_cause, KeepsWalks, UnlessPut, UnlessDeleted};
+    ghost use Rattle.cola_table.specs.Flat.{pairs_ahead};
+
+    type Walk = FlatWalk;
+
+    ghost terms = { λ t. record { format = One; limit = t.limit; depth = 0 } };
+
+    ghost faults = { λ _. 0 };
+
+    ghost holds = { λ t m. m ≡ t.map };
+
+    ghost stands = { λ _ _. Unit {0} };
+
+    ghost ahead = { λ t walk pairs. pairs ≡ pairs_ahead t.map walk.place walk.high };
+
+    ghost left = { λ _. 0 };
+
+    ghost most = { λ walk. 2 ^ 32 - walk.place };
+
+    fn format(&self) -> Format {
+        Format::One
+    }
+
+    fn count(&self) -> u64 {
+        self.entries.len() as u64
+    }
+
+    fn put<L: Ledger>(
+        &mut self,
+        key: &Key,
+        value: &Value,
+        _steps: &mut Steps<L>,
+    ) -> Result<(Put, u32), PutFault> {
+        let entry = Entry::new(*key, *value);
+        match search(&self.entries, key) {
+            Ok(place) => {
+                let old = *self.entries.at(place).value();
+                self.entries.replace(place, entry);
+                Ok((Put::Old(old), 0))
+            }
+            Err(place) => {
+                if self.entries.is_full() {
+                    return Err(PutFault::Full);
+                }
+                self.entries.insert(place, entry);
+                Ok((Put::New, 0))
+            }
+        }
+    }
+
+    fn put_if<L: Ledger>(
+        &mut self,
+        _key: &Key,
+        _seen: u64,
+        _value: &Value,
+        _steps: &mut Steps<L>,
+    ) -> Result<(PutIf, u32), PutFault> {
+        unreachable!()
+    }
+
+    fn delete<L: Ledger>(
+        &mut self,
+        key: &Key,
+        _steps: &mut Steps<L>,
+    ) -> Result<(Option<Value>, u32), StepFault> {
+        match search(&self.entries, key) {
+            Ok(place) => Ok((Some(*self.entries.remove(place).value()), 0)),
+            Err(_) => Ok((None, 0)),
+        }
+    }
+
+    fn get<L: Ledger>(
+        &mut self,
+        key: &Key,
+        _steps: &mut Steps<L>,
+    ) -> Result<(Option<Value>, u32), ReadFault> {
+        Ok((find(&self.entries, key), 0))
+    }
+
+    fn stamp<L: Ledger>(
+        &mut self,
+        _key: &Key,
+        _steps: &mut Steps<L>,
+    ) -> Result<(Option<u64>, u32), ReadFault> {
+        unreachable!()
+    }
+
+    fn range<L: Ledger>(
+        &mut self,
+        low: &Key,
+        high: Option<&Key>,
+        _steps: &mut Steps<L>,
+    ) -> Result<FlatWalk, ReadFault> {
+        let place = place_of(&self.entries, low) as u32;
+        Ok(FlatWalk {
+            place,
+            high: high.copied(),
+        })
+    }
+
+    fn next<L: Ledger>(
+        &mut self,
+        walk: &mut FlatWalk,
+        _steps: &mut Steps<L>,
+    ) -> Result<Option<(Key, Value)>, ReadFault> {
+        if walk.place as usize >= self.entries.len() {
+            return Ok(None);
+        }
+        let entry = *self.entries.at(walk.place as usize);
+        if !is_below(entry.key(), &walk.high) {
+            return Ok(None);
+        }
+        walk.place += 1;
+        Ok(Some((*entry.key(), *entry.value())))
+    }
+}
+
+// Whether the key is below the upper end, where there is one.
+fn is_below(key: &Key, high: &Option<Key>) -> bool
+    ensures { result ≡ is_before high.now key.now }
+{
+    match high {
+        Some(high) => key < high,
+        None => true,
     }
 }
