@@ -6,7 +6,7 @@ use Rattle.std.specs.FinMap as finite
 use Rattle.std.specs.Coded.{Coded, code_by, coded×, coded_list, coded_ℕ}
 use Rattle.cola_cell.specs.declared.format.Format.TheVariants.{One}
 use Rattle.cola_spec.specs.Map.{Stored, Map, EntryFits, key_cmp, map_code, stored_code, pair_of, is_before}
-use Rattle.cola_table.specs.Terms.{shape_of}
+use Rattle.cola_table.specs.Terms.{Terms, shape_of}
 
 -- the most keys that a table in memory holds, and its map
 pub record Flat : Type 0 where
@@ -16,6 +16,10 @@ pub record Flat : Type 0 where
 -- a table is coded as the pair of its fields
 abbrev pub flat_code : Coded Flat
 flat_code = code_by (ℕ × Map) (coded× coded_ℕ map_code) (λ t. (t.limit, t.map)) (λ p. record { limit = p.0; map = p.1 }) (λ _. refl)
+
+-- its terms: format One, and no levels
+abbrev pub terms_of : Flat → Terms
+terms_of table = record { format = One; limit = table.limit; depth = 0 }
 
 -- how many entries there is room for, and the entries in the order in which they lie
 pub record Entries : Type 0 where

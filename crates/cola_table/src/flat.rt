@@ -7,7 +7,8 @@ ghost use Rattle.cola_spec.specs.Map.{Map, IsMap, Stored, count, key_cmp, empty_
 ghost use Rattle.cola_spec.specs.Bounds.{put_bound, get_bound, range_bound};
 ghost use Rattle.cola_table.specs.Terms.{Terms, Call, shape};
 ghost use Rattle.cola_table.specs.Answers.{PutAnswers, PutIfAnswers, DeleteAnswers, GetAnswers, StampAnswers, RangeAnswers, NextAnswers, put_cause, step_cause, read_cause, KeepsWalks, UnlessPut, UnlessDeleted};
-ghost use Rattle.cola_table.specs.Flat.{HasKeyAt, LacksKey, place_of, pairs_ahead};
+ghost use Rattle.cola_table.specs.Flat.{HasKeyAt, LacksKey, terms_of, place_of};
+ghost use Rattle.cola_table.specs.Walks.{Stands, Ahead, most_ahead};
 
 use crate::entries::Entries;
 use crate::entry::Entry;
@@ -110,23 +111,24 @@ impl Table for FlatTable {
     ghost use Rattle.cola_spec.specs.Bounds.{put_bound, get_bound, range_bound};
     ghost use Rattle.cola_table.specs.Terms.{Terms, Call, shape};
     ghost use Rattle.cola_table.specs.Answers.{PutAnswers, PutIfAnswers, DeleteAnswers, GetAnswers, StampAnswers, RangeAnswers, NextAnswers, put_cause, step_cause, read_cause, KeepsWalks, UnlessPut, UnlessDeleted};
-    ghost use Rattle.cola_table.specs.Flat.{pairs_ahead};
+    ghost use Rattle.cola_table.specs.Flat.{terms_of};
+    ghost use Rattle.cola_table.specs.Walks.{Stands, Ahead, most_ahead};
 
     type Walk = FlatWalk;
 
-    ghost terms = { λ t. record { format = One; limit = t.limit; depth = 0 } };
+    ghost terms = { terms_of };
 
     ghost faults = { λ _. 0 };
 
     ghost holds = { λ t m. m ≡ t.map };
 
-    ghost stands = { λ _ _. Unit {0} };
+    ghost stands = { Stands };
 
-    ghost ahead = { λ t walk pairs. pairs ≡ pairs_ahead t.map walk.place walk.high };
+    ghost ahead = { Ahead };
 
     ghost left = { λ _. 0 };
 
-    ghost most = { λ walk. 2 ^ 32 - walk.place };
+    ghost most = { most_ahead };
 
     fn format(&self) -> Format {
         Format::One
@@ -200,8 +202,18 @@ impl Table for FlatTable {
         &mut self,
         low: &Key,
         high: Option<&Key>,
-        _steps: &mut Steps<L>,
-    ) -> Result<FlatWalk, ReadFault> {
+        steps: &mut Steps<L>,
+    ) -> Result<FlatWalk, ReadFault>
+        ensures answer { (m : Map) → m ≡ self.old.map → RangeAnswers m low.now (option_copied high.entry) (λ m'. m' ≡ self.new.map) (Ahead self.new) result }
+        ensures stands { IfOk result (λ walk. Stands self.new walk) }
+        ensures most { IfOk result (λ walk. most_ahead walk < 2 ^ 64) }
+        ensures call { Call (terms_of self.old) (terms_of self.new) 0 0 steps.old steps.new (range_bound 0) }
+        ensures left { IfOk result (λ _. steps.new + 0 ≤ steps.old + range_bound 0) }
+        ensures cause { IfErr result (λ refusal. read_cause refusal 0 0) }
+        ensures walks { KeepsWalks (Stands self.old) (Stands self.new) (Ahead self.old) (Ahead self.new) }
+        // Those were the trait's clauses; and no step is made.
+        ensures free { steps.new ≡ steps.old }
+    {
         let place = place_of(&self.entries, low) as u32;
         Ok(FlatWalk {
             place,
