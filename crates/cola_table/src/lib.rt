@@ -5,6 +5,8 @@ mod entries;
 mod entry;
 mod flat;
 mod table;
+#[cfg(test)]
+mod tests;
 
 use cola_cell::Value;
 pub use flat::{FlatTable, FlatWalk};

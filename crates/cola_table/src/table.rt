@@ -22,7 +22,7 @@ use std::sync::ledger::Ledger;
 /// made.
 pub trait Table {
     /// A range that is being walked.
-    type Walk;
+    type Walk: Drop;
 
     /// The format, the limit and the number that bounds the steps. No call changes them.
     ghost terms: { Self → Terms };
