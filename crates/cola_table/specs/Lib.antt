@@ -1,2 +1,4 @@
 pub mod Terms
 pub mod Answers
+pub mod Flat
+pub mod Walks

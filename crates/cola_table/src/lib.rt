@@ -1,9 +1,15 @@
 //! The table: an ordered map with a key limit, as the session sees it, and one kept in memory.
 #![tactic(auto)]
 
+mod entries;
+mod entry;
+mod flat;
 mod table;
+#[cfg(test)]
+mod tests;
 
 use cola_cell::Value;
+pub use flat::{FlatTable, FlatWalk};
 pub use table::Table;
 
 /// What an accepted put did.

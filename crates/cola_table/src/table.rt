@@ -1,5 +1,5 @@
 //! The ordered map with a key limit, as a trait.
-ghost use Rattle.std.specs.Prelude.{◌≡◌, ◌+◌, ◌≤◌, ◌<◌, ℕ, List, Option, IfOk, IfErr, OnOk, OnErr, option_map, option_copied, IsTrue, MatchResult, IfSome, OnSome};
+ghost use Rattle.std.specs.Prelude.{◌≡◌, ◌+◌, ◌^◌, ◌≤◌, ◌<◌, ℕ, List, Option, IfOk, IfErr, OnOk, OnErr, option_map, option_copied, IsTrue, MatchResult, IfSome, OnSome};
 ghost use Rattle.cola_cell.specs.declared.format.Format.TheVariants.{Two};
 ghost use Rattle.cola_cell.specs.Format.{KeyFits, ValueFits};
 ghost use Rattle.cola_spec.specs.Map.{Map, IsMap, count};
@@ -22,7 +22,7 @@ use std::sync::ledger::Ledger;
 /// made.
 pub trait Table {
     /// A range that is being walked.
-    type Walk;
+    type Walk: Drop;
 
     /// The format, the limit and the number that bounds the steps. No call changes them.
     ghost terms: { Self → Terms };
@@ -135,6 +135,7 @@ pub trait Table {
     ) -> Result<Self::Walk, ReadFault>
         ensures answer { (m : Map) → holds self.old m → RangeAnswers m low.now (option_copied high.entry) (holds self.new) (ahead self.new) result }
         ensures stands { IfOk result (λ walk. stands self.new walk) }
+        ensures most { IfOk result (λ walk. most walk < 2 ^ 64) }
         ensures call { Call (terms self.old) (terms self.new) (faults self.old) (faults self.new) steps.old steps.new (range_bound (terms self.old).depth) }
         ensures left { IfOk result (λ walk. steps.new + left walk ≤ steps.old + range_bound (terms self.old).depth) }
         ensures cause { IfErr result (λ refusal. read_cause refusal (faults self.old) (faults self.new)) }
