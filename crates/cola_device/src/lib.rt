@@ -3,7 +3,10 @@
 
 mod counts;
 mod device;
+pub mod laws;
 mod memory;
+#[cfg(test)]
+mod tests;
 
 pub use counts::Counts;
 pub use device::{Device, DeviceFault, MAX_TRANSFER};

@@ -95,10 +95,7 @@ impl MemoryDevice {
         ensures after { self.new ≡ after_call (next_fails self.old || not can_be_done) self.old }
     {
         self.calls = self.calls.saturating_add(1);
-        if self.failing.contains(&self.calls) {
-            return Err(self.counts.fault());
-        }
-        if !can_be_done {
+        if self.failing.contains(&self.calls) || !can_be_done {
             return Err(self.counts.fault());
         }
         Ok(())
@@ -199,6 +196,7 @@ impl Device for MemoryDevice {
         ensures fails { is_err result ≡ next_fails self.old }
         ensures after { self.new ≡ after_call (next_fails self.old) self.old }
     {
+        // Bytes in memory are always settled.
         self.begin(true)
     }
 
