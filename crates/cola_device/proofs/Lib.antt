@@ -1,2 +1,3 @@
 pub mod BytesLemmas
 pub mod ToldLemmas
+pub mod CountsLemmas
