@@ -1,5 +1,5 @@
 -- Laws of the parts of a list, and of a list with new bytes at a place.
-use Rattle.std.proofs.Common.{◌≡◌, ℕ, ◌+◌, ◌-◌, ◌<◌, ◌≤◌, List, [], ◌∷◌, ◌++◌, length, take, drop, get_or, replicate, refl, sym, ◌∙◌, ap, arith, rules, add_assoc, append_assoc, length-append, length-take, length-drop}
+use Rattle.std.proofs.Common.{◌≡◌, ℕ, ◌+◌, ◌-◌, ◌<◌, ◌≤◌, List, ◌++◌, length, take, drop, get_or, replicate, refl, sym, ◌∙◌, ap, arith, rules, add_assoc, append_assoc, length-append, length-take, length-drop}
 use Rattle.std.proofs.lemmas.List.{places, ext_get_or, length-take-le, take-append-drop, take-append-le, drop-append-le, take_at, drop_at, take-take, drop-drop, drop-take, take-replicate, drop-replicate}
 use Rattle.cola_device.specs.Bytes.{part, splice}
 

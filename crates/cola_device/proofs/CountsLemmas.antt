@@ -1,5 +1,5 @@
 -- A call that counts its fault, its read or its write by one keeps the word of the trait.
-use Rattle.std.proofs.Common.{◌≡◌, ℕ, ◌+◌, ◌≤◌, Result, Ok, Err, rules}
+use Rattle.std.proofs.Common.{◌≡◌, Result, Ok, Err, rules}
 use Rattle.std.specs.Prelude.{is_err}
 use Rattle.cola_device.specs.declared.counts.Counts.{Counts}
 use Rattle.cola_device.specs.Counts.{Called, count_fault, count_read, count_write}

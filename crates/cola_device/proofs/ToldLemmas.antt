@@ -1,5 +1,5 @@
 -- Laws of what a device tells after a call, by what the call says.
-use Rattle.std.proofs.Common.{◌≡◌, ℕ, ◌+◌, ◌<◌, ◌≤◌, Bool, List, length, replicate, Option, Some, None, Result, Ok, Err, refl, sym, ◌∙◌, ap, arith}
+use Rattle.std.proofs.Common.{◌≡◌, ℕ, ◌+◌, ◌≤◌, List, length, replicate, Option, Some, None, Result, Ok, Err, refl, sym, ◌∙◌, ap, arith}
 use Rattle.std.specs.Prelude.{is_some, true, OnOk}
 use Rattle.std.proofs.lemmas.List.{length-replicate}
 use Rattle.cola_outside.specs.Told.{Both}

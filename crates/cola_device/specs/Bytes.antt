@@ -1,5 +1,5 @@
 -- What the calls of a device say of the bytes that it tells.
-use Rattle.std.specs.Prelude.{◌≡◌, ℕ, ◌+◌, ◌≤◌, List, ◌++◌, length, take, drop, replicate, Option, Some, None, Result, MatchResult, OnOk, IfSome, ⊤}
+use Rattle.std.specs.Prelude.{◌≡◌, ℕ, ◌+◌, ◌≤◌, List, ◌++◌, length, take, drop, replicate, Option, Result, MatchResult, OnOk, IfSome}
 use Rattle.cola_outside.specs.Told.{Both}
 
 -- so many of the bytes, from a place on

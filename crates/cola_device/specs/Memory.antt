@@ -1,5 +1,5 @@
 -- A device in memory, and what each of its calls leaves.
-use Rattle.std.specs.Prelude.{◌≡◌, ℕ, ◌==◌, nat_lt, Bool, ◌||◌, if◌then◌else◌, List, [], length, replicate, min}
+use Rattle.std.specs.Prelude.{ℕ, ◌==◌, nat_lt, Bool, ◌||◌, if◌then◌else◌, List, length, replicate, min}
 use Rattle.std.specs.List.{list_any}
 use Rattle.cola_device.specs.declared.counts.Counts.{Counts}
 use Rattle.cola_device.specs.declared.memory.TheConstants.{SPOILED}
