@@ -1,0 +1,4 @@
+pub mod BytesLemmas
+pub mod ToldLemmas
+pub mod CountsLemmas
+mod Examples

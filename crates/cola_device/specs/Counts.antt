@@ -1,0 +1,30 @@
+-- The counts of a device, and what a call does to them.
+use Rattle.std.specs.Prelude.{ℕ, ◌+◌, ◌-◌, ◌^◌, ◌≤◌, min, max, Bool, true, false, Result}
+use Rattle.cola_outside.specs.Faults.{HasCause}
+use Rattle.cola_device.specs.declared.counts.Counts.{Counts}
+
+-- one more, by a count that ends at the last value of u64
+abbrev pub one_more : ℕ → ℕ
+one_more count = max count (min (count + 1) (2 ^ 64 - 1))
+
+-- a fault more where there was one
+abbrev pub count_fault : Bool → Counts → Counts
+count_fault false counts = counts
+count_fault true counts = record counts { faults = one_more counts.faults }
+
+-- a read more
+abbrev pub count_read : Counts → Counts
+count_read counts = record counts { reads = one_more counts.reads }
+
+-- a write more
+abbrev pub count_write : Counts → Counts
+count_write counts = record counts { writes = one_more counts.writes }
+
+-- a call that makes at most so many reads and writes: no count falls, and an error has its cause
+pub record Called {T E : Type 0} (before now : Counts) (reads writes : ℕ) (result : Result T E) : Type 0 where
+  pub faults_stay : before.faults ≤ now.faults
+  pub cause : HasCause result before.faults now.faults
+  pub reads_stay : before.reads ≤ now.reads
+  pub reads_rise : now.reads ≤ before.reads + reads
+  pub writes_stay : before.writes ≤ now.writes
+  pub writes_rise : now.writes ≤ before.writes + writes

@@ -1,0 +1,36 @@
+use Rattle.std.proofs.Common.{refl}
+use Rattle.cola_device.proofs.CountsLemmas.{Called-count_fault, Called-count_read, Called-count_write}
+use Rattle.cola_filedev.proofs.Untold.{value_untold, given_untold}
+use Rattle.cola_filedev.proofs.file.FileDeviceDevice.TheImpl.Goals as goal
+
+pub size-tells : goal.size-tells
+size-tells g c = record {
+  value = value_untold c.result;
+  bytes_stay = refl;
+  counts = Called-count_fault c.result c.args.self.now.counts c.new.self.now.counts c.ensures.counted;
+}
+
+pub lay_out-tells : goal.lay_out-tells
+lay_out-tells g c = record {
+  laid = tt;
+  counts = Called-count_fault c.result c.args.self.now.counts c.new.self.now.counts c.ensures.counted;
+}
+
+pub read-tells : goal.read-tells
+read-tells g c = record {
+  given = given_untold c.result;
+  bytes_stay = refl;
+  counts = Called-count_read c.result c.args.self.now.counts c.new.self.now.counts c.ensures.counted;
+}
+
+pub write-tells : goal.write-tells
+write-tells g c = record {
+  wrote = tt;
+  counts = Called-count_write c.result c.args.self.now.counts c.new.self.now.counts c.ensures.counted;
+}
+
+pub settle-tells : goal.settle-tells
+settle-tells g c = record {
+  bytes_stay = refl;
+  counts = Called-count_fault c.result c.args.self.now.counts c.new.self.now.counts c.ensures.counted;
+}

@@ -1,0 +1,25 @@
+-- Whether a device has its file, and what a call makes of that.
+use Rattle.std.specs.Prelude.{◌≡◌, ◌≢◌, Bool, Result, IsErr, is_err}
+use Rattle.cola_device.specs.declared.counts.Counts.{Counts}
+use Rattle.cola_device.specs.Counts.{count_fault}
+
+-- the file was not asked for yet, is open, or was refused
+pub data Opening : Type 0 where
+  unopened : Opening
+  opened : Opening
+  refused : Opening
+
+-- what a device over a file shows
+pub record Shown : Type 0 where
+  pub opening : Opening
+  pub counts : Counts
+
+-- nothing was asked of it yet
+abbrev pub unused : Opening → Shown
+unused opening = record { opening = opening; counts = record { faults = 0; reads = 0; writes = 0 } }
+
+-- the file was asked for by this call at the latest, the answer is kept, and a refused file is an error
+pub record Asked {T E : Type 0} (before now : Opening) (result : Result T E) : Type 0 where
+  pub asked : now ≢ unopened
+  pub kept : before ≢ unopened → now ≡ before
+  pub refusal : now ≡ refused → IsErr result
