@@ -1,3 +1,4 @@
 pub mod Entries
 pub mod Worked
 pub mod WorkedMaps
+pub mod MapLaws
