@@ -2,3 +2,4 @@ pub mod Entries
 pub mod Worked
 pub mod WorkedMaps
 pub mod MapLaws
+pub mod RangeLaws
