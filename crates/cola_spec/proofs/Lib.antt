@@ -3,3 +3,4 @@ pub mod Worked
 pub mod WorkedMaps
 pub mod MapLaws
 pub mod RangeLaws
+pub mod LineLaws
