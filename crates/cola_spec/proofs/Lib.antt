@@ -4,3 +4,5 @@ pub mod WorkedMaps
 pub mod MapLaws
 pub mod RangeLaws
 pub mod LineLaws
+pub mod BoundLaws
+pub mod MachineLaws

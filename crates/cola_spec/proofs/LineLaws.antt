@@ -1,7 +1,7 @@
 -- The laws of lines: they are the bytes again, and fall apart at each line feed.
-use Rattle.std.proofs.Common.{ℕ, ◌≡◌, ◌≢◌, ◌<◌, Bool, true, false, cond, refl, sym, ◌∙◌, ap, subst, List, [], ◌∷◌, ◌++◌, length, All, arith, append_assoc, nat_eq}
+use Rattle.std.proofs.Common.{ℕ, ◌≡◌, ◌≢◌, true, false, cond, refl, sym, ◌∙◌, ap, List, [], ◌∷◌, ◌++◌, All, append_assoc}
 use Rattle.std.proofs.lemmas.Bool.{eqb-true, eqb-false, ne_eqb}
-use Rattle.std.proofs.lemmas.List.Elements.{All-cons, All-nil, All-head, All-tail, All-append}
+use Rattle.std.proofs.lemmas.List.Elements.{All-cons, All-nil, All-head, All-tail}
 use Rattle.std.specs.List.{slice_split, onto_first, flat_map}
 use Rattle.cola_spec.specs.Lines.{is_line_feed, all_but_last, without_empty_last, raw_lines, ended_lines}
 use Rattle.cola_spec.specs.Reply.{line}

@@ -1,18 +1,16 @@
 -- The laws of the ordered map.
-use Rattle.std.proofs.Common.{ℕ, ◌≡◌, ◌≢◌, ◌≤◌, ◌<◌, ◌+◌, ◌⊎◌, Bool, true, false, cond, refl, sym, ◌∙◌, ap, subst, not, List, [], ◌∷◌, length, Option, Some, None, is_some, option_map, All, arith, nat_le, nat_eq, ◌&&◌, ◌↔◌, ◌-◌, if◌then◌else◌}
+use Rattle.std.proofs.Common.{ℕ, ◌≡◌, ◌≢◌, ◌≤◌, ◌<◌, ◌+◌, Bool, true, false, cond, refl, sym, ◌∙◌, ap, subst, List, [], ◌∷◌, length, Option, Some, None, is_some, option_map, All, arith, nat_le, nat_eq, ◌&&◌, ◌↔◌, ◌-◌, if◌then◌else◌}
 use Rattle.std.proofs.lemmas.Bool.{leb-true, leb-false, le-leb, lt-leb, eqb-false, eq-eqb, ne_eqb}
 use Rattle.std.proofs.lemmas.List.{length-map}
 use Rattle.std.proofs.lemmas.List.Elements.{All-cons, All-head, All-tail, All-nil, All-weaker, All-same, All-filter}
 use Rattle.std.specs.Bool.{OnFalse}
-use Rattle.std.specs.declared.cmp.Ordering.{Ordering}
 use Rattle.std.specs.declared.cmp.Ordering.TheVariants.{Less, Equal, Greater}
 use Rattle.std.specs.Ordering.{eq_by_cmp, is_eq}
 use Rattle.std.specs.Cmp.{eq_by_cmp_equiv}
 use Rattle.std.specs.Cmp.Lexicographic.{nat_list_cmp_total}
 use Rattle.std.specs.FinMap as finite
-use Rattle.std.specs.FinMap.{FinMap}
-use Rattle.std.specs.FinMap.Entries.{put, by_order, find, where_key}
-use Rattle.cola_spec.specs.Map.{Shape, Stored, Map, IsMap, EntryFits, key_cmp, is_key, is_value, last_stamp, empty_map, value_of, stamp_of, stamp_or_zero, count, pairs, pair_of, is_worn, outcome_at, put_outcome, put_if_outcome, next_stamp, with_value, settled, after_put, after_put_if, after_delete, PutOutcome, New, Old, Full, Worn, Other}
+use Rattle.std.specs.FinMap.Entries.{put, by_order}
+use Rattle.cola_spec.specs.Map.{Shape, Stored, Map, IsMap, EntryFits, key_cmp, is_key, is_value, last_stamp, empty_map, value_of, stamp_or_zero, count, pairs, pair_of, is_worn, outcome_at, put_outcome, put_if_outcome, next_stamp, with_value, settled, after_put, after_put_if, after_delete, PutOutcome, New, Old, Full, Worn, Other}
 use Rattle.cola_spec.specs.Laws.{is_accepted}
 use Rattle.cola_spec.proofs.Entries.{same_key, is_other, entries_empty, entries_insert, entries_remove}
 

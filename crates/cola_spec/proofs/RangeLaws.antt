@@ -1,16 +1,15 @@
 -- The laws of what is read by ranges.
-use Rattle.std.proofs.Common.{ℕ, ◌≡◌, ◌≤◌, ◌<◌, ◌⊎◌, ◌↔◌, Bool, true, false, cond, T, refl, sym, ◌∙◌, ap, subst, List, [], ◌∷◌, length, take, Option, Some, None, is_some, option_map, All, Contains, filter, map, min, get_or, arith, ◌&&◌, length-take, inl, inr}
+use Rattle.std.proofs.Common.{ℕ, ◌≡◌, ◌<◌, ◌↔◌, Bool, true, false, cond, T, refl, sym, ◌∙◌, ap, subst, List, [], ◌∷◌, length, take, Option, Some, None, option_map, All, Contains, filter, map, arith, ◌&&◌, length-take, inl, inr}
 use Rattle.std.proofs.lemmas.Bool.{and_parts, and_from}
 use Rattle.std.proofs.lemmas.List.{get_or-take}
-use Rattle.std.proofs.lemmas.List.Elements.{All-cons, All-nil, All-contains, All-contains_itself, All-filter, All-weaker, All-map, Contains-append_right, Contains-append_left, Contains-append_cases, Contains-push, Contains-push_cases, filter_passes}
+use Rattle.std.proofs.lemmas.List.Elements.{All-cons, All-nil, All-contains, All-contains_itself, All-filter, All-weaker, Contains-append_right, Contains-append_left, Contains-append_cases, Contains-push, Contains-push_cases, filter_passes}
 use Rattle.std.proofs.lemmas.List.Kept.{AllPairs-cons, AllPairs-filter}
-use Rattle.std.specs.List.{AllPairs}
 use Rattle.std.specs.declared.cmp.Ordering.{Ordering}
 use Rattle.std.specs.declared.cmp.Ordering.TheVariants.{Less, Equal, Greater}
-use Rattle.std.specs.Ordering.{eq_by_cmp, is_eq, is_lt}
+use Rattle.std.specs.Ordering.{is_eq, is_lt}
 use Rattle.std.specs.FinMap as finite
 use Rattle.std.specs.FinMap.Entries.{find, below_all, is_sorted}
-use Rattle.cola_spec.specs.Map.{Stored, Map, key_cmp, value_of, pairs, pair_of, pairs_between, is_from, is_before, range, scan}
+use Rattle.cola_spec.specs.Map.{Stored, Map, key_cmp, value_of, pairs, pair_of, pairs_between, is_from, is_before, scan}
 use Rattle.cola_spec.specs.Laws.{Rises}
 use Rattle.cola_spec.proofs.Entries.{same_key}
 use Rattle.cola_spec.proofs.MapLaws.{tied_key}

@@ -1,5 +1,5 @@
 -- Words of the laws: what they call an accepted put, the map of a state, and a request that fits a shape.
-use Rattle.std.specs.Prelude.{ℕ, ◌≡◌, ◌<◌, Bool, true, false, List, Option, Some, None, length, slice_index_or}
+use Rattle.std.specs.Prelude.{ℕ, ◌≡◌, Bool, true, false, List, Option, Some, None}
 use Rattle.std.specs.declared.cmp.Ordering.TheVariants.{Less}
 use Rattle.std.specs.List.{AllPairs}
 use Rattle.cola_spec.specs.Map.{Shape, Map, key_cmp, is_key, is_value, PutOutcome, New, Old, Full, Worn, Other}
