@@ -14,7 +14,7 @@ above_before n m h = omega arith
 pub ceiling_log_fits : (number : ℕ) → number ≤ 2 ^ ceiling_log number
 ceiling_log_fits number =
     above_before number (2 ^ ceiling_log number)
-        (subst (λ n. n < 2 ^ ceiling_log number) (number_digits_of 2 (number - 1) (omega arith)) (number_lt 2 (digits_of 2 (number - 1)) (all_below_base_digits_of 2 (number - 1) (omega arith))))
+    (subst (λ n. n < 2 ^ ceiling_log number) (number_digits_of 2 (number - 1) (omega arith)) (number_lt 2 (digits_of 2 (number - 1)) (all_below_base_digits_of 2 (number - 1) (omega arith))))
 
 power_above_zero : (power : ℕ) → 0 < 2 ^ power
 power_above_zero power = omega (arith, pow-sub-lt power {a = 1} (lit< tt))

@@ -123,10 +123,10 @@ put_fits shape _ = tt
 put_if_fits : (shape : Shape) (words : List (List ℕ)) → RequestFits shape (put_if_of shape words)
 put_if_fits shape (key ∷ seen ∷ value ∷ []) =
     when_fits shape (shape.stamped && is_key shape key && is_number 19 seen && is_value shape value) (PutIf key (number_of seen) value)
-        (λ h.
-          let all = and_parts (shape.stamped && is_key shape key && is_number 19 seen) (is_value shape value) h in
-          let first = and_parts (shape.stamped && is_key shape key) (is_number 19 seen) all.0 in
-          ((and_parts shape.stamped (is_key shape key) first.0).1, all.1))
+    (λ h.
+    let all = and_parts (shape.stamped && is_key shape key && is_number 19 seen) (is_value shape value) h in
+    let first = and_parts (shape.stamped && is_key shape key) (is_number 19 seen) all.0 in
+    ((and_parts shape.stamped (is_key shape key) first.0).1, all.1))
 put_if_fits shape _ = tt
 
 del_fits : (shape : Shape) (words : List (List ℕ)) → RequestFits shape (del_of shape words)
@@ -242,9 +242,10 @@ pub plain_run_is_one : (shape : Shape) (state : State) (turns : List Turn) (last
 plain_run_is_one shape state [] last run plain = (refl, run)
 plain_run_is_one shape state (turn ∷ turns) last run plain =
     let first = plain_step_is_one shape state turn run.0 (All-head (λ t. kind_of t.answer ≡ PlainStep) turn turns plain) run.1 in
-    let rest = plain_run_is_one shape run.0 turns last run.2 (All-tail (λ t. kind_of t.answer ≡ PlainStep) turn turns plain) in
-    ((λ i. first.0 i ∷ (rest.0 ∙ ap (λ s. answers (plain_turns shape s (asked_in turns))) first.1) i),
-      rest.1 ∙ ap (λ s. plain_last shape s (asked_in turns)) first.1)
+    let rest = plain_run_is_one shape run.0 turns last run.2 (All-tail (λ t. kind_of t.answer ≡ PlainStep) turn turns plain) in (
+      (λ i. first.0 i ∷ (rest.0 ∙ ap (λ s. answers (plain_turns shape s (asked_in turns))) first.1) i),
+      rest.1 ∙ ap (λ s. plain_last shape s (asked_in turns)) first.1,
+    )
 
 -- Texts without costs
 

@@ -144,21 +144,24 @@ when_old full false (Some s) value present fresh = cc
 
 pub put_is_full : (shape : Shape) (m : Map) (key : List ℕ) → (put_outcome shape m key ≡ Full) ↔ ((value_of m key ≡ None) × (shape.limit ≤ count m))
 put_is_full shape m key =
-    let found = finite.get m.entries key in
-    (λ is. let parts = full_when _ _ found (sym (by_tests shape m found) ∙ is) in (parts.0, leb-true _ _ parts.1),
-      λ is. by_tests shape m found ∙ when_full _ _ found is.0 (le-leb _ _ is.1))
+    let found = finite.get m.entries key in (
+      λ is. let parts = full_when _ _ found (sym (by_tests shape m found) ∙ is) in (parts.0, leb-true _ _ parts.1),
+      λ is. by_tests shape m found ∙ when_full _ _ found is.0 (le-leb _ _ is.1),
+    )
 
 pub put_is_worn : (shape : Shape) (m : Map) (key : List ℕ) → (put_outcome shape m key ≡ Worn) ↔ ((is_worn shape m ≡ true) × (value_of m key ≡ None → count m < shape.limit))
 put_is_worn shape m key =
-    let found = finite.get m.entries key in
-    (λ is. let parts = worn_when _ _ found (sym (by_tests shape m found) ∙ is) in (parts.0, λ absent. leb-false _ _ (parts.1 absent)),
-      λ is. by_tests shape m found ∙ when_worn _ _ found is.0 (λ absent. lt-leb _ _ (is.1 absent)))
+    let found = finite.get m.entries key in (
+      λ is. let parts = worn_when _ _ found (sym (by_tests shape m found) ∙ is) in (parts.0, λ absent. leb-false _ _ (parts.1 absent)),
+      λ is. by_tests shape m found ∙ when_worn _ _ found is.0 (λ absent. lt-leb _ _ (is.1 absent)),
+    )
 
 pub put_is_new : (shape : Shape) (m : Map) (key : List ℕ) → (put_outcome shape m key ≡ New) ↔ ((value_of m key ≡ None) × (count m < shape.limit) × (is_worn shape m ≡ false))
 put_is_new shape m key =
-    let found = finite.get m.entries key in
-    (λ is. let parts = new_when _ _ found (sym (by_tests shape m found) ∙ is) in (parts.0, leb-false _ _ parts.1, parts.2),
-      λ is. by_tests shape m found ∙ when_new _ _ found is.0 (lt-leb _ _ is.1) is.2)
+    let found = finite.get m.entries key in (
+      λ is. let parts = new_when _ _ found (sym (by_tests shape m found) ∙ is) in (parts.0, leb-false _ _ parts.1, parts.2),
+      λ is. by_tests shape m found ∙ when_new _ _ found is.0 (lt-leb _ _ is.1) is.2,
+    )
 
 pub put_is_old : (shape : Shape) (m : Map) (key value : List ℕ) → (put_outcome shape m key ≡ Old value) ↔ ((value_of m key ≡ Some value) × (is_worn shape m ≡ false))
 put_is_old shape m key value =
@@ -181,14 +184,15 @@ other_when true here outcome stamp apart is = absurd (apart is)
 other_when false here outcome stamp apart is = (cc, refl)
 
 pub put_if_is_other : (shape : Shape) (m : Map) (key : List ℕ) (seen stamp : ℕ) → (put_if_outcome shape m key seen ≡ Other stamp) ↔ ((stamp_or_zero m key ≡ stamp) × (stamp ≢ seen))
-put_if_is_other shape m key seen stamp =
-    (λ is. let parts = other_when _ _ _ stamp (put_is_never_other shape m key stamp) is in (parts.0, λ same. eqb-false _ _ parts.1 (parts.0 ∙ same)),
-      λ is. ap (λ b. cond b (put_outcome shape m key) (Other (stamp_or_zero m key))) (ne_eqb _ _ (λ same. is.1 (sym is.0 ∙ same))) ∙ ap Other is.0)
+put_if_is_other shape m key seen stamp = (
+  λ is. let parts = other_when _ _ _ stamp (put_is_never_other shape m key stamp) is in (parts.0, λ same. eqb-false _ _ parts.1 (parts.0 ∙ same)),
+  λ is. ap (λ b. cond b (put_outcome shape m key) (Other (stamp_or_zero m key))) (ne_eqb _ _ (λ same. is.1 (sym is.0 ∙ same))) ∙ ap Other is.0,
+)
 
 pub put_if_is_put : (shape : Shape) (m : Map) (key : List ℕ) (seen : ℕ) → stamp_or_zero m key ≡ seen → put_if_outcome shape m key seen ≡ put_outcome shape m key
 put_if_is_put shape m key seen same = ap (λ b. cond b (put_outcome shape m key) (Other (stamp_or_zero m key))) (eq-eqb _ _ same)
 
-put_by_put_if : (same : Bool) (here : ℕ) (outcome : PutOutcome) → is_accepted (cond same outcome (Other here)) ≡ true → is_accepted outcome ≡ true
+pub put_by_put_if : (same : Bool) (here : ℕ) (outcome : PutOutcome) → is_accepted (cond same outcome (Other here)) ≡ true → is_accepted outcome ≡ true
 put_by_put_if true here outcome is = is
 put_by_put_if false here outcome is = cc
 
@@ -253,8 +257,8 @@ with_value_is_map shape m key value h key_fits value_fits fresh within =
       within = within;
       fitting = All-same (EntryFits shape later) _ _ (entries_insert m.entries key (new_entry shape m value))
           (all_put (EntryFits shape later) key (new_entry shape m value) (finite.entries m.entries)
-            (record { key_fits = key_fits; value_fits = value_fits; given = stamp_given shape.stamped m.last })
-            (All-weaker (EntryFits shape m.last) (EntryFits shape later) (entry_fits_later shape m.last later (last_rises shape.stamped m.last)) _ h.fitting));
+          (record { key_fits = key_fits; value_fits = value_fits; given = stamp_given shape.stamped m.last })
+          (All-weaker (EntryFits shape m.last) (EntryFits shape later) (entry_fits_later shape m.last later (last_rises shape.stamped m.last)) _ h.fitting));
       last_given = last_within shape.stamped m.last h.last_given fresh;
       unstamped = still_unstamped shape.stamped m.last h.unstamped;
     }
@@ -269,7 +273,7 @@ put_is_map shape m key value h key_fits value_fits accepted =
     let found = finite.get m.entries key in
     let parts = fresh_when _ _ found (ap is_accepted (sym (by_tests shape m found)) ∙ accepted) in
     with_value_is_map shape m key value h key_fits value_fits parts.0
-        (subst (λ n. n ≤ shape.limit) (sym (finite.len-insert nat_list_cmp_total m.entries key (new_entry shape m value))) (room_for (is_some found) (count m) shape.limit h.within (λ absent. leb-false _ _ (parts.1 absent))))
+    (subst (λ n. n ≤ shape.limit) (sym (finite.len-insert nat_list_cmp_total m.entries key (new_entry shape m value))) (room_for (is_some found) (count m) shape.limit h.within (λ absent. leb-false _ _ (parts.1 absent))))
 
 pub after_put_is_map : (shape : Shape) (m : Map) (key value : List ℕ) → IsMap shape m → is_key shape key ≡ true → is_value shape value ≡ true → IsMap shape (after_put shape m key value)
 after_put_is_map shape m key value h key_fits value_fits =
@@ -278,7 +282,7 @@ after_put_is_map shape m key value h key_fits value_fits =
 pub after_put_if_is_map : (shape : Shape) (m : Map) (key : List ℕ) (seen : ℕ) (value : List ℕ) → IsMap shape m → is_key shape key ≡ true → is_value shape value ≡ true → IsMap shape (after_put_if shape m key seen value)
 after_put_if_is_map shape m key seen value h key_fits value_fits =
     settled_holds (IsMap shape) (put_if_outcome shape m key seen) m (with_value shape m key value) h
-        (λ is. put_is_map shape m key value h key_fits value_fits (put_by_put_if (nat_eq (stamp_or_zero m key) seen) (stamp_or_zero m key) (put_outcome shape m key) is))
+    (λ is. put_is_map shape m key value h key_fits value_fits (put_by_put_if (nat_eq (stamp_or_zero m key) seen) (stamp_or_zero m key) (put_outcome shape m key) is))
 
 fewer : (found : Bool) (n limit : ℕ) → n ≤ limit → cond found (n - 1) n ≤ limit
 fewer true n limit le = omega arith

@@ -77,8 +77,8 @@ all_found : (es : List Entry) → T (is_sorted key_cmp es) → All (λ (row : Ro
 all_found [] h = All-nil (λ (row : Row). valued (find key_cmp row.0 []) ≡ Some row.1)
 all_found (e ∷ es) h =
     All-cons (λ (row : Row). valued (find key_cmp row.0 (e ∷ es)) ≡ Some row.1) (pair_of e) (map pair_of es)
-        (ap (λ b. valued (cond b (Some e.1) (find key_cmp e.0 es))) (tied_key e.0))
-        (All-weaker (λ (row : Row). valued (find key_cmp row.0 es) ≡ Some row.1) (λ (row : Row). valued (find key_cmp row.0 (e ∷ es)) ≡ Some row.1) (found_later e es (first_of _ _ h)) (map pair_of es) (all_found es (rest_of _ _ h)))
+    (ap (λ b. valued (cond b (Some e.1) (find key_cmp e.0 es))) (tied_key e.0))
+    (All-weaker (λ (row : Row). valued (find key_cmp row.0 es) ≡ Some row.1) (λ (row : Row). valued (find key_cmp row.0 (e ∷ es)) ≡ Some row.1) (found_later e es (first_of _ _ h)) (map pair_of es) (all_found es (rest_of _ _ h)))
 
 listed_when_found : (es : List Entry) (row : Row) → valued (find key_cmp row.0 es) ≡ Some row.1 → Contains (map pair_of es) row
 listed_when_found [] row h = cc
@@ -95,9 +95,10 @@ listed_when_found (e ∷ es) row h =
 pub pairs_are_found : (m : Map) (row : List ℕ × List ℕ) → Contains (pairs m) row ↔ (value_of m row.0 ≡ Some row.1)
 pairs_are_found m row =
     let es = finite.entries m.entries in
-    let same : value_of m row.0 ≡ valued (find key_cmp row.0 es) = ap valued (finite.get-entries m.entries row.0) in
-    (λ h. same ∙ All-contains (λ (row : Row). valued (find key_cmp row.0 es) ≡ Some row.1) (map pair_of es) row (all_found es (finite.entries_sorted m.entries)) h,
-      λ h. listed_when_found es row (sym same ∙ h))
+    let same : value_of m row.0 ≡ valued (find key_cmp row.0 es) = ap valued (finite.get-entries m.entries row.0) in (
+      λ h. same ∙ All-contains (λ (row : Row). valued (find key_cmp row.0 es) ≡ Some row.1) (map pair_of es) row (all_found es (finite.entries_sorted m.entries)) h,
+      λ h. listed_when_found es row (sym same ∙ h),
+    )
 
 pub pairs_rise : (m : Map) → Rises (pairs m)
 pairs_rise m = rising (finite.entries m.entries) (finite.entries_sorted m.entries)
@@ -120,12 +121,13 @@ kept_by p (y ∷ ys) x h passes =
 pub interval_is_exact : (m : Map) (low : List ℕ) (high : Option (List ℕ)) (row : List ℕ × List ℕ)
     → Contains (pairs_between m low high) row ↔ ((value_of m row.0 ≡ Some row.1) × (is_from low row.0 ≡ true) × (is_before high row.0 ≡ true))
 interval_is_exact m low high row =
-    let test : Row → Bool = λ pair. is_from low pair.0 && is_before high pair.0 in
-    (λ h.
-        let listed = All-contains (Contains (pairs m)) (filter test (pairs m)) row (All-filter test (Contains (pairs m)) (pairs m) (All-contains_itself (pairs m))) h in
-        let passes = and_parts _ _ (All-contains (λ x. test x ≡ true) (filter test (pairs m)) row (filter_passes test (pairs m)) h) in
-        ((pairs_are_found m row).0 listed, passes.0, passes.1),
-      λ h. kept_by test (pairs m) row ((pairs_are_found m row).1 h.0) (and_from _ _ h.1 h.2))
+    let test : Row → Bool = λ pair. is_from low pair.0 && is_before high pair.0 in (
+      λ h.
+          let listed = All-contains (Contains (pairs m)) (filter test (pairs m)) row (All-filter test (Contains (pairs m)) (pairs m) (All-contains_itself (pairs m))) h in
+          let passes = and_parts _ _ (All-contains (λ x. test x ≡ true) (filter test (pairs m)) row (filter_passes test (pairs m)) h) in
+          ((pairs_are_found m row).0 listed, passes.0, passes.1),
+      λ h. kept_by test (pairs m) row ((pairs_are_found m row).1 h.0) (and_from _ _ h.1 h.2),
+    )
 
 pub interval_rises : (m : Map) (low : List ℕ) (high : Option (List ℕ)) → Rises (pairs_between m low high)
 interval_rises m low high = AllPairs-filter (λ a b. key_cmp a.0 b.0 ≡ Less) (λ pair. is_from low pair.0 && is_before high pair.0) (pairs m) (pairs_rise m)
