@@ -4,3 +4,4 @@ pub mod Command
 pub mod Reply
 pub mod Machine
 pub mod Bounds
+pub mod Laws

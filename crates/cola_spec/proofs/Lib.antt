@@ -1,0 +1,8 @@
+pub mod Entries
+pub mod Worked
+pub mod WorkedMaps
+pub mod MapLaws
+pub mod RangeLaws
+pub mod LineLaws
+pub mod BoundLaws
+pub mod MachineLaws
