@@ -3,4 +3,6 @@ pub mod Sets
 pub mod AtKey
 pub mod InOrder
 pub mod Woven
+pub mod Counts
+pub mod Cuts
 mod Worked
