@@ -135,6 +135,10 @@ module _ {K V : Type 0} (cmp : K → K → Ordering) (part : Part) (n : ℕ) (ow
   IsRight (Take head cell) = TakesFirst head (option_to_list cell)
   IsRight Ended = (own ≡ []) × (incoming ≡ []) × (keys ≡ [])
 
+wanted_unless : (w : Bool) → not w ≡ false → w ≡ true
+wanted_unless true f = refl
+wanted_unless false f = cc
+
 zero_more : (n : ℕ) → n ≡ 0 + n
 zero_more n = omega arith
 
@@ -254,3 +258,38 @@ module _ {K V : Type 0} {cmp : K → K → Ordering} (o : IsTotalOrder cmp) (par
           let inside : AllByRecursion (λ d. place_cmp cmp (Entry k' j y m) d ≡ Less) (taken_incoming part incoming) = all_taken cmp (Entry k' j y m) (λ _. true) part.marks_young incoming g.0 in
           item_or_look_is_right Incoming k' j y m (Entry k i x l ∷ own) (Entry k' j y m ∷ incoming) keys (omega arith) refl (incoming_first k' j y m (Entry k i x l ∷ own) incoming others inside)
           (all_sets cmp (λ d. place_cmp cmp (Entry k' j y m) d ≡ Less) (taken_incoming part incoming) (taken_own part (Entry k i x l ∷ own)) inside others) asc)
+
+  -- the least of the heads that are there, where none is passed over
+  least_is_right : (own incoming : List (Cell K V)) (keys : List K) → skips_own part (slice_get own 0) ≡ false → skips_incoming (slice_get incoming 0) ≡ false →
+      IsRising cmp own → IsRising cmp incoming → IsStrictlySortedBy cmp keys →
+      IsRight cmp part n own incoming keys (least cmp part (8 * n) (slice_get own 0) (slice_get incoming 0) (slice_get keys 0))
+  unfolding IsStrictlySortedBy
+  least_is_right [] [] [] s t h g asc = (refl, refl, refl)
+  least_is_right [] [] (key ∷ keys) s t h g asc = takes_look key [] [] keys asc tt
+  least_is_right (Look k l ∷ own) incoming keys s t h g asc = cc
+  least_is_right own (Look k l ∷ incoming) keys s t h g asc = cc
+  least_is_right (Entry k i x l ∷ own) [] keys s t h g asc =
+      item_or_look_is_right Own k i x l (Entry k i x l ∷ own) [] keys (omega arith) refl (own_first k i x l own [] (wanted_unless (is_wanted part x) s) tt)
+      (all_taken cmp (Entry k i x l) (is_wanted part) false own h.0) asc
+  least_is_right [] (Entry k j y l ∷ incoming) keys s t h g asc =
+      let inside : AllByRecursion (λ d. place_cmp cmp (Entry k j y l) d ≡ Less) (taken_incoming part incoming) = all_taken cmp (Entry k j y l) (λ _. true) part.marks_young incoming g.0 in
+      item_or_look_is_right Incoming k j y l [] (Entry k j y l ∷ incoming) keys (omega arith) refl (incoming_first k j y l [] incoming tt inside)
+      (all_sets cmp (λ d. place_cmp cmp (Entry k j y l) d ≡ Less) (taken_incoming part incoming) [] inside tt) asc
+  least_is_right (Entry k i x l ∷ own) (Entry k' j y m ∷ incoming) keys s t h g asc =
+      least_of_two k k' i j x y l m own incoming keys (wanted_unless (is_wanted part x) s) h g asc
+
+  passed_own : (own incoming : List (Cell K V)) (keys : List K) → skips_own part (slice_get own 0) ≡ true → IsRight cmp part n own incoming keys (Take Own None)
+  passed_own [] incoming keys e = cc
+  passed_own (c ∷ own) incoming keys e = passes_own c own incoming keys e
+
+  passed_incoming : (own incoming : List (Cell K V)) (keys : List K) → skips_incoming (slice_get incoming 0) ≡ true → IsRight cmp part n own incoming keys (Take Incoming None)
+  passed_incoming own [] keys e = cc
+  passed_incoming own (c ∷ incoming) keys e = passes_incoming c own incoming keys e
+
+  -- the first of the five rules that fits is right
+  pub rule_is_right : (own incoming : List (Cell K V)) (keys : List K) → IsRising cmp own → IsRising cmp incoming → IsStrictlySortedBy cmp keys →
+      IsRight cmp part n own incoming keys (rule cmp part (8 * n) (slice_get own 0) (slice_get incoming 0) (slice_get keys 0))
+  rule_is_right own incoming keys h g asc =
+      cond_both (skips_own part (slice_get own 0)) _ _ (IsRight cmp part n own incoming keys) (passed_own own incoming keys)
+      (λ s. cond_both (skips_incoming (slice_get incoming 0)) _ _ (IsRight cmp part n own incoming keys) (passed_incoming own incoming keys)
+          (λ t. least_is_right own incoming keys s t h g asc))

@@ -5,4 +5,5 @@ pub mod InOrder
 pub mod Woven
 pub mod Counts
 pub mod Cuts
+pub mod Stepping
 mod Worked

@@ -1,5 +1,5 @@
 -- The five rules of a merge, as one step over three cursors.
-use Rattle.std.specs.Prelude.{ℕ, zero, suc, ◌+◌, ◌-◌, ◌*◌, ◌≤◌, Bool, true, false, not, cond, List, [], ◌++◌, length, drop, slice_get}
+use Rattle.std.specs.Prelude.{◌≡◌, ◌++◌, ℕ, zero, suc, ◌+◌, ◌-◌, ◌*◌, ◌≤◌, min, Bool, true, false, not, cond, List, [], length, drop, slice_get}
 use Rattle.std.specs.declared.cmp.Ordering.{Ordering}
 use Rattle.std.specs.Ordering.{is_gt, match_ordering}
 use Rattle.std.specs.declared.option.Option.{Option}
@@ -110,3 +110,14 @@ module _ {K V : Type 0} (cmp : K → K → Ordering) (part : Part) (own incoming
     pub incoming_within : p.incoming ≤ length incoming
     pub sampled_within : p.sampled ≤ length keys
     pub cut : IsCut cmp part own incoming keys (drop p.own own) (drop p.incoming incoming) (drop p.sampled keys) p.done
+
+  -- n steps lead from one build to the other: it is under way, and has consumed n more source cells, or all that were left; it emitted at most one cell for each, behind what was emitted before, and no cursor fell
+  pub record IsAdvanced (n : ℕ) (before after : Build K V) : Type 0 where
+    pub under_way : IsUnderWay after
+    pub consumes : consumed after ≡ consumed before + min n (cells_left own incoming keys before)
+    pub leaves : cells_left own incoming keys after ≡ cells_left own incoming keys before - n
+    pub emits : length after.done + consumed before ≤ length before.done + consumed after
+    pub extends : (more : List (Cell K V)) × (after.done ≡ before.done ++ more)
+    pub own_rises : before.own ≤ after.own
+    pub incoming_rises : before.incoming ≤ after.incoming
+    pub sampled_rises : before.sampled ≤ after.sampled
