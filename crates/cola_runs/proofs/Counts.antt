@@ -5,7 +5,7 @@ use Rattle.std.specs.Cmp.{IsTotalOrder}
 use Rattle.std.specs.List.{AllByRecursion, filter}
 use Rattle.std.specs.List.Sorted.{IsStrictlySortedBy}
 use Rattle.cola_runs.specs.Cells.{Item, Value, Tombstone, Cell, Entry, Look, place_cmp, look_keys, count_looks, count_items, count_young, IsOldValue}
-use Rattle.cola_runs.specs.Weave.{Part, is_wanted, taken, taken_own, taken_incoming, stays, look_at, relinked, set_cell, set_cells, unlinked, weave}
+use Rattle.cola_runs.specs.Weave.{Part, own_items, is_wanted, taken, taken_own, taken_incoming, stays, look_at, relinked, set_cell, set_cells, unlinked, weave}
 use Rattle.cola_runs.proofs.Order.{by_bool, by_ordering, match_three}
 
 -- ---- any count of cells by a weight
@@ -172,10 +172,6 @@ no_looks_filter p (Entry k i y l ∷ cells) e =
 weigh_looks : {K V : Type 0} (f : Cell K V → ℕ) → ((k : K) (l : ℕ) → f (Look k l) ≡ 0) → (keys : List K) → weigh f (map look_at keys) ≡ 0
 weigh_looks f z [] = refl
 weigh_looks f z (k ∷ keys) = let rest = weigh_looks f z keys in let here = z k 0 in omega arith
-
--- how many own items the part takes
-abbrev pub own_items : {K V : Type 0} → Part → List (Cell K V) → ℕ
-own_items part own = cond part.only_young (count_young own) (count_items own)
 
 module _ {K V : Type 0} (cmp : K → K → Ordering) (part : Part) (own incoming : List (Cell K V)) (keys : List K) where
   pub keys_unlinked : IsStrictlySortedBy cmp keys → look_keys (unlinked cmp part own incoming keys) ≡ keys

@@ -6,4 +6,7 @@ pub mod Woven
 pub mod Counts
 pub mod Cuts
 pub mod Stepping
+pub mod Builds
+pub mod Samples
+pub mod Searches
 mod Worked

@@ -5,7 +5,7 @@ use Rattle.std.specs.Ordering.{match_ordering}
 use Rattle.std.specs.declared.option.Option.{Option}
 use Rattle.std.specs.declared.option.Option.TheVariants.{None, Some}
 use Rattle.std.specs.List.{filter}
-use Rattle.cola_runs.specs.Cells.{Item, Value, Tombstone, Cell, Entry, Look, place_cmp, count_looks}
+use Rattle.cola_runs.specs.Cells.{Item, Value, Tombstone, Cell, Entry, Look, place_cmp, count_looks, count_items, count_young}
 use Rattle.cola_runs.specs.Seen.{Seen, Nothing, Old, Young, flagged}
 
 -- which items a build takes, and how it marks them
@@ -74,6 +74,10 @@ module _ {K V : Type 0} where
   -- all incoming items, marked as the part says
   abbrev pub taken_incoming : Part → List (Cell K V) → List (Cell K V)
   taken_incoming part = taken (λ _. true) part.marks_young
+
+  -- how many own items the part takes
+  abbrev pub own_items : Part → List (Cell K V) → ℕ
+  own_items part own = cond part.only_young (count_young own) (count_items own)
 
   -- whether the part keeps a cell
   abbrev pub stays : Part → Cell K V → Bool
