@@ -1,15 +1,13 @@
 -- The weave at one key.
-use Rattle.std.proofs.Common.{◌≡◌, ℕ, zero, suc, ◌*◌, Bool, true, false, cond, not, List, [], ◌∷◌, ◌++◌, refl, sym, ap, ◌∙◌, subst, Less, Equal, Greater, Ordering, map, Option, Some, None}
-use Rattle.std.proofs.lemmas.Bool.{cond_both}
-use Rattle.std.specs.Ordering.{is_eq, match_ordering, ordering_then, bool_cmp}
-use Rattle.std.specs.Cmp.{IsTotalOrder, alike_right, tied_back, tied_itself}
+use Rattle.std.proofs.Common.{◌≡◌, ℕ, suc, Bool, true, false, cond, not, List, [], ◌∷◌, refl, sym, ap, ◌∙◌, subst, Less, Equal, Greater, Ordering, map, Some, None}
+use Rattle.std.specs.Ordering.{is_eq, match_ordering, ordering_then}
+use Rattle.std.specs.Cmp.{IsTotalOrder, alike_right}
 use Rattle.std.specs.List.{AllByRecursion, filter}
 use Rattle.std.specs.List.Sorted.{IsStrictlySortedBy}
-use Rattle.cola_runs.specs.Cells.{Item, Value, Tombstone, Cell, Entry, Look, key_of, is_look, place_cmp, IsRising}
+use Rattle.cola_runs.specs.Cells.{Item, Value, Tombstone, Cell, Entry, Look, place_cmp, IsRising}
 use Rattle.cola_runs.specs.Seen.{Seen, Nothing, Old, Young, flagged, seen, holds}
-use Rattle.cola_runs.specs.Weave.{Part, is_wanted, kept, own_at, kept_or_none, flagged_or_nothing, woven, taken, taken_own, taken_incoming, stays, look_at, relinked, set_cell, set_cells, unlinked, weave}
-use Rattle.cola_runs.proofs.Order.{all_above, all_beside, turned_greater, turned_less, match_three, by_ordering, by_bool, equal_is, place_total}
-use Rattle.cola_runs.proofs.Sets.{rising_sets}
+use Rattle.cola_runs.specs.Weave.{Part, kept, own_at, flagged_or_nothing, taken, taken_own, stays, look_at, relinked, set_cell, set_cells}
+use Rattle.cola_runs.proofs.Order.{match_three, by_ordering, by_bool}
 
 -- what is seen first, over what is seen below it
 abbrev pub over : {V : Type 0} → Seen V → Seen V → Seen V
@@ -77,7 +75,7 @@ module _ {K V : Type 0} {cmp : K → K → Ordering} (o : IsTotalOrder cmp) (q :
       refl refl (seen_set (Entry k i x l) cells) (cmp k k')
   seen_set (Entry k i x l) (Entry k' j y m ∷ cells) =
       by_ordering (λ r. cmp k k' ≡ r → seen cmp q (match_ordering (ordering_then r Equal) (Entry k i x l ∷ Entry k' j y m ∷ cells) (Entry k i x l ∷ cells) (Entry k' j y m ∷ set_cell cmp (Entry k i x l) cells))
-          ≡ seen cmp q (Entry k i x l ∷ Entry k' j y m ∷ cells))
+      ≡ seen cmp q (Entry k i x l ∷ Entry k' j y m ∷ cells))
       (λ e. refl) (λ e. entry_beside k k' i j x y l m cells e)
       (λ e. ap (λ s. cond (is_eq (cmp q k')) (flagged y j) s) (seen_set (Entry k i x l) cells) ∙ entry_across k k' i j x y l m cells e) (cmp k k') refl
 
@@ -147,7 +145,7 @@ module _ {K V : Type 0} {cmp : K → K → Ordering} (o : IsTotalOrder cmp) (q :
       let more : List (Cell K V) = filter (stays part) cells in
       let rest = seen_stays part cells h.1 in
       let aside : is_eq (cmp q k) ≡ false → seen cmp q (cond (stays part (Entry k i y l)) (Entry k i y l ∷ more) more) ≡ kept_seen part (seen cmp q cells) =
-          λ e. by_bool (λ w. seen cmp q (cond w (Entry k i y l ∷ more) more) ≡ kept_seen part (seen cmp q cells)) (rw e rest) rest (stays part (Entry k i y l)) in
+      λ e. by_bool (λ w. seen cmp q (cond w (Entry k i y l ∷ more) more) ≡ kept_seen part (seen cmp q cells)) (rw e rest) rest (stays part (Entry k i y l)) in
       by_ordering (λ r. cmp q k ≡ r → seen cmp q (cond (stays part (Entry k i y l)) (Entry k i y l ∷ more) more) ≡ kept_seen part (cond (is_eq r) (flagged y i) (seen cmp q cells)))
       (λ e. aside (ap is_eq e))
       (λ e. kept_here part k i y l more e (rest ∙ ap (kept_seen part) (seen_above k i y l e cells h.0)) ∙ sym (kept_flagged part y i))

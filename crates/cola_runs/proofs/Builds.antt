@@ -1,14 +1,14 @@
 -- A build from its beginning to its end.
-use Rattle.std.proofs.Common.{◌≡◌, ℕ, zero, suc, ◌+◌, ◌-◌, ◌*◌, ◌≤◌, ◌<◌, ◌^◌, min, Bool, true, false, cond, not, List, [], ◌∷◌, ◌++◌, refl, sym, ap, ◌∙◌, subst, Less, Ordering, length, drop, map, Option, Some, None, arith, length-append}
+use Rattle.std.proofs.Common.{◌≡◌, ℕ, suc, ◌+◌, ◌*◌, ◌≤◌, ◌^◌, Bool, true, false, cond, List, [], ◌∷◌, ◌++◌, refl, sym, ap, ◌∙◌, subst, Less, Ordering, length, drop, None, arith, length-append}
 use Rattle.std.proofs.lemmas.Nat.{pow-add}
 use Rattle.std.specs.Cmp.{IsTotalOrder}
 use Rattle.std.specs.Option.{option_or}
 use Rattle.std.specs.List.{AllByRecursion, filter}
 use Rattle.std.specs.List.Sorted.{IsStrictlySortedBy}
-use Rattle.cola_runs.specs.Cells.{Item, Value, Tombstone, Cell, Entry, Look, link_of, place_cmp, IsRising, IsLinked, IsWellFormed, count_items, count_young, IsOldValue}
-use Rattle.cola_runs.specs.Seen.{Seen, Nothing, Old, Young, flagged, seen, holds, answer}
-use Rattle.cola_runs.specs.Weave.{Part, all_items, bottom_items, kept, own_at, kept_or_none, flagged_or_nothing, woven, own_items, is_wanted, taken, taken_own, taken_incoming, stays, look_at, relinked, set_cells, unlinked, weave}
-use Rattle.cola_runs.specs.Steps.{Build, begun, consumed, cells_left, steps, IsUnderWay, IsAdvanced}
+use Rattle.cola_runs.specs.Cells.{Value, Tombstone, Cell, Entry, Look, link_of, place_cmp, IsRising, IsLinked, IsWellFormed, count_items, count_young, IsOldValue}
+use Rattle.cola_runs.specs.Seen.{Seen, Nothing, Old, Young, seen, holds, answer}
+use Rattle.cola_runs.specs.Weave.{Part, all_items, bottom_items, kept_or_none, woven, own_items, is_wanted, taken, taken_own, taken_incoming, stays, relinked, unlinked, weave}
+use Rattle.cola_runs.specs.Steps.{Build, begun, cells_left, steps, IsUnderWay}
 use Rattle.cola_runs.proofs.Order.{by_bool}
 use Rattle.cola_runs.proofs.Sets.{all_sets}
 use Rattle.cola_runs.proofs.InOrder.{formed_weave}

@@ -1,10 +1,9 @@
 -- How many items, young items and lookahead cells a weave has.
-use Rattle.std.proofs.Common.{◌≡◌, ℕ, zero, suc, ◌+◌, ◌*◌, ◌≤◌, Bool, true, false, cond, List, [], ◌∷◌, ◌++◌, refl, sym, ap, ◌∙◌, subst, Less, Equal, Greater, Ordering, map, length, arith, not}
+use Rattle.std.proofs.Common.{◌≡◌, ℕ, suc, ◌+◌, ◌≤◌, Bool, true, false, cond, List, [], ◌∷◌, refl, sym, ap, ◌∙◌, subst, Less, Greater, Ordering, map, length, arith}
 use Rattle.std.specs.Ordering.{match_ordering, ordering_then}
-use Rattle.std.specs.Cmp.{IsTotalOrder}
 use Rattle.std.specs.List.{AllByRecursion, filter}
 use Rattle.std.specs.List.Sorted.{IsStrictlySortedBy}
-use Rattle.cola_runs.specs.Cells.{Item, Value, Tombstone, Cell, Entry, Look, place_cmp, look_keys, count_looks, count_items, count_young, IsOldValue}
+use Rattle.cola_runs.specs.Cells.{Cell, Entry, Look, place_cmp, look_keys, count_looks, count_items, count_young}
 use Rattle.cola_runs.specs.Weave.{Part, own_items, is_wanted, taken, taken_own, taken_incoming, stays, look_at, relinked, set_cell, set_cells, unlinked, weave}
 use Rattle.cola_runs.proofs.Order.{by_bool, by_ordering, match_three}
 

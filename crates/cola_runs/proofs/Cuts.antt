@@ -1,16 +1,16 @@
 -- The first rule that fits takes a source cell and emits the first cell of what the sources weave.
-use Rattle.std.proofs.Common.{◌≡◌, ℕ, zero, suc, ◌+◌, ◌*◌, ◌≤◌, ◌<◌, Bool, true, false, cond, not, List, [], ◌∷◌, ◌++◌, refl, sym, ap, ◌∙◌, subst, Less, Equal, Greater, Ordering, map, length, drop, Option, Some, None, arith, add-one}
+use Rattle.std.proofs.Common.{◌≡◌, ℕ, suc, ◌+◌, ◌*◌, ◌<◌, Bool, true, false, cond, not, List, [], ◌∷◌, ◌++◌, refl, sym, ap, ◌∙◌, subst, Less, Equal, Greater, Ordering, map, length, drop, Option, Some, None, arith}
 use Rattle.std.proofs.lemmas.Bool.{cond_both}
-use Rattle.std.specs.Ordering.{is_gt, match_ordering, ordering_then, ordering_reverse}
+use Rattle.std.specs.Ordering.{is_gt, match_ordering, ordering_then}
 use Rattle.std.specs.Option.{option_to_list, option_map}
 use Rattle.std.specs.Cmp.{IsTotalOrder, tied_back}
 use Rattle.std.specs.List.{AllByRecursion, filter, slice_get}
 use Rattle.std.specs.List.Sorted.{IsStrictlySortedBy}
-use Rattle.cola_runs.specs.Cells.{Item, Value, Tombstone, Cell, Entry, Look, key_of, place_cmp, IsRising, count_looks}
-use Rattle.cola_runs.specs.Weave.{Part, is_wanted, kept, taken, taken_own, taken_incoming, stays, look_at, relinked, set_cell, set_cells, unlinked, weave}
+use Rattle.cola_runs.specs.Cells.{Item, Value, Tombstone, Cell, Entry, Look, place_cmp, IsRising, count_looks}
+use Rattle.cola_runs.specs.Weave.{Part, is_wanted, kept, taken_own, taken_incoming, stays, look_at, relinked, set_cell, set_cells, unlinked}
 use Rattle.cola_runs.specs.Steps.{Head, Own, Incoming, Sample, Action, Take, Ended, skips_own, skips_incoming, flag_of, emitted, item_or_look, least, rule}
-use Rattle.cola_runs.proofs.Order.{all_above, all_beside, all_change, turned_less, turned_greater, match_three, by_bool, by_ordering, place_total}
-use Rattle.cola_runs.proofs.Sets.{all_sets, set_first, set_behind, sets_behind}
+use Rattle.cola_runs.proofs.Order.{all_above, all_beside, turned_greater, match_three, by_bool, place_total}
+use Rattle.cola_runs.proofs.Sets.{all_sets, set_first, sets_behind}
 use Rattle.cola_runs.proofs.InOrder.{all_taken}
 
 -- ---- what an action leaves of the sources
@@ -88,9 +88,11 @@ module _ {K V : Type 0} {cmp : K → K → Ordering} (o : IsTotalOrder cmp) wher
     where
       under : (q : K) → cmp k q ≡ Less → ordering_then (cmp k q) Less ≡ Less
       under q f = rw f refl
+
       each : ((q : K) → cmp key q ≡ Less → cmp k q ≡ Less) → (qs : List K) → AllByRecursion (λ q. cmp key q ≡ Less) qs → AllByRecursion (λ d. place_cmp cmp (Entry k i y l) d ≡ Less) (map look_at qs)
       each f [] g = tt
       each f (q ∷ qs) g = (under q (f q g.0), each f qs g.1)
+
       go : (r : Ordering) → cmp k key ≡ r → is_gt r ≡ false → AllByRecursion (λ d. place_cmp cmp (Entry k i y l) d ≡ Less) (map look_at (key ∷ keys))
       go Less f g = (under key f, each (λ q z. o.trans k key q f z) keys h)
       go Equal f g = (rw f refl, each (λ q z. o.congr k key q f ∙ z) keys h)
@@ -152,9 +154,10 @@ module _ {K V : Type 0} {cmp : K → K → Ordering} (o : IsTotalOrder cmp) (par
   passes_own (Look k l) own incoming keys e =
       record { there = omega arith; first = ap (λ m. relinked m (unlinked cmp part own incoming keys)) (zero_more n) }
   passes_own (Entry k i y l) own incoming keys e = record {
-      there = omega arith;
-      first = ap (λ w. relinked n (set_cells cmp (map look_at keys) (filter (stays part) (set_cells cmp (taken_incoming part incoming) (cond w (Entry k i false 0 ∷ taken_own part own) (taken_own part own)))))) (unwanted (is_wanted part y) e)
-          ∙ ap (λ m. relinked m (unlinked cmp part own incoming keys)) (zero_more n) }
+    there = omega arith;
+    first = ap (λ w. relinked n (set_cells cmp (map look_at keys) (filter (stays part) (set_cells cmp (taken_incoming part incoming) (cond w (Entry k i false 0 ∷ taken_own part own) (taken_own part own)))))) (unwanted (is_wanted part y) e)
+        ∙ ap (λ m. relinked m (unlinked cmp part own incoming keys)) (zero_more n);
+  }
     where
       unwanted : (w : Bool) → not w ≡ true → w ≡ false
       unwanted true f = cc
@@ -173,13 +176,14 @@ module _ {K V : Type 0} {cmp : K → K → Ordering} (o : IsTotalOrder cmp) (par
       TakesFirst cmp part n own incoming keys head (option_to_list (emitted part (8 * n) head (Entry k i y l)))
   unfolding unlinked
   takes_item head k i y l own incoming keys there same e h = record {
-      there = there;
-      first =
-          ap (λ z. relinked n (set_cells cmp (map look_at keys) (filter (stays part) z))) e
-          ∙ ap (λ z. relinked n (set_cells cmp (map look_at keys) z)) (filter_kept part n head k i y (flag_of part head) l _ refl)
-          ∙ ap (relinked n) (looks_behind_item o part head k i y l keys _ h)
-          ∙ relinked_item part n head (Entry k i y l) _
-          ∙ ap (λ z. option_to_list (emitted part (8 * n) head (Entry k i y l)) ++ relinked (count_looks (option_to_list (emitted part (8 * n) head (Entry k i y l))) + n) (unlinked cmp part (own_left head own) (incoming_left head incoming) z)) (sym same) }
+    there = there;
+    first =
+        ap (λ z. relinked n (set_cells cmp (map look_at keys) (filter (stays part) z))) e
+        ∙ ap (λ z. relinked n (set_cells cmp (map look_at keys) z)) (filter_kept part n head k i y (flag_of part head) l _ refl)
+        ∙ ap (relinked n) (looks_behind_item o part head k i y l keys _ h)
+        ∙ relinked_item part n head (Entry k i y l) _
+        ∙ ap (λ z. option_to_list (emitted part (8 * n) head (Entry k i y l)) ++ relinked (count_looks (option_to_list (emitted part (8 * n) head (Entry k i y l))) + n) (unlinked cmp part (own_left head own) (incoming_left head incoming) z)) (sym same);
+  }
 
   -- the first key of the sample, where it is below the keys of all items
   takes_look : (key : K) (own incoming : List (Cell K V)) (keys : List K) → IsStrictlySortedBy cmp (key ∷ keys) →
@@ -187,10 +191,11 @@ module _ {K V : Type 0} {cmp : K → K → Ordering} (o : IsTotalOrder cmp) (par
       TakesFirst cmp part n own incoming (key ∷ keys) Sample (Look key (8 * n) ∷ [])
   unfolding unlinked IsStrictlySortedBy
   takes_look key own incoming keys asc h = record {
-      there = omega arith;
-      first =
-          ap (relinked n) (set_first cmp (Look key 0) _ (all_sets cmp (λ d. place_cmp cmp (Look key 0) d ≡ Less) (map look_at keys) _ (looks_above V cmp key 0 keys asc.0) (all_filter _ (stays part) _ h)))
-          ∙ ap (λ m. Look key (8 * n) ∷ relinked m (unlinked cmp part own incoming keys)) (one_more n) }
+    there = omega arith;
+    first =
+        ap (relinked n) (set_first cmp (Look key 0) _ (all_sets cmp (λ d. place_cmp cmp (Look key 0) d ≡ Less) (map look_at keys) _ (looks_above V cmp key 0 keys asc.0) (all_filter _ (stays part) _ h)))
+        ∙ ap (λ m. Look key (8 * n) ∷ relinked m (unlinked cmp part own incoming keys)) (one_more n);
+  }
 
   -- a head that is the first item of all: it goes first, or the lookahead cell of the first key does
   item_or_look_is_right : (head : Head) (k : K) (i : Item V) (y : Bool) (l : ℕ) (own incoming : List (Cell K V)) (keys : List K) →
@@ -204,7 +209,7 @@ module _ {K V : Type 0} {cmp : K → K → Ordering} (o : IsTotalOrder cmp) (par
   item_or_look_is_right head k i y l own incoming (key ∷ keys) there same e above asc =
       cond_both (is_gt (cmp k key)) (Take Sample (Some (Look key (8 * n)))) (Take head (emitted part (8 * n) head (Entry k i y l))) (IsRight cmp part n own incoming (key ∷ keys))
       (λ g. takes_look key own incoming keys asc (subst (AllByRecursion (λ d. place_cmp cmp (Look key 0) d ≡ Less)) (sym e)
-          (before_item o key k i y l 0 g, all_above (place_total o) (Look key 0) (Entry k i y l) (before_item o key k i y l 0 g) _ above)))
+      (before_item o key k i y l 0 g, all_above (place_total o) (Look key 0) (Entry k i y l) (before_item o key k i y l 0 g) _ above)))
       (λ g. takes_item head k i y l own incoming (key ∷ keys) there same e (before_looks o k i y l key keys g asc.0))
 
   -- where every item of the other source is above the own head
@@ -234,12 +239,14 @@ module _ {K V : Type 0} {cmp : K → K → Ordering} (o : IsTotalOrder cmp) (par
       let below : AllByRecursion (λ d. place_cmp cmp (Entry k i x l) d ≡ Less) (taken_incoming part incoming) = all_beside (place_total o) (Entry k i x l) D beside _ inside in
       let under : AllByRecursion (λ d. place_cmp cmp D d ≡ Less) (taken_own part own) = all_beside (place_total o) D (Entry k i false 0) back _ (all_taken cmp (Entry k i false 0) (is_wanted part) false own h.0) in
       let with_it : items_of cmp part (Entry k i x l ∷ own) (Entry k' j y m ∷ incoming) ≡ D ∷ items_of cmp part own incoming =
-          ap (set_cell cmp D) (own_first k i x l own incoming w below)
-          ∙ ap (λ r. match_ordering r (D ∷ Entry k i false 0 ∷ items_of cmp part own incoming) (D ∷ items_of cmp part own incoming) (Entry k i false 0 ∷ set_cell cmp D (items_of cmp part own incoming))) back in
+      ap (set_cell cmp D) (own_first k i x l own incoming w below)
+      ∙ ap (λ r. match_ordering r (D ∷ Entry k i false 0 ∷ items_of cmp part own incoming) (D ∷ items_of cmp part own incoming) (Entry k i false 0 ∷ set_cell cmp D (items_of cmp part own incoming))) back in
       let without_it : items_of cmp part own (Entry k' j y m ∷ incoming) ≡ D ∷ items_of cmp part own incoming = incoming_first k' j y m own incoming under inside in
-      record { there = omega arith;
+      record {
+        there = omega arith;
         first = ap (λ z. relinked n (set_cells cmp (map look_at keys) (filter (stays part) z))) (with_it ∙ sym without_it)
-            ∙ ap (λ z. relinked z (unlinked cmp part own (Entry k' j y m ∷ incoming) keys)) (zero_more n) }
+            ∙ ap (λ z. relinked z (unlinked cmp part own (Entry k' j y m ∷ incoming) keys)) (zero_more n);
+      }
 
   -- two heads that are both there and not passed over
   least_of_two : (k k' : K) (i j : Item V) (x y : Bool) (l m : ℕ) (own incoming : List (Cell K V)) (keys : List K) → is_wanted part x ≡ true →
@@ -249,15 +256,15 @@ module _ {K V : Type 0} {cmp : K → K → Ordering} (o : IsTotalOrder cmp) (par
   least_of_two k k' i j x y l m own incoming keys w h g asc =
       match_three (IsRight cmp part n (Entry k i x l ∷ own) (Entry k' j y m ∷ incoming) keys) (cmp k k') _ _ _
       (λ e. let lower : place_cmp {V = V} cmp (Entry k i x l) (Entry k' j y m) ≡ Less = rw e refl in
-          let others : AllByRecursion (λ d. place_cmp cmp (Entry k i x l) d ≡ Less) (taken_incoming part (Entry k' j y m ∷ incoming)) = all_taken cmp (Entry k i x l) (λ _. true) part.marks_young (Entry k' j y m ∷ incoming) (lower, all_above (place_total o) (Entry k i x l) (Entry k' j y m) lower _ g.0) in
-          item_or_look_is_right Own k i x l (Entry k i x l ∷ own) (Entry k' j y m ∷ incoming) keys (omega arith) refl (own_first k i x l own (Entry k' j y m ∷ incoming) w others)
-          (all_sets cmp (λ d. place_cmp cmp (Entry k i x l) d ≡ Less) (taken_incoming part (Entry k' j y m ∷ incoming)) (taken_own part own) others (all_taken cmp (Entry k i x l) (is_wanted part) false own h.0)) asc)
+      let others : AllByRecursion (λ d. place_cmp cmp (Entry k i x l) d ≡ Less) (taken_incoming part (Entry k' j y m ∷ incoming)) = all_taken cmp (Entry k i x l) (λ _. true) part.marks_young (Entry k' j y m ∷ incoming) (lower, all_above (place_total o) (Entry k i x l) (Entry k' j y m) lower _ g.0) in
+      item_or_look_is_right Own k i x l (Entry k i x l ∷ own) (Entry k' j y m ∷ incoming) keys (omega arith) refl (own_first k i x l own (Entry k' j y m ∷ incoming) w others)
+      (all_sets cmp (λ d. place_cmp cmp (Entry k i x l) d ≡ Less) (taken_incoming part (Entry k' j y m ∷ incoming)) (taken_own part own) others (all_taken cmp (Entry k i x l) (is_wanted part) false own h.0)) asc)
       (λ e. shadowed k k' i j x y l m own incoming keys w e h g)
       (λ e. let lower : place_cmp {V = V} cmp (Entry k' j y m) (Entry k i x l) ≡ Less = turned_greater (place_total o) (Entry k i x l) (Entry k' j y m) (rw e refl) in
-          let others : AllByRecursion (λ d. place_cmp cmp (Entry k' j y m) d ≡ Less) (taken_own part (Entry k i x l ∷ own)) = all_taken cmp (Entry k' j y m) (is_wanted part) false (Entry k i x l ∷ own) (lower, all_above (place_total o) (Entry k' j y m) (Entry k i x l) lower _ h.0) in
-          let inside : AllByRecursion (λ d. place_cmp cmp (Entry k' j y m) d ≡ Less) (taken_incoming part incoming) = all_taken cmp (Entry k' j y m) (λ _. true) part.marks_young incoming g.0 in
-          item_or_look_is_right Incoming k' j y m (Entry k i x l ∷ own) (Entry k' j y m ∷ incoming) keys (omega arith) refl (incoming_first k' j y m (Entry k i x l ∷ own) incoming others inside)
-          (all_sets cmp (λ d. place_cmp cmp (Entry k' j y m) d ≡ Less) (taken_incoming part incoming) (taken_own part (Entry k i x l ∷ own)) inside others) asc)
+      let others : AllByRecursion (λ d. place_cmp cmp (Entry k' j y m) d ≡ Less) (taken_own part (Entry k i x l ∷ own)) = all_taken cmp (Entry k' j y m) (is_wanted part) false (Entry k i x l ∷ own) (lower, all_above (place_total o) (Entry k' j y m) (Entry k i x l) lower _ h.0) in
+      let inside : AllByRecursion (λ d. place_cmp cmp (Entry k' j y m) d ≡ Less) (taken_incoming part incoming) = all_taken cmp (Entry k' j y m) (λ _. true) part.marks_young incoming g.0 in
+      item_or_look_is_right Incoming k' j y m (Entry k i x l ∷ own) (Entry k' j y m ∷ incoming) keys (omega arith) refl (incoming_first k' j y m (Entry k i x l ∷ own) incoming others inside)
+      (all_sets cmp (λ d. place_cmp cmp (Entry k' j y m) d ≡ Less) (taken_incoming part incoming) (taken_own part (Entry k i x l ∷ own)) inside others) asc)
 
   -- the least of the heads that are there, where none is passed over
   least_is_right : (own incoming : List (Cell K V)) (keys : List K) → skips_own part (slice_get own 0) ≡ false → skips_incoming (slice_get incoming 0) ≡ false →
@@ -292,4 +299,4 @@ module _ {K V : Type 0} {cmp : K → K → Ordering} (o : IsTotalOrder cmp) (par
   rule_is_right own incoming keys h g asc =
       cond_both (skips_own part (slice_get own 0)) _ _ (IsRight cmp part n own incoming keys) (passed_own own incoming keys)
       (λ s. cond_both (skips_incoming (slice_get incoming 0)) _ _ (IsRight cmp part n own incoming keys) (passed_incoming own incoming keys)
-          (λ t. least_is_right own incoming keys s t h g asc))
+      (λ t. least_is_right own incoming keys s t h g asc))

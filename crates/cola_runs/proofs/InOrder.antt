@@ -1,7 +1,7 @@
 -- The parts of a weave are in order.
-use Rattle.std.proofs.Common.{◌≡◌, ℕ, zero, suc, ◌*◌, Bool, true, false, cond, List, [], ◌∷◌, refl, sym, ap, ◌∙◌, Less, Equal, Greater, Ordering, map}
+use Rattle.std.proofs.Common.{◌≡◌, ℕ, suc, ◌*◌, Bool, false, cond, List, [], ◌∷◌, refl, Less, Ordering, map}
 use Rattle.std.specs.Cmp.{IsTotalOrder}
-use Rattle.std.specs.List.{AllByRecursion, filter}
+use Rattle.std.specs.List.{AllByRecursion}
 use Rattle.std.specs.List.Sorted.{IsStrictlySortedBy}
 use Rattle.std.proofs.lemmas.List.Kept.{IsStrictlySortedBy-filter}
 use Rattle.cola_runs.specs.Cells.{Cell, Entry, Look, place_cmp, IsRising, IsLinked, IsWellFormed}

@@ -1,10 +1,9 @@
 -- Orders, lists in order, and facts of each cell of a list.
-use Rattle.std.proofs.Common.{◌≡◌, ℕ, zero, suc, ◌+◌, Bool, true, false, cond, List, [], ◌∷◌, ◌++◌, refl, sym, ap, ◌∙◌, subst, Less, Equal, Greater, Ordering, map}
-use Rattle.std.specs.Ordering.{ordering_reverse, is_eq, is_gt, match_ordering, bool_cmp}
-use Rattle.std.specs.Cmp.{IsTotalOrder, then_total, on_total, bool_cmp_total, alike_right, tied_back, tied_itself}
+use Rattle.std.proofs.Common.{◌≡◌, Bool, true, false, List, [], ◌∷◌, ◌++◌, refl, ap, ◌∙◌, Less, Equal, Greater, Ordering}
+use Rattle.std.specs.Ordering.{ordering_reverse, is_eq, match_ordering}
+use Rattle.std.specs.Cmp.{IsTotalOrder, then_total, on_total, bool_cmp_total}
 use Rattle.std.specs.List.{AllByRecursion}
-use Rattle.std.specs.List.Sorted.{IsStrictlySortedBy}
-use Rattle.cola_runs.specs.Cells.{Cell, Entry, Look, key_of, is_look, place_cmp}
+use Rattle.cola_runs.specs.Cells.{key_of, is_look, place_cmp}
 
 -- ---- facts of each item of a list
 

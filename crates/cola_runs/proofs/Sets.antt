@@ -1,11 +1,10 @@
 -- Cells set into a list in order.
-use Rattle.std.proofs.Common.{◌≡◌, ℕ, zero, suc, ◌+◌, ◌≤◌, Bool, true, false, cond, List, [], ◌∷◌, ◌++◌, refl, sym, ap, ◌∙◌, subst, Less, Equal, Greater, Ordering, map, length, arith}
-use Rattle.std.specs.Ordering.{is_eq, match_ordering}
-use Rattle.std.specs.Cmp.{IsTotalOrder, alike_right}
+use Rattle.std.proofs.Common.{◌≡◌, List, [], ◌∷◌, refl, ap, ◌∙◌, Less, Ordering}
+use Rattle.std.specs.Ordering.{match_ordering}
+use Rattle.std.specs.Cmp.{IsTotalOrder}
 use Rattle.std.specs.List.{AllByRecursion}
 use Rattle.std.specs.List.Sorted.{IsStrictlySortedBy}
-use Rattle.cola_runs.specs.Cells.{Cell, Entry, Look, key_of, is_look, place_cmp, IsRising}
-use Rattle.cola_runs.specs.Seen.{Seen, Nothing, Old, Young, flagged, seen}
+use Rattle.cola_runs.specs.Cells.{Cell, place_cmp, IsRising}
 use Rattle.cola_runs.specs.Weave.{set_cell, set_cells}
 use Rattle.cola_runs.proofs.Order.{all_above, all_beside, turned_greater, turned_less, match_three, place_total}
 

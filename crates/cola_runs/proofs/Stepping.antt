@@ -1,14 +1,14 @@
 -- A step, and n steps, keep a build under way.
-use Rattle.std.proofs.Common.{◌≡◌, ℕ, zero, suc, ◌+◌, ◌-◌, ◌*◌, ◌≤◌, ◌<◌, min, Bool, true, false, cond, List, [], ◌∷◌, ◌++◌, refl, sym, ap, ◌∙◌, subst, Ordering, length, drop, take, Option, Some, None, arith, append_assoc, length-append}
+use Rattle.std.proofs.Common.{◌≡◌, ℕ, zero, suc, ◌+◌, ◌-◌, ◌*◌, ◌≤◌, ◌<◌, min, true, false, List, [], ◌∷◌, ◌++◌, refl, sym, ap, ◌∙◌, subst, Ordering, length, drop, Option, Some, None, arith, append_assoc, length-append}
 use Rattle.std.specs.Option.{option_to_list}
 use Rattle.std.specs.Cmp.{IsTotalOrder}
-use Rattle.std.specs.List.{AllByRecursion, slice_get}
+use Rattle.std.specs.List.{slice_get}
 use Rattle.std.specs.List.Sorted.{IsStrictlySortedBy}
-use Rattle.cola_runs.specs.Cells.{Cell, Entry, Look, IsRising, count_looks, count_items, count_young, look_keys}
-use Rattle.cola_runs.specs.Weave.{Part, IsCut, relinked, unlinked, weave}
-use Rattle.cola_runs.specs.Steps.{Head, Own, Incoming, Sample, Action, Take, Ended, rule, Build, begun, consumed_from, after, consumed, cells_left, step, steps, IsUnderWay, IsAdvanced}
+use Rattle.cola_runs.specs.Cells.{Cell, Entry, Look, IsRising, count_looks, count_items, count_young}
+use Rattle.cola_runs.specs.Weave.{Part, relinked, unlinked, weave}
+use Rattle.cola_runs.specs.Steps.{Head, Own, Incoming, Sample, Action, Take, Ended, rule, Build, consumed_from, after, consumed, cells_left, step, steps, IsUnderWay, IsAdvanced}
 use Rattle.cola_runs.proofs.Counts.{looks_weave, keys_unlinked, looks_are_keys, relinked_keys}
-use Rattle.cola_runs.proofs.Cuts.{TakesFirst, IsRight, IsThere, own_left, incoming_left, keys_left, rule_is_right}
+use Rattle.cola_runs.proofs.Cuts.{TakesFirst, IsRight, rule_is_right}
 
 -- ---- lists from a cursor on
 
@@ -97,12 +97,12 @@ module _ {K V : Type 0} {cmp : K → K → Ordering} (o : IsTotalOrder cmp) (par
       IsRight cmp part (count_looks p.done) (drop p.own own) (drop p.incoming incoming) (drop p.sampled keys) (action p)
   action_is_right p u =
       let right = rule_is_right o part (count_looks p.done) (drop p.own own) (drop p.incoming incoming) (drop p.sampled keys)
-          (sorted_from _ p.own own own_rises) (sorted_from _ p.incoming incoming incoming_rises) (sorted_from cmp p.sampled keys keys_rise) in
+      (sorted_from _ p.own own own_rises) (sorted_from _ p.incoming incoming incoming_rises) (sorted_from cmp p.sampled keys keys_rise) in
       let same : rule cmp part (8 * count_looks p.done) (slice_get (drop p.own own) 0) (slice_get (drop p.incoming incoming) 0) (slice_get (drop p.sampled keys) 0) ≡ action p =
-          ap (λ n. rule cmp part (8 * n) (slice_get (drop p.own own) 0) (slice_get (drop p.incoming incoming) 0) (slice_get (drop p.sampled keys) 0)) (looks_done p u)
-          ∙ ap (λ z. rule cmp part (8 * p.sampled) z (slice_get (drop p.incoming incoming) 0) (slice_get (drop p.sampled keys) 0)) (sym (get_from p.own own))
-          ∙ ap (λ z. rule cmp part (8 * p.sampled) (slice_get own p.own) z (slice_get (drop p.sampled keys) 0)) (sym (get_from p.incoming incoming))
-          ∙ ap (λ z. rule cmp part (8 * p.sampled) (slice_get own p.own) (slice_get incoming p.incoming) z) (sym (get_from p.sampled keys)) in
+      ap (λ n. rule cmp part (8 * n) (slice_get (drop p.own own) 0) (slice_get (drop p.incoming incoming) 0) (slice_get (drop p.sampled keys) 0)) (looks_done p u)
+      ∙ ap (λ z. rule cmp part (8 * p.sampled) z (slice_get (drop p.incoming incoming) 0) (slice_get (drop p.sampled keys) 0)) (sym (get_from p.own own))
+      ∙ ap (λ z. rule cmp part (8 * p.sampled) (slice_get own p.own) z (slice_get (drop p.sampled keys) 0)) (sym (get_from p.incoming incoming))
+      ∙ ap (λ z. rule cmp part (8 * p.sampled) (slice_get own p.own) (slice_get incoming p.incoming) z) (sym (get_from p.sampled keys)) in
       subst (IsRight cmp part (count_looks p.done) (drop p.own own) (drop p.incoming incoming) (drop p.sampled keys)) same right
 
   -- the cut, from what is left by lists to what is left by cursors
@@ -132,28 +132,58 @@ module _ {K V : Type 0} {cmp : K → K → Ordering} (o : IsTotalOrder cmp) (par
       let a = u.incoming_within in let b = u.sampled_within in
       let e = emitted_length p.done cells small in
       record {
-        under_way = record { own_within = within; incoming_within = a; sampled_within = b;
-          cut = cut_after p.done cells _ _ _ _ _ _ (drop_one_more p.own own) refl refl _ r.first u.cut };
-        consumes = omega arith; leaves = omega arith; emits = omega arith; extends = (cells, refl);
-        own_rises = omega arith; incoming_rises = omega arith; sampled_rises = omega arith }
+        under_way = record {
+          own_within = within;
+          incoming_within = a;
+          sampled_within = b;
+          cut = cut_after p.done cells _ _ _ _ _ _ (drop_one_more p.own own) refl refl _ r.first u.cut;
+        };
+        consumes = omega arith;
+        leaves = omega arith;
+        emits = omega arith;
+        extends = (cells, refl);
+        own_rises = omega arith;
+        incoming_rises = omega arith;
+        sampled_rises = omega arith;
+      }
   taken_is_advanced p u Incoming cells small r =
       let within : suc p.incoming ≤ length incoming = there_left p.incoming incoming u.incoming_within r.there in
       let a = u.own_within in let b = u.sampled_within in
       let e = emitted_length p.done cells small in
       record {
-        under_way = record { own_within = a; incoming_within = within; sampled_within = b;
-          cut = cut_after p.done cells _ _ _ _ _ _ refl (drop_one_more p.incoming incoming) refl _ r.first u.cut };
-        consumes = omega arith; leaves = omega arith; emits = omega arith; extends = (cells, refl);
-        own_rises = omega arith; incoming_rises = omega arith; sampled_rises = omega arith }
+        under_way = record {
+          own_within = a;
+          incoming_within = within;
+          sampled_within = b;
+          cut = cut_after p.done cells _ _ _ _ _ _ refl (drop_one_more p.incoming incoming) refl _ r.first u.cut;
+        };
+        consumes = omega arith;
+        leaves = omega arith;
+        emits = omega arith;
+        extends = (cells, refl);
+        own_rises = omega arith;
+        incoming_rises = omega arith;
+        sampled_rises = omega arith;
+      }
   taken_is_advanced p u Sample cells small r =
       let within : suc p.sampled ≤ length keys = there_left p.sampled keys u.sampled_within r.there in
       let a = u.own_within in let b = u.incoming_within in
       let e = emitted_length p.done cells small in
       record {
-        under_way = record { own_within = a; incoming_within = b; sampled_within = within;
-          cut = cut_after p.done cells _ _ _ _ _ _ refl refl (drop_one_more p.sampled keys) _ r.first u.cut };
-        consumes = omega arith; leaves = omega arith; emits = omega arith; extends = (cells, refl);
-        own_rises = omega arith; incoming_rises = omega arith; sampled_rises = omega arith }
+        under_way = record {
+          own_within = a;
+          incoming_within = b;
+          sampled_within = within;
+          cut = cut_after p.done cells _ _ _ _ _ _ refl refl (drop_one_more p.sampled keys) _ r.first u.cut;
+        };
+        consumes = omega arith;
+        leaves = omega arith;
+        emits = omega arith;
+        extends = (cells, refl);
+        own_rises = omega arith;
+        incoming_rises = omega arith;
+        sampled_rises = omega arith;
+      }
 
   -- a build that has no head left is done
   ended_is_advanced : (p : Build K V) → IsUnderWay cmp part own incoming keys p → (drop p.own own ≡ []) × (drop p.incoming incoming ≡ []) × (drop p.sampled keys ≡ []) →
@@ -162,8 +192,16 @@ module _ {K V : Type 0} {cmp : K → K → Ordering} (o : IsTotalOrder cmp) (par
       let a = ap length e.0 in let b = ap length e.1 in let c = ap length e.2 in
       let d = left_from p.own own in let f = left_from p.incoming incoming in let g = left_from p.sampled keys in
       let nothing_more : p.done ≡ p.done ++ [] = sym (append_nil p.done) in
-      record { under_way = u; consumes = omega arith; leaves = omega arith; emits = omega arith; extends = ([], nothing_more);
-        own_rises = omega arith; incoming_rises = omega arith; sampled_rises = omega arith }
+      record {
+        under_way = u;
+        consumes = omega arith;
+        leaves = omega arith;
+        emits = omega arith;
+        extends = ([], nothing_more);
+        own_rises = omega arith;
+        incoming_rises = omega arith;
+        sampled_rises = omega arith;
+      }
 
   after_is_advanced : (p : Build K V) → IsUnderWay cmp part own incoming keys p → (a : Action K V) →
       IsRight cmp part (count_looks p.done) (drop p.own own) (drop p.incoming incoming) (drop p.sampled keys) a → IsAdvanced cmp part own incoming keys 1 p (after a p)
@@ -178,20 +216,32 @@ module _ {K V : Type 0} {cmp : K → K → Ordering} (o : IsTotalOrder cmp) (par
   -- no step
   still : (p : Build K V) → IsUnderWay cmp part own incoming keys p → IsAdvanced cmp part own incoming keys 0 p p
   still p u =
-      record { under_way = u; consumes = omega arith; leaves = omega arith; emits = omega arith; extends = ([], sym (append_nil p.done));
-        own_rises = omega arith; incoming_rises = omega arith; sampled_rises = omega arith }
+      record {
+        under_way = u;
+        consumes = omega arith;
+        leaves = omega arith;
+        emits = omega arith;
+        extends = ([], sym (append_nil p.done));
+        own_rises = omega arith;
+        incoming_rises = omega arith;
+        sampled_rises = omega arith;
+      }
 
   -- some steps and then some more
   pub joined : (m n : ℕ) (p q r : Build K V) → IsAdvanced cmp part own incoming keys m p q → IsAdvanced cmp part own incoming keys n q r → IsAdvanced cmp part own incoming keys (m + n) p r
   joined m n p q r a b =
       let c1 = a.consumes in let c2 = b.consumes in let l1 = a.leaves in let l2 = b.leaves in let e1 = a.emits in let e2 = b.emits in
       let o1 = a.own_rises in let o2 = b.own_rises in let i1 = a.incoming_rises in let i2 = b.incoming_rises in let s1 = a.sampled_rises in let s2 = b.sampled_rises in
-      record { under_way = b.under_way;
+      record {
+        under_way = b.under_way;
         consumes = counted (consumed p) (consumed q) (consumed r) (cells_left own incoming keys p) (cells_left own incoming keys q) m n c1 c2 l1;
         leaves = down (cells_left own incoming keys p) (cells_left own incoming keys q) (cells_left own incoming keys r) m n l1 l2;
         emits = under (length p.done) (length q.done) (length r.done) (consumed p) (consumed q) (consumed r) e1 e2;
         extends = (a.extends.0 ++ b.extends.0, b.extends.1 ∙ ap (λ z. z ++ b.extends.0) a.extends.1 ∙ append_assoc p.done a.extends.0 b.extends.0);
-        own_rises = omega (arith, o1, o2); incoming_rises = omega (arith, i1, i2); sampled_rises = omega (arith, s1, s2) }
+        own_rises = omega (arith, o1, o2);
+        incoming_rises = omega (arith, i1, i2);
+        sampled_rises = omega (arith, s1, s2);
+      }
 
   -- n steps keep a build under way, and consume exactly n source cells or all that are left
   pub steps_are_advanced : (n : ℕ) (p : Build K V) → IsUnderWay cmp part own incoming keys p → IsAdvanced cmp part own incoming keys n p (steps cmp part own incoming keys n p)

@@ -1,10 +1,10 @@
 -- The weave at a key is what the part makes of its sources there.
-use Rattle.std.proofs.Common.{◌≡◌, ℕ, Bool, true, false, cond, List, [], ◌∷◌, refl, sym, ap, ◌∙◌, Ordering, map, Option, Some, None}
+use Rattle.std.proofs.Common.{◌≡◌, false, List, refl, ap, ◌∙◌, Ordering, map, Option, Some, None}
 use Rattle.std.specs.Cmp.{IsTotalOrder}
 use Rattle.std.specs.List.{filter}
-use Rattle.cola_runs.specs.Cells.{Item, Value, Tombstone, Cell, IsRising}
-use Rattle.cola_runs.specs.Seen.{Seen, Nothing, Old, Young, flagged, seen, holds}
-use Rattle.cola_runs.specs.Weave.{Part, kept, own_at, kept_or_none, flagged_or_nothing, woven, taken_own, taken_incoming, stays, look_at, relinked, set_cells, unlinked, weave}
+use Rattle.cola_runs.specs.Cells.{Item, Cell, IsRising}
+use Rattle.cola_runs.specs.Seen.{Seen, seen, holds}
+use Rattle.cola_runs.specs.Weave.{Part, own_at, kept_or_none, flagged_or_nothing, woven, taken_own, taken_incoming, stays, look_at, set_cells, unlinked, weave}
 use Rattle.cola_runs.proofs.AtKey.{over, kept_seen, over_flagged, kept_flagged, seen_sets, seen_taken_all, seen_taken_own, seen_stays, seen_looks, seen_relinked}
 use Rattle.cola_runs.proofs.InOrder.{rising_items}
 
