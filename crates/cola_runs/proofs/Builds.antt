@@ -1,5 +1,5 @@
 -- A build from its beginning to its end.
-use Rattle.std.proofs.Common.{◌≡◌, ℕ, suc, ◌+◌, ◌*◌, ◌≤◌, ◌^◌, Bool, true, false, cond, List, [], ◌∷◌, ◌++◌, refl, sym, ap, ◌∙◌, subst, Less, Ordering, length, drop, None, arith, length-append}
+use Rattle.std.proofs.Common.{◌<◌, Some, slice_get, ◌≡◌, ℕ, suc, ◌+◌, ◌*◌, ◌≤◌, ◌^◌, Bool, true, false, cond, List, [], ◌∷◌, ◌++◌, refl, sym, ap, ◌∙◌, subst, Less, Ordering, length, drop, None, arith, length-append}
 use Rattle.std.proofs.lemmas.Nat.{pow-add}
 use Rattle.std.specs.Cmp.{IsTotalOrder}
 use Rattle.std.specs.Option.{option_or}
@@ -8,13 +8,13 @@ use Rattle.std.specs.List.Sorted.{IsStrictlySortedBy}
 use Rattle.cola_runs.specs.Cells.{Value, Tombstone, Cell, Entry, Look, link_of, place_cmp, IsRising, IsLinked, IsWellFormed, count_items, count_young, IsOldValue}
 use Rattle.cola_runs.specs.Seen.{Seen, Nothing, Old, Young, seen, holds, answer}
 use Rattle.cola_runs.specs.Weave.{Part, all_items, bottom_items, kept_or_none, woven, own_items, is_wanted, taken, taken_own, taken_incoming, stays, relinked, unlinked, weave}
-use Rattle.cola_runs.specs.Steps.{Build, begun, cells_left, steps, IsUnderWay}
+use Rattle.cola_runs.specs.Steps.{Head, Own, Incoming, Sample, Take, Ended, rule, after, Build, begun, cells_left, step, steps, IsUnderWay}
 use Rattle.cola_runs.proofs.Order.{by_bool}
 use Rattle.cola_runs.proofs.Sets.{all_sets}
 use Rattle.cola_runs.proofs.InOrder.{formed_weave}
 use Rattle.cola_runs.proofs.Woven.{seen_weave}
 use Rattle.cola_runs.proofs.Counts.{items_weave, young_weave, length_weave}
-use Rattle.cola_runs.proofs.Stepping.{drop_all, items_append, young_append, steps_are_advanced}
+use Rattle.cola_runs.proofs.Stepping.{drop_all, items_append, young_append, step_is_advanced, steps_are_advanced}
 
 -- ---- a list in front of another
 
@@ -84,6 +84,36 @@ module _ {K V : Type 0} {cmp : K → K → Ordering} (o : IsTotalOrder cmp) (par
       let left = a.leaves in
       used_up cmp part own incoming keys (steps cmp part own incoming keys n begun) a.under_way (omega arith)
 
+module _ {K V : Type 0} {cmp : K → K → Ordering} (o : IsTotalOrder cmp) (part : Part) (own incoming : List (Cell K V)) (keys : List K)
+    (h : IsRising cmp own) (g : IsRising cmp incoming) (k : IsStrictlySortedBy cmp keys) (p : Build K V) (u : IsUnderWay cmp part own incoming keys p) where
+  -- a rule that emits a cell does so before the whole weave is emitted
+  pub has_room : (head : Head) (c : Cell K V) → rule cmp part (8 * p.sampled) (slice_get own p.own) (slice_get incoming p.incoming) (slice_get keys p.sampled) ≡ Take head (Some c) →
+      length p.done < length (weave cmp part own incoming keys)
+  unfolding step
+  has_room head c e =
+      let next = step_is_advanced o part own incoming keys h g k p u in
+      let longer : length (step cmp part own incoming keys p).done ≡ suc (length p.done) = rw e (one_longer head) in
+      let fits = length_done cmp part own incoming keys (step cmp part own incoming keys p) next.under_way in
+      omega arith
+    where
+      behind : length (p.done ++ c ∷ []) ≡ suc (length p.done)
+      behind = let f = length-append p.done (c ∷ []) in omega arith
+
+      one_longer : (head : Head) → length (after (Take head (Some c)) p).done ≡ suc (length p.done)
+      one_longer Own = behind
+      one_longer Incoming = behind
+      one_longer Sample = behind
+
+  -- where no rule fits, the whole weave is emitted
+  pub ended : rule cmp part (8 * p.sampled) (slice_get own p.own) (slice_get incoming p.incoming) (slice_get keys p.sampled) ≡ Ended → p.done ≡ weave cmp part own incoming keys
+  unfolding step
+  ended e =
+      let next = step_is_advanced o part own incoming keys h g k p u in
+      let still : step cmp part own incoming keys p ≡ p = rw e refl in
+      let left = next.leaves in
+      let same = ap (cells_left own incoming keys) still in
+      used_up cmp part own incoming keys p u (omega arith)
+
 -- ---- sizes
 
 four_times : (j : ℕ) → 2 ^ (j + 2) ≡ 4 * 2 ^ j
@@ -94,6 +124,17 @@ module _ {K V : Type 0} (cmp : K → K → Ordering) (part : Part) (own incoming
   pub weave_fits : (j : ℕ) → IsStrictlySortedBy cmp keys → own_items part own ≤ 2 * 2 ^ j → count_items incoming ≤ 2 ^ j → length keys ≤ 2 ^ j →
       length (weave cmp part own incoming keys) ≤ 2 ^ (j + 2)
   weave_fits j h a b c = let e = length_weave cmp part own incoming keys h in let f = four_times j in omega arith
+
+module _ {K V : Type 0} {cmp : K → K → Ordering} (o : IsTotalOrder cmp) (part : Part) (own incoming : List (Cell K V)) (keys : List K) where
+  -- and so does what any number of steps has emitted of it
+  pub steps_stay_within : (j : ℕ) → IsRising cmp own → IsRising cmp incoming → IsStrictlySortedBy cmp keys → own_items part own ≤ 2 * 2 ^ j → count_items incoming ≤ 2 ^ j → length keys ≤ 2 ^ j →
+      (n : ℕ) → length (steps cmp part own incoming keys n begun).done ≤ 2 ^ (j + 2)
+  steps_stay_within j h g k a b c n =
+      let p : Build K V = steps cmp part own incoming keys n begun in
+      let u : IsUnderWay cmp part own incoming keys p = (steps_are_advanced o part own incoming keys h g k n begun (begun_is_under_way cmp part own incoming keys)).under_way in
+      let d = length_done cmp part own incoming keys p u in
+      let e = weave_fits cmp part own incoming keys j k a b c in
+      omega arith
 
 -- ---- the values of the merge
 

@@ -18,7 +18,7 @@ below cmp q [] = 0
 below cmp q (k ∷ keys) = cond (is_lt (cmp k q)) (suc (below cmp q keys)) 0
 
 module _ {K V : Type 0} (cmp : K → K → Ordering) (q : K) where
-  place_in : (cells : List (Cell K V)) → place cmp q cells ≤ length cells
+  pub place_in : (cells : List (Cell K V)) → place cmp q cells ≤ length cells
   place_in [] = omega arith
   place_in (c ∷ cells) =
       let rest = place_in cells in

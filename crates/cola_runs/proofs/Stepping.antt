@@ -75,8 +75,7 @@ down l k j m n e f = omega arith
 under : (a b c x y z : ℕ) → b + x ≤ a + y → c + y ≤ b + z → c + x ≤ a + z
 under a b c x y z e f = omega arith
 
-module _ {K V : Type 0} {cmp : K → K → Ordering} (o : IsTotalOrder cmp) (part : Part) (own incoming : List (Cell K V)) (keys : List K)
-    (own_rises : IsRising cmp own) (incoming_rises : IsRising cmp incoming) (keys_rise : IsStrictlySortedBy cmp keys) where
+module _ {K V : Type 0} (cmp : K → K → Ordering) (part : Part) (own incoming : List (Cell K V)) (keys : List K) (keys_rise : IsStrictlySortedBy cmp keys) where
   -- the lookahead cells that were emitted are as many as the sample keys that were consumed
   pub looks_done : (p : Build K V) → IsUnderWay cmp part own incoming keys p → count_looks p.done ≡ p.sampled
   looks_done p u =
@@ -89,6 +88,8 @@ module _ {K V : Type 0} {cmp : K → K → Ordering} (o : IsTotalOrder cmp) (par
       let f = u.sampled_within in
       omega arith
 
+module _ {K V : Type 0} {cmp : K → K → Ordering} (o : IsTotalOrder cmp) (part : Part) (own incoming : List (Cell K V)) (keys : List K)
+    (own_rises : IsRising cmp own) (incoming_rises : IsRising cmp incoming) (keys_rise : IsStrictlySortedBy cmp keys) where
   -- the action at the cursors of a build
   abbrev action : Build K V → Action K V
   action p = rule cmp part (8 * p.sampled) (slice_get own p.own) (slice_get incoming p.incoming) (slice_get keys p.sampled)
@@ -99,7 +100,7 @@ module _ {K V : Type 0} {cmp : K → K → Ordering} (o : IsTotalOrder cmp) (par
       let right = rule_is_right o part (count_looks p.done) (drop p.own own) (drop p.incoming incoming) (drop p.sampled keys)
       (sorted_from _ p.own own own_rises) (sorted_from _ p.incoming incoming incoming_rises) (sorted_from cmp p.sampled keys keys_rise) in
       let same : rule cmp part (8 * count_looks p.done) (slice_get (drop p.own own) 0) (slice_get (drop p.incoming incoming) 0) (slice_get (drop p.sampled keys) 0) ≡ action p =
-      ap (λ n. rule cmp part (8 * n) (slice_get (drop p.own own) 0) (slice_get (drop p.incoming incoming) 0) (slice_get (drop p.sampled keys) 0)) (looks_done p u)
+      ap (λ n. rule cmp part (8 * n) (slice_get (drop p.own own) 0) (slice_get (drop p.incoming incoming) 0) (slice_get (drop p.sampled keys) 0)) (looks_done cmp part own incoming keys keys_rise p u)
       ∙ ap (λ z. rule cmp part (8 * p.sampled) z (slice_get (drop p.incoming incoming) 0) (slice_get (drop p.sampled keys) 0)) (sym (get_from p.own own))
       ∙ ap (λ z. rule cmp part (8 * p.sampled) (slice_get own p.own) z (slice_get (drop p.sampled keys) 0)) (sym (get_from p.incoming incoming))
       ∙ ap (λ z. rule cmp part (8 * p.sampled) (slice_get own p.own) (slice_get incoming p.incoming) z) (sym (get_from p.sampled keys)) in

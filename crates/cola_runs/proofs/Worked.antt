@@ -1,10 +1,14 @@
 -- The definitions computed at worked runs: keys and values are numbers, and a store of 32 keys takes the keys 1 to 32 in turn, each with the number of its put.
-use Rattle.std.proofs.Common.{◌≡◌, ℕ, zero, suc, true, false, List, [], ◌∷◌, ◌++◌, refl, map, drop, Some, None}
-use Rattle.std.specs.Ordering.{nat_cmp}
-use Rattle.cola_runs.specs.Cells.{Value, Cell, Entry, Look, sample}
+use Rattle.std.proofs.Common.{◌≡◌, ℕ, zero, suc, ◌*◌, Bool, true, false, ◌&&◌, List, [], ◌∷◌, ◌++◌, refl, map, drop, Some, None, Ordering, Less, Equal, Greater, eqb, eqb-true}
+use Rattle.std.specs.Ordering.{nat_cmp, is_lt}
+use Rattle.std.specs.Cmp.{first_so, second_so}
+use Rattle.std.specs.List.{AllByRecursion, list_all}
+use Rattle.std.specs.List.Sorted.{IsStrictlySortedBy}
+use Rattle.cola_runs.specs.Seen.{answer}
+use Rattle.cola_runs.specs.Cells.{Value, Cell, Entry, Look, place_cmp, sample, IsLinked, IsWellFormed}
 use Rattle.cola_runs.specs.Weave.{weave, all_items, young_items, bottom_items, IsCut, unlinked}
 use Rattle.cola_runs.specs.Steps.{begun, step, steps, cells_left}
-use Rattle.cola_runs.specs.Search.{find, place}
+use Rattle.cola_runs.specs.Search.{find, place, AreSampled}
 
 abbrev Run : Type 0
 Run = List (Cell ℕ ℕ)
@@ -111,3 +115,50 @@ stops_9 = refl
 
 stops_24 : map (λ r. place nat_cmp 24 r) runs ≡ 3 ∷ 7 ∷ 14 ∷ 23 ∷ []
 stops_24 = refl
+
+-- ---- tests that compute, for facts of a whole run
+
+rises : Run → Bool
+rises [] = true
+rises (c ∷ cells) = list_all (λ d. is_lt (place_cmp nat_cmp c d)) cells && rises cells
+
+links : ℕ → Run → Bool
+links n [] = true
+links n (Entry k i y l ∷ cells) = eqb l (8 * n) && links n cells
+links n (Look k l ∷ cells) = eqb l (8 * n) && links (suc n) cells
+
+less : (r : Ordering) → is_lt r ≡ true → r ≡ Less
+less Less e = refl
+less Equal e = cc
+less Greater e = cc
+
+all_by_test : (c : Cell ℕ ℕ) (cells : Run) → list_all (λ d. is_lt (place_cmp nat_cmp c d)) cells ≡ true → AllByRecursion (λ d. place_cmp nat_cmp c d ≡ Less) cells
+all_by_test c [] e = tt
+all_by_test c (d ∷ cells) e = (less _ (first_so _ _ e), all_by_test c cells (second_so _ _ e))
+
+rising_by_test : (cells : Run) → rises cells ≡ true → IsStrictlySortedBy (place_cmp nat_cmp) cells
+unfolding IsStrictlySortedBy rises
+rising_by_test [] e = tt
+rising_by_test (c ∷ cells) e = (all_by_test c cells (first_so _ _ e), rising_by_test cells (second_so _ _ e))
+
+linked_by_test : (n : ℕ) (cells : Run) → links n cells ≡ true → IsLinked n cells
+unfolding links
+linked_by_test n [] e = tt
+linked_by_test n (Entry k i y l ∷ cells) e = (eqb-true l (8 * n) (first_so _ _ e), linked_by_test n cells (second_so _ _ e))
+linked_by_test n (Look k l ∷ cells) e = (eqb-true l (8 * n) (first_so _ _ e), linked_by_test (suc n) cells (second_so _ _ e))
+
+formed : (run : Run) → rises run ≡ true → links 0 run ≡ true → IsWellFormed nat_cmp run
+formed run e f = record { rising = rising_by_test run e; linked = linked_by_test 0 run f }
+
+runs_are_sampled : AreSampled nat_cmp runs
+unfolding rises links
+runs_are_sampled = (formed run_0 refl refl, refl, (formed run_1 refl refl, refl, (formed run_2 refl refl, refl, (formed whole refl refl, tt, tt))))
+
+-- what is not well formed: a cell out of order, a lookahead cell before the item of its key, and a link that does not count
+not_formed : (rises (olds 2 3 3 0 ++ olds 1 1 1 0) ≡ false) × (rises (Look 3 0 ∷ old 3 3 ∷ []) ≡ false) × (links 0 (Look 3 0 ∷ old 4 4 ∷ []) ≡ false)
+unfolding rises links
+not_formed = (refl, refl, refl)
+
+-- the answers that the search gives
+answers : map (λ q. answer nat_cmp q runs) (9 ∷ 24 ∷ 33 ∷ []) ≡ Some (Value 41) ∷ Some (Value 24) ∷ None ∷ []
+answers = refl
