@@ -1,0 +1,5 @@
+pub mod Splits
+pub mod Digits
+pub mod Choices
+pub mod Turns
+pub mod Listing

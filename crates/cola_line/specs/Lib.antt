@@ -1,0 +1,4 @@
+pub mod Spoken
+pub mod Words
+pub mod Replied
+pub mod Listed

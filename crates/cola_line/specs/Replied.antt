@@ -1,0 +1,104 @@
+-- A reply of the code as a reply of the session machine, and what an answered command did.
+use Rattle.std.specs.Prelude.{ℕ, ◌≡◌, ◌+◌, ◌≤◌, Bool, List, take, Option, Some, Result, MatchResult, ⊤}
+use Rattle.cola_outside.specs.Faults.{Rose}
+use Rattle.cola_io.specs.Streams.{Appended}
+use Rattle.cola_spec.specs.Map.{Shape, Map, PutOutcome}
+use Rattle.cola_spec.specs.Map as map
+use Rattle.cola_spec.specs.Command as spec
+use Rattle.cola_spec.specs.Reply as reply
+use Rattle.cola_spec.specs.Machine.{Kind, PlainStep, FaultedStep, ShortStep, Turn, Step, Open, kind_of, turn_text}
+use Rattle.cola_cell.specs.declared.fault.ReadFault.{ReadFault}
+use Rattle.cola_cell.specs.declared.fault.ReadFault.TheVariants as read
+use Rattle.cola_cell.specs.declared.fault.StepFault.{StepFault}
+use Rattle.cola_cell.specs.declared.fault.StepFault.TheVariants as step
+use Rattle.cola_table.specs.declared.PutFault.{PutFault}
+use Rattle.cola_table.specs.declared.PutFault.TheVariants as put_fault
+use Rattle.cola_line.specs.declared.reply.Outcome.{Outcome}
+use Rattle.cola_line.specs.declared.reply.Outcome.TheVariants as outcome
+use Rattle.cola_line.specs.declared.reply.Failure.{Failure}
+use Rattle.cola_line.specs.declared.reply.Failure.TheVariants as failure
+use Rattle.cola_line.specs.declared.reply.Refusal.{Refusal}
+use Rattle.cola_line.specs.declared.reply.Refusal.TheVariants as refusal
+use Rattle.cola_line.specs.declared.reply.Reply.{Reply}
+use Rattle.cola_line.specs.declared.reply.Reply.TheVariants as code
+
+abbrev pub outcome_of : Outcome → PutOutcome
+outcome_of outcome.New = map.New
+outcome_of (outcome.Old value) = map.Old value
+outcome_of outcome.Full = map.Full
+outcome_of outcome.Worn = map.Worn
+outcome_of (outcome.Other stamp) = map.Other stamp
+
+abbrev pub failure_of : Failure → reply.Failure
+failure_of failure.Fault = reply.Fault
+failure_of (failure.Damaged cell) = reply.Damaged cell
+failure_of (failure.Overfull level) = reply.Overfull level
+
+abbrev pub refusal_of : Refusal → reply.Refusal
+refusal_of refusal.NotStore = reply.NotStore
+refusal_of refusal.NotClosed = reply.NotClosed
+refusal_of refusal.Small = reply.Small
+refusal_of refusal.Memory = reply.Memory
+
+-- the reply as the session machine sees it
+abbrev pub reply_of : Reply → reply.Reply
+reply_of (code.Put outcome) = reply.Put (outcome_of outcome)
+reply_of (code.Deleted value) = reply.Deleted value
+reply_of (code.Got value) = reply.Got value
+reply_of (code.Stamped stamp) = reply.Stamped stamp
+reply_of (code.Counted keys) = reply.Counted keys
+reply_of (code.Failed failure) = reply.Failed (failure_of failure)
+reply_of code.Closed = reply.Closed
+reply_of (code.Opened keys) = reply.Opened keys
+reply_of (code.Refused refusal) = reply.Refused (refusal_of refusal)
+reply_of code.Already = reply.Already
+reply_of code.Shut = reply.Shut
+reply_of code.Bad = reply.Bad
+
+-- all of a text was appended, or some of its front where the sink failed
+abbrev pub Wrote : {A E : Type 0} → List ℕ → Result A E → Option (List ℕ) → Option (List ℕ) → Type 0
+Wrote text result before after = MatchResult result (λ _. Appended text before after) (λ _. (n : ℕ) × Appended (take n text) before after)
+
+-- a faulted step comes only where the count of faults rose
+abbrev pub KindHasCause : Kind → ℕ → ℕ → Type 0
+KindHasCause PlainStep before now = ⊤
+KindHasCause FaultedStep before now = Rose before now
+KindHasCause ShortStep before now = ⊤
+
+-- a command with its reply and the cell accesses made for it
+abbrev pub turn_of : spec.Command → reply.Reply → ℕ → Turn
+turn_of command answer ticks = record { request = Some command; answer = answer; ticks = ticks }
+
+-- the turn answers the command: the text of its reply was written, its faults have their cause, and its cell accesses are those that were made
+pub record Answered {A E : Type 0} (command : spec.Command) (cost : Bool) (result : Result A E) (written written' : Option (List ℕ)) (faults faults' steps steps' : ℕ) (turn : Turn) : Type 0 where
+  pub asked : turn.request ≡ Some command
+  pub wrote : Wrote (turn_text cost turn) result written written'
+  pub cause : KindHasCause (kind_of turn.answer) faults faults'
+  pub counted : steps' ≡ steps + turn.ticks
+
+-- from the map m the turn is a step of the session machine that leaves it open, with a map that is held
+pub record StepsFrom (shape : Shape) (m : Map) (Holds : Map → Type 0) (turn : Turn) : Type 0 where
+  pub next : Map
+  pub holds : Holds next
+  pub step : Step shape (Open m) turn (Open next)
+
+-- Refusals as replies
+
+-- what a refused put is answered
+abbrev pub put_refused : PutFault → reply.Reply
+put_refused put_fault.Full = reply.Put map.Full
+put_refused put_fault.Worn = reply.Put map.Worn
+put_refused put_fault.Device = reply.Failed reply.Fault
+put_refused (put_fault.BadCell cell) = reply.Failed (reply.Damaged cell)
+put_refused (put_fault.Overfull level) = reply.Failed (reply.Overfull level)
+
+-- why a delete was refused
+abbrev pub step_failure : StepFault → reply.Failure
+step_failure step.Device = reply.Fault
+step_failure (step.BadCell cell) = reply.Damaged cell
+step_failure (step.Overfull level) = reply.Overfull level
+
+-- why a reading was refused
+abbrev pub read_failure : ReadFault → reply.Failure
+read_failure read.Device = reply.Fault
+read_failure (read.BadCell cell) = reply.Damaged cell

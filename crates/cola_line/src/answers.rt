@@ -1,0 +1,63 @@
+//! The reply that a table gives to a command.
+ghost use Rattle.std.specs.Prelude.{◌≡◌, ◌-◌, ◌≤◌, ℕ, Bool};
+ghost use Rattle.cola_outside.specs.Faults.{HasCause};
+ghost use Rattle.cola_spec.specs.Map.{Map};
+ghost use Rattle.cola_spec.specs.Reply.{reply_text};
+ghost use Rattle.cola_spec.specs.Machine.{Turn, kind_of};
+ghost use Rattle.cola_spec.specs.Bounds.{command_bound};
+ghost use Rattle.cola_table.specs.Terms.{Call, shape};
+ghost use Rattle.cola_line.specs.Spoken.{spoken, CommandFits, IsOfTable, IsOfOneLine};
+ghost use Rattle.cola_line.specs.Replied.{reply_of, turn_of, Answered, StepsFrom, KindHasCause};
+
+use crate::ask::{delete, get, put, put_if, stamp};
+use crate::command::Command;
+use crate::reply::{Reply, write_reply};
+use crate::rows::write_rows;
+use cola_io::{Sink, SinkFault};
+use cola_outside::Steps;
+use cola_table::Table;
+use std::sync::ledger::Ledger;
+
+/// The reply to a command that is answered by one line, and the ticks that were made for it.
+fn ask<T: Table, L: Ledger>(table: &mut T, command: &Command, steps: &mut Steps<L>) -> (Reply, u32)
+    requires one_line { IsOfOneLine command.now }
+    requires fits { CommandFits (T.terms table.old).format command.now }
+    ensures sound { (m : Map) → T.holds table.old m → StepsFrom (shape (T.terms table.old)) m (T.holds table.new) (turn_of (spoken command.now) (reply_of result.0) (steps.new - steps.old)) }
+    ensures call { Call (T.terms table.old) (T.terms table.new) (T.faults table.old) (T.faults table.new) steps.old steps.new (command_bound (T.terms table.old).depth (spoken command.now)) }
+    ensures cause { KindHasCause (kind_of (reply_of result.0)) (T.faults table.old) (T.faults table.new) }
+    ensures ticks { (cost : Bool) → reply_text cost result.1 (reply_of result.0) ≡ reply_text cost (steps.new - steps.old) (reply_of result.0) }
+{
+    match command {
+        Command::Put(key, value) => put(table, key, value, steps),
+        Command::PutIf(key, seen, value) => put_if(table, key, *seen, value, steps),
+        Command::Del(key) => delete(table, key, steps),
+        Command::Get(key) => get(table, key, steps),
+        Command::Stamp(key) => stamp(table, key, steps),
+        Command::Count => (Reply::Counted(table.count()), 0),
+        _ => unreachable!(),
+    }
+}
+
+/// Writes the reply to a command that a table answers: one line, or the rows of a range or a scan and
+/// the line that ends them. Where costs are asked for, the ticks of a call stand behind its reply.
+///
+/// At a fault of the sink some front of the reply was written; what the table did stays done. An
+/// `Err` comes only where the sink's count of faults rose.
+pub fn answer<T: Table, K: Sink, L: Ledger>(table: &mut T, command: &Command, cost: bool, sink: &mut K, steps: &mut Steps<L>) -> Result<(), SinkFault>
+    requires of_table { IsOfTable command.now }
+    requires fits { CommandFits (T.terms table.old).format command.now }
+    ensures any { (turn : Turn) × Answered (spoken command.now) cost result (K.written sink.old) (K.written sink.new) (T.faults table.old) (T.faults table.new) steps.old steps.new turn }
+    ensures sound { (m : Map) → T.holds table.old m → (turn : Turn) × (Answered (spoken command.now) cost result (K.written sink.old) (K.written sink.new) (T.faults table.old) (T.faults table.new) steps.old steps.new turn × StepsFrom (shape (T.terms table.old)) m (T.holds table.new) turn) }
+    ensures call { Call (T.terms table.old) (T.terms table.new) (T.faults table.old) (T.faults table.new) steps.old steps.new (command_bound (T.terms table.old).depth (spoken command.now)) }
+    ensures cause { HasCause result (K.faults sink.old) (K.faults sink.new) }
+    ensures faults_kept { K.faults sink.old ≤ K.faults sink.new }
+{
+    match command {
+        Command::Range(low, high) => write_rows(table, low, Some(high), None, sink, steps),
+        Command::Scan(low, most) => write_rows(table, low, None, Some(*most), sink, steps),
+        _ => {
+            let (reply, ticks) = ask(table, command, steps);
+            write_reply(&reply, cost, ticks, sink)
+        }
+    }
+}
