@@ -1,5 +1,5 @@
 -- Each verb's command, as its words are taken and tested one by one.
-use Rattle.std.proofs.Common.{◌≡◌, ℕ, Bool, true, false, cond, ◌&&◌, List, [], ◌∷◌, Option, Some, None, refl, sym, ◌∙◌, ap, if◌then◌else◌}
+use Rattle.std.proofs.Common.{◌≡◌, ℕ, Bool, true, false, ◌&&◌, List, [], ◌∷◌, Option, Some, None, refl, if◌then◌else◌}
 use Rattle.std.specs.Option.{option_map, option_and_then}
 use Rattle.cola_line.specs.Words.{only_word, only_two, only_three}
 use Rattle.cola_spec.specs.Map.{Shape, is_key, is_value}

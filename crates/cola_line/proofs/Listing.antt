@@ -1,12 +1,10 @@
 -- Rows that are written one by one, as the text of one reply.
-use Rattle.std.proofs.Common.{◌≡◌, ◌⊎◌, inl, inr, ℕ, suc, ◌+◌, ◌-◌, ◌<◌, ◌≤◌, min, Bool, true, false, nat_lt, List, [], ◌∷◌, ◌++◌, length, take, Option, Some, None, Result, Ok, Err, refl, sym, ap, ◌∙◌, subst, append_assoc, length-append, arith, codes, decimal, zero}
-use Rattle.std.specs.List.{flat_map}
+use Rattle.std.proofs.Common.{◌≡◌, inl, inr, ℕ, suc, ◌+◌, ◌-◌, ◌<◌, ◌≤◌, min, true, false, List, [], ◌∷◌, ◌++◌, length, take, Option, Some, None, Result, Ok, Err, refl, sym, ap, ◌∙◌, subst, append_assoc, length-append, arith, codes, decimal, zero}
 use Rattle.std.specs.Prelude.{⊤, OnSome}
 use borrow.Author.Tests.{ltb-true, ltb-false}
 use Rattle.std.proofs.lemmas.List.{take_all, append-nil}
 use Rattle.std.proofs.Math.Seq.{take-append_seam}
 use Rattle.std.proofs.lemmas.Grind.{flat_map-append}
-use Rattle.cola_outside.specs.Told.{Both}
 use Rattle.cola_io.specs.Streams.{Appended}
 use Rattle.cola_spec.specs.Reply.{Failure, Fault, Rows, Cut, Failed, row_text, rows_text, line, failure_text, reply_text}
 use Rattle.cola_cell.specs.declared.fault.ReadFault.{ReadFault}
@@ -53,9 +51,9 @@ shorter k n = omega arith
 take_front : (a c : List ℕ) (n : ℕ) → take (min n (length a)) (a ++ c) ≡ take n a
 take_front [] c n = ap (λ k. take k c) (none_of n) ∙ sym (take_none n)
 take_front (x ∷ a) c n = elim n as (λ k. take (min k (length (x ∷ a))) ((x ∷ a) ++ c) ≡ take k (x ∷ a)) [
-    | zero ↦ ap (λ k. take k (x ∷ (a ++ c))) (zero_of (length (x ∷ a)))
-    | suc k ↦ ap (λ j. take j (x ∷ (a ++ c))) (shorter k (length a)) ∙ ap (λ t. x ∷ t) (take_front a c k)
-  ]
+  | zero ↦ ap (λ k. take k (x ∷ (a ++ c))) (zero_of (length (x ∷ a)))
+  | suc k ↦ ap (λ j. take j (x ∷ (a ++ c))) (shorter k (length a)) ∙ ap (λ t. x ∷ t) (take_front a c k)
+]
 
 -- some front of a text is some front of a longer one
 pub wrote_front : (b c : List ℕ) (x y : Option (List ℕ)) → (n : ℕ) × Appended (take n b) x y → (n : ℕ) × Appended (take n (b ++ c)) x y
@@ -75,9 +73,9 @@ rows_push done pair = flat_map-append row_text done (pair ∷ []) ∙ ap (λ t. 
 
 pub one_more_row : (w w' w'' : Option (List ℕ)) (rows : ℕ) (done : List (List ℕ × List ℕ)) (pair : List ℕ × List ℕ) → Listing w w' rows done → Appended (row_text pair) w' w'' → Listing w w'' (rows + 1) (done ++ pair ∷ [])
 one_more_row w w' w'' rows done pair so_far row = record {
-    text = subst (λ t. Appended t w w'') (sym (rows_push done pair)) (appended_more (rows_text done) (row_text pair) w w' w'' so_far.text row);
-    number = omega (arith, so_far.number, length-append done (pair ∷ []));
-  }
+  text = subst (λ t. Appended t w w'') (sym (rows_push done pair)) (appended_more (rows_text done) (row_text pair) w w' w'' so_far.text row);
+  number = omega (arith, so_far.number, length-append done (pair ∷ []));
+}
 
 -- no more rows than are wanted
 abbrev pub IsWithin : Option ℕ → ℕ → Type 0
@@ -126,7 +124,7 @@ front_done (Some most) rows done ahead number within =
 pub wrote_end : {A E : Type 0} (result : Result A E) (w w' w'' : Option (List ℕ)) (rows : ℕ) (done : List (List ℕ × List ℕ)) → Listing w w' rows done → Wrote (line (codes "end " ++ decimal rows)) result w' w'' → Wrote (reply_text false 0 (Rows done)) result w w''
 wrote_end result w w' w'' rows done so_far wrote =
     wrote_after (rows_text done) (line (codes "end " ++ decimal (length done))) result w w' w'' so_far.text
-        (subst (λ k. Wrote (line (codes "end " ++ decimal k)) result w' w'') so_far.number wrote)
+    (subst (λ k. Wrote (line (codes "end " ++ decimal k)) result w' w'') so_far.number wrote)
 
 pub wrote_cut : {A E : Type 0} (result : Result A E) (w w' w'' : Option (List ℕ)) (rows : ℕ) (done : List (List ℕ × List ℕ)) (failure : Failure) → Listing w w' rows done → Wrote (reply_text false 0 (Failed failure)) result w' w'' → Wrote (reply_text false 0 (Cut done failure)) result w w''
 wrote_cut result w w' w'' rows done failure so_far wrote =
@@ -140,10 +138,10 @@ pub wrote_row : (A : Type 0) {E : Type 0} (e : E) (w w' w'' : Option (List ℕ))
 wrote_row A e w w' w'' rows done more pair so_far wrote =
     let end : List ℕ = line (codes "end " ++ decimal (length (done ++ pair ∷ more))) in
     let whole : rows_text (done ++ pair ∷ more) ++ end ≡ rows_text done ++ (row_text pair ++ (rows_text more ++ end)) =
-        ap (λ t. t ++ end) (flat_map-append row_text done (pair ∷ more)) ∙ regroup (rows_text done) (row_text pair) (rows_text more) end in
+    ap (λ t. t ++ end) (flat_map-append row_text done (pair ∷ more)) ∙ regroup (rows_text done) (row_text pair) (rows_text more) end in
     subst (λ t. Wrote {A = A} t (Err e) w w'') (sym whole)
-        (wrote_after {A = A} (rows_text done) (row_text pair ++ (rows_text more ++ end)) (Err e) w w' w'' so_far.text
-            (wrote_front (row_text pair) (rows_text more ++ end) w' w'' wrote))
+    (wrote_after {A = A} (rows_text done) (row_text pair ++ (rows_text more ++ end)) (Err e) w w' w'' so_far.text
+    (wrote_front (row_text pair) (rows_text more ++ end) w' w'' wrote))
 
 -- The reply as a whole
 
@@ -154,10 +152,10 @@ failure_cause done (read.BadCell cell) f f' f'' least rose = tt
 -- rows that a failure cuts
 pub listed_cut : {A E : Type 0} (result : Result A E) (w w' w'' : Option (List ℕ)) (rows : ℕ) (done : List (List ℕ × List ℕ)) (fault : ReadFault) (failure : Failure) (f f' f'' : ℕ) → failure ≡ read_failure fault → f ≤ f' → Listing w w' rows done → Wrote (reply_text false 0 (Failed failure)) result w' w'' → read_cause fault f' f'' → Listed result w w'' f f'' (Cut done failure)
 listed_cut result w w' w'' rows done fault failure f f' f'' is least so_far wrote cause = record {
-    wrote = wrote_cut result w w' w'' rows done failure so_far wrote;
-    cause = subst (λ (r : Failure). KindHasCause (kind_of (Cut done r)) f f'') (sym is) (failure_cause done fault f f' f'' least cause);
-    costless = λ cost ticks. refl;
-  }
+  wrote = wrote_cut result w w' w'' rows done failure so_far wrote;
+  cause = subst (λ (r : Failure). KindHasCause (kind_of (Cut done r)) f f'') (sym is) (failure_cause done fault f f' f'' least cause);
+  costless = λ cost ticks. refl;
+}
 
 -- rows that end
 pub listed_end : {A E : Type 0} (result : Result A E) (w w' w'' : Option (List ℕ)) (rows : ℕ) (done : List (List ℕ × List ℕ)) (f f'' : ℕ) → Listing w w' rows done → Wrote (line (codes "end " ++ decimal rows)) result w' w'' → Listed result w w'' f f'' (Rows done)

@@ -1,5 +1,5 @@
 -- A list that is cut at the first place that passes a test, and one in which none does.
-use Rattle.std.proofs.Common.{◌≡◌, ℕ, zero, suc, ◌+◌, ◌-◌, ◌<◌, ◌≤◌, Bool, true, false, List, [], ◌∷◌, length, get_or, take, drop, refl, ap, ◌∙◌, sym, arith, add-one, length-drop, Option, Some, None, cond, nat_eq}
+use Rattle.std.proofs.Common.{◌≡◌, ℕ, zero, suc, ◌+◌, ◌-◌, ◌<◌, Bool, true, false, List, [], ◌∷◌, length, get_or, take, drop, refl, ap, ◌∙◌, sym, arith, add-one, length-drop, Option, Some, None, cond, nat_eq}
 use Rattle.std.specs.List.{slice_split, onto_first, position, position_from}
 use Rattle.cola_spec.specs.Command.{Command, words_of, alone}
 use Rattle.cola_line.specs.Words.{only_word, words_left}

@@ -1,5 +1,5 @@
 -- What a table answers is a step of the session machine from the map that it holds.
-use Rattle.std.proofs.Common.{◌≡◌, ℕ, ◌-◌, ◌≤◌, Bool, arith, inl, inr, List, Option, Some, None, Result, Ok, Err, refl, sym, ap, ◌∙◌, subst}
+use Rattle.std.proofs.Common.{◌≡◌, ℕ, ◌-◌, ◌≤◌, Bool, arith, inl, inr, List, Option, Result, refl, sym, ap, ◌∙◌, subst}
 use Rattle.cola_cell.specs.declared.fault.ReadFault.{ReadFault}
 use Rattle.cola_cell.specs.declared.fault.ReadFault.TheVariants as read
 use Rattle.cola_cell.specs.declared.fault.StepFault.{StepFault}
@@ -10,7 +10,7 @@ use Rattle.cola_spec.specs.Map.{Shape, Map, PutOutcome, settled, put_outcome, pu
 use Rattle.cola_spec.specs.Map as map
 use Rattle.cola_spec.specs.Command as spec
 use Rattle.cola_spec.specs.Reply as reply
-use Rattle.cola_spec.specs.Machine.{Open, kind_of}
+use Rattle.cola_spec.specs.Machine.{kind_of}
 use Rattle.cola_table.specs.Answers.{PutRefused, OnlyDevice, OnlyDeviceRead}
 use Rattle.cola_line.specs.Listed.{Listed, RowsFor}
 use Rattle.cola_line.specs.Replied.{Answered, Wrote, KindHasCause, StepsFrom, turn_of, put_refused, step_failure, read_failure}

@@ -1,7 +1,6 @@
 -- What was written of the rows of an interval.
 use Rattle.std.specs.Prelude.{ℕ, ◌≡◌, ◌⊎◌, Bool, true, false, nat_lt, List, take, Option, Some, None, Result}
-use Rattle.cola_spec.specs.Map.{Map}
-use Rattle.cola_spec.specs.Reply.{Reply, Failure, Rows, Cut, Fault, reply_text}
+use Rattle.cola_spec.specs.Reply.{Reply, Rows, Cut, Fault, reply_text}
 use Rattle.cola_spec.specs.Machine.{kind_of}
 use Rattle.cola_line.specs.Replied.{Wrote, KindHasCause}
 

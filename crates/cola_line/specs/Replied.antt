@@ -1,5 +1,5 @@
 -- A reply of the code as a reply of the session machine, and what an answered command did.
-use Rattle.std.specs.Prelude.{ℕ, ◌≡◌, ◌+◌, ◌≤◌, Bool, List, take, Option, Some, Result, MatchResult, ⊤}
+use Rattle.std.specs.Prelude.{ℕ, ◌≡◌, ◌+◌, Bool, List, take, Option, Some, Result, MatchResult, ⊤}
 use Rattle.cola_outside.specs.Faults.{Rose}
 use Rattle.cola_io.specs.Streams.{Appended}
 use Rattle.cola_spec.specs.Map.{Shape, Map, PutOutcome}

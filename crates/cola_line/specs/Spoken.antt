@@ -1,5 +1,5 @@
 -- A command of the code as a command of the session machine, and what it needs of a table.
-use Rattle.std.specs.Prelude.{ℕ, ◌≡◌, List}
+use Rattle.std.specs.Prelude.{◌≡◌}
 use Rattle.cola_cell.specs.declared.format.Format.{Format}
 use Rattle.cola_cell.specs.declared.format.Format.TheVariants.{Two}
 use Rattle.cola_cell.specs.Format.{KeyFits, ValueFits}

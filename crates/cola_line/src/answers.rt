@@ -43,7 +43,13 @@ fn ask<T: Table, L: Ledger>(table: &mut T, command: &Command, steps: &mut Steps<
 ///
 /// At a fault of the sink some front of the reply was written; what the table did stays done. An
 /// `Err` comes only where the sink's count of faults rose.
-pub fn answer<T: Table, K: Sink, L: Ledger>(table: &mut T, command: &Command, cost: bool, sink: &mut K, steps: &mut Steps<L>) -> Result<(), SinkFault>
+pub fn answer<T: Table, K: Sink, L: Ledger>(
+    table: &mut T,
+    command: &Command,
+    cost: bool,
+    sink: &mut K,
+    steps: &mut Steps<L>,
+) -> Result<(), SinkFault>
     requires of_table { IsOfTable command.now }
     requires fits { CommandFits (T.terms table.old).format command.now }
     ensures any { (turn : Turn) × Answered (spoken command.now) cost result (K.written sink.old) (K.written sink.new) (T.faults table.old) (T.faults table.new) steps.old steps.new turn }

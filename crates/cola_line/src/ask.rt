@@ -69,7 +69,12 @@ pub fn failed_read(fault: ReadFault) -> Failure
 }
 
 /// The reply to a put, and the ticks that it made.
-pub fn put<T: Table, L: Ledger>(table: &mut T, key: &Key, value: &Value, steps: &mut Steps<L>) -> (Reply, u32)
+pub fn put<T: Table, L: Ledger>(
+    table: &mut T,
+    key: &Key,
+    value: &Value,
+    steps: &mut Steps<L>,
+) -> (Reply, u32)
     requires key_fits { KeyFits (T.terms table.old).format key.now }
     requires value_fits { ValueFits (T.terms table.old).format value.now }
     ensures sound { (m : Map) → T.holds table.old m → StepsFrom (shape (T.terms table.old)) m (T.holds table.new) (turn_of (spec.Put key.now value.now) (reply_of result.0) (steps.new - steps.old)) }
@@ -84,7 +89,13 @@ pub fn put<T: Table, L: Ledger>(table: &mut T, key: &Key, value: &Value, steps: 
 }
 
 /// The reply to a put that depends on the stamp seen, and the ticks that it made.
-pub fn put_if<T: Table, L: Ledger>(table: &mut T, key: &Key, seen: u64, value: &Value, steps: &mut Steps<L>) -> (Reply, u32)
+pub fn put_if<T: Table, L: Ledger>(
+    table: &mut T,
+    key: &Key,
+    seen: u64,
+    value: &Value,
+    steps: &mut Steps<L>,
+) -> (Reply, u32)
     requires stamped { (T.terms table.old).format ≡ Two }
     requires key_fits { KeyFits (T.terms table.old).format key.now }
     requires value_fits { ValueFits (T.terms table.old).format value.now }

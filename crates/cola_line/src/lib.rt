@@ -4,7 +4,6 @@
 mod answers;
 mod ask;
 mod command;
-
 mod parse;
 mod reply;
 mod rows;
@@ -14,4 +13,3 @@ pub use answers::answer;
 pub use command::Command;
 pub use parse::parse_line;
 pub use reply::{Failure, Outcome, Refusal, Reply};
-

@@ -239,7 +239,12 @@ fn push_reply(text: &mut Text, reply: &Reply, cost: bool, ticks: u32)
 /// fault of the sink some bytes of its front were written.
 ///
 /// An `Err` comes only where the sink's count of faults rose.
-pub fn write_reply<K: Sink>(reply: &Reply, cost: bool, ticks: u32, sink: &mut K) -> Result<(), SinkFault>
+pub fn write_reply<K: Sink>(
+    reply: &Reply,
+    cost: bool,
+    ticks: u32,
+    sink: &mut K,
+) -> Result<(), SinkFault>
     ensures wrote { Wrote (reply_text cost ticks (reply_of reply.now)) result (K.written sink.old) (K.written sink.new) }
     ensures cause { HasCause result (K.faults sink.old) (K.faults sink.new) }
     ensures faults_kept { K.faults sink.old ≤ K.faults sink.new }

@@ -60,7 +60,14 @@ fn is_wanted(most: Option<u64>, rows: u64) -> bool
 /// given, and then the line that ends them, or that of a failure.
 ///
 /// An `Err` comes only where the sink's count of faults rose; then some front of all that was written.
-pub fn write_rows<T: Table, K: Sink, L: Ledger>(table: &mut T, low: &Key, high: Option<&Key>, most: Option<u64>, sink: &mut K, steps: &mut Steps<L>) -> Result<(), SinkFault>
+pub fn write_rows<T: Table, K: Sink, L: Ledger>(
+    table: &mut T,
+    low: &Key,
+    high: Option<&Key>,
+    most: Option<u64>,
+    sink: &mut K,
+    steps: &mut Steps<L>,
+) -> Result<(), SinkFault>
     ensures any { (answer : Answer) × Listed result (K.written sink.old) (K.written sink.new) (T.faults table.old) (T.faults table.new) answer }
     ensures sound { (m : Map) → T.holds table.old m → T.holds table.new m × ((answer : Answer) × (Listed result (K.written sink.old) (K.written sink.new) (T.faults table.old) (T.faults table.new) answer × RowsFor (first_of most (pairs_between m low.now (option_copied high.entry))) answer)) }
     ensures call { Call (T.terms table.old) (T.terms table.new) (T.faults table.old) (T.faults table.new) steps.old steps.new (range_bound (T.terms table.old).depth) }

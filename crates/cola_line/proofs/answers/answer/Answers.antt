@@ -9,32 +9,40 @@ use Rattle.cola_line.proofs.answers.answer.Goals as goal
 pub returns-in-Range-clause-any : goal.returns-in-Range-clause-any
 returns-in-Range-clause-any g c =
     let any = c.write_rows.ensures.any in
-    rw c.in-Range.is
-        (turn_of (spec.Range c.in-Range.low c.in-Range.high) any.0 (c.write_rows.new.steps - c.args.steps.now),
-          rows_answered (spec.Range c.in-Range.low c.in-Range.high) c.args.cost _ (g.K.Sink.written c.args.sink.now) (g.K.Sink.written c.write_rows.new.sink) (g.T.Table.faults c.args.table.now) (g.T.Table.faults c.write_rows.new.table) c.args.steps.now c.write_rows.new.steps any.0 c.write_rows.ensures.call.steps_kept any.1)
+    rw c.in-Range.is (
+      turn_of (spec.Range c.in-Range.low c.in-Range.high) any.0 (c.write_rows.new.steps - c.args.steps.now),
+      rows_answered (spec.Range c.in-Range.low c.in-Range.high) c.args.cost _ (g.K.Sink.written c.args.sink.now) (g.K.Sink.written c.write_rows.new.sink) (g.T.Table.faults c.args.table.now) (g.T.Table.faults c.write_rows.new.table) c.args.steps.now c.write_rows.new.steps any.0 c.write_rows.ensures.call.steps_kept any.1,
+    )
 
 pub returns-in-Range-clause-sound : goal.returns-in-Range-clause-sound
 returns-in-Range-clause-sound g c m held =
     let s = c.write_rows.ensures.sound m held in
-    rw c.in-Range.is
-        (turn_of (spec.Range c.in-Range.low c.in-Range.high) s.1.0 (c.write_rows.new.steps - c.args.steps.now),
-          (rows_answered (spec.Range c.in-Range.low c.in-Range.high) c.args.cost _ (g.K.Sink.written c.args.sink.now) (g.K.Sink.written c.write_rows.new.sink) (g.T.Table.faults c.args.table.now) (g.T.Table.faults c.write_rows.new.table) c.args.steps.now c.write_rows.new.steps s.1.0 c.write_rows.ensures.call.steps_kept s.1.1.0,
-            range_steps (shape (g.T.Table.terms c.args.table.now)) m (g.T.Table.holds c.write_rows.new.table) c.in-Range.low c.in-Range.high (c.write_rows.new.steps - c.args.steps.now) s.1.0 s.1.1.1 s.0))
+    rw c.in-Range.is (
+      turn_of (spec.Range c.in-Range.low c.in-Range.high) s.1.0 (c.write_rows.new.steps - c.args.steps.now),
+      (
+        rows_answered (spec.Range c.in-Range.low c.in-Range.high) c.args.cost _ (g.K.Sink.written c.args.sink.now) (g.K.Sink.written c.write_rows.new.sink) (g.T.Table.faults c.args.table.now) (g.T.Table.faults c.write_rows.new.table) c.args.steps.now c.write_rows.new.steps s.1.0 c.write_rows.ensures.call.steps_kept s.1.1.0,
+        range_steps (shape (g.T.Table.terms c.args.table.now)) m (g.T.Table.holds c.write_rows.new.table) c.in-Range.low c.in-Range.high (c.write_rows.new.steps - c.args.steps.now) s.1.0 s.1.1.1 s.0,
+      ),
+    )
 
 pub returns-in-Scan-clause-any : goal.returns-in-Scan-clause-any
 returns-in-Scan-clause-any g c =
     let any = c.write_rows-in-Scan.ensures.any in
-    rw c.in-Scan.is
-        (turn_of (spec.Scan c.in-Scan.low c.in-Scan.most) any.0 (c.write_rows-in-Scan.new.steps - c.args.steps.now),
-          rows_answered (spec.Scan c.in-Scan.low c.in-Scan.most) c.args.cost _ (g.K.Sink.written c.args.sink.now) (g.K.Sink.written c.write_rows-in-Scan.new.sink) (g.T.Table.faults c.args.table.now) (g.T.Table.faults c.write_rows-in-Scan.new.table) c.args.steps.now c.write_rows-in-Scan.new.steps any.0 c.write_rows-in-Scan.ensures.call.steps_kept any.1)
+    rw c.in-Scan.is (
+      turn_of (spec.Scan c.in-Scan.low c.in-Scan.most) any.0 (c.write_rows-in-Scan.new.steps - c.args.steps.now),
+      rows_answered (spec.Scan c.in-Scan.low c.in-Scan.most) c.args.cost _ (g.K.Sink.written c.args.sink.now) (g.K.Sink.written c.write_rows-in-Scan.new.sink) (g.T.Table.faults c.args.table.now) (g.T.Table.faults c.write_rows-in-Scan.new.table) c.args.steps.now c.write_rows-in-Scan.new.steps any.0 c.write_rows-in-Scan.ensures.call.steps_kept any.1,
+    )
 
 pub returns-in-Scan-clause-sound : goal.returns-in-Scan-clause-sound
 returns-in-Scan-clause-sound g c m held =
     let s = c.write_rows-in-Scan.ensures.sound m held in
-    rw c.in-Scan.is
-        (turn_of (spec.Scan c.in-Scan.low c.in-Scan.most) s.1.0 (c.write_rows-in-Scan.new.steps - c.args.steps.now),
-          (rows_answered (spec.Scan c.in-Scan.low c.in-Scan.most) c.args.cost _ (g.K.Sink.written c.args.sink.now) (g.K.Sink.written c.write_rows-in-Scan.new.sink) (g.T.Table.faults c.args.table.now) (g.T.Table.faults c.write_rows-in-Scan.new.table) c.args.steps.now c.write_rows-in-Scan.new.steps s.1.0 c.write_rows-in-Scan.ensures.call.steps_kept s.1.1.0,
-            scan_steps (shape (g.T.Table.terms c.args.table.now)) m (g.T.Table.holds c.write_rows-in-Scan.new.table) c.in-Scan.low c.in-Scan.most (c.write_rows-in-Scan.new.steps - c.args.steps.now) s.1.0 s.1.1.1 s.0))
+    rw c.in-Scan.is (
+      turn_of (spec.Scan c.in-Scan.low c.in-Scan.most) s.1.0 (c.write_rows-in-Scan.new.steps - c.args.steps.now),
+      (
+        rows_answered (spec.Scan c.in-Scan.low c.in-Scan.most) c.args.cost _ (g.K.Sink.written c.args.sink.now) (g.K.Sink.written c.write_rows-in-Scan.new.sink) (g.T.Table.faults c.args.table.now) (g.T.Table.faults c.write_rows-in-Scan.new.table) c.args.steps.now c.write_rows-in-Scan.new.steps s.1.0 c.write_rows-in-Scan.ensures.call.steps_kept s.1.1.0,
+        scan_steps (shape (g.T.Table.terms c.args.table.now)) m (g.T.Table.holds c.write_rows-in-Scan.new.table) c.in-Scan.low c.in-Scan.most (c.write_rows-in-Scan.new.steps - c.args.steps.now) s.1.0 s.1.1.1 s.0,
+      ),
+    )
 
 pub returns-in_default : goal.returns-in_default
 returns-in_default g c =

@@ -1,6 +1,5 @@
 use Rattle.std.proofs.Common.{◌-◌}
 use Rattle.cola_table.specs.Terms.{shape}
-use Rattle.cola_table.specs.Answers.{put_answer, put_if_answer}
 use Rattle.cola_line.proofs.Turns.{delete_steps, delete_refused_steps}
 use Rattle.cola_line.proofs.ask.delete.Goals as goal
 

@@ -1,6 +1,6 @@
 use Rattle.std.proofs.Common.{◌-◌}
 use Rattle.cola_table.specs.Terms.{shape}
-use Rattle.cola_table.specs.Answers.{put_answer, put_if_answer}
+use Rattle.cola_table.specs.Answers.{put_if_answer}
 use Rattle.cola_line.proofs.Turns.{put_if_steps, put_if_refused_steps}
 use Rattle.cola_line.proofs.ask.put_if.Goals as goal
 

@@ -1,4 +1,4 @@
-use Rattle.std.proofs.Common.{◌≡◌, ◌+◌, ◌*◌, ◌^◌, ◌<◌, ◌≤◌, ◌++◌, ℕ, List, option_copied}
+use Rattle.std.proofs.Common.{◌≡◌, ◌+◌, ◌^◌, ◌<◌, ◌≤◌, ◌++◌, ℕ, List, option_copied}
 use Rattle.cola_spec.specs.Map.{Map, pairs_between}
 use Rattle.cola_spec.specs.Bounds.{range_bound}
 use Rattle.cola_line.proofs.Listing.{Listing, IsWithin}
@@ -18,8 +18,8 @@ invariant-rows g l = record {
   sound : (m : Map) → g.T.Table.holds l.fn.table m →
       g.T.Table.holds l.table m ×
       ((done : List (List ℕ × List ℕ)) × ((ahead : List (List ℕ × List ℕ)) ×
-          (g.T.Table.ahead l.table l.walk ahead × (pairs_between m l.low (option_copied l.high) ≡ done ++ ahead) ×
-          Listing (g.K.Sink.written l.fn.sink) (g.K.Sink.written l.sink) l.rows done)));
+      (g.T.Table.ahead l.table l.walk ahead × (pairs_between m l.low (option_copied l.high) ≡ done ++ ahead) ×
+      Listing (g.K.Sink.written l.fn.sink) (g.K.Sink.written l.sink) l.rows done)));
 }
 
 abbrev pub decreases-rows : goal.decreases-rows
