@@ -11,5 +11,5 @@ mod words;
 
 pub use answers::answer;
 pub use command::Command;
-pub use parse::parse_line;
-pub use reply::{Failure, Outcome, Refusal, Reply};
+pub use parse::{number, parse_line};
+pub use reply::{Failure, Outcome, Refusal, Reply, write_reply};

@@ -36,7 +36,7 @@ fn value_of(word: &[u8], format: Format) -> Option<Value>
 }
 
 /// A word of 1 to `most` decimal digits, of which there are at most 19, as a number.
-fn number(word: &[u8], most: usize) -> Option<u64>
+pub fn number(word: &[u8], most: usize) -> Option<u64>
     requires { most ≤ 19 }
     ensures { result ≡ (if is_number most word.now then Some (number_of word.now) else None) }
 {
