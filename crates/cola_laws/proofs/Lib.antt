@@ -1,0 +1,19 @@
+pub mod Values
+pub mod Flips
+pub mod Alike
+pub mod After
+pub mod Sources
+pub mod Live
+pub mod Lengths
+pub mod Windows
+pub mod Next
+pub mod Clocked
+pub mod Mutations
+pub mod Workable
+pub mod Wraps
+pub mod Programs
+pub mod Empty
+pub mod InSlots
+mod Tested
+mod Ablated
+mod Worked

@@ -1,0 +1,85 @@
+-- The plain program computed on a store for 32 keys, four levels, in which the keys 1 to 32 are put in turn, each with
+-- the number of its put.
+use Rattle.std.proofs.Common.{◌≡◌, ℕ, zero, suc, ◌+◌, ◌%◌, Bool, true, false, List, [], ◌∷◌, ◌++◌, refl, map, length, take, drop}
+use Rattle.std.specs.Ordering.{nat_cmp}
+use Rattle.cola_clock.specs.Clock.{period, is_odd, works, flips, ends, elapsed, window_step, window_length}
+use Rattle.cola_runs.specs.Cells.{Item, Value, Cell, Entry, Look, link_of}
+use Rattle.cola_runs.specs.Weave.{weave, unlinked}
+use Rattle.cola_runs.specs.Steps.{step}
+use Rattle.cola_laws.specs.Chain.{Level}
+use Rattle.cola_laws.specs.Plain.{empty_levels, mutated, worked, built}
+
+abbrev Chain : Type 0
+Chain = List (Level ℕ ℕ)
+
+-- the levels after the first n puts
+puts : ℕ → Chain
+unfolding worked built works flips ends elapsed window_step window_length period is_odd step weave unlinked
+puts zero = empty_levels 4
+puts (suc n) = mutated nat_cmp 28 (n % 16) (suc (n % 32)) (Value (suc n)) (puts n)
+
+-- the items of a run by the number of their put, a young one with 100 more; a lookahead cell as its key and 1000 more
+shown : List (Cell ℕ ℕ) → List ℕ
+shown [] = []
+shown (Entry k (Value v) true l ∷ cells) = (100 + v) ∷ shown cells
+shown (Entry k (Value v) false l ∷ cells) = v ∷ shown cells
+shown (Entry k i y l ∷ cells) = 0 ∷ shown cells
+shown (Look k l ∷ cells) = (1000 + k) ∷ shown cells
+
+visible_of : Chain → List (List ℕ)
+visible_of = map (λ (l : Level ℕ ℕ). shown l.visible)
+
+shadow_of : Chain → List (List ℕ)
+shadow_of = map (λ (l : Level ℕ ℕ). shown l.shadow)
+
+-- visible length, shadow length and the three cursors of each level
+marks_of : Chain → List (List ℕ)
+marks_of = map (λ (l : Level ℕ ℕ). length l.visible ∷ length l.shadow ∷ l.own ∷ l.incoming ∷ l.sampled ∷ [])
+
+-- ---- the first eight puts
+
+visible_3 : visible_of (puts 3) ≡ (1 ∷ 2 ∷ 103 ∷ []) ∷ [] ∷ [] ∷ [] ∷ []
+unfolding puts visible_of shown
+visible_3 = refl
+
+shadow_3 : shadow_of (puts 3) ≡ [] ∷ (1 ∷ 2 ∷ []) ∷ [] ∷ [] ∷ []
+unfolding puts shadow_of shown
+shadow_3 = refl
+
+visible_5 : visible_of (puts 5) ≡ (3 ∷ 4 ∷ 105 ∷ []) ∷ (1 ∷ 2 ∷ []) ∷ [] ∷ [] ∷ []
+unfolding puts visible_of shown
+visible_5 = refl
+
+shadow_5 : shadow_of (puts 5) ≡ [] ∷ (1 ∷ 2 ∷ 103 ∷ 104 ∷ []) ∷ [] ∷ [] ∷ []
+unfolding puts shadow_of shown
+shadow_5 = refl
+
+visible_7 : visible_of (puts 7) ≡ (5 ∷ 6 ∷ 107 ∷ []) ∷ (1 ∷ 2 ∷ 103 ∷ 104 ∷ []) ∷ [] ∷ [] ∷ []
+unfolding puts visible_of shown
+visible_7 = refl
+
+shadow_7 : shadow_of (puts 7) ≡ [] ∷ (3 ∷ 4 ∷ 5 ∷ 6 ∷ []) ∷ (1 ∷ 2 ∷ []) ∷ [] ∷ []
+unfolding puts shadow_of shown
+shadow_7 = refl
+
+visible_8 : visible_of (puts 8) ≡ (7 ∷ 8 ∷ []) ∷ (3 ∷ 4 ∷ 5 ∷ 6 ∷ []) ∷ (1 ∷ 2 ∷ []) ∷ [] ∷ []
+unfolding puts visible_of shown
+visible_8 = refl
+
+-- ---- the marks after forty-three and fifty-five puts
+
+marks_43 : marks_of (puts 43) ≡ (3 ∷ 0 ∷ 0 ∷ 0 ∷ 0 ∷ []) ∷ (7 ∷ 5 ∷ 0 ∷ 0 ∷ 0 ∷ []) ∷ (11 ∷ 15 ∷ 0 ∷ 0 ∷ 0 ∷ []) ∷ (26 ∷ 23 ∷ 23 ∷ 5 ∷ 0 ∷ []) ∷ []
+unfolding puts marks_of
+marks_43 = refl
+
+marks_55 : marks_of (puts 55) ≡ (4 ∷ 0 ∷ 0 ∷ 0 ∷ 0 ∷ []) ∷ (8 ∷ 5 ∷ 0 ∷ 0 ∷ 0 ∷ []) ∷ (16 ∷ 12 ∷ 0 ∷ 0 ∷ 0 ∷ []) ∷ (32 ∷ 32 ∷ 0 ∷ 0 ∷ 0 ∷ []) ∷ []
+unfolding puts marks_of
+marks_55 = refl
+
+-- the visible runs of the levels 0 to 2 after fifty-five puts, with the numbers of their puts
+visible_55 : visible_of (take 3 (puts 55)) ≡
+    (53 ∷ 54 ∷ 155 ∷ 1032 ∷ [])
+    ∷ (1009 ∷ 47 ∷ 48 ∷ 49 ∷ 50 ∷ 151 ∷ 152 ∷ 1032 ∷ [])
+    ∷ (35 ∷ 36 ∷ 37 ∷ 38 ∷ 39 ∷ 40 ∷ 1008 ∷ 41 ∷ 42 ∷ 143 ∷ 144 ∷ 145 ∷ 146 ∷ 1016 ∷ 1024 ∷ 1032 ∷ []) ∷ []
+unfolding puts visible_of shown
+visible_55 = refl

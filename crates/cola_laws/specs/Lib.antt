@@ -1,0 +1,5 @@
+pub mod Chain
+pub mod Sound
+pub mod Mutation
+pub mod Plain
+pub mod Slots
