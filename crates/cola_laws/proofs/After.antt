@@ -9,7 +9,7 @@ use Rattle.cola_clock.proofs.Laws.{is_over-suc, flips-suc, ends-suc, is_odd-next
 use Rattle.cola_runs.specs.Cells.{Cell}
 use Rattle.cola_laws.specs.Chain.{Level, visibles, shadows, next_runs}
 use Rattle.cola_laws.specs.Mutation.{turned, left_window, level_after, levels_after}
-use Rattle.cola_laws.proofs.Alike.{IsAlike, AreAlike}
+use Rattle.cola_laws.specs.Alike.{IsAlike, AreAlike}
 
 -- where level j stays, the level below it stays too, and no window ends there
 pub stays-below : (t j : ℕ) → flips t j ≡ false → flips t (suc j) ≡ false

@@ -7,7 +7,8 @@ use Rattle.cola_clock.specs.Clock.{period, is_odd, is_over}
 use Rattle.cola_clock.proofs.Laws.{is_over-suc}
 use Rattle.cola_runs.specs.Cells.{Cell}
 use Rattle.cola_runs.specs.Weave.{Part}
-use Rattle.cola_laws.specs.Chain.{Level, part_of, visibles, shadows, next_runs, first_keys}
+use Rattle.cola_laws.specs.Chain.{Level, part_of, visibles, shadows, next_runs, first_keys, value_at}
+use Rattle.cola_laws.specs.Alike.{IsAlike, AreAlike}
 use Rattle.cola_laws.specs.Sound.{IsVisible, AreVisible, AreFew, IsFinished, IsKept, AreKept}
 
 -- two choices by equal tests, where each is equal
@@ -16,21 +17,6 @@ cond_alike true c x x' y y' e h k = rw (← e) (h refl)
 cond_alike false c x x' y y' e h k = rw (← e) k
 
 module _ {K V : Type 0} where
-  -- level j of two chains at two clocks: in periods of one parity, with one visible run, both with their window over or
-  -- neither, and where it is over with one shadow
-  pub record IsAlike (t u j : ℕ) (l m : Level K V) : Type 0 where
-    pub parity : is_odd (period t j) ≡ is_odd (period u j)
-    pub visible : l.visible ≡ m.visible
-    pub over : is_over t j ≡ is_over u j
-    pub shadow : is_over t j ≡ true → l.shadow ≡ m.shadow
-
-  -- the same of level j and of all below it
-  abbrev pub AreAlike : ℕ → ℕ → ℕ → List (Level K V) → List (Level K V) → Type 0
-  AreAlike t u j [] [] = ⊤
-  AreAlike t u j [] (m ∷ ms) = ⊥
-  AreAlike t u j (l ∷ ls) [] = ⊥
-  AreAlike t u j (l ∷ ls) (m ∷ ms) = IsAlike t u j l m × AreAlike t u (suc j) ls ms
-
   pub alike-visibles : (t u j : ℕ) (ls ms : List (Level K V)) → AreAlike t u j ls ms → visibles ls ≡ visibles ms
   alike-visibles t u j [] [] h = refl
   alike-visibles t u j [] (m ∷ ms) h = absurd h
@@ -69,6 +55,9 @@ module _ {K V : Type 0} (cmp : K → K → Ordering) (most : ℕ) where
   pub alike-visible : (t u j : ℕ) (ls ms : List (Level K V)) → AreAlike t u j ls ms → AreVisible cmp most t j (visibles ls) → AreVisible cmp most u j (visibles ms)
   alike-visible t u j ls ms h v =
       subst (λ (x : List (List (Cell K V))). AreVisible cmp most u j x) (alike-visibles t u j ls ms h) (alike-parities t u j ls ms h v)
+
+  pub alike-answers : (t u j : ℕ) (ls ms : List (Level K V)) → AreAlike t u j ls ms → (q : K) → value_at cmp (visibles ls) q ≡ value_at cmp (visibles ms) q
+  alike-answers t u j ls ms h q = ap (λ (runs : List (List (Cell K V))). value_at cmp runs q) (alike-visibles t u j ls ms h)
 
   -- a finished shadow, by equal parts
   pub finished-same : {X : Type 0} (odd odd' : Bool) (j : ℕ) (above above' own own' shadow shadow' : List (Cell K V)) (below : List X) (next next' : List (List (Cell K V))) →

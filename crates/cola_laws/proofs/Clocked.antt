@@ -94,7 +94,7 @@ module _ {K V : Type 0} (cmp : K → K → Ordering) (most : ℕ) where
 
 module _ {K V : Type 0} {cmp : K → K → Ordering} (o : IsTotalOrder cmp) (most : ℕ) where
   -- at the end of a window
-  window-end : (t j : ℕ) (above above' : List (Cell K V)) (l : Level K V) (ls : List (Level K V)) → flips t j ≡ true → is_odd (period t j) ≡ false →
+  pub window-end : (t j : ℕ) (above above' : List (Cell K V)) (l : Level K V) (ls : List (Level K V)) → flips t j ≡ true → is_odd (period t j) ≡ false →
       ((q : K) → Keeps (seen cmp q above) (seen cmp q above')) → AreVisible cmp most t j (above ∷ visibles (l ∷ ls)) → AreFew cmp most (above ∷ visibles (l ∷ ls)) →
       most ≤ 2 ^ (j + suc (suc (length ls)) + 1) → IsPaced cmp 28 t (suc j) above l ls → AreKept cmp most t (suc (suc j)) l.visible ls →
       IsFinished cmp most (is_odd (period t (suc j))) (suc j) above' l.visible l.shadow ls (next_runs t (suc j) ls)

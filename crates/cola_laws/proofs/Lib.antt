@@ -1,5 +1,5 @@
 pub mod Values
-pub mod Flips
+pub mod Shadows
 pub mod Alike
 pub mod After
 pub mod Sources
@@ -14,6 +14,7 @@ pub mod Wraps
 pub mod Programs
 pub mod Empty
 pub mod InSlots
+pub mod Facts
 mod Tested
 mod Ablated
 mod Worked

@@ -16,7 +16,8 @@ use Rattle.cola_laws.specs.Chain.{Level, part_of, build_of, visibles, shadows, n
 use Rattle.cola_laws.specs.Sound.{Keeps, AreVisible, AreFew, IsFinished, AreKept, IsIdle, IsAtRest, IsWorking, IsPaced, ArePaced, HasAtMost, IsSoundFrom, IsSound}
 use Rattle.cola_laws.specs.Mutation.{new_run, turned, level_after, levels_after, IsAdvanced, AreAdvanced, IsBuilt}
 use Rattle.cola_laws.proofs.Values.{over_value, value_or}
-use Rattle.cola_laws.proofs.Alike.{IsAlike, AreAlike, alike-part, alike-next_runs, alike-visibles, alike-visible, alike-kept}
+use Rattle.cola_laws.specs.Alike.{IsAlike, AreAlike}
+use Rattle.cola_laws.proofs.Alike.{alike-part, alike-next_runs, alike-visibles, alike-visible, alike-kept}
 use Rattle.cola_laws.proofs.After.{level_after-turns, visibles-flip}
 use Rattle.cola_laws.proofs.Windows.{working-less}
 use Rattle.cola_laws.proofs.Live.{few-same, few-of_map}

@@ -16,11 +16,12 @@ use Rattle.cola_runs.specs.Weave.{own_items}
 use Rattle.cola_runs.proofs.Woven.{seen_weave}
 use Rattle.cola_laws.proofs.Sources.{sample-sorted}
 use Rattle.cola_laws.specs.Chain.{Level, part_of, upper_part, build_of, visibles, shadows, next_runs, first_keys, value_at}
-use Rattle.cola_laws.specs.Sound.{Carried, Keeps, KeepsAll, IsUpperRun, IsVisible, AreVisible, AreFew, IsFinished, IsKept, AreKept, IsIdle, IsAtRest, IsWorking, IsPaced, ArePaced}
+use Rattle.cola_laws.specs.Sound.{Carried, IsSettled, Keeps, KeepsAll, IsUpperRun, IsVisible, AreVisible, AreFew, IsFinished, IsKept, AreKept, IsIdle, IsAtRest, IsWorking, IsPaced, ArePaced}
 use Rattle.cola_laws.specs.Mutation.{turned, left_window, level_after, levels_after}
 use Rattle.cola_laws.proofs.Values.{over_value, value_or, old_or_none, woven-settled}
-use Rattle.cola_laws.proofs.Flips.{IsSettled, AreCarried, shadows-answer}
-use Rattle.cola_laws.proofs.Alike.{AreAlike, alike-part, alike-next_runs, alike-kept, alike-visibles}
+use Rattle.cola_laws.proofs.Shadows.{AreCarried, shadows-answer}
+use Rattle.cola_laws.specs.Alike.{AreAlike}
+use Rattle.cola_laws.proofs.Alike.{alike-part, alike-next_runs, alike-kept, alike-visibles}
 use Rattle.cola_laws.proofs.After.{stays-below, stays-open, stays-over, flips-odd, level_after-turns, level_after-leaves, level_after-stays, levels_after-stays, stays-alike, visibles-flip, next_runs-flip}
 use Rattle.cola_laws.proofs.Windows.{rests-idle, idle-working, working-end, working-less, finish-upper, finish-bottom}
 use Rattle.cola_laws.proofs.Lengths.{room-below, visible-length-of, visible-length, next-length, window-total, ends-last}

@@ -8,7 +8,8 @@ use Rattle.cola_runs.specs.Cells.{Cell}
 use Rattle.cola_runs.specs.Weave.{Part}
 use Rattle.cola_laws.specs.Chain.{Level, part_of, build_of, visibles, next_runs, first_keys}
 use Rattle.cola_laws.specs.Sound.{IsWorking, IsPaced, ArePaced, IsSoundFrom, IsSound}
-use Rattle.cola_laws.proofs.Alike.{AreAlike, alike-part, alike-next_runs, alike-visible, alike-kept}
+use Rattle.cola_laws.specs.Alike.{AreAlike}
+use Rattle.cola_laws.proofs.Alike.{alike-part, alike-next_runs, alike-visible, alike-kept}
 
 module _ {K V : Type 0} (bottom t u : ℕ) (same : (j : ℕ) → j ≤ bottom → SameSchedule t u j) where
   schedule-alike : (j : ℕ) (ls : List (Level K V)) → j + length ls ≤ suc bottom → AreAlike t u j ls ls

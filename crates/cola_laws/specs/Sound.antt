@@ -1,11 +1,12 @@
 -- Soundness: what holds of the levels between two mutations.
-use Rattle.std.specs.Prelude.{◌≡◌, ℕ, suc, ◌+◌, ◌*◌, ◌^◌, ◌≤◌, min, Bool, true, false, not, cond, List, [], ◌∷◌, length, ⊤, IsSome}
+use Rattle.std.specs.Prelude.{◌≡◌, ℕ, suc, ◌+◌, ◌*◌, ◌^◌, ◌≤◌, ◌⊎◌, min, Bool, true, false, not, cond, List, [], ◌∷◌, length, ⊤, IsSome}
 use Rattle.std.specs.declared.cmp.Ordering.{Ordering}
+use Rattle.std.specs.declared.cmp.Ordering.TheVariants.{Equal}
 use Rattle.std.specs.declared.option.Option.{Option}
 use Rattle.std.specs.declared.option.Option.TheVariants.{None, Some}
 use Rattle.std.specs.List.{AllByRecursion}
 use Rattle.std.specs.List.Sorted.{IsStrictlySortedBy}
-use Rattle.cola_clock.specs.Clock.{period, is_odd, works, is_before, is_over, window_step}
+use Rattle.cola_clock.specs.Clock.{period, is_odd, works, is_before, is_over, window_step, flips}
 use Rattle.cola_runs.specs.Cells.{Cell, IsWellFormed, look_keys, count_items, count_young, IsOldValue}
 use Rattle.cola_runs.specs.Seen.{Seen, Nothing, Old, Young, holds, seen, answer, AtMost}
 use Rattle.cola_runs.specs.Weave.{Part, kept, kept_or_none, own_at}
@@ -27,6 +28,12 @@ module _ {V : Type 0} where
   Keeps own Nothing = own ≡ Nothing
   Keeps own (Old i) = holds own ≡ Some i
   Keeps own (Young i) = ⊤
+
+  -- what a run has of a key is settled: no young item
+  abbrev pub IsSettled : Seen V → Type 0
+  IsSettled Nothing = ⊤
+  IsSettled (Old i) = ⊤
+  IsSettled (Young i) = ⊥
 
 -- a level above the bottom in an even period: its shadow keeps all items of its own run
 abbrev pub KeepsAll : {X : Type 0} → Bool → List X → Type 0 → Type 0
@@ -71,6 +78,12 @@ module _ {K V : Type 0} (cmp : K → K → Ordering) (most : ℕ) where
     pub keeps : KeepsAll odd below ((q : K) → Keeps (seen cmp q own) (seen cmp q shadow))
     pub few : AreFew (shadow ∷ next)
 
+  -- each level of 1 and more that flips has a finished shadow
+  abbrev pub HaveShadows : ℕ → ℕ → List (Cell K V) → List (Level K V) → Type 0
+  HaveShadows t j above [] = ⊤
+  HaveShadows t j above (l ∷ ls) =
+      (flips t j ≡ true → IsFinished (is_odd (period t j)) j above l.visible l.shadow ls (next_runs t j ls)) × HaveShadows t (suc j) l.visible ls
+
   -- a level whose window is over has a finished shadow, and its runs with those below it have a live answer for at most so many keys
   pub record IsKept (t j : ℕ) (above : List (Cell K V)) (l : Level K V) (below : List (Level K V)) : Type 0 where
     pub over : is_over t j ≡ true → IsFinished (is_odd (period t j)) j above l.visible l.shadow below (next_runs t j below)
@@ -101,6 +114,11 @@ pub record IsWorking {K V : Type 0} (cmp : K → K → Ordering) (part : Part) (
   pub enough : min (length own + length incoming + length keys) least ≤ consumed build
   pub sampled_done : build.sampled ≤ length build.done
   pub done_consumed : length build.done ≤ consumed build
+
+-- the key is beside one of these
+abbrev pub IsAmong : {K : Type 0} → (K → K → Ordering) → K → List K → Type 0
+IsAmong cmp k [] = ⊥
+IsAmong cmp k (h ∷ held) = (cmp h k ≡ Equal) ⊎ IsAmong cmp k held
 
 module _ {K V : Type 0} (cmp : K → K → Ordering) where
   -- level j keeps pace with the clock t: before its window it is idle; in its window it has taken 28 steps for each

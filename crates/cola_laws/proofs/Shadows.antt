@@ -9,14 +9,8 @@ use Rattle.cola_runs.specs.Cells.{Item, Value, Tombstone, Cell}
 use Rattle.cola_runs.specs.Seen.{Seen, Nothing, Old, Young, holds, seen, answer, value_of}
 use Rattle.cola_runs.specs.Weave.{Part, bottom_items, young_items, all_items, kept, kept_or_none, own_at}
 use Rattle.cola_laws.specs.Chain.{Level, upper_part, part_of, visibles, shadows, next_runs, value_at}
-use Rattle.cola_laws.specs.Sound.{Carried}
+use Rattle.cola_laws.specs.Sound.{Carried, IsSettled}
 use Rattle.cola_laws.proofs.Values.{over_value, value_or, kept-value, upper-kept}
-
--- what is above is settled: no young item
-abbrev pub IsSettled : {V : Type 0} → Seen V → Type 0
-IsSettled Nothing = ⊤
-IsSettled (Old i) = ⊤
-IsSettled (Young i) = ⊥
 
 module _ {V : Type 0} where
   -- at the bottom, whose shadow answers alone
