@@ -1,13 +1,13 @@
 -- The laws are not vacuous: a store in which one part of the design is left out or weakened breaks them, where the same
 -- mutations on the store as it is do not.
-use Rattle.std.proofs.Common.{◌≡◌, ℕ, zero, suc, ◌+◌, ◌-◌, ◌%◌, Bool, true, false, not, cond, ◌&&◌, List, [], ◌∷◌, ◌++◌, length, Option, None, Some, refl}
+use Rattle.std.proofs.Common.{◌≡◌, ℕ, zero, suc, ◌+◌, ◌-◌, ◌%◌, Bool, true, false, not, cond, ◌&&◌, List, [], ◌∷◌, Option, None, Some, refl}
 use Rattle.std.specs.Prelude.{◌==◌, ◌||◌, nat_le}
 use Rattle.std.specs.Ordering.{nat_cmp}
 use Rattle.cola_clock.specs.Clock.{period, elapsed, is_odd, works, is_before, is_over, window_step, window_length, flips, ends}
-use Rattle.cola_runs.specs.Cells.{Item, Value, Tombstone, Cell, Entry, Look, every_eighth}
+use Rattle.cola_runs.specs.Cells.{Item, Value, Tombstone, Cell, Entry, Look}
 use Rattle.cola_runs.specs.Weave.{Part, all_items, young_items, bottom_items, unlinked, weave}
-use Rattle.cola_runs.specs.Steps.{Build, steps, step}
-use Rattle.cola_laws.specs.Chain.{Level, build_of, visibles}
+use Rattle.cola_runs.specs.Steps.{steps, step}
+use Rattle.cola_laws.specs.Chain.{Level, build_of}
 use Rattle.cola_laws.specs.Mutation.{new_run, turned, left_window}
 use Rattle.cola_laws.specs.Plain.{empty_levels, with_build}
 use Rattle.cola_laws.proofs.Tested.{sound, answers}
@@ -50,8 +50,8 @@ keys_in w odd (m ∷ below) = every w.first_sampled w.first_sampled (cond (odd &
 work_in : Ways → ℕ → ℕ → List (Cell ℕ ℕ) → Level ℕ ℕ → List (Level ℕ ℕ) → Level ℕ ℕ
 work_in w t j above l below =
     cond (works t j && (w.takes_last || not (ends t j)))
-      (with_build l (steps nat_cmp (part_in w (is_odd (period t j)) below) l.visible above (keys_in w (is_odd (period t j)) below) w.count (build_of l)))
-      l
+    (with_build l (steps nat_cmp (part_in w (is_odd (period t j)) below) l.visible above (keys_in w (is_odd (period t j)) below) w.count (build_of l)))
+    l
 
 all_work_in : Ways → ℕ → ℕ → List (Cell ℕ ℕ) → List (Level ℕ ℕ) → List (Level ℕ ℕ)
 all_work_in w t j above [] = []

@@ -1,15 +1,12 @@
 -- What the flips do to a level, by the place of the clock: it turns, it leaves its window, or it stays.
-use Rattle.std.proofs.Common.{◌≡◌, ◌⊎◌, inl, inr, ℕ, suc, ◌+◌, Bool, true, false, cond, not, ◌&&◌, List, [], ◌∷◌, refl, sym, ap, ◌∙◌, subst}
-use Rattle.std.specs.Bool.{⊤}
+use Rattle.std.proofs.Common.{◌≡◌, ℕ, suc, Bool, true, false, cond, not, ◌&&◌, List, [], ◌∷◌, refl, sym, ap, ◌∙◌}
 use mathlib.Core.Path.{ap₂}
-use Rattle.std.proofs.lemmas.Bool.{cases_Bool}
-use Rattle.std.specs.declared.cmp.Ordering.{Ordering}
 use Rattle.cola_clock.specs.Clock.{period, is_odd, is_over, flips, ends}
 use Rattle.cola_clock.proofs.Laws.{is_over-suc, flips-suc, ends-suc, is_odd-next_stay}
 use Rattle.cola_runs.specs.Cells.{Cell}
 use Rattle.cola_laws.specs.Chain.{Level, visibles, shadows, next_runs}
 use Rattle.cola_laws.specs.Mutation.{turned, left_window, level_after, levels_after}
-use Rattle.cola_laws.specs.Alike.{IsAlike, AreAlike}
+use Rattle.cola_laws.specs.Alike.{AreAlike}
 
 -- where level j stays, the level below it stays too, and no window ends there
 pub stays-below : (t j : ℕ) → flips t j ≡ false → flips t (suc j) ≡ false
@@ -45,9 +42,10 @@ module _ {K V : Type 0} where
   -- and they say the same at the next clock
   pub stays-alike : (t j : ℕ) (ls : List (Level K V)) → flips t j ≡ false → AreAlike t (suc t) (suc j) ls ls
   stays-alike t j [] stay = tt
-  stays-alike t j (l ∷ ls) stay =
-      (record { parity = sym (is_odd-next_stay t (suc j) (stays-below t j stay)); visible = refl; over = stays-over t j stay; shadow = λ over. refl },
-        stays-alike t (suc j) ls (stays-below t j stay))
+  stays-alike t j (l ∷ ls) stay = (
+    record { parity = sym (is_odd-next_stay t (suc j) (stays-below t j stay)); visible = refl; over = stays-over t j stay; shadow = λ over. refl },
+    stays-alike t (suc j) ls (stays-below t j stay),
+  )
 
   level_after-visible : (turns leaves : Bool) (l : Level K V) → (cond turns (turned l) (cond leaves (left_window l) l)).visible ≡ cond turns l.shadow l.visible
   level_after-visible true leaves l = refl
@@ -68,7 +66,7 @@ module _ {K V : Type 0} where
   visibles-after t j [] = no_runs (flips t j)
   visibles-after t j (l ∷ ls) =
       ap₂ (λ (x : List (Cell K V)) (xs : List (List (Cell K V))). x ∷ xs) (level_after-visible (flips t j) (ends t j) l)
-        (visibles-after t (suc j) ls ∙ ap (λ (x : Bool). cond x (shadows t (suc j) ls) (visibles ls)) (flips-suc t j))
+      (visibles-after t (suc j) ls ∙ ap (λ (x : Bool). cond x (shadows t (suc j) ls) (visibles ls)) (flips-suc t j))
       ∙ runs_after (flips t j) (is_odd (period t j)) l.visible l.shadow (shadows t (suc j) ls) (visibles ls)
 
   pub visibles-flip : (t j : ℕ) (ls : List (Level K V)) → flips t j ≡ true → visibles (levels_after t j ls) ≡ shadows t j ls

@@ -1,15 +1,13 @@
 -- Soundness reads only the parities, the visible runs and the finished shadows: two chains that agree there are sound together.
-use Rattle.std.proofs.Common.{◌≡◌, ℕ, suc, Bool, true, false, cond, not, List, [], ◌∷◌, refl, sym, ap, ◌∙◌, subst}
+use Rattle.std.proofs.Common.{◌≡◌, ℕ, suc, Bool, true, false, cond, List, [], ◌∷◌, refl, ap, ◌∙◌, subst}
 use mathlib.Core.Path.{ap₂}
-use Rattle.std.specs.Bool.{⊤}
 use Rattle.std.specs.declared.cmp.Ordering.{Ordering}
 use Rattle.cola_clock.specs.Clock.{period, is_odd, is_over}
 use Rattle.cola_clock.proofs.Laws.{is_over-suc}
 use Rattle.cola_runs.specs.Cells.{Cell}
-use Rattle.cola_runs.specs.Weave.{Part}
 use Rattle.cola_laws.specs.Chain.{Level, part_of, visibles, shadows, next_runs, first_keys, value_at}
-use Rattle.cola_laws.specs.Alike.{IsAlike, AreAlike}
-use Rattle.cola_laws.specs.Sound.{IsVisible, AreVisible, AreFew, IsFinished, IsKept, AreKept}
+use Rattle.cola_laws.specs.Alike.{AreAlike}
+use Rattle.cola_laws.specs.Sound.{IsVisible, AreVisible, AreFew, IsFinished, AreKept}
 
 -- two choices by equal tests, where each is equal
 cond_alike : {A : Type 0} (b c : Bool) (x x' y y' : A) → b ≡ c → (b ≡ true → x ≡ x') → y ≡ y' → cond b x y ≡ cond c x' y'
@@ -29,14 +27,14 @@ module _ {K V : Type 0} where
   alike-shadows t u j (l ∷ ls) [] h over = absurd h
   alike-shadows t u j (l ∷ ls) (m ∷ ms) h over =
       ap₂ (λ x xs. x ∷ xs) (h.0.shadow over)
-        (cond_alike (is_odd (period t j)) (is_odd (period u j)) _ _ _ _ h.0.parity
-          (λ odd. alike-shadows t u (suc j) ls ms h.1 (is_over-suc t j ∙ odd)) (alike-visibles t u (suc j) ls ms h.1))
+      (cond_alike (is_odd (period t j)) (is_odd (period u j)) _ _ _ _ h.0.parity
+      (λ odd. alike-shadows t u (suc j) ls ms h.1 (is_over-suc t j ∙ odd)) (alike-visibles t u (suc j) ls ms h.1))
 
   pub alike-next_runs : (t u j : ℕ) (ls ms : List (Level K V)) → is_odd (period t j) ≡ is_odd (period u j) → AreAlike t u (suc j) ls ms →
       next_runs t j ls ≡ next_runs u j ms
   alike-next_runs t u j ls ms parity h =
       cond_alike (is_odd (period t j)) (is_odd (period u j)) _ _ _ _ parity
-        (λ odd. alike-shadows t u (suc j) ls ms h (is_over-suc t j ∙ odd)) (alike-visibles t u (suc j) ls ms h)
+      (λ odd. alike-shadows t u (suc j) ls ms h (is_over-suc t j ∙ odd)) (alike-visibles t u (suc j) ls ms h)
 
   pub alike-part : (t u j : ℕ) (odd odd' : Bool) (ls ms : List (Level K V)) → odd ≡ odd' → AreAlike t u j ls ms → part_of odd ls ≡ part_of odd' ms
   alike-part t u j odd odd' [] [] e h = refl
@@ -82,12 +80,14 @@ module _ {K V : Type 0} (cmp : K → K → Ordering) (most : ℕ) where
   alike-kept t u j above above' [] [] e h kept = tt
   alike-kept t u j above above' [] (m ∷ ms) e h kept = absurd h
   alike-kept t u j above above' (l ∷ ls) [] e h kept = absurd h
-  alike-kept t u j above above' (l ∷ ls) (m ∷ ms) e h kept =
-      (record {
-        over = λ over.
+  alike-kept t u j above above' (l ∷ ls) (m ∷ ms) e h kept = (
+    record {
+      over = λ over.
           let was : is_over t j ≡ true = h.0.over ∙ over in
           finished-shape t u (suc j) (is_odd (period u j)) j above' m.visible m.shadow ls ms (next_runs u j ms) h.1
-            (finished-same (is_odd (period t j)) (is_odd (period u j)) j above above' l.visible m.visible l.shadow m.shadow ls (next_runs t j ls) (next_runs u j ms)
-              h.0.parity e h.0.visible (h.0.shadow was) (alike-next_runs t u j ls ms h.0.parity h.1) (kept.0.over was));
-        few = subst (λ (x : List (List (Cell K V))). AreFew cmp most x) (alike-visibles t u j (l ∷ ls) (m ∷ ms) h) kept.0.few;
-      }, alike-kept t u (suc j) l.visible m.visible ls ms h.0.visible h.1 kept.1)
+          (finished-same (is_odd (period t j)) (is_odd (period u j)) j above above' l.visible m.visible l.shadow m.shadow ls (next_runs t j ls) (next_runs u j ms)
+          h.0.parity e h.0.visible (h.0.shadow was) (alike-next_runs t u j ls ms h.0.parity h.1) (kept.0.over was));
+      few = subst (λ (x : List (List (Cell K V))). AreFew cmp most x) (alike-visibles t u j (l ∷ ls) (m ∷ ms) h) kept.0.few;
+    },
+    alike-kept t u (suc j) l.visible m.visible ls ms h.0.visible h.1 kept.1,
+  )

@@ -1,18 +1,17 @@
 -- The chain with nothing in it is sound for the empty map.
-use Rattle.std.proofs.Common.{◌≡◌, ◌⊎◌, inl, inr, ℕ, zero, suc, ◌+◌, ◌-◌, ◌*◌, ◌/◌, ◌%◌, ◌^◌, ◌≤◌, Bool, true, false, cond, List, [], ◌∷◌, length, refl, sym, ap, ◌∙◌, subst, arith, Option, None, Some}
-use Rattle.std.specs.Bool.{⊤}
+use Rattle.std.proofs.Common.{◌≡◌, ℕ, zero, suc, ◌+◌, ◌*◌, ◌/◌, ◌%◌, ◌^◌, Bool, false, List, [], ◌∷◌, length, refl, sym, ap, ◌∙◌, subst, arith, Option, None}
 use Rattle.std.proofs.lemmas.Bool.{false≢true}
 use Rattle.std.proofs.Math.Nat.{zero-div, zero-mod}
 use Rattle.std.specs.declared.cmp.Ordering.{Ordering}
 use Rattle.std.specs.List.{AllByRecursion}
 use Rattle.std.specs.List.Sorted.{IsStrictlySortedBy}
-use Rattle.cola_clock.specs.Clock.{period, is_odd, works, is_over, window_step, elapsed}
+use Rattle.cola_clock.specs.Clock.{period, is_odd, is_over, window_step, elapsed}
 use Rattle.cola_clock.proofs.Laws.{is_over-suc}
-use Rattle.cola_runs.specs.Cells.{Item, Cell}
+use Rattle.cola_runs.specs.Cells.{Item}
 use Rattle.cola_runs.specs.Seen.{IsLive, answer, value_of}
 use Rattle.cola_runs.proofs.Order.{all_change}
-use Rattle.cola_laws.specs.Chain.{Level, part_of, build_of, visibles, next_runs, first_keys, value_at}
-use Rattle.cola_laws.specs.Sound.{IsVisible, AreVisible, AreFew, IsKept, AreKept, IsIdle, IsPaced, ArePaced, IsSound}
+use Rattle.cola_laws.specs.Chain.{part_of, visibles, next_runs, first_keys}
+use Rattle.cola_laws.specs.Sound.{IsVisible, AreVisible, AreFew, AreKept, IsIdle, ArePaced}
 use Rattle.cola_laws.specs.Plain.{empty_level, empty_levels, IsSoundChain}
 use Rattle.cola_laws.proofs.Windows.{idle-working, rests-idle}
 
@@ -64,13 +63,15 @@ module _ {K : Type 0} (V : Type 0) (cmp : K → K → Ordering) (most : ℕ) whe
 
   empty-paced : (j n : ℕ) → ArePaced cmp 0 0 (suc j) [] (empty_levels {K = K} {V = V} n)
   empty-paced j zero = tt
-  empty-paced j (suc n) =
-      (record {
-        before = λ before. empty-idle;
-        inside = λ work. idle-working cmp (part_of (is_odd (period 0 (suc j))) (empty_levels n)) [] [] (first_keys (next_runs 0 (suc j) (empty_levels n))) empty_level (28 * window_step 0 (suc j) + 0) empty-idle
-            (let e : window_step 0 (suc j) ≡ 0 = step-zero (suc j) in omega arith);
-        after = λ over. rests-idle empty_level empty-idle;
-      }, empty-paced (suc j) n)
+  empty-paced j (suc n) = (
+    record {
+      before = λ before. empty-idle;
+      inside = λ work. idle-working cmp (part_of (is_odd (period 0 (suc j))) (empty_levels n)) [] [] (first_keys (next_runs 0 (suc j) (empty_levels n))) empty_level (28 * window_step 0 (suc j) + 0) empty-idle
+          (let e : window_step 0 (suc j) ≡ 0 = step-zero (suc j) in omega arith);
+      after = λ over. rests-idle empty_level empty-idle;
+    },
+    empty-paced (suc j) n,
+  )
 
   pub empty-sound : (n : ℕ) → IsSoundChain cmp most 0 (λ q. None) (empty_levels {K = K} {V = V} (suc n))
   empty-sound n = record {

@@ -1,21 +1,20 @@
 -- What the code above the laws asks of a sound chain.
-use Rattle.std.proofs.Common.{◌≡◌, ◌⊎◌, inl, inr, ℕ, zero, suc, ◌+◌, ◌^◌, ◌≤◌, Bool, true, false, not, cond, List, [], ◌∷◌, length, refl, sym, ap, ◌∙◌, subst, arith, Option, None, Some}
-use Rattle.std.specs.Bool.{⊤}
+use Rattle.std.proofs.Common.{◌≡◌, inl, inr, ℕ, suc, ◌+◌, ◌^◌, ◌≤◌, not, List, [], ◌∷◌, length, sym, ◌∙◌, arith, Option}
 use Rattle.std.specs.Option.{IsSome}
 use Rattle.std.specs.declared.cmp.Ordering.{Ordering}
-use Rattle.std.specs.declared.cmp.Ordering.TheVariants.{Less, Equal, Greater}
+use Rattle.std.specs.declared.cmp.Ordering.TheVariants.{Less}
 use Rattle.std.specs.Cmp.{IsTotalOrder, alike_right}
 use Rattle.std.specs.List.{AllByRecursion}
 use Rattle.std.specs.List.Sorted.{IsStrictlySortedBy}
-use Rattle.cola_clock.specs.Clock.{period, is_odd, is_over, flips}
+use Rattle.cola_clock.specs.Clock.{period, is_odd}
 use Rattle.cola_clock.proofs.Laws.{flips-over}
-use Rattle.cola_runs.specs.Cells.{Item, Cell}
-use Rattle.cola_runs.specs.Seen.{Seen, holds, seen, answer, value_of}
-use Rattle.cola_runs.specs.Search.{SamplesNext, AreSampled}
+use Rattle.cola_runs.specs.Cells.{Cell}
+use Rattle.cola_runs.specs.Seen.{holds, seen, answer}
+use Rattle.cola_runs.specs.Search.{AreSampled}
 use Rattle.cola_runs.proofs.Order.{all_change}
 use Rattle.cola_laws.specs.Chain.{Level, visibles, shadows, next_runs, first_keys, value_at}
-use Rattle.cola_laws.specs.Sound.{IsSettled, AreVisible, AreFew, IsFinished, AreKept, HaveShadows, IsAmong, HasAtMost, IsSoundFrom}
-use Rattle.cola_laws.proofs.Values.{over_value, value_or}
+use Rattle.cola_laws.specs.Sound.{IsSettled, AreVisible, IsFinished, AreKept, HaveShadows, IsAmong, HasAtMost, IsSoundFrom}
+use Rattle.cola_laws.proofs.Values.{value_or}
 use Rattle.cola_laws.proofs.Shadows.{shadows-answer}
 use Rattle.cola_laws.proofs.Live.{map-of_few}
 use Rattle.cola_laws.proofs.Lengths.{room-below, fit-length, next-length}
@@ -50,7 +49,7 @@ module _ {K V : Type 0} (cmp : K → K → Ordering) (most : ℕ) where
       IsFinished cmp most (is_odd (period t j)) j above l.visible l.shadow ls (next_runs t j ls) → most ≤ 2 ^ (j + suc (length ls) + 1) → length l.shadow ≤ 2 ^ (j + 2)
   finished-length t j above l ls v kept fin room =
       fit-length cmp most (not (is_odd (period t j))) j l.shadow ls (first_keys (next_runs t j ls)) fin.fit
-        (next-length cmp most t j l.visible ls v kept (room-below most j (length ls) room)) room
+      (next-length cmp most t j l.visible ls v kept (room-below most j (length ls) room)) room
 
 all_both : {X : Type 0} (P Q : X → Type 0) (xs : List X) → AllByRecursion P xs → AllByRecursion Q xs → AllByRecursion (λ x. P x × Q x) xs
 all_both P Q [] h k = tt
@@ -72,13 +71,13 @@ module _ {K : Type 0} {cmp : K → K → Ordering} (o : IsTotalOrder cmp) where
   few-among (k ∷ keys) [] s t m = absurd m.0
   few-among (k ∷ keys) (h ∷ held) s t m =
       elim m.0 [
-        inl e ↦
-          let rest : AllByRecursion (λ q. IsAmong cmp q held) keys = all_change (λ q p. drop-first h q held (o.congr h k q e ∙ p.0) p.1) keys (all_both (λ q. cmp k q ≡ Less) (λ q. IsAmong cmp q (h ∷ held)) keys s.0 m.1) in
-          let n = few-among keys held s.1 t.1 rest in omega arith
-      | inr r ↦
-          let less : cmp h k ≡ Less = less-among h k held t.0 r in
-          let rest : AllByRecursion (λ q. IsAmong cmp q held) keys = all_change (λ q p. drop-first h q held (o.trans h k q less p.0) p.1) keys (all_both (λ q. cmp k q ≡ Less) (λ q. IsAmong cmp q (h ∷ held)) keys s.0 m.1) in
-          let n = few-among (k ∷ keys) held s t.1 (r, rest) in omega arith
+        | inl e ↦
+            let rest : AllByRecursion (λ q. IsAmong cmp q held) keys = all_change (λ q p. drop-first h q held (o.congr h k q e ∙ p.0) p.1) keys (all_both (λ q. cmp k q ≡ Less) (λ q. IsAmong cmp q (h ∷ held)) keys s.0 m.1) in
+            let n = few-among keys held s.1 t.1 rest in omega arith
+        | inr r ↦
+            let less : cmp h k ≡ Less = less-among h k held t.0 r in
+            let rest : AllByRecursion (λ q. IsAmong cmp q held) keys = all_change (λ q p. drop-first h q held (o.trans h k q less p.0) p.1) keys (all_both (λ q. cmp k q ≡ Less) (λ q. IsAmong cmp q (h ∷ held)) keys s.0 m.1) in
+            let n = few-among (k ∷ keys) held s t.1 (r, rest) in omega arith
       ]
 
   pub few-keys : {V : Type 0} (held : List K) (map : K → Option V) → IsStrictlySortedBy cmp held → ((k : K) → IsSome (map k) → IsAmong cmp k held) → HasAtMost cmp (length held) map

@@ -1,18 +1,17 @@
 -- Flipping the marks flips the chain and moves no cell; and the marks of a sound chain meet the rules on marks.
-use Rattle.std.proofs.Common.{◌≡◌, ◌⊎◌, inl, inr, ℕ, zero, suc, ◌+◌, ◌*◌, ◌/◌, ◌^◌, ◌≤◌, Bool, true, false, not, cond, List, [], ◌∷◌, length, take, refl, sym, ap, ◌∙◌, subst, arith, Option}
-use Rattle.std.specs.Bool.{⊤}
+use Rattle.std.proofs.Common.{◌≡◌, inl, inr, ℕ, suc, ◌+◌, ◌/◌, ◌^◌, ◌≤◌, Bool, true, false, not, cond, List, [], ◌∷◌, length, refl, ap, subst, arith, Option}
 use mathlib.Core.Path.{ap₂}
 use Rattle.std.proofs.lemmas.Bool.{cases_Bool}
 use Rattle.std.specs.declared.cmp.Ordering.{Ordering}
 use Rattle.std.specs.Cmp.{IsTotalOrder}
-use Rattle.cola_clock.specs.Clock.{period, is_odd, is_before, is_over, works, window_step, flips, ends}
-use Rattle.cola_clock.proofs.Laws.{is_odd-suc, is_odd-next_flip, is_odd-next_stay, before_else}
-use Rattle.cola_runs.specs.Cells.{Cell, sample}
+use Rattle.cola_clock.specs.Clock.{period, is_odd, is_over, works, flips, ends}
+use Rattle.cola_clock.proofs.Laws.{is_odd-next_flip, is_odd-next_stay, before_else}
+use Rattle.cola_runs.specs.Cells.{Cell}
 use Rattle.cola_runs.proofs.Samples.{sample_length}
-use Rattle.cola_laws.specs.Chain.{Level, part_of, build_of, visibles, shadows, next_runs, first_keys}
-use Rattle.cola_laws.specs.Sound.{AreVisible, AreFew, AreKept, IsIdle, IsAtRest, IsPaced, ArePaced, IsSound}
-use Rattle.cola_laws.specs.Mutation.{turned, left_window, level_after, levels_after, IsWorkable, AreWorkable}
-use Rattle.cola_laws.specs.Slots.{Marks, marks_after, all_marks_after, marks_of, all_marks_of, level_of, levels_of, AreCursorsAtRest, AreMarksIdle, sample_end, AreMarksInside, AreLevelMarks, AreAllMarks, AreChainMarks}
+use Rattle.cola_laws.specs.Chain.{Level, part_of, build_of, visibles, next_runs, first_keys}
+use Rattle.cola_laws.specs.Sound.{AreVisible, AreKept, IsIdle, IsAtRest, IsPaced, ArePaced, IsSound}
+use Rattle.cola_laws.specs.Mutation.{left_window, level_after, levels_after, IsWorkable, AreWorkable}
+use Rattle.cola_laws.specs.Slots.{Marks, marks_after, all_marks_after, marks_of, all_marks_of, level_of, levels_of, AreCursorsAtRest, AreMarksIdle, sample_end, AreAllMarks, AreChainMarks}
 use Rattle.cola_laws.proofs.Lengths.{room-below, fit-length, visible-length-of, next-length}
 use Rattle.cola_laws.proofs.Workable.{all-workable, done-fits}
 
@@ -28,8 +27,8 @@ module _ {K V : Type 0} (slots : ℕ → Bool → List (Cell K V)) where
   flips-level : (t j : ℕ) (m : Marks) → level_of slots (suc t) j (marks_after t j m) ≡ level_after t j (level_of slots t j m)
   flips-level t j m =
       elim (cases_Bool (flips t j)) [
-        inl flip ↦ rw (flip, is_odd-next_flip t j flip) refl
-      | inr stay ↦ rw stay (stays-level t j (ends t j) m stay)
+        | inl flip ↦ rw (flip, is_odd-next_flip t j flip) refl
+        | inr stay ↦ rw stay (stays-level t j (ends t j) m stay)
       ]
 
   -- the levels in their slots at the next clock, with the marks flipped, are the levels flipped
@@ -69,24 +68,24 @@ module _ {K V : Type 0} {cmp : K → K → Ordering} (o : IsTotalOrder cmp) (mos
       (is_over t (suc j) ≡ true → length l.shadow ≤ 2 ^ (suc j + 2)) → length l.shadow ≤ 2 ^ (suc j + 2)
   shadow-fits t j above l ls p w f =
       elim (cases_Bool (works t (suc j))) [
-        inl work ↦ done-fits o _ l.visible above _ (suc j) (build_of l) (w work) (p.inside work).under_way
-      | inr rests ↦ elim (cases_Bool (is_over t (suc j))) [
-          inl over ↦ f over
-        | inr open_yet ↦ let e = ap (λ (x : List (Cell K V)). length x) (p.before (before_else t j rests open_yet)).empty in omega arith
+        | inl work ↦ done-fits o _ l.visible above _ (suc j) (build_of l) (w work).buildable (p.inside work).under_way
+        | inr rests ↦ elim (cases_Bool (is_over t (suc j))) [
+          | inl over ↦ f over
+          | inr open_yet ↦ let e = ap (λ (x : List (Cell K V)). length x) (p.before (before_else t j rests open_yet)).empty in omega arith
         ]
       ]
 
   all-marks : (t j : ℕ) (above : List (Cell K V)) (ls : List (Level K V)) → AreVisible cmp most t (suc j) (visibles ls) → ArePaced cmp 0 t (suc j) above ls → AreKept cmp most t (suc j) above ls →
       AreWorkable cmp t (suc j) above ls → most ≤ 2 ^ (suc j + length ls + 1) → AreAllMarks t (suc j) (length above) (all_marks_of ls)
   all-marks t j above [] v p kept w room = tt
-  all-marks t j above (l ∷ ls) v p kept w room =
-      (record {
-        visible_fits = visible-length-of cmp most t (suc j) l ls v room;
-        shadow_fits = shadow-fits t j above l ls p.0 w.0
-            (λ over. fit-length cmp most (not (is_odd (period t (suc j)))) (suc j) l.shadow ls (first_keys (next_runs t (suc j) ls)) (kept.0.over over).fit
-              (next-length cmp most t (suc j) l.visible ls v.1 kept.1 (room-below most (suc j) (length ls) room)) room);
-        before = λ before. idle-marks l (p.0.before before);
-        inside = λ work.
+  all-marks t j above (l ∷ ls) v p kept w room = (
+    record {
+      visible_fits = visible-length-of cmp most t (suc j) l ls v room;
+      shadow_fits = shadow-fits t j above l ls p.0 w.0
+          (λ over. fit-length cmp most (not (is_odd (period t (suc j)))) (suc j) l.shadow ls (first_keys (next_runs t (suc j) ls)) (kept.0.over over).fit
+          (next-length cmp most t (suc j) l.visible ls v.1 kept.1 (room-below most (suc j) (length ls) room)) room);
+      before = λ before. idle-marks l (p.0.before before);
+      inside = λ work.
           let is = p.0.inside work in
           let e = keys-end t (suc j) ls in
           let enough = is.enough in
@@ -99,8 +98,10 @@ module _ {K V : Type 0} {cmp : K → K → Ordering} (o : IsTotalOrder cmp) (mos
             sampled_done = is.sampled_done;
             done_consumed = is.done_consumed;
           };
-        after = λ over. rest-marks l (p.0.after over);
-      }, all-marks t (suc j) l.visible ls v.1 p.1 kept.1 w.1 (room-below most (suc j) (length ls) room))
+      after = λ over. rest-marks l (p.0.after over);
+    },
+    all-marks t (suc j) l.visible ls v.1 p.1 kept.1 w.1 (room-below most (suc j) (length ls) room),
+  )
 
   -- the marks of a sound chain meet the rules
   pub sound-marks : (t : ℕ) (map : K → Option V) (top : Level K V) (ls : List (Level K V)) → IsSound cmp most t map top ls → most ≤ 2 ^ (length ls + 2) →

@@ -7,8 +7,8 @@ use Rattle.cola_clock.specs.Clock.{period, is_odd, is_over, window_step, window_
 use Rattle.cola_clock.proofs.Laws.{is_over-suc}
 use Rattle.cola_runs.specs.Cells.{Cell, sample}
 use Rattle.cola_runs.proofs.Counts.{length_counts, looks_are_keys}
-use Rattle.cola_laws.specs.Chain.{Level, visibles, shadows, next_runs, first_keys}
-use Rattle.cola_laws.specs.Sound.{IsUpperRun, IsBottomRun, IsVisible, AreVisible, IsFinished, IsKept, AreKept}
+use Rattle.cola_laws.specs.Chain.{Level, visibles, next_runs, first_keys}
+use Rattle.cola_laws.specs.Sound.{IsUpperRun, IsVisible, AreVisible, AreKept}
 use Rattle.cola_laws.proofs.Sources.{sample-length}
 
 -- the powers of two that count the cells of slots
@@ -77,10 +77,10 @@ module _ {K V : Type 0} (cmp : K → K → Ordering) (most : ℕ) where
   next-length t j above [] h kept room = let e = no-keys K V (is_odd (period t j)) in omega arith
   next-length t j above (l ∷ ls) h kept room =
       next-keys (is_odd (period t j)) (2 ^ (suc j + 2)) l.shadow l.visible _ _
-        (λ odd. let over : is_over t (suc j) ≡ true = is_over-suc t j ∙ odd in
-          fit-length (not (is_odd (period t (suc j)))) (suc j) l.shadow ls (first_keys (next_runs t (suc j) ls)) (kept.0.over over).fit
-            (next-length t (suc j) l.visible ls h.1 kept.1 (room-below most (suc j) (length ls) room)) room)
-        (visible-length-of t (suc j) l ls h room)
+      (λ odd. let over : is_over t (suc j) ≡ true = is_over-suc t j ∙ odd in
+      fit-length (not (is_odd (period t (suc j)))) (suc j) l.shadow ls (first_keys (next_runs t (suc j) ls)) (kept.0.over over).fit
+      (next-length t (suc j) l.visible ls h.1 kept.1 (room-below most (suc j) (length ls) room)) room)
+      (visible-length-of t (suc j) l ls h room)
 
 -- with its three sources at most as long as their slots allow, a build is done in its window at 28 steps a mutation
 pub window-total : (j a b c : ℕ) → a ≤ 2 ^ (suc j + 2) → b ≤ 2 ^ (j + 2) → 8 * c ≤ 2 ^ (suc (suc j) + 2) → a + b + c ≤ 28 * window_length (suc j)

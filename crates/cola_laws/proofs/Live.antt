@@ -1,6 +1,5 @@
 -- How many keys have a live answer.
-use Rattle.std.proofs.Common.{◌≡◌, ℕ, zero, suc, ◌≤◌, Bool, true, false, cond, List, [], ◌∷◌, length, map, refl, sym, ap, ◌∙◌, subst, arith, Option, Some, None}
-use Rattle.std.specs.Bool.{⊤}
+use Rattle.std.proofs.Common.{◌≡◌, ℕ, suc, ◌≤◌, Bool, true, false, cond, List, [], ◌∷◌, length, map, refl, sym, ap, subst, Option, Some, None}
 use Rattle.std.specs.Option.{IsSome, option_or}
 use Rattle.std.specs.declared.cmp.Ordering.{Ordering}
 use Rattle.std.specs.declared.cmp.Ordering.TheVariants.{Less, Equal, Greater}
@@ -9,8 +8,8 @@ use Rattle.std.specs.Cmp.{IsTotalOrder, tied_itself}
 use Rattle.std.specs.List.{AllByRecursion}
 use Rattle.std.specs.List.Sorted.{IsStrictlySortedBy}
 use Rattle.cola_runs.specs.Cells.{Item, Value, Tombstone, Cell, Entry, Look, key_of, place_cmp, IsRising, IsOldValue}
-use Rattle.cola_runs.specs.Seen.{Seen, Nothing, Old, Young, holds, flagged, seen, answer, value_of, IsLive, AtMost}
-use Rattle.cola_runs.proofs.Order.{all_change, by_bool}
+use Rattle.cola_runs.specs.Seen.{Seen, Old, holds, seen, answer, value_of, IsLive, AtMost}
+use Rattle.cola_runs.proofs.Order.{all_change}
 use Rattle.cola_laws.specs.Sound.{AreFew, HasAtMost}
 
 module _ {V : Type 0} where
@@ -89,5 +88,5 @@ module _ {K V : Type 0} {cmp : K → K → Ordering} (o : IsTotalOrder cmp) wher
   pub bottom-length : (most : ℕ) (run : List (Cell K V)) → IsRising cmp run → AllByRecursion IsOldValue run → AreFew cmp most (run ∷ []) → length run ≤ most
   bottom-length most run r h few =
       let n = few-same cmp most (λ q. answer cmp q (run ∷ [])) (λ q. holds (seen cmp q run)) (λ q. or-none (holds (seen cmp q run))) few
-          (map key_of run) (keys-sorted run h r) (keys-live run h) in
+      (map key_of run) (keys-sorted run h r) (keys-live run h) in
       subst (λ (x : ℕ). x ≤ most) (keys-length run) n

@@ -1,30 +1,26 @@
 -- What is kept from one clock to the next, once each working level has taken its steps.
-use Rattle.std.proofs.Common.{◌≡◌, ◌⊎◌, inl, inr, ℕ, zero, suc, ◌+◌, ◌*◌, ◌^◌, ◌≤◌, Bool, true, false, not, cond, List, [], ◌∷◌, length, refl, sym, ap, ◌∙◌, subst, arith, Option, Some, None}
-use Rattle.std.specs.Bool.{⊤}
-use Rattle.std.proofs.lemmas.Bool.{cases_Bool, false≢true, and_from, not_from_false}
+use Rattle.std.proofs.Common.{◌≡◌, inl, inr, ℕ, suc, ◌+◌, ◌*◌, ◌^◌, ◌≤◌, Bool, true, false, cond, List, [], ◌∷◌, refl, sym, ap, ◌∙◌, subst, arith, Option, Some, None}
+use Rattle.std.proofs.lemmas.Bool.{cases_Bool, false≢true}
 use Rattle.std.proofs.Math.Nat.{two-pow-succ}
 use Rattle.std.specs.declared.cmp.Ordering.{Ordering}
 use Rattle.std.specs.Cmp.{IsTotalOrder}
 use Rattle.std.specs.List.Sorted.{IsStrictlySortedBy}
-use Rattle.cola_clock.specs.Clock.{period, is_odd, is_before, is_over, works, window_step, window_length, flips, ends}
-use Rattle.cola_clock.proofs.Laws.{is_over-suc, flips-suc, ends-suc, is_odd-next_flip, is_odd-next_stay, works-not_over, over-not_works, before-not_over, before-not_works, before_else, works-even, flips-over, ends-works, ends-over, over-next, flips-not_over, window-next, window_step-next, window_step-first}
+use Rattle.cola_clock.specs.Clock.{period, is_odd, is_before, is_over, works, window_step, flips, ends}
+use Rattle.cola_clock.proofs.Laws.{is_over-suc, is_odd-next_stay, works-not_over, over-not_works, before-not_over, before-not_works, before_else, flips-over, ends-over, window-next, window_step-next, window_step-first}
 use Rattle.cola_runs.specs.Cells.{Item, Cell, IsRising, count_items}
-use Rattle.cola_runs.specs.Seen.{Seen, Nothing, Old, holds, seen, answer, value_of}
+use Rattle.cola_runs.specs.Seen.{Seen, holds, seen, answer}
 use Rattle.cola_runs.specs.Weave.{Part, bottom_items, woven, weave}
-use Rattle.cola_runs.specs.Steps.{Build, consumed}
 use Rattle.cola_runs.specs.Weave.{own_items}
 use Rattle.cola_runs.proofs.Woven.{seen_weave}
 use Rattle.cola_laws.proofs.Sources.{sample-sorted}
 use Rattle.cola_laws.specs.Chain.{Level, part_of, upper_part, build_of, visibles, shadows, next_runs, first_keys, value_at}
-use Rattle.cola_laws.specs.Sound.{Carried, IsSettled, Keeps, KeepsAll, IsUpperRun, IsVisible, AreVisible, AreFew, IsFinished, IsKept, AreKept, IsIdle, IsAtRest, IsWorking, IsPaced, ArePaced}
-use Rattle.cola_laws.specs.Mutation.{turned, left_window, level_after, levels_after}
+use Rattle.cola_laws.specs.Sound.{Carried, IsSettled, Keeps, IsUpperRun, IsVisible, AreVisible, AreFew, IsFinished, AreKept, IsIdle, IsWorking, IsPaced, ArePaced}
+use Rattle.cola_laws.specs.Mutation.{turned, left_window}
 use Rattle.cola_laws.proofs.Values.{over_value, value_or, old_or_none, woven-settled}
 use Rattle.cola_laws.proofs.Shadows.{AreCarried, shadows-answer}
-use Rattle.cola_laws.specs.Alike.{AreAlike}
-use Rattle.cola_laws.proofs.Alike.{alike-part, alike-next_runs, alike-kept, alike-visibles}
-use Rattle.cola_laws.proofs.After.{stays-below, stays-open, stays-over, flips-odd, level_after-turns, level_after-leaves, level_after-stays, levels_after-stays, stays-alike, visibles-flip, next_runs-flip}
-use Rattle.cola_laws.proofs.Windows.{rests-idle, idle-working, working-end, working-less, finish-upper, finish-bottom}
-use Rattle.cola_laws.proofs.Lengths.{room-below, visible-length-of, visible-length, next-length, window-total, ends-last}
+use Rattle.cola_laws.proofs.Alike.{alike-next_runs}
+use Rattle.cola_laws.proofs.After.{stays-below, stays-open, stays-over, stays-alike}
+use Rattle.cola_laws.proofs.Windows.{rests-idle, idle-working, finish-upper, finish-bottom}
 
 -- ---- the pace of a level that stays, and of all below it
 
@@ -35,8 +31,8 @@ was-before t j stay rests open_yet = before_else t j rests (stays-over t j stay 
 still-before : (t j : ℕ) → flips t j ≡ false → is_before (suc t) (suc j) ≡ true → is_before t (suc j) ≡ true
 still-before t j stay before =
     elim (cases_Bool (works t (suc j))) [
-      inl work ↦ absurd (false≢true (sym (before-not_works (suc t) j before) ∙ window-next t j work (stays-open t j stay)))
-    | inr rests ↦ was-before t j stay rests (before-not_over (suc t) j before)
+      | inl work ↦ absurd (false≢true (sym (before-not_works (suc t) j before) ∙ window-next t j work (stays-open t j stay)))
+      | inr rests ↦ was-before t j stay rests (before-not_over (suc t) j before)
     ]
 
 module _ {K V : Type 0} (cmp : K → K → Ordering) where
@@ -55,19 +51,19 @@ module _ {K V : Type 0} (cmp : K → K → Ordering) where
       let step : window_step (suc t) (suc j) ≡ suc (window_step t (suc j)) = window_step-next t j work (stays-open t j stay) in
       let e : 28 * window_step t (suc j) + 28 ≡ 28 * window_step (suc t) (suc j) + 0 = omega arith in
       subst (λ (p : Part). IsWorking cmp p l.visible above (first_keys (next_runs (suc t) (suc j) below)) (28 * window_step (suc t) (suc j) + 0) (build_of l)) (same-part t j below (stays-below t j stay))
-        (subst (λ (xs : List (List (Cell K V))). IsWorking cmp (part_of (is_odd (period t (suc j))) below) l.visible above (first_keys xs) (28 * window_step (suc t) (suc j) + 0) (build_of l)) (same-next t j below (stays-below t j stay))
-          (subst (λ (n : ℕ). IsWorking cmp (part_of (is_odd (period t (suc j))) below) l.visible above (first_keys (next_runs t (suc j) below)) n (build_of l)) e (h.inside work)))
+      (subst (λ (xs : List (List (Cell K V))). IsWorking cmp (part_of (is_odd (period t (suc j))) below) l.visible above (first_keys xs) (28 * window_step (suc t) (suc j) + 0) (build_of l)) (same-next t j below (stays-below t j stay))
+      (subst (λ (n : ℕ). IsWorking cmp (part_of (is_odd (period t (suc j))) below) l.visible above (first_keys (next_runs t (suc j) below)) n (build_of l)) e (h.inside work)))
 
   pub paced-stays : (t j : ℕ) (above : List (Cell K V)) (l : Level K V) (below : List (Level K V)) → flips t j ≡ false →
       IsPaced cmp 28 t (suc j) above l below → IsPaced cmp 0 (suc t) (suc j) above l below
   paced-stays t j above l below stay h = record {
     before = λ before. h.before (still-before t j stay before);
     inside = λ work. elim (cases_Bool (works t (suc j))) [
-        inl was ↦ goes-on t j above l below stay was h
+      | inl was ↦ goes-on t j above l below stay was h
       | inr rests ↦
           idle-working cmp _ l.visible above _ l (28 * window_step (suc t) (suc j) + 0) (h.before (was-before t j stay rests (works-not_over (suc t) j work)))
-            (let e : window_step (suc t) (suc j) ≡ 0 = window_step-first t j rests work in omega arith)
-      ];
+          (let e : window_step (suc t) (suc j) ≡ 0 = window_step-first t j rests work in omega arith)
+    ];
     after = λ over. h.after (stays-over t j stay ∙ over);
   }
 
@@ -148,8 +144,8 @@ module _ {K V : Type 0} {cmp : K → K → Ordering} (o : IsTotalOrder cmp) (mos
   next-sorted t j above [] v kept = no-sorted K V cmp (is_odd (period t j))
   next-sorted t j above (l ∷ ls) v kept =
       sorted-choice (is_odd (period t j)) l.shadow l.visible _ _
-        (λ odd. fit-rising cmp most _ (suc j) l.shadow ls _ (kept.0.over (is_over-suc t j ∙ odd)).fit)
-        (fit-rising cmp most _ (suc j) l.visible (visibles ls) _ v.0)
+      (λ odd. fit-rising cmp most _ (suc j) l.shadow ls _ (kept.0.over (is_over-suc t j ∙ odd)).fit)
+      (fit-rising cmp most _ (suc j) l.visible (visibles ls) _ v.0)
 
   -- a whole weave with its next runs answers as the runs above and the runs of the level did
   pub weave-answer : (q : K) (t j : ℕ) (above : List (Cell K V)) (l : Level K V) (ls : List (Level K V)) → IsRising cmp l.visible →
@@ -158,12 +154,12 @@ module _ {K V : Type 0} {cmp : K → K → Ordering} (o : IsTotalOrder cmp) (mos
   weave-answer q t j above l ls rising e kept =
       let part : Part = part_of (is_odd (period t j)) ls in
       let whole : seen cmp q l.shadow ≡ woven part (seen cmp q l.visible) (holds (seen cmp q above)) =
-          ap (λ (x : List (Cell K V)). seen cmp q x) e ∙ seen_weave o part l.visible above (first_keys (next_runs t j ls)) rising q in
+      ap (λ (x : List (Cell K V)). seen cmp q x) e ∙ seen_weave o part l.visible above (first_keys (next_runs t j ls)) rising q in
       let carried : Carried part (old_or_none (holds (seen cmp q above))) (seen cmp q l.visible) (seen cmp q l.shadow) =
-          subst (λ (x : Seen V). Carried part (old_or_none (holds (seen cmp q above))) (seen cmp q l.visible) x) (sym whole) (woven-settled part (seen cmp q l.visible) (seen cmp q above)) in
+      subst (λ (x : Seen V). Carried part (old_or_none (holds (seen cmp q above))) (seen cmp q l.visible) x) (sym whole) (woven-settled part (seen cmp q l.visible) (seen cmp q above)) in
       value_or (holds (seen cmp q above)) (answer cmp q (visibles (l ∷ ls)))
-        ∙ ap (λ (x : Option (Item V)). over_value x (value_at cmp (visibles (l ∷ ls)) q)) (sym (holds-old (holds (seen cmp q above))))
-        ∙ sym (shadows-answer cmp q t j (old_or_none (holds (seen cmp q above))) l ls (settled-old (holds (seen cmp q above))) carried (kept-carried cmp most q t (suc j) l.visible ls kept))
+      ∙ ap (λ (x : Option (Item V)). over_value x (value_at cmp (visibles (l ∷ ls)) q)) (sym (holds-old (holds (seen cmp q above))))
+      ∙ sym (shadows-answer cmp q t j (old_or_none (holds (seen cmp q above))) l ls (settled-old (holds (seen cmp q above))) carried (kept-carried cmp most q t (suc j) l.visible ls kept))
 
   -- the whole weave of level j is a finished shadow, by whether anything lies below it
   pub weave-finished : (t j : ℕ) (above incoming : List (Cell K V)) (l : Level K V) (ls : List (Level K V)) →
@@ -175,11 +171,11 @@ module _ {K V : Type 0} {cmp : K → K → Ordering} (o : IsTotalOrder cmp) (mos
       let none : next_runs t j [] ≡ [] = next-none (is_odd (period t j)) in
       let e' : l.shadow ≡ weave cmp bottom_items l.visible incoming [] = e ∙ ap (λ (xs : List (List (Cell K V))). weave cmp bottom_items l.visible incoming (first_keys xs)) none in
       subst (λ (xs : List (List (Cell K V))). IsFinished cmp most {X = Level K V} (is_odd (period t j)) j above l.visible l.shadow [] xs) (sym none)
-        (subst (λ (x : List (Cell K V)). IsFinished cmp most {X = Level K V} (is_odd (period t j)) j above l.visible x [] []) (sym e')
-          (finish-bottom o most j above l.visible incoming v.0.formed.rising keeps (is_odd (period t j))
-            (subst (λ (x : List (Cell K V)). AreFew cmp most (x ∷ [])) e' (subst (λ (xs : List (List (Cell K V))). AreFew cmp most (l.shadow ∷ xs)) none live))))
+      (subst (λ (x : List (Cell K V)). IsFinished cmp most {X = Level K V} (is_odd (period t j)) j above l.visible x [] []) (sym e')
+      (finish-bottom o most j above l.visible incoming v.0.formed.rising keeps (is_odd (period t j))
+      (subst (λ (x : List (Cell K V)). AreFew cmp most (x ∷ [])) e' (subst (λ (xs : List (List (Cell K V))). AreFew cmp most (l.shadow ∷ xs)) none live))))
   weave-finished t j above incoming l (m ∷ ms) e keeps few v kept live =
       subst (λ (x : List (Cell K V)). IsFinished cmp most (is_odd (period t j)) j above l.visible x (m ∷ ms) (next_runs t j (m ∷ ms))) (sym e)
-        (finish-upper o most j above l.visible incoming (fit-rising cmp most _ j l.visible (visibles (m ∷ ms)) _ v.0) keeps (is_odd (period t j)) m ms (next_runs t j (m ∷ ms))
-          (next-sorted t j l.visible (m ∷ ms) v.1 kept) few (own-few cmp most (is_odd (period t j)) j l.visible _ v.0)
-          (subst (λ (x : List (Cell K V)). AreFew cmp most (x ∷ next_runs t j (m ∷ ms))) e live))
+      (finish-upper o most j above l.visible incoming (fit-rising cmp most _ j l.visible (visibles (m ∷ ms)) _ v.0) keeps (is_odd (period t j)) m ms (next_runs t j (m ∷ ms))
+      (next-sorted t j l.visible (m ∷ ms) v.1 kept) few (own-few cmp most (is_odd (period t j)) j l.visible _ v.0)
+      (subst (λ (x : List (Cell K V)). AreFew cmp most (x ∷ next_runs t j (m ∷ ms))) e live))

@@ -1,22 +1,16 @@
 -- The plain program does what the laws speak of; whole runs of it from a sound chain, and the chain with nothing in it.
-use Rattle.std.proofs.Common.{◌≡◌, ◌⊎◌, inl, inr, ℕ, zero, suc, ◌+◌, ◌-◌, ◌*◌, ◌/◌, ◌%◌, ◌^◌, ◌≤◌, Bool, true, false, cond, List, [], ◌∷◌, length, refl, sym, ap, ◌∙◌, subst, arith, Option, None, Some}
-use Rattle.std.specs.Bool.{⊤}
-use Rattle.std.proofs.lemmas.Bool.{cases_Bool, false≢true}
+use Rattle.std.proofs.Common.{◌≡◌, inl, inr, ℕ, suc, ◌+◌, ◌*◌, ◌%◌, ◌^◌, ◌≤◌, true, false, List, [], ◌∷◌, length, refl, sym, ap, ◌∙◌, subst, arith, Option}
+use Rattle.std.proofs.lemmas.Bool.{cases_Bool}
 use Rattle.std.specs.declared.cmp.Ordering.{Ordering}
 use Rattle.std.specs.Cmp.{IsTotalOrder}
-use Rattle.std.specs.List.{AllByRecursion}
-use Rattle.std.specs.List.Sorted.{IsStrictlySortedBy}
-use Rattle.cola_clock.specs.Clock.{period, is_odd, works, is_before, is_over, window_step, elapsed}
-use Rattle.cola_clock.proofs.Laws.{is_over-suc}
+use Rattle.cola_clock.specs.Clock.{period, is_odd, works, window_step}
 use Rattle.cola_runs.specs.Cells.{Item, Cell}
-use Rattle.cola_runs.specs.Seen.{answer}
-use Rattle.cola_runs.specs.Steps.{Build, consumed, steps}
+use Rattle.cola_runs.specs.Steps.{consumed, steps}
 use Rattle.cola_runs.proofs.Stepping.{steps_are_advanced}
-use Rattle.cola_laws.specs.Chain.{Level, part_of, build_of, visibles, next_runs, first_keys, updated}
-use Rattle.cola_laws.specs.Sound.{AreVisible, AreFew, AreKept, IsIdle, IsWorking, IsPaced, ArePaced, HasAtMost, IsSound}
-use Rattle.cola_laws.specs.Mutation.{AreAdvanced, IsBuilt, IsWorkable, AreWorkable, levels_after}
-use Rattle.cola_laws.specs.Plain.{empty_level, empty_levels, with_build, worked, all_worked, built, mutated, next_clock, clock_after, all_mutated, all_updated, StayWithin, IsSoundChain}
-use Rattle.cola_laws.proofs.Windows.{idle-working, rests-idle}
+use Rattle.cola_laws.specs.Chain.{Level, part_of, build_of, next_runs, first_keys, updated}
+use Rattle.cola_laws.specs.Sound.{IsWorking, ArePaced, HasAtMost}
+use Rattle.cola_laws.specs.Mutation.{AreAdvanced, IsBuilt, AreWorkable, levels_after}
+use Rattle.cola_laws.specs.Plain.{with_build, worked, all_worked, built, mutated, clock_after, all_mutated, all_updated, StayWithin, IsSoundChain}
 use Rattle.cola_laws.proofs.Workable.{all-workable, stepped-working}
 use Rattle.cola_laws.proofs.Mutations.{mutation}
 use Rattle.cola_laws.proofs.Wraps.{clock-wraps}
@@ -36,27 +30,29 @@ module _ {K V : Type 0} {cmp : K → K → Ordering} (o : IsTotalOrder cmp) (cou
   worked-visible : (t j : ℕ) (above : List (Cell K V)) (l : Level K V) (ls : List (Level K V)) → (worked cmp count t j above l ls).visible ≡ l.visible
   worked-visible t j above l ls =
       elim (cases_Bool (works t j)) [
-        inl work ↦ ap (λ (x : Level K V). x.visible) (worked-true t j above l ls work)
-      | inr rests ↦ ap (λ (x : Level K V). x.visible) (worked-false t j above l ls rests)
+        | inl work ↦ ap (λ (x : Level K V). x.visible) (worked-true t j above l ls work)
+        | inr rests ↦ ap (λ (x : Level K V). x.visible) (worked-false t j above l ls rests)
       ]
 
   -- the program's steps are steps of the chain
   pub worked-advanced : (t j : ℕ) (above : List (Cell K V)) (ls : List (Level K V)) → ArePaced cmp 0 t j above ls → AreWorkable cmp t j above ls →
       AreAdvanced cmp count t j above ls (all_worked cmp count t j above ls)
   worked-advanced t j above [] p w = tt
-  worked-advanced t j above (l ∷ ls) p w =
-      (record {
-        visible = worked-visible t j above l ls;
-        moves = λ work.
+  worked-advanced t j above (l ∷ ls) p w = (
+    record {
+      visible = worked-visible t j above l ls;
+      moves = λ work.
           let part = part_of (is_odd (period t j)) ls in
           let keys = first_keys (next_runs t j ls) in
-          let b = w.0 work in
+          let b = (w.0 work).buildable in
           let was = p.0.inside work in
           subst (λ (x : Level K V). IsWorking cmp part l.visible above keys (consumed (build_of l) + count) (build_of x)) (sym (worked-true t j above l ls work))
-            (stepped-working o part l.visible above keys (28 * window_step t j + 0) count (build_of l) (steps cmp part l.visible above keys count (build_of l)) b.own_rising b.incoming_rising b.keys_rising was
-              (steps_are_advanced o part l.visible above keys b.own_rising b.incoming_rising b.keys_rising count (build_of l) was.under_way));
-        rests = λ rests. worked-false t j above l ls rests;
-      }, worked-advanced t (suc j) l.visible ls p.1 w.1)
+          (stepped-working o part l.visible above keys (28 * window_step t j + 0) count (build_of l) (steps cmp part l.visible above keys count (build_of l)) b.own_rising b.incoming_rising b.keys_rising was
+          (steps_are_advanced o part l.visible above keys b.own_rising b.incoming_rising b.keys_rising count (build_of l) was.under_way));
+      rests = λ rests. worked-false t j above l ls rests;
+    },
+    worked-advanced t (suc j) l.visible ls p.1 w.1,
+  )
 
 -- ---- one mutation and whole runs
 
@@ -73,7 +69,7 @@ module _ {K V : Type 0} {cmp : K → K → Ordering} (o : IsTotalOrder cmp) (mos
       let e' : suc (length ls) + 1 ≡ 0 + suc (length ls) + 1 = omega arith in
       let room' : most ≤ 2 ^ (length ls + 2) = subst (λ (x : ℕ). most ≤ 2 ^ x) e room in
       mutation o most t map k item top (built cmp t k item top ls) ls (all_worked cmp 28 t 1 top.visible ls) s (built-is t k item top ls)
-        (worked-advanced o 28 t 1 top.visible ls s.sound.paced (all-workable o most t 0 top.visible ls s.sound.visible s.sound.few s.sound.kept (subst (λ (x : ℕ). most ≤ 2 ^ x) e' room))) room' few
+      (worked-advanced o 28 t 1 top.visible ls s.sound.paced (all-workable o most t 0 top.visible ls s.sound.visible s.sound.few s.sound.kept (subst (λ (x : ℕ). most ≤ 2 ^ x) e' room))) room' few
 
   after-length : (t j : ℕ) (ls : List (Level K V)) → length (levels_after t j ls) ≡ length ls
   after-length t j [] = refl
@@ -95,11 +91,11 @@ module _ {K V : Type 0} {cmp : K → K → Ordering} (o : IsTotalOrder cmp) (mos
   pub runs-sound : (changes : List (K × Item V)) (t : ℕ) (map : K → Option V) (ls : List (Level K V)) → IsSoundChain cmp most t map ls → most ≤ 2 ^ (length ls + 1) →
       StayWithin cmp most changes map → IsSoundChain cmp most (clock_after (length ls) t changes) (all_updated cmp changes map) (all_mutated cmp t changes ls)
   runs-sound [] t map ls s room few = s
-  runs-sound (change ∷ changes) t map ls s room few = 
+  runs-sound (change ∷ changes) t map ls s room few =
       let next : List (Level K V) = mutated cmp 28 t change.0 change.1 ls in
       let n : length next ≡ length ls = mutated-length 28 t change.0 change.1 ls in
       let once : IsSoundChain cmp most (suc t) (updated cmp change.0 change.1 map) next = mutated-sound t map change.0 change.1 ls s room few.0 in
       let wrap : IsSoundChain cmp most (suc t % 2 ^ length ls) (updated cmp change.0 change.1 map) next =
-          subst (λ (x : ℕ). IsSoundChain cmp most (suc t % 2 ^ x) (updated cmp change.0 change.1 map) next) n (wrapped (suc t) (updated cmp change.0 change.1 map) next once) in
+      subst (λ (x : ℕ). IsSoundChain cmp most (suc t % 2 ^ x) (updated cmp change.0 change.1 map) next) n (wrapped (suc t) (updated cmp change.0 change.1 map) next once) in
       let rest = runs-sound changes (suc t % 2 ^ length ls) (updated cmp change.0 change.1 map) next wrap (subst (λ (x : ℕ). most ≤ 2 ^ (x + 1)) (sym n) room) few.1 in
       subst (λ (x : ℕ). IsSoundChain cmp most (clock_after x (suc t % 2 ^ length ls) changes) (all_updated cmp changes (updated cmp change.0 change.1 map)) (all_mutated cmp (suc t % 2 ^ length ls) changes next)) n rest

@@ -1,5 +1,5 @@
 -- The flips keep the answer of every key, in one induction from the top level to the bottom.
-use Rattle.std.proofs.Common.{◌≡◌, ℕ, suc, Bool, true, false, cond, List, [], ◌∷◌, refl, sym, ap, ◌∙◌, subst, Option, None, Some}
+use Rattle.std.proofs.Common.{◌≡◌, ℕ, suc, Bool, true, false, cond, List, [], ◌∷◌, refl, ◌∙◌, Option, None}
 use Rattle.std.specs.Bool.{⊤}
 use Rattle.std.specs.declared.cmp.Ordering.{Ordering}
 use Rattle.std.specs.Option.{option_or}
@@ -7,10 +7,10 @@ use Rattle.cola_clock.specs.Clock.{period, is_odd, is_over}
 use Rattle.cola_clock.proofs.Laws.{is_over-suc}
 use Rattle.cola_runs.specs.Cells.{Item, Value, Tombstone, Cell}
 use Rattle.cola_runs.specs.Seen.{Seen, Nothing, Old, Young, holds, seen, answer, value_of}
-use Rattle.cola_runs.specs.Weave.{Part, bottom_items, young_items, all_items, kept, kept_or_none, own_at}
-use Rattle.cola_laws.specs.Chain.{Level, upper_part, part_of, visibles, shadows, next_runs, value_at}
+use Rattle.cola_runs.specs.Weave.{bottom_items, young_items, all_items}
+use Rattle.cola_laws.specs.Chain.{Level, upper_part, part_of, visibles, shadows, value_at}
 use Rattle.cola_laws.specs.Sound.{Carried, IsSettled}
-use Rattle.cola_laws.proofs.Values.{over_value, value_or, kept-value, upper-kept}
+use Rattle.cola_laws.proofs.Values.{over_value, upper-kept}
 
 module _ {V : Type 0} where
   -- at the bottom, whose shadow answers alone
@@ -77,4 +77,4 @@ module _ {K V : Type 0} (cmp : K → K → Ordering) where
   shadows-answer q t j above l [] settled h rest = bottom_step q (is_odd (period t j)) above l.visible l.shadow settled h
   shadows-answer q t j above l (m ∷ below) settled h rest =
       upper_step q (is_odd (period t j)) above l.visible l.shadow (shadows t (suc j) (m ∷ below)) (visibles (m ∷ below)) settled h
-        (λ odd own_settled. shadows-answer q t (suc j) (seen cmp q l.visible) m below own_settled (rest.0 (is_over-suc t j ∙ odd)) rest.1)
+      (λ odd own_settled. shadows-answer q t (suc j) (seen cmp q l.visible) m below own_settled (rest.0 (is_over-suc t j ∙ odd)) rest.1)

@@ -1,12 +1,12 @@
 -- The laws of runs and builds, in the form in which the laws of the chain take them.
-use Rattle.std.proofs.Common.{◌≡◌, ℕ, ◌+◌, ◌*◌, ◌≤◌, List, [], length, arith}
+use Rattle.std.proofs.Common.{◌≡◌, ◌*◌, ◌≤◌, List, [], length, arith}
 use Rattle.std.specs.declared.cmp.Ordering.{Ordering}
 use Rattle.std.specs.Cmp.{IsTotalOrder}
 use Rattle.std.specs.List.{AllByRecursion}
 use Rattle.std.specs.List.Sorted.{IsStrictlySortedBy}
 use Rattle.cola_runs.specs.Cells.{Cell, IsRising, IsOldValue, sample}
 use Rattle.cola_runs.specs.Weave.{Part, bottom_items, weave}
-use Rattle.cola_runs.specs.Steps.{Build, cells_left, IsUnderWay}
+use Rattle.cola_runs.specs.Steps.{Build, IsUnderWay}
 use Rattle.cola_runs.proofs.Order.{all_change}
 use Rattle.cola_runs.proofs.Builds.{used_up, bottom_values}
 use Rattle.cola_runs.proofs.Samples.{eighths_rise, sample_length}

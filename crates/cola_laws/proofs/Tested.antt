@@ -1,13 +1,13 @@
 -- A plain slow test of soundness on small stores, whose keys and values are numbers: it goes through all cells, all keys
 -- and all levels.
-use Rattle.std.proofs.Common.{ℕ, zero, suc, ◌+◌, ◌-◌, ◌*◌, ◌^◌, Bool, true, false, not, cond, ◌&&◌, List, [], ◌∷◌, ◌++◌, length, drop, Option, None, Some, min}
-use Rattle.std.specs.Prelude.{◌==◌, nat_le, nat_lt}
+use Rattle.std.proofs.Common.{ℕ, suc, ◌+◌, ◌*◌, ◌^◌, Bool, true, false, not, cond, ◌&&◌, List, [], ◌∷◌, ◌++◌, length, drop, Option, None, Some, min}
+use Rattle.std.specs.Prelude.{◌==◌, nat_le}
 use Rattle.std.specs.Ordering.{nat_cmp, is_lt}
 use Rattle.cola_clock.specs.Clock.{period, is_odd, works, is_before, is_over, window_step}
 use Rattle.cola_runs.specs.Cells.{Item, Value, Tombstone, Cell, Entry, Look, place_cmp, look_keys, count_looks, count_items, count_young}
 use Rattle.cola_runs.specs.Seen.{Seen, Nothing, Old, Young, holds, seen, answer}
 use Rattle.cola_runs.specs.Weave.{Part, kept, kept_or_none, own_at, relinked, unlinked, weave}
-use Rattle.cola_laws.specs.Chain.{Level, part_of, visibles, shadows, next_runs, first_keys}
+use Rattle.cola_laws.specs.Chain.{Level, part_of, visibles, next_runs, first_keys}
 
 abbrev pub Run : Type 0
 Run = List (Cell ℕ ℕ)

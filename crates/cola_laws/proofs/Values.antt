@@ -1,11 +1,10 @@
 -- What lists of runs answer, key by key, from what each run has of the key.
-use Rattle.std.proofs.Common.{◌≡◌, ℕ, suc, Bool, true, false, cond, List, [], ◌∷◌, refl, sym, ap, ◌∙◌, subst, Option, None, Some}
-use Rattle.std.specs.Bool.{⊤}
+use Rattle.std.proofs.Common.{◌≡◌, Bool, true, false, cond, refl, sym, subst, Option, None, Some}
 use Rattle.cola_runs.specs.Cells.{Item, Value, Tombstone}
-use Rattle.cola_runs.specs.Seen.{Seen, Nothing, Old, Young, holds, value_of, IsLive}
-use Rattle.cola_runs.specs.Weave.{Part, all_items, young_items, bottom_items, kept, kept_or_none, own_at, woven, flagged_or_nothing}
+use Rattle.cola_runs.specs.Seen.{Seen, Nothing, Old, Young, holds, value_of}
+use Rattle.cola_runs.specs.Weave.{Part, all_items, kept, kept_or_none, own_at, woven, flagged_or_nothing}
 use Rattle.std.specs.Option.{option_or}
-use Rattle.cola_laws.specs.Chain.{upper_part, part_of}
+use Rattle.cola_laws.specs.Chain.{upper_part}
 use Rattle.cola_laws.specs.Sound.{Carried, Keeps}
 
 module _ {V : Type 0} where

@@ -1,22 +1,20 @@
 -- A window from its begin to its end: an idle level begins it, and the build of its last mutation is a finished shadow.
-use Rattle.std.proofs.Common.{◌≡◌, ℕ, zero, suc, ◌+◌, ◌*◌, ◌^◌, ◌≤◌, min, Bool, true, false, not, cond, List, [], ◌∷◌, length, refl, sym, ap, ◌∙◌, subst, arith, Some, None}
-use Rattle.std.specs.Bool.{⊤}
+use Rattle.std.proofs.Common.{◌≡◌, ℕ, ◌+◌, ◌*◌, ◌^◌, ◌≤◌, Bool, true, false, not, cond, List, [], ◌∷◌, length, refl, sym, subst, arith}
 use Rattle.std.specs.declared.cmp.Ordering.{Ordering}
 use Rattle.std.specs.Cmp.{IsTotalOrder}
 use Rattle.std.specs.List.Sorted.{IsStrictlySortedBy}
-use Rattle.cola_clock.specs.Clock.{period, is_odd, is_over, works, window_step, window_length, ends}
-use Rattle.cola_runs.specs.Cells.{Cell, IsRising, IsWellFormed, count_items, count_young}
+use Rattle.cola_runs.specs.Cells.{Cell, IsRising, IsWellFormed, count_items}
 use Rattle.cola_runs.specs.Seen.{Seen, holds, seen}
-use Rattle.cola_runs.specs.Weave.{Part, bottom_items, woven, weave}
-use Rattle.cola_runs.specs.Steps.{Build, begun, consumed, IsUnderWay}
+use Rattle.cola_runs.specs.Weave.{Part, bottom_items, weave}
+use Rattle.cola_runs.specs.Steps.{Build, begun}
 use Rattle.cola_runs.proofs.InOrder.{formed_weave}
 use Rattle.cola_runs.proofs.Woven.{seen_weave}
 use Rattle.cola_runs.specs.Weave.{own_items}
 use Rattle.cola_runs.proofs.Counts.{items_weave, young_weave, keys_weave}
-use Rattle.cola_laws.specs.Chain.{Level, part_of, upper_part, build_of, first_keys, visibles, next_runs}
-use Rattle.cola_laws.specs.Sound.{Carried, Keeps, IsUpperRun, IsBottomRun, IsVisible, IsFinished, IsIdle, IsAtRest, IsWorking, AreFew}
+use Rattle.cola_laws.specs.Chain.{Level, upper_part, build_of, first_keys}
+use Rattle.cola_laws.specs.Sound.{Carried, Keeps, IsUpperRun, IsFinished, IsIdle, IsAtRest, IsWorking, AreFew}
 use Rattle.cola_laws.proofs.Values.{woven-carried, woven-keeps}
-use Rattle.cola_laws.proofs.Sources.{cut-end, sample-sorted, bottom-values}
+use Rattle.cola_laws.proofs.Sources.{cut-end, bottom-values}
 use Rattle.cola_laws.proofs.Live.{bottom-length}
 
 -- ---- the begin
@@ -42,7 +40,7 @@ module _ {K V : Type 0} (cmp : K → K → Ordering) (part : Part) (own incoming
   pub idle-working : (l : Level K V) (least : ℕ) → IsIdle l → least ≡ 0 → IsWorking cmp part own incoming keys least (build_of l)
   idle-working l least h e =
       subst (λ (x : ℕ). IsWorking cmp part own incoming keys x (build_of l)) (sym e)
-        (subst (λ (x : Build K V). IsWorking cmp part own incoming keys 0 x) (sym (idle-build l h)) begun-working)
+      (subst (λ (x : Build K V). IsWorking cmp part own incoming keys 0 x) (sym (idle-build l h)) begun-working)
 
   -- less is enough where more is
   pub working-less : (least less : ℕ) (p : Build K V) → less ≤ least → IsWorking cmp part own incoming keys least p → IsWorking cmp part own incoming keys less p
@@ -62,7 +60,7 @@ module _ {K V : Type 0} {cmp : K → K → Ordering} (o : IsTotalOrder cmp) (mos
   weave-carried : (part : Part) (keys : List K) (q : K) → Carried part (seen cmp q above) (seen cmp q own) (seen cmp q (weave cmp part own incoming keys))
   weave-carried part keys q =
       subst (λ (x : Seen V). Carried part (seen cmp q above) (seen cmp q own) x) (sym (seen_weave o part own incoming keys rising q))
-        (woven-carried part (seen cmp q own) (seen cmp q incoming) (seen cmp q above) (keeps q))
+      (woven-carried part (seen cmp q own) (seen cmp q incoming) (seen cmp q above) (keeps q))
 
   weave-upper : (odd : Bool) (keys : List K) → IsStrictlySortedBy cmp keys → count_items incoming ≤ 2 ^ j → own_items (upper_part odd) own ≤ cond odd 1 2 * 2 ^ j →
       IsUpperRun cmp (not odd) j (weave cmp (upper_part odd) own incoming keys) keys
@@ -82,7 +80,7 @@ module _ {K V : Type 0} {cmp : K → K → Ordering} (o : IsTotalOrder cmp) (mos
   weave-keeps : (odd : Bool) (keys : List K) → odd ≡ false → (q : K) → Keeps (seen cmp q own) (seen cmp q (weave cmp (upper_part odd) own incoming keys))
   weave-keeps odd keys e q =
       subst (λ (b : Bool). Keeps (seen cmp q own) (seen cmp q (weave cmp (upper_part b) own incoming keys))) (sym e)
-        (subst (λ (x : Seen V). Keeps (seen cmp q own) x) (sym (seen_weave o (upper_part false) own incoming keys rising q)) (woven-keeps (seen cmp q own) (holds (seen cmp q incoming))))
+      (subst (λ (x : Seen V). Keeps (seen cmp q own) x) (sym (seen_weave o (upper_part false) own incoming keys rising q)) (woven-keeps (seen cmp q own) (holds (seen cmp q incoming))))
 
   -- the whole weave of a level above the bottom is a finished shadow
   pub finish-upper : {X : Type 0} (odd : Bool) (x : X) (below : List X) (next : List (List (Cell K V))) → IsStrictlySortedBy cmp (first_keys next) →

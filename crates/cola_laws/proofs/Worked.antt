@@ -1,9 +1,9 @@
 -- The plain program computed on a store for 32 keys, four levels, in which the keys 1 to 32 are put in turn, each with
 -- the number of its put.
-use Rattle.std.proofs.Common.{◌≡◌, ℕ, zero, suc, ◌+◌, ◌%◌, Bool, true, false, List, [], ◌∷◌, ◌++◌, refl, map, length, take, drop}
+use Rattle.std.proofs.Common.{◌≡◌, ℕ, zero, suc, ◌+◌, ◌%◌, true, false, List, [], ◌∷◌, refl, map, length, take}
 use Rattle.std.specs.Ordering.{nat_cmp}
 use Rattle.cola_clock.specs.Clock.{period, is_odd, works, flips, ends, elapsed, window_step, window_length}
-use Rattle.cola_runs.specs.Cells.{Item, Value, Cell, Entry, Look, link_of}
+use Rattle.cola_runs.specs.Cells.{Value, Cell, Entry, Look}
 use Rattle.cola_runs.specs.Weave.{weave, unlinked}
 use Rattle.cola_runs.specs.Steps.{step}
 use Rattle.cola_laws.specs.Chain.{Level}

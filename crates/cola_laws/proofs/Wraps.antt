@@ -1,13 +1,12 @@
 -- The clock counts modulo 2^(L+1): a sound chain is as sound at any clock that no level tells from its own.
-use Rattle.std.proofs.Common.{◌≡◌, ℕ, zero, suc, ◌+◌, ◌*◌, ◌^◌, ◌%◌, ◌≤◌, Bool, true, false, List, [], ◌∷◌, length, refl, sym, ap, ◌∙◌, subst, arith, Option}
-use Rattle.std.specs.Bool.{⊤}
+use Rattle.std.proofs.Common.{◌≡◌, ℕ, suc, ◌+◌, ◌*◌, ◌^◌, ◌%◌, ◌≤◌, List, [], ◌∷◌, length, refl, sym, ap, ◌∙◌, subst, arith, Option}
 use Rattle.std.specs.declared.cmp.Ordering.{Ordering}
-use Rattle.cola_clock.specs.Clock.{period, is_odd, works, is_before, is_over, window_step, SameSchedule}
+use Rattle.cola_clock.specs.Clock.{period, is_odd, window_step, SameSchedule}
 use Rattle.cola_clock.proofs.Wrap.{schedule-wrap}
 use Rattle.cola_runs.specs.Cells.{Cell}
 use Rattle.cola_runs.specs.Weave.{Part}
-use Rattle.cola_laws.specs.Chain.{Level, part_of, build_of, visibles, next_runs, first_keys}
-use Rattle.cola_laws.specs.Sound.{IsWorking, IsPaced, ArePaced, IsSoundFrom, IsSound}
+use Rattle.cola_laws.specs.Chain.{Level, part_of, build_of, next_runs, first_keys}
+use Rattle.cola_laws.specs.Sound.{IsWorking, ArePaced, IsSound}
 use Rattle.cola_laws.specs.Alike.{AreAlike}
 use Rattle.cola_laws.proofs.Alike.{alike-part, alike-next_runs, alike-visible, alike-kept}
 
@@ -24,20 +23,30 @@ module _ {K V : Type 0} (bottom t u : ℕ) (same : (j : ℕ) → j ≤ bottom �
     schedule-paced j above (l ∷ ls) h p =
         let s = same j (omega arith) in
         let alike : AreAlike t u (suc j) ls ls = schedule-alike (suc j) ls (omega arith) in
-        let e : 28 * window_step t j + ahead ≡ 28 * window_step u j + ahead = ap (λ (n : ℕ). 28 * n + ahead) s.step in
-        (record {
-          before = λ before. p.0.before (s.before ∙ before);
-          inside = λ work.
-            subst (λ (n : ℕ). IsWorking cmp (part_of (is_odd (period u j)) ls) l.visible above (first_keys (next_runs u j ls)) n (build_of l)) e
-              (subst (λ (x : Part). IsWorking cmp x l.visible above (first_keys (next_runs u j ls)) (28 * window_step t j + ahead) (build_of l)) (alike-part t u (suc j) _ _ ls ls s.parity alike)
+        let e : 28 * window_step t j + ahead ≡ 28 * window_step u j + ahead = ap (λ (n : ℕ). 28 * n + ahead) s.step in (
+          record {
+            before = λ before. p.0.before (s.before ∙ before);
+            inside = λ work.
+                subst (λ (n : ℕ). IsWorking cmp (part_of (is_odd (period u j)) ls) l.visible above (first_keys (next_runs u j ls)) n (build_of l)) e
+                (subst (λ (x : Part). IsWorking cmp x l.visible above (first_keys (next_runs u j ls)) (28 * window_step t j + ahead) (build_of l)) (alike-part t u (suc j) _ _ ls ls s.parity alike)
                 (subst (λ (xs : List (List (Cell K V))). IsWorking cmp (part_of (is_odd (period t j)) ls) l.visible above (first_keys xs) (28 * window_step t j + ahead) (build_of l)) (alike-next_runs t u j ls ls s.parity alike)
-                  (p.0.inside (s.work ∙ work))));
-          after = λ over. p.0.after (s.over ∙ over);
-        }, schedule-paced (suc j) l.visible ls (omega arith) p.1)
+                (p.0.inside (s.work ∙ work))));
+            after = λ over. p.0.after (s.over ∙ over);
+          },
+          schedule-paced (suc j) l.visible ls (omega arith) p.1,
+        )
 
 schedule-turned : (t u j : ℕ) → SameSchedule u t j → SameSchedule t u j
 schedule-turned t u j s = record {
-  place = sym s.place; parity = sym s.parity; slot = sym s.slot; flip = sym s.flip; work = sym s.work; before = sym s.before; over = sym s.over; step = sym s.step; end = sym s.end;
+  place = sym s.place;
+  parity = sym s.parity;
+  slot = sym s.slot;
+  flip = sym s.flip;
+  work = sym s.work;
+  before = sym s.before;
+  over = sym s.over;
+  step = sym s.step;
+  end = sym s.end;
 }
 
 module _ {K V : Type 0} (cmp : K → K → Ordering) (most : ℕ) where

@@ -1,5 +1,5 @@
 -- What soundness reads of a chain: two chains that agree in it are sound together.
-use Rattle.std.specs.Prelude.{◌≡◌, ℕ, suc, Bool, true, List, [], ◌∷◌, ⊤}
+use Rattle.std.specs.Prelude.{◌≡◌, ℕ, suc, true, List, [], ◌∷◌, ⊤}
 use Rattle.cola_clock.specs.Clock.{period, is_odd, is_over}
 use Rattle.cola_laws.specs.Chain.{Level}
 

@@ -1,5 +1,5 @@
 -- One mutation: the steps of the working levels, the whole build of level 0, the flips.
-use Rattle.std.specs.Prelude.{◌≡◌, ℕ, suc, ◌+◌, ◌*◌, ◌^◌, ◌≤◌, Bool, true, false, cond, List, [], ◌∷◌, length, ⊤}
+use Rattle.std.specs.Prelude.{◌≡◌, ℕ, suc, ◌+◌, ◌*◌, ◌^◌, ◌≤◌, true, false, cond, List, [], ◌∷◌, length, ⊤}
 use Rattle.std.specs.declared.cmp.Ordering.{Ordering}
 use Rattle.std.specs.List.Sorted.{IsStrictlySortedBy}
 use Rattle.cola_clock.specs.Clock.{period, is_odd, works, flips, ends, window_length}
@@ -54,13 +54,17 @@ module _ {K V : Type 0} (cmp : K → K → Ordering) where
     pub incoming_rests : built.incoming ≡ top.incoming
     pub sampled_rests : built.sampled ≡ top.sampled
 
-  -- a build that level j can do: its sources are in order, the weave of them fits the slot of level j, and it has at most
-  -- as many source cells as the window has steps
-  pub record IsWorkable (part : Part) (j : ℕ) (own incoming : List (Cell K V)) (keys : List K) : Type 0 where
+  -- a build that level j can do: its sources are in order, it samples at most 2^j keys, and the weave fits the slot
+  pub record IsBuildable (part : Part) (j : ℕ) (own incoming : List (Cell K V)) (keys : List K) : Type 0 where
     pub own_rising : IsRising cmp own
     pub incoming_rising : IsRising cmp incoming
     pub keys_rising : IsStrictlySortedBy cmp keys
+    pub few_keys : length keys ≤ 2 ^ j
     pub fits : length (weave cmp part own incoming keys) ≤ 2 ^ (j + 2)
+
+  -- a build that level j can do in its window: it has at most as many source cells as the window has steps
+  pub record IsWorkable (part : Part) (j : ℕ) (own incoming : List (Cell K V)) (keys : List K) : Type 0 where
+    pub buildable : IsBuildable part j own incoming keys
     pub in_time : length own + length incoming + length keys ≤ 28 * window_length j
 
   -- from level j on, each level that works at clock t has a build that it can do

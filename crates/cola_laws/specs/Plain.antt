@@ -1,5 +1,5 @@
 -- A plain slow program for one mutation, on whole lists: it computes what the laws speak of on small stores.
-use Rattle.std.specs.Prelude.{ℕ, zero, suc, ◌^◌, ◌%◌, Bool, true, false, cond, List, [], ◌∷◌, length, ⊤}
+use Rattle.std.specs.Prelude.{ℕ, zero, suc, ◌^◌, ◌%◌, cond, List, [], ◌∷◌, length, ⊤}
 use Rattle.std.specs.declared.option.Option.{Option}
 use Rattle.std.specs.declared.cmp.Ordering.{Ordering}
 use Rattle.cola_clock.specs.Clock.{period, is_odd, works}
@@ -38,8 +38,8 @@ module _ {K V : Type 0} (cmp : K → K → Ordering) where
   unfoldable pub worked : ℕ → ℕ → ℕ → List (Cell K V) → Level K V → List (Level K V) → Level K V
   worked count t j above l below =
       cond (works t j)
-        (with_build l (steps cmp (part_of (is_odd (period t j)) below) l.visible above (first_keys (next_runs t j below)) count (build_of l)))
-        l
+      (with_build l (steps cmp (part_of (is_odd (period t j)) below) l.visible above (first_keys (next_runs t j below)) count (build_of l)))
+      l
 
   -- the same of level j and of all below it
   abbrev pub all_worked : ℕ → ℕ → ℕ → List (Cell K V) → List (Level K V) → List (Level K V)

@@ -1,5 +1,5 @@
 -- Levels as they stand in slots, by lengths and cursors alone; and the rules on those by the phase of each level.
-use Rattle.std.specs.Prelude.{◌≡◌, ℕ, suc, ◌+◌, ◌*◌, ◌/◌, ◌^◌, ◌≤◌, min, Bool, true, false, not, cond, List, [], ◌∷◌, length, take, ⊤}
+use Rattle.std.specs.Prelude.{◌≡◌, ℕ, suc, ◌+◌, ◌*◌, ◌/◌, ◌^◌, ◌≤◌, min, Bool, true, not, cond, List, [], ◌∷◌, length, take, ⊤}
 use Rattle.cola_clock.specs.Clock.{period, is_odd, works, is_before, is_over, window_step, flips, ends}
 use Rattle.cola_runs.specs.Cells.{Cell}
 use Rattle.cola_laws.specs.Chain.{Level}
@@ -16,7 +16,7 @@ pub record Marks : Type 0 where
 abbrev pub marks_after : ℕ → ℕ → Marks → Marks
 marks_after t j m =
     cond (flips t j) (record { visible = m.shadow; shadow = 0; own = m.own; incoming = m.incoming; sampled = m.sampled })
-      (cond (ends t j) (record { visible = m.visible; shadow = m.shadow; own = 0; incoming = 0; sampled = 0 }) m)
+    (cond (ends t j) (record { visible = m.visible; shadow = m.shadow; own = 0; incoming = 0; sampled = 0 }) m)
 
 -- the same of level j and of all below it
 abbrev pub all_marks_after : ℕ → ℕ → List Marks → List Marks

@@ -3,7 +3,7 @@ use Rattle.std.specs.Prelude.{◌≡◌, ℕ, suc, ◌+◌, ◌*◌, ◌^◌, �
 use Rattle.std.specs.declared.cmp.Ordering.{Ordering}
 use Rattle.std.specs.declared.cmp.Ordering.TheVariants.{Equal}
 use Rattle.std.specs.declared.option.Option.{Option}
-use Rattle.std.specs.declared.option.Option.TheVariants.{None, Some}
+use Rattle.std.specs.declared.option.Option.TheVariants.{Some}
 use Rattle.std.specs.List.{AllByRecursion}
 use Rattle.std.specs.List.Sorted.{IsStrictlySortedBy}
 use Rattle.cola_clock.specs.Clock.{period, is_odd, works, is_before, is_over, window_step, flips}
@@ -11,7 +11,7 @@ use Rattle.cola_runs.specs.Cells.{Cell, IsWellFormed, look_keys, count_items, co
 use Rattle.cola_runs.specs.Seen.{Seen, Nothing, Old, Young, holds, seen, answer, AtMost}
 use Rattle.cola_runs.specs.Weave.{Part, kept, kept_or_none, own_at}
 use Rattle.cola_runs.specs.Steps.{Build, consumed, IsUnderWay}
-use Rattle.cola_laws.specs.Chain.{Level, part_of, build_of, visibles, shadows, next_runs, first_keys, value_at}
+use Rattle.cola_laws.specs.Chain.{Level, part_of, build_of, visibles, next_runs, first_keys, value_at}
 
 module _ {V : Type 0} where
   -- what a finished shadow has of a key, from what the run above has of it now and from what the own run has. Of a young

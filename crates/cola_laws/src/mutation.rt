@@ -12,30 +12,24 @@ ghost use Rattle.cola_laws.specs.Plain.{empty_levels, mutated, clock_after, all_
 /// While levels take steps, of which the visible runs and the finished shadows see nothing, a sound chain stays sound and
 /// is then so many steps ahead of the clock: `ahead` is 28 for a mutation, and 0 for one that is refused on its way.
 pub fn steps_keep_soundness<K: Ord, V>()
-    ensures {
-        (most ahead t : ℕ) (map : K → Option V) (top top_after : Level K V) (below below_after : List (Level K V)) → IsSoundFrom K.cmp most 0 t map top below →
-        top_after.visible ≡ top.visible → AreAdvanced K.cmp ahead t 1 top.visible below below_after → IsSoundFrom K.cmp most ahead t map top_after below_after
-    }
+    ensures { (most ahead t : ℕ) (map : K → Option V) (top top_after : Level K V) (below below_after : List (Level K V)) → IsSoundFrom K.cmp most 0 t map top below →
+        top_after.visible ≡ top.visible → AreAdvanced K.cmp ahead t 1 top.visible below below_after → IsSoundFrom K.cmp most ahead t map top_after below_after }
 {}
 
 /// One mutation keeps a sound chain sound, at any clock: 28 steps of each working level, level 0 built whole with the new
 /// item, and the flips give a chain that is sound at the next clock for the map with that key changed. The store has at
 /// least level 0 and one more, and is for at most `2 ^ (L + 2)` keys; the new map has at most so many.
 pub fn one_mutation_keeps<K: Ord, V>()
-    ensures {
-        (most t : ℕ) (map : K → Option V) (k : K) (item : Item V) (top built : Level K V) (below worked : List (Level K V)) → IsSound K.cmp most t map top below →
+    ensures { (most t : ℕ) (map : K → Option V) (k : K) (item : Item V) (top built : Level K V) (below worked : List (Level K V)) → IsSound K.cmp most t map top below →
         IsBuilt K.cmp t k item top below built → AreAdvanced K.cmp 28 t 1 top.visible below worked → most ≤ 2 ^ (length below + 2) →
-        HasAtMost K.cmp most (updated K.cmp k item map) → IsSound K.cmp most (suc t) (updated K.cmp k item map) (level_after t 0 built) (levels_after t 1 worked)
-    }
+        HasAtMost K.cmp most (updated K.cmp k item map) → IsSound K.cmp most (suc t) (updated K.cmp k item map) (level_after t 0 built) (levels_after t 1 worked) }
 {}
 
 /// A refused mutation keeps a sound chain sound for the same map at the same clock, whichever levels have taken how many
 /// steps, as long as level 0 is idle again.
 pub fn refused_mutation_keeps<K: Ord, V>()
-    ensures {
-        (most t : ℕ) (map : K → Option V) (top top_after : Level K V) (below below_after : List (Level K V)) → IsSound K.cmp most t map top below →
-        top_after.visible ≡ top.visible → IsIdle top_after → AreAdvanced K.cmp 0 t 1 top.visible below below_after → IsSound K.cmp most t map top_after below_after
-    }
+    ensures { (most t : ℕ) (map : K → Option V) (top top_after : Level K V) (below below_after : List (Level K V)) → IsSound K.cmp most t map top below →
+        top_after.visible ≡ top.visible → IsIdle top_after → AreAdvanced K.cmp 0 t 1 top.visible below below_after → IsSound K.cmp most t map top_after below_after }
 {}
 
 /// The chain of empty levels is sound for the empty map at clock 0.
@@ -46,12 +40,8 @@ pub fn empty_chain_is_sound<K: Ord, V>()
 /// The plain program for one mutation keeps a sound chain sound, and so does any list of mutations, each of which leaves a
 /// map of at most as many keys as the store is for, at a clock counted modulo `2 ^ (L + 1)`.
 pub fn whole_runs_keep<K: Ord, V>()
-    ensures one {
-        (most t : ℕ) (map : K → Option V) (k : K) (item : Item V) (levels : List (Level K V)) → IsSoundChain K.cmp most t map levels → most ≤ 2 ^ (length levels + 1) →
-        HasAtMost K.cmp most (updated K.cmp k item map) → IsSoundChain K.cmp most (suc t) (updated K.cmp k item map) (mutated K.cmp 28 t k item levels)
-    }
-    ensures all {
-        (most : ℕ) (changes : List (K × Item V)) (t : ℕ) (map : K → Option V) (levels : List (Level K V)) → IsSoundChain K.cmp most t map levels → most ≤ 2 ^ (length levels + 1) →
-        StayWithin K.cmp most changes map → IsSoundChain K.cmp most (clock_after (length levels) t changes) (all_updated K.cmp changes map) (all_mutated K.cmp t changes levels)
-    }
+    ensures one { (most t : ℕ) (map : K → Option V) (k : K) (item : Item V) (levels : List (Level K V)) → IsSoundChain K.cmp most t map levels → most ≤ 2 ^ (length levels + 1) →
+        HasAtMost K.cmp most (updated K.cmp k item map) → IsSoundChain K.cmp most (suc t) (updated K.cmp k item map) (mutated K.cmp 28 t k item levels) }
+    ensures all { (most : ℕ) (changes : List (K × Item V)) (t : ℕ) (map : K → Option V) (levels : List (Level K V)) → IsSoundChain K.cmp most t map levels → most ≤ 2 ^ (length levels + 1) →
+        StayWithin K.cmp most changes map → IsSoundChain K.cmp most (clock_after (length levels) t changes) (all_updated K.cmp changes map) (all_mutated K.cmp t changes levels) }
 {}
