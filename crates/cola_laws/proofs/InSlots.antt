@@ -1,17 +1,18 @@
 -- Flipping the marks flips the chain and moves no cell; and the marks of a sound chain meet the rules on marks.
-use Rattle.std.proofs.Common.{◌≡◌, inl, inr, ℕ, suc, ◌+◌, ◌/◌, ◌^◌, ◌≤◌, Bool, true, false, not, cond, List, [], ◌∷◌, length, refl, ap, subst, arith, Option}
+use Rattle.std.proofs.Common.{get_or, drop, ◌<◌, ◌≡◌, inl, inr, ℕ, zero, suc, sym, ◌∙◌, ◌%◌, ◌+◌, ◌/◌, ◌^◌, ◌≤◌, Bool, true, false, not, cond, List, [], ◌∷◌, length, refl, ap, subst, arith, Option}
 use mathlib.Core.Path.{ap₂}
 use Rattle.std.proofs.lemmas.Bool.{cases_Bool}
 use Rattle.std.specs.declared.cmp.Ordering.{Ordering}
 use Rattle.std.specs.Cmp.{IsTotalOrder}
-use Rattle.cola_clock.specs.Clock.{period, is_odd, is_over, works, flips, ends}
+use Rattle.cola_clock.specs.Clock.{period, is_odd, is_over, works, flips, ends, visible_slot}
+use Rattle.cola_clock.proofs.Places.{bit_cases}
 use Rattle.cola_clock.proofs.Laws.{is_odd-next_flip, is_odd-next_stay, before_else}
 use Rattle.cola_runs.specs.Cells.{Cell}
 use Rattle.cola_runs.proofs.Samples.{sample_length}
 use Rattle.cola_laws.specs.Chain.{Level, part_of, build_of, visibles, next_runs, first_keys}
 use Rattle.cola_laws.specs.Sound.{AreVisible, AreKept, IsIdle, IsAtRest, IsPaced, ArePaced, IsSound}
 use Rattle.cola_laws.specs.Mutation.{left_window, level_after, levels_after, IsWorkable, AreWorkable}
-use Rattle.cola_laws.specs.Slots.{Marks, marks_after, all_marks_after, marks_of, all_marks_of, level_of, levels_of, AreCursorsAtRest, AreMarksIdle, sample_end, AreAllMarks, AreChainMarks}
+use Rattle.cola_laws.specs.Slots.{Marks, AreLevelMarks, marks_after, all_marks_after, marks_of, all_marks_of, level_of, levels_of, AreCursorsAtRest, AreMarksIdle, sample_end, AreAllMarks, AreChainMarks}
 use Rattle.cola_laws.proofs.Lengths.{room-below, fit-length, visible-length-of, next-length}
 use Rattle.cola_laws.proofs.Workable.{all-workable, done-fits}
 
@@ -115,3 +116,32 @@ module _ {K V : Type 0} {cmp : K → K → Ordering} (o : IsTotalOrder cmp) (mos
         all_below = all-marks t 0 top.visible ls s.sound.visible.1 s.sound.paced s.sound.kept
             (all-workable o most t 0 top.visible ls s.sound.visible s.sound.few s.sound.kept room') (room-below most 0 (length ls) room');
       }
+
+-- ---- the rules by the number of a level
+
+-- the slot by the parity of the period
+pub slot-of_parity : (t j : ℕ) → visible_slot t j ≡ cond (is_odd (period t j)) 1 0
+unfolding visible_slot is_odd
+slot-of_parity t j = elim (bit_cases (period t j)) [ inl e ↦ rw e refl | inr e ↦ rw e refl ]
+
+-- the marks of each level, from those of the level above on
+pub marks-at : (t i : ℕ) (above : Marks) (ms : List Marks) (d : Marks) → AreAllMarks t i above.visible ms → (n : ℕ) → n < length ms →
+    AreLevelMarks t (i + n) (get_or (above ∷ ms) n d).visible (get_or ms n d) (drop (suc n) ms)
+marks-at t i above [] d h n less = absurd (omega arith)
+marks-at t i above (m ∷ ms) d h zero less = let e : i ≡ i + 0 = omega arith in subst (λ (x : ℕ). AreLevelMarks t x above.visible m ms) e h.0
+marks-at t i above (m ∷ ms) d h (suc n) less =
+    let e : suc i + n ≡ i + suc n = omega arith in
+    subst (λ (x : ℕ). AreLevelMarks t x (get_or (m ∷ ms) n d).visible (get_or ms n d) (drop (suc n) ms)) e (marks-at t (suc i) m ms d h.1 n (omega arith))
+
+-- how many keys a level samples, by the number of the level below it; none where there is none
+pub end-at : (odd : Bool) (n : ℕ) (ms : List Marks) (d : Marks) → n < length ms → sample_end odd (drop n ms) ≡ cond odd (get_or ms n d).shadow (get_or ms n d).visible / 8
+end-at odd zero [] d less = absurd (omega arith)
+end-at odd (suc n) [] d less = absurd (omega arith)
+end-at odd zero (m ∷ ms) d less = refl
+end-at odd (suc n) (m ∷ ms) d less = end-at odd n ms d (omega arith)
+
+pub end-past : (odd : Bool) (n : ℕ) (ms : List Marks) → length ms ≤ n → sample_end odd (drop n ms) ≡ 0
+end-past odd zero [] past = refl
+end-past odd (suc n) [] past = refl
+end-past odd zero (m ∷ ms) past = absurd (omega arith)
+end-past odd (suc n) (m ∷ ms) past = end-past odd n ms (omega arith)

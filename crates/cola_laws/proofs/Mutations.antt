@@ -9,6 +9,8 @@ use Rattle.cola_clock.proofs.Laws.{over-not_works, before-not_works, flips-zero}
 use Rattle.cola_runs.specs.Cells.{Item, Cell}
 use Rattle.cola_runs.specs.Seen.{Nothing, Old, holds, seen, answer, value_of}
 use Rattle.cola_runs.specs.Weave.{Part, weave}
+use Rattle.cola_runs.specs.Steps.{Build, consumed}
+use Rattle.cola_laws.proofs.Windows.{working-less}
 use Rattle.cola_laws.specs.Chain.{Level, part_of, build_of, visibles, shadows, next_runs, first_keys, value_at, updated}
 use Rattle.cola_laws.specs.Sound.{Keeps, AreFew, IsFinished, AreKept, IsIdle, IsAtRest, IsWorking, IsPaced, ArePaced, HasAtMost, IsSoundFrom, IsSound}
 use Rattle.cola_laws.specs.Mutation.{new_run, turned, level_after, levels_after, IsAdvanced, AreAdvanced, IsBuilt}
@@ -64,6 +66,30 @@ module _ {K V : Type 0} (cmp : K → K → Ordering) (ahead : ℕ) where
     },
     advanced-paced t (suc j) l.visible m.visible ls ms (sym h.0.visible) p.1 h.1,
   )
+
+module _ {K V : Type 0} (cmp : K → K → Ordering) where
+  -- a level that is so many steps further is fewer steps further too
+  fewer-advanced : (ahead fewer t j : ℕ) (above : List (Cell K V)) (l m : Level K V) (ls : List (Level K V)) → fewer ≤ ahead → IsAdvanced cmp ahead t j above l ls m → IsAdvanced cmp fewer t j above l ls m
+  fewer-advanced ahead fewer t j above l m ls h a = record {
+    visible = a.visible;
+    moves = λ work. working-less cmp _ l.visible above _ (consumed (build_of l) + ahead) (consumed (build_of l) + fewer) (build_of m) (omega arith) (a.moves work);
+    rests = a.rests;
+  }
+
+  pub all-fewer : (ahead fewer t j : ℕ) (above : List (Cell K V)) (ls ms : List (Level K V)) → fewer ≤ ahead → AreAdvanced cmp ahead t j above ls ms → AreAdvanced cmp fewer t j above ls ms
+  all-fewer ahead fewer t j above [] [] h a = tt
+  all-fewer ahead fewer t j above [] (m ∷ ms) h a = absurd a
+  all-fewer ahead fewer t j above (l ∷ ls) [] h a = absurd a
+  all-fewer ahead fewer t j above (l ∷ ls) (m ∷ ms) h a = (fewer-advanced ahead fewer t j above l m ls h a.0, all-fewer ahead fewer t (suc j) l.visible ls ms h a.1)
+
+  still-working : (part : Part) (own above : List (Cell K V)) (keys : List K) (least : ℕ) (build : Build K V) → IsWorking cmp part own above keys least build → IsWorking cmp part own above keys (consumed build + 0) build
+  still-working part own above keys least build w = record { under_way = w.under_way; enough = omega arith; sampled_done = w.sampled_done; done_consumed = w.done_consumed }
+
+  -- levels that take no step are none ahead
+  pub none-advanced : (ahead t j : ℕ) (above : List (Cell K V)) (ls : List (Level K V)) → ArePaced cmp ahead t j above ls → AreAdvanced cmp 0 t j above ls ls
+  none-advanced ahead t j above [] p = tt
+  none-advanced ahead t j above (l ∷ ls) p =
+      (record { visible = refl; moves = λ work. still-working _ l.visible above _ _ (build_of l) (p.0.inside work); rests = λ rests. refl }, none-advanced ahead t (suc j) l.visible ls p.1)
 
 -- level 0 has no window that could be over
 top-not_over : (t : ℕ) → is_over t 0 ≡ true → ⊥

@@ -34,11 +34,13 @@ pub fn no_build_overflows<K: Ord, V>()
 {}
 
 /// A build inside its window that goes on by so many steps of the merge is one that has consumed so many source cells
-/// more, or all that were left.
+/// more, or all that were left; and one that has done so many steps has done fewer.
 pub fn steps_go_on<K: Ord, V>()
-    ensures { (part : Part) (own incoming : List (Cell K V)) (keys : List K) (least count : ℕ) (before after : Build K V) → IsRising K.cmp own → IsRising K.cmp incoming →
+    ensures steps { (part : Part) (own incoming : List (Cell K V)) (keys : List K) (least count : ℕ) (before after : Build K V) → IsRising K.cmp own → IsRising K.cmp incoming →
         IsStrictlySortedBy K.cmp keys → IsWorking K.cmp part own incoming keys least before → steps.IsAdvanced K.cmp part own incoming keys count before after →
         IsWorking K.cmp part own incoming keys (consumed before + count) after }
+    ensures fewer { (part : Part) (own incoming : List (Cell K V)) (keys : List K) (least less : ℕ) (build : Build K V) → less ≤ least →
+        IsWorking K.cmp part own incoming keys least build → IsWorking K.cmp part own incoming keys less build }
 {}
 
 /// The visible run of each level, and its shadow where that is finished, fit its slots of `2 ^ (j + 2)` cells.

@@ -3,9 +3,9 @@
 ghost use Rattle.std.specs.Prelude.{◌≡◌, ℕ, ◌+◌, ◌^◌, ◌≤◌, suc, List, length};
 ghost use Rattle.std.specs.declared.option.Option.{Option};
 ghost use Rattle.std.specs.declared.option.Option.TheVariants.{None};
-ghost use Rattle.cola_runs.specs.Cells.{Item};
+ghost use Rattle.cola_runs.specs.Cells.{Item, Cell};
 ghost use Rattle.cola_laws.specs.Chain.{Level, updated};
-ghost use Rattle.cola_laws.specs.Sound.{IsIdle, HasAtMost, IsSoundFrom, IsSound};
+ghost use Rattle.cola_laws.specs.Sound.{IsIdle, ArePaced, HasAtMost, IsSoundFrom, IsSound};
 ghost use Rattle.cola_laws.specs.Mutation.{level_after, levels_after, AreAdvanced, IsBuilt};
 ghost use Rattle.cola_laws.specs.Plain.{empty_levels, mutated, clock_after, all_mutated, all_updated, StayWithin, IsSoundChain};
 
@@ -14,6 +14,14 @@ ghost use Rattle.cola_laws.specs.Plain.{empty_levels, mutated, clock_after, all_
 pub fn steps_keep_soundness<K: Ord, V>()
     ensures { (most ahead t : ℕ) (map : K → Option V) (top top_after : Level K V) (below below_after : List (Level K V)) → IsSoundFrom K.cmp most 0 t map top below →
         top_after.visible ≡ top.visible → AreAdvanced K.cmp ahead t 1 top.visible below below_after → IsSoundFrom K.cmp most ahead t map top_after below_after }
+{}
+
+/// How far steps count: a level that is so many steps further is fewer steps further too, and levels that take no step are
+/// none further.
+pub fn fewer_steps_count<K: Ord, V>()
+    ensures fewer { (ahead less t j : ℕ) (above : List (Cell K V)) (before after : List (Level K V)) → less ≤ ahead → AreAdvanced K.cmp ahead t j above before after →
+        AreAdvanced K.cmp less t j above before after }
+    ensures none { (ahead t j : ℕ) (above : List (Cell K V)) (levels : List (Level K V)) → ArePaced K.cmp ahead t j above levels → AreAdvanced K.cmp 0 t j above levels levels }
 {}
 
 /// One mutation keeps a sound chain sound, at any clock: 28 steps of each working level, level 0 built whole with the new

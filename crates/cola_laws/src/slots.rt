@@ -1,12 +1,13 @@
 //! Levels in their slots, and the rules on their lengths and cursors.
 
-ghost use Rattle.std.specs.Prelude.{◌≡◌, ℕ, ◌+◌, ◌^◌, ◌≤◌, suc, Bool, List, length};
+ghost use Rattle.std.specs.Prelude.{◌≡◌, ℕ, ◌+◌, ◌/◌, ◌^◌, ◌<◌, ◌≤◌, suc, Bool, if◌then◌else◌, List, ◌∷◌, length, drop, slice_index_or};
+ghost use Rattle.cola_clock.specs.Clock.{period, is_odd, visible_slot};
 ghost use Rattle.std.specs.declared.option.Option.{Option};
 ghost use Rattle.cola_runs.specs.Cells.{Cell};
 ghost use Rattle.cola_laws.specs.Chain.{Level};
 ghost use Rattle.cola_laws.specs.Sound.{IsSound};
 ghost use Rattle.cola_laws.specs.Mutation.{levels_after};
-ghost use Rattle.cola_laws.specs.Slots.{Marks, all_marks_after, marks_of, all_marks_of, levels_of, AreChainMarks};
+ghost use Rattle.cola_laws.specs.Slots.{Marks, all_marks_after, marks_of, all_marks_of, levels_of, sample_end, AreLevelMarks, AreChainMarks};
 
 /// Flipping the marks flips the chain and moves no cell: what stands in the slots gives, with the marks and the parities
 /// of the next clock, the levels after the flips.
@@ -19,4 +20,15 @@ pub fn flips_move_no_cell<K, V>()
 pub fn sound_marks<K: Ord, V>()
     ensures { (most t : ℕ) (map : K → Option V) (top : Level K V) (below : List (Level K V)) → IsSound K.cmp most t map top below → most ≤ 2 ^ (length below + 2) →
         AreChainMarks t (marks_of top) (all_marks_of below) }
+{}
+
+/// The rules on marks by the number of a level: level `j + 1` has its own by the visible length of the level above it, and
+/// the levels below it say how many keys it samples. The slot of a visible run goes by the parity of its period.
+pub fn marks_by_level()
+    ensures at_level { (t : ℕ) (top none : Marks) (below : List Marks) → AreChainMarks t top below → (j : ℕ) → j < length below →
+        AreLevelMarks t (1 + j) (slice_index_or (top ∷ below) j none).visible (slice_index_or below j none) (drop (suc j) below) }
+    ensures sample_end { (odd : Bool) (j : ℕ) (marks : List Marks) (none : Marks) → j < length marks →
+        sample_end odd (drop j marks) ≡ (if odd then (slice_index_or marks j none).shadow else (slice_index_or marks j none).visible) / 8 }
+    ensures at_bottom { (odd : Bool) (j : ℕ) (marks : List Marks) → length marks ≤ j → sample_end odd (drop j marks) ≡ 0 }
+    ensures slot { (t j : ℕ) → visible_slot t j ≡ (if is_odd (period t j) then 1 else 0) }
 {}
