@@ -255,3 +255,9 @@ changes_designed = refl
 bottom_keeps : changes_hold (record as_designed { bottom_part = record bottom_items { drops_tombstones = false } }) 24 ≡ false
 unfolding changes_hold
 bottom_keeps = refl
+
+-- ---- not all that the design says is needed: incoming items marked young in odd periods too break nothing
+
+young_in_odd_periods : holds_in (record as_designed { odd_part = record young_items { marks_young = true } }) 55 ≡ true
+unfolding holds_in
+young_in_odd_periods = refl

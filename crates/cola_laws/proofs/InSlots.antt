@@ -1,5 +1,5 @@
 -- Flipping the marks flips the chain and moves no cell; and the marks of a sound chain meet the rules on marks.
-use Rattle.std.proofs.Common.{get_or, drop, ◌<◌, ◌≡◌, inl, inr, ℕ, zero, suc, sym, ◌∙◌, ◌%◌, ◌+◌, ◌/◌, ◌^◌, ◌≤◌, Bool, true, false, not, cond, List, [], ◌∷◌, length, refl, ap, subst, arith, Option}
+use Rattle.std.proofs.Common.{get_or, drop, ◌<◌, ◌≡◌, inl, inr, ℕ, zero, suc, sym, ◌∙◌, ◌%◌, ◌+◌, ◌/◌, ◌^◌, ◌≤◌, Bool, true, false, not, cond, List, [], ◌∷◌, length, take, refl, ap, subst, arith, Option}
 use mathlib.Core.Path.{ap₂}
 use Rattle.std.proofs.lemmas.Bool.{cases_Bool}
 use Rattle.std.specs.declared.cmp.Ordering.{Ordering}
@@ -12,7 +12,7 @@ use Rattle.cola_runs.proofs.Samples.{sample_length}
 use Rattle.cola_laws.specs.Chain.{Level, part_of, build_of, visibles, next_runs, first_keys}
 use Rattle.cola_laws.specs.Sound.{AreVisible, AreKept, IsIdle, IsAtRest, IsPaced, ArePaced, IsSound}
 use Rattle.cola_laws.specs.Mutation.{left_window, level_after, levels_after, IsWorkable, AreWorkable}
-use Rattle.cola_laws.specs.Slots.{Marks, AreLevelMarks, marks_after, all_marks_after, marks_of, all_marks_of, level_of, levels_of, AreCursorsAtRest, AreMarksIdle, sample_end, AreAllMarks, AreChainMarks}
+use Rattle.cola_laws.specs.Slots.{Marks, AreHeld, AreLevelMarks, marks_after, all_marks_after, marks_of, all_marks_of, level_of, levels_of, AreCursorsAtRest, AreMarksIdle, sample_end, AreAllMarks, AreChainMarks}
 use Rattle.cola_laws.proofs.Lengths.{room-below, fit-length, visible-length-of, next-length}
 use Rattle.cola_laws.proofs.Workable.{all-workable, done-fits}
 
@@ -36,6 +36,22 @@ module _ {K V : Type 0} (slots : ℕ → Bool → List (Cell K V)) where
   pub flips-move_nothing : (t j : ℕ) (ms : List Marks) → levels_of slots (suc t) j (all_marks_after t j ms) ≡ levels_after t j (levels_of slots t j ms)
   flips-move_nothing t j [] = refl
   flips-move_nothing t j (m ∷ ms) = ap₂ (λ (x : Level K V) (xs : List (Level K V)). x ∷ xs) (flips-level t j m) (flips-move_nothing t (suc j) ms)
+
+-- ---- marks of levels in slots
+
+taken-length : {X : Type 0} (n : ℕ) (xs : List X) → n ≤ length xs → length (take n xs) ≡ n
+taken-length zero xs h = refl
+taken-length (suc n) [] h = absurd (omega arith)
+taken-length (suc n) (x ∷ xs) h = ap suc (taken-length n xs (omega arith))
+
+module _ {K V : Type 0} (slots : ℕ → Bool → List (Cell K V)) where
+  -- where the slots hold what the marks say, the levels in them have these marks
+  pub held-marks : (t j : ℕ) (ms : List Marks) → AreHeld slots t j ms → all_marks_of (levels_of slots t j ms) ≡ ms
+  held-marks t j [] h = refl
+  held-marks t j (m ∷ ms) h =
+      ap₂ (λ (x : Marks) (xs : List Marks). x ∷ xs)
+        (λ i. record { visible = taken-length m.visible (slots j (is_odd (period t j))) h.0 i; shadow = taken-length m.shadow (slots j (not (is_odd (period t j)))) h.1 i; own = m.own; incoming = m.incoming; sampled = m.sampled })
+        (held-marks t (suc j) ms h.2)
 
 -- ---- the rules on marks
 

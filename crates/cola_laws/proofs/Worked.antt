@@ -1,12 +1,12 @@
 -- The plain program computed on a store for 32 keys, four levels, in which the keys 1 to 32 are put in turn, each with
 -- the number of its put.
-use Rattle.std.proofs.Common.{◌≡◌, ℕ, zero, suc, ◌+◌, ◌%◌, true, false, List, [], ◌∷◌, refl, map, length, take}
+use Rattle.std.proofs.Common.{◌≡◌, ℕ, zero, suc, ◌+◌, ◌%◌, true, false, List, [], ◌∷◌, refl, map, length, Some, None, take, drop}
 use Rattle.std.specs.Ordering.{nat_cmp}
 use Rattle.cola_clock.specs.Clock.{period, is_odd, works, flips, ends, elapsed, window_step, window_length}
-use Rattle.cola_runs.specs.Cells.{Value, Cell, Entry, Look}
+use Rattle.cola_runs.specs.Cells.{Value, Cell, Entry, Look, link_of}
 use Rattle.cola_runs.specs.Weave.{weave, unlinked}
 use Rattle.cola_runs.specs.Steps.{step}
-use Rattle.cola_laws.specs.Chain.{Level}
+use Rattle.cola_laws.specs.Chain.{Level, visibles, value_at}
 use Rattle.cola_laws.specs.Plain.{empty_levels, mutated, worked, built}
 
 abbrev Chain : Type 0
@@ -83,3 +83,66 @@ visible_55 : visible_of (take 3 (puts 55)) ≡
     ∷ (35 ∷ 36 ∷ 37 ∷ 38 ∷ 39 ∷ 40 ∷ 1008 ∷ 41 ∷ 42 ∷ 143 ∷ 144 ∷ 145 ∷ 146 ∷ 1016 ∷ 1024 ∷ 1032 ∷ []) ∷ []
 unfolding puts visible_of shown
 visible_55 = refl
+
+marks_4 : marks_of (puts 4) ≡ (2 ∷ 0 ∷ 0 ∷ 0 ∷ 0 ∷ []) ∷ (2 ∷ 0 ∷ 0 ∷ 0 ∷ 0 ∷ []) ∷ (0 ∷ 0 ∷ 0 ∷ 0 ∷ 0 ∷ []) ∷ (0 ∷ 0 ∷ 0 ∷ 0 ∷ 0 ∷ []) ∷ []
+unfolding puts marks_of
+marks_4 = refl
+
+marks_8 : marks_of (puts 8) ≡ (2 ∷ 0 ∷ 0 ∷ 0 ∷ 0 ∷ []) ∷ (4 ∷ 0 ∷ 0 ∷ 0 ∷ 0 ∷ []) ∷ (2 ∷ 0 ∷ 0 ∷ 0 ∷ 0 ∷ []) ∷ (0 ∷ 0 ∷ 0 ∷ 0 ∷ 0 ∷ []) ∷ []
+unfolding puts marks_of
+marks_8 = refl
+
+marks_11 : marks_of (puts 11) ≡ (3 ∷ 0 ∷ 0 ∷ 0 ∷ 0 ∷ []) ∷ (6 ∷ 4 ∷ 0 ∷ 0 ∷ 0 ∷ []) ∷ (2 ∷ 6 ∷ 0 ∷ 0 ∷ 0 ∷ []) ∷ (0 ∷ 2 ∷ 0 ∷ 2 ∷ 0 ∷ []) ∷ []
+unfolding puts marks_of
+marks_11 = refl
+
+-- ---- links: of level 2's visible run after forty-three puts, and of all visible runs after fifty-five
+
+links_of : Chain → List (List ℕ)
+links_of = map (λ (l : Level ℕ ℕ). map link_of l.visible)
+
+links_43 : links_of (take 1 (drop 2 (puts 43))) ≡ (0 ∷ 0 ∷ 0 ∷ 8 ∷ 16 ∷ 24 ∷ 24 ∷ 24 ∷ 24 ∷ 24 ∷ 24 ∷ []) ∷ []
+unfolding puts links_of
+links_43 = refl
+
+visible_43 : visible_of (take 1 (drop 2 (puts 43))) ≡ (33 ∷ 34 ∷ 1008 ∷ 1016 ∷ 1024 ∷ 27 ∷ 28 ∷ 29 ∷ 30 ∷ 31 ∷ 32 ∷ []) ∷ []
+unfolding puts visible_of shown
+visible_43 = refl
+
+-- the bottom's shadow after twenty-eight of its thirty-seven steps
+shadow_43 : shadow_of (drop 3 (puts 43)) ≡ (33 ∷ 34 ∷ 3 ∷ 4 ∷ 5 ∷ 6 ∷ 7 ∷ 8 ∷ 9 ∷ 10 ∷ 11 ∷ 12 ∷ 13 ∷ 14 ∷ 15 ∷ 16 ∷ 17 ∷ 18 ∷ 19 ∷ 20 ∷ 21 ∷ 22 ∷ 23 ∷ []) ∷ []
+unfolding puts shadow_of shown
+shadow_43 = refl
+
+links_55 : links_of (take 3 (puts 55)) ≡
+    (0 ∷ 0 ∷ 0 ∷ 0 ∷ [])
+    ∷ (0 ∷ 8 ∷ 8 ∷ 8 ∷ 8 ∷ 8 ∷ 8 ∷ 8 ∷ [])
+    ∷ (0 ∷ 0 ∷ 0 ∷ 0 ∷ 0 ∷ 0 ∷ 0 ∷ 8 ∷ 8 ∷ 8 ∷ 8 ∷ 8 ∷ 8 ∷ 8 ∷ 16 ∷ 24 ∷ []) ∷ []
+unfolding puts links_of
+links_55 = refl
+
+-- the answers of all levels for key 24 after fifty-five puts, for key 11 after forty-three, and for a key that is in none
+value_24 : value_at nat_cmp (visibles (puts 55)) 24 ≡ Some 24
+unfolding puts
+value_24 = refl
+
+value_11 : value_at nat_cmp (visibles (puts 43)) 11 ≡ Some 43
+unfolding puts
+value_11 = refl
+
+value_33 : value_at nat_cmp (visibles (puts 55)) 33 ≡ None
+unfolding puts
+value_33 = refl
+
+-- ---- four old items in level 0 at clock 0, which no map gives: a fifth would overflow its slot, a second of a key would not
+
+crowded : Level ℕ ℕ
+crowded = record { visible = Entry 1 (Value 1) false 0 ∷ Entry 2 (Value 2) false 0 ∷ Entry 3 (Value 3) false 0 ∷ Entry 4 (Value 4) false 0 ∷ []; shadow = []; own = 0; incoming = 0; sampled = 0 }
+
+fifth : length (built nat_cmp 0 5 (Value 5) crowded (empty_levels 3)).shadow ≡ 5
+unfolding built crowded period is_odd weave unlinked
+fifth = refl
+
+second : length (built nat_cmp 0 2 (Value 9) crowded (empty_levels 3)).shadow ≡ 4
+unfolding built crowded period is_odd weave unlinked
+second = refl

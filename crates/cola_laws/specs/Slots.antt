@@ -49,6 +49,12 @@ module _ {K V : Type 0} where
   levels_of slots t j [] = []
   levels_of slots t j (m ∷ ms) = level_of slots t j m ∷ levels_of slots t (suc j) ms
 
+  -- the slots of level j and of all below it hold at least as many cells as the marks say
+  abbrev pub AreHeld : (ℕ → Bool → List (Cell K V)) → ℕ → ℕ → List Marks → Type 0
+  AreHeld slots t j [] = ⊤
+  AreHeld slots t j (m ∷ ms) =
+      (m.visible ≤ length (slots j (is_odd (period t j)))) × (m.shadow ≤ length (slots j (not (is_odd (period t j))))) × AreHeld slots t (suc j) ms
+
 -- cursors at 0
 pub record AreCursorsAtRest (m : Marks) : Type 0 where
   pub own_rests : m.own ≡ 0

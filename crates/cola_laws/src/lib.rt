@@ -26,4 +26,4 @@ pub use mutation::{
     steps_keep_soundness, whole_runs_keep,
 };
 pub use reading::{clock_may_wrap, few_live_keys, sound_reads, visible_runs_are_searched};
-pub use slots::{flips_move_no_cell, marks_by_level, sound_marks};
+pub use slots::{flips_move_no_cell, levels_have_their_marks, marks_by_level, sound_marks};

@@ -7,12 +7,17 @@ ghost use Rattle.cola_runs.specs.Cells.{Cell};
 ghost use Rattle.cola_laws.specs.Chain.{Level};
 ghost use Rattle.cola_laws.specs.Sound.{IsSound};
 ghost use Rattle.cola_laws.specs.Mutation.{levels_after};
-ghost use Rattle.cola_laws.specs.Slots.{Marks, all_marks_after, marks_of, all_marks_of, levels_of, sample_end, AreLevelMarks, AreChainMarks};
+ghost use Rattle.cola_laws.specs.Slots.{Marks, all_marks_after, marks_of, all_marks_of, levels_of, AreHeld, sample_end, AreLevelMarks, AreChainMarks};
 
 /// Flipping the marks flips the chain and moves no cell: what stands in the slots gives, with the marks and the parities
 /// of the next clock, the levels after the flips.
 pub fn flips_move_no_cell<K, V>()
     ensures { (slots : ℕ → Bool → List (Cell K V)) (t j : ℕ) (marks : List Marks) → levels_of slots (suc t) j (all_marks_after t j marks) ≡ levels_after t j (levels_of slots t j marks) }
+{}
+
+/// Levels in slots that hold as many cells as the marks say have these marks.
+pub fn levels_have_their_marks<K, V>()
+    ensures { (slots : ℕ → Bool → List (Cell K V)) (t j : ℕ) (marks : List Marks) → AreHeld slots t j marks → all_marks_of (levels_of slots t j marks) ≡ marks }
 {}
 
 /// The lengths and cursors of a sound chain meet the rules on marks: both runs of a level fit its slots, and its cursors
