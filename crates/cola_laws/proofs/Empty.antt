@@ -21,10 +21,10 @@ even-zero : (j : ℕ) → is_odd (period 0 j) ≡ false
 unfolding is_odd period
 even-zero j = let e : 0 / 2 ^ j ≡ 0 = zero-div (2 ^ j) in rw e refl
 
-not_over-zero : (j : ℕ) → is_over 0 (suc j) ≡ false
+pub not_over-zero : (j : ℕ) → is_over 0 (suc j) ≡ false
 not_over-zero j = is_over-suc 0 j ∙ even-zero j
 
-step-zero : (j : ℕ) → window_step 0 j ≡ 0
+pub step-zero : (j : ℕ) → window_step 0 j ≡ 0
 unfolding window_step elapsed
 step-zero zero = refl
 step-zero (suc zero) = refl

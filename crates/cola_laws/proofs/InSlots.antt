@@ -1,5 +1,5 @@
 -- Flipping the marks flips the chain and moves no cell; and the marks of a sound chain meet the rules on marks.
-use Rattle.std.proofs.Common.{get_or, drop, ◌<◌, ◌≡◌, inl, inr, ℕ, zero, suc, sym, ◌∙◌, ◌%◌, ◌+◌, ◌/◌, ◌^◌, ◌≤◌, Bool, true, false, not, cond, List, [], ◌∷◌, length, take, refl, ap, subst, arith, Option}
+use Rattle.std.proofs.Common.{get_or, drop, ◌<◌, ◌≡◌, inl, inr, ℕ, zero, suc, ◌+◌, ◌/◌, ◌^◌, ◌≤◌, Bool, true, false, not, cond, List, [], ◌∷◌, length, take, refl, ap, subst, arith, Option}
 use mathlib.Core.Path.{ap₂}
 use Rattle.std.proofs.lemmas.Bool.{cases_Bool}
 use Rattle.std.specs.declared.cmp.Ordering.{Ordering}
@@ -50,8 +50,8 @@ module _ {K V : Type 0} (slots : ℕ → Bool → List (Cell K V)) where
   held-marks t j [] h = refl
   held-marks t j (m ∷ ms) h =
       ap₂ (λ (x : Marks) (xs : List Marks). x ∷ xs)
-        (λ i. record { visible = taken-length m.visible (slots j (is_odd (period t j))) h.0 i; shadow = taken-length m.shadow (slots j (not (is_odd (period t j)))) h.1 i; own = m.own; incoming = m.incoming; sampled = m.sampled })
-        (held-marks t (suc j) ms h.2)
+      (λ i. record { visible = taken-length m.visible (slots j (is_odd (period t j))) h.0 i; shadow = taken-length m.shadow (slots j (not (is_odd (period t j)))) h.1 i; own = m.own; incoming = m.incoming; sampled = m.sampled })
+      (held-marks t (suc j) ms h.2)
 
 -- ---- the rules on marks
 

@@ -15,6 +15,7 @@ pub mod Programs
 pub mod Empty
 pub mod InSlots
 pub mod Facts
+pub mod Loaded
 mod Tested
 mod Ablated
 mod Worked

@@ -68,7 +68,7 @@ module _ {K V : Type 0} {cmp : K → K → Ordering} (o : IsTotalOrder cmp) wher
   keys-above k v l (Entry k' Tombstone y m ∷ run) h a = absurd h.0
   keys-above k v l (Look k' m ∷ run) h a = absurd h.0
 
-  keys-sorted : (run : List (Cell K V)) → AllByRecursion IsOldValue run → IsRising cmp run → IsStrictlySortedBy cmp (map key_of run)
+  pub keys-sorted : (run : List (Cell K V)) → AllByRecursion IsOldValue run → IsRising cmp run → IsStrictlySortedBy cmp (map key_of run)
   unfolding IsStrictlySortedBy
   keys-sorted [] h r = tt
   keys-sorted (Entry k (Value v) false l ∷ run) h r = (keys-above k v l run h.1 r.0, keys-sorted run h.1 r.1)
@@ -76,7 +76,7 @@ module _ {K V : Type 0} {cmp : K → K → Ordering} (o : IsTotalOrder cmp) wher
   keys-sorted (Entry k Tombstone y l ∷ run) h r = absurd h.0
   keys-sorted (Look k l ∷ run) h r = absurd h.0
 
-  keys-length : (run : List (Cell K V)) → length (map key_of run) ≡ length run
+  pub keys-length : (run : List (Cell K V)) → length (map key_of run) ≡ length run
   keys-length [] = refl
   keys-length (c ∷ run) = ap suc (keys-length run)
 

@@ -1,13 +1,13 @@
 -- The plain program computed on a store for 32 keys, four levels, in which the keys 1 to 32 are put in turn, each with
 -- the number of its put.
-use Rattle.std.proofs.Common.{◌≡◌, ℕ, zero, suc, ◌+◌, ◌%◌, true, false, List, [], ◌∷◌, refl, map, length, Some, None, take, drop}
+use Rattle.std.proofs.Common.{◌≡◌, ℕ, zero, suc, ◌+◌, ◌-◌, ◌%◌, true, false, List, [], ◌∷◌, refl, map, length, Some, None, take, drop}
 use Rattle.std.specs.Ordering.{nat_cmp}
 use Rattle.cola_clock.specs.Clock.{period, is_odd, works, flips, ends, elapsed, window_step, window_length}
 use Rattle.cola_runs.specs.Cells.{Value, Cell, Entry, Look, link_of}
 use Rattle.cola_runs.specs.Weave.{weave, unlinked}
 use Rattle.cola_runs.specs.Steps.{step}
 use Rattle.cola_laws.specs.Chain.{Level, visibles, value_at}
-use Rattle.cola_laws.specs.Plain.{empty_levels, mutated, worked, built}
+use Rattle.cola_laws.specs.Plain.{empty_levels, loaded, mutated, worked, built}
 
 abbrev Chain : Type 0
 Chain = List (Level ℕ ℕ)
@@ -146,3 +146,21 @@ fifth = refl
 second : length (built nat_cmp 0 2 (Value 9) crowded (empty_levels 3)).shadow ≡ 4
 unfolding built crowded period is_odd weave unlinked
 second = refl
+
+-- ---- a bottom of thirty-two keys, with three levels of lookahead cells alone over it
+
+bottom_32 : ℕ → List (Cell ℕ ℕ)
+bottom_32 zero = []
+bottom_32 (suc n) = Entry (32 - n) (Value (32 - n)) false 0 ∷ bottom_32 n
+
+loaded_32 : visible_of (take 3 (loaded 3 (bottom_32 32))) ≡ [] ∷ [] ∷ (1008 ∷ 1016 ∷ 1024 ∷ 1032 ∷ []) ∷ []
+unfolding visible_of shown bottom_32
+loaded_32 = refl
+
+loaded_links : links_of (take 3 (loaded 3 (bottom_32 32))) ≡ [] ∷ [] ∷ (0 ∷ 8 ∷ 16 ∷ 24 ∷ []) ∷ []
+unfolding links_of bottom_32
+loaded_links = refl
+
+loaded_value : value_at nat_cmp (visibles (loaded 3 (bottom_32 32))) 17 ≡ Some 17
+unfolding bottom_32
+loaded_value = refl

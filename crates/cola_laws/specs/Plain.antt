@@ -1,12 +1,12 @@
 -- A plain slow program for one mutation, on whole lists: it computes what the laws speak of on small stores.
-use Rattle.std.specs.Prelude.{ℕ, zero, suc, ◌^◌, ◌%◌, cond, List, [], ◌∷◌, length, ⊤}
+use Rattle.std.specs.Prelude.{ℕ, zero, suc, ◌^◌, ◌%◌, cond, List, [], ◌∷◌, length, map, ⊤}
 use Rattle.std.specs.declared.option.Option.{Option}
 use Rattle.std.specs.declared.cmp.Ordering.{Ordering}
 use Rattle.cola_clock.specs.Clock.{period, is_odd, works}
 use Rattle.cola_runs.specs.Cells.{Item, Cell}
-use Rattle.cola_runs.specs.Weave.{weave}
+use Rattle.cola_runs.specs.Weave.{look_at, relinked, weave}
 use Rattle.cola_runs.specs.Steps.{Build, steps}
-use Rattle.cola_laws.specs.Chain.{Level, part_of, build_of, next_runs, first_keys, updated}
+use Rattle.cola_laws.specs.Chain.{Level, part_of, build_of, visibles, next_runs, first_keys, updated}
 use Rattle.cola_laws.specs.Sound.{HasAtMost, IsSound}
 use Rattle.cola_laws.specs.Mutation.{new_run, levels_after}
 
@@ -23,6 +23,19 @@ module _ {K V : Type 0} where
   abbrev pub empty_levels : ℕ → List (Level K V)
   empty_levels zero = []
   empty_levels (suc n) = empty_level ∷ empty_levels n
+
+  -- a level with this visible run and nothing else
+  abbrev pub showing : List (Cell K V) → Level K V
+  showing run = record { visible = run; shadow = []; own = 0; incoming = 0; sampled = 0 }
+
+  -- the run of one lookahead cell for each of these keys
+  abbrev pub look_run : List K → List (Cell K V)
+  look_run keys = relinked 0 (map look_at keys)
+
+  -- so many levels over a bottom with this run, each with the sample of the run below it as lookahead cells alone
+  abbrev pub loaded : ℕ → List (Cell K V) → List (Level K V)
+  loaded zero run = showing run ∷ []
+  loaded (suc n) run = showing (look_run (first_keys (visibles (loaded n run)))) ∷ loaded n run
 
   -- the level with this build of its shadow
   abbrev pub with_build : Level K V → Build K V → Level K V

@@ -1,13 +1,13 @@
 //! One mutation, a refused one, and whole runs of mutations.
 
-ghost use Rattle.std.specs.Prelude.{◌≡◌, ℕ, ◌+◌, ◌^◌, ◌≤◌, suc, List, length};
+ghost use Rattle.std.specs.Prelude.{◌≡◌, ℕ, ◌+◌, ◌^◌, ◌≤◌, suc, List, [], ◌∷◌, length};
 ghost use Rattle.std.specs.declared.option.Option.{Option};
 ghost use Rattle.std.specs.declared.option.Option.TheVariants.{None};
 ghost use Rattle.cola_runs.specs.Cells.{Item, Cell};
-ghost use Rattle.cola_laws.specs.Chain.{Level, updated};
-ghost use Rattle.cola_laws.specs.Sound.{IsIdle, ArePaced, HasAtMost, IsSoundFrom, IsSound};
+ghost use Rattle.cola_laws.specs.Chain.{Level, updated, value_at};
+ghost use Rattle.cola_laws.specs.Sound.{IsBottomRun, IsIdle, ArePaced, HasAtMost, IsSoundFrom, IsSound};
 ghost use Rattle.cola_laws.specs.Mutation.{level_after, levels_after, AreAdvanced, IsBuilt};
-ghost use Rattle.cola_laws.specs.Plain.{empty_levels, mutated, clock_after, all_mutated, all_updated, StayWithin, IsSoundChain};
+ghost use Rattle.cola_laws.specs.Plain.{empty_levels, loaded, mutated, clock_after, all_mutated, all_updated, StayWithin, IsSoundChain};
 
 /// While levels take steps, of which the visible runs and the finished shadows see nothing, a sound chain stays sound and
 /// is then so many steps ahead of the clock: `ahead` is 28 for a mutation, and 0 for one that is refused on its way.
@@ -43,6 +43,12 @@ pub fn refused_mutation_keeps<K: Ord, V>()
 /// The chain of empty levels is sound for the empty map at clock 0.
 pub fn empty_chain_is_sound<K: Ord, V>()
     ensures { (most n : ℕ) → IsSoundChain K.cmp most 0 (λ (q : K). None) (empty_levels {K = K} {V = V} (suc n)) }
+{}
+
+/// A chain whose bottom alone has items, all levels above with the sample of the run below as lookahead cells and empty
+/// shadows, is sound at clock 0 for the map that the bottom's run gives.
+pub fn loaded_chain_is_sound<K: Ord, V>()
+    ensures { (most n : ℕ) (run : List (Cell K V)) → IsBottomRun K.cmp most run → IsSoundChain K.cmp most 0 (value_at K.cmp (run ∷ [])) (loaded (suc n) run) }
 {}
 
 /// The plain program for one mutation keeps a sound chain sound, and so does any list of mutations, each of which leaves a
