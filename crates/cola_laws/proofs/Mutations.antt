@@ -174,7 +174,7 @@ module _ {K V : Type 0} {cmp : K → K → Ordering} (o : IsTotalOrder cmp) (mos
       ∙ ap (λ (x : List (Cell K V)). weave cmp (part_of (is_odd (period t 0)) ms) x (new_run k item) (first_keys (next_runs t 0 ls))) (sym b.visible)
       ∙ ap (λ (xs : List (List (Cell K V))). weave cmp (part_of (is_odd (period t 0)) ms) built.visible (new_run k item) (first_keys xs)) (alike-next_runs t t 0 ls ms refl below) in
       flipped-sound t map k item built ms (advance cmp most 28 t map top built ls ms s.sound b.visible h)
-      (record { own_rests = b.own_rests ∙ s.idle.own_rests; incoming_rests = b.incoming_rests ∙ s.idle.incoming_rests; sampled_rests = b.sampled_rests ∙ s.idle.sampled_rests })
+      b.at_rest
       whole (subst (λ (x : ℕ). most ≤ 2 ^ (x + 2)) (advanced-length 28 t 1 top.visible ls ms h) room) few
 
 module _ {K V : Type 0} (cmp : K → K → Ordering) (most : ℕ) where

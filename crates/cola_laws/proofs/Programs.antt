@@ -59,7 +59,7 @@ module _ {K V : Type 0} {cmp : K → K → Ordering} (o : IsTotalOrder cmp) (cou
 module _ {K V : Type 0} {cmp : K → K → Ordering} (o : IsTotalOrder cmp) (most : ℕ) where
   built-is : (t : ℕ) (k : K) (item : Item V) (top : Level K V) (ls : List (Level K V)) → IsBuilt cmp t k item top ls (built cmp t k item top ls)
   unfolding built
-  built-is t k item top ls = record { visible = refl; shadow = refl; own_rests = refl; incoming_rests = refl; sampled_rests = refl }
+  built-is t k item top ls = record { visible = refl; shadow = refl; at_rest = record { own_rests = refl; incoming_rests = refl; sampled_rests = refl } }
 
   pub mutated-sound : (t : ℕ) (map : K → Option V) (k : K) (item : Item V) (ls : List (Level K V)) → IsSoundChain cmp most t map ls → most ≤ 2 ^ (length ls + 1) →
       HasAtMost cmp most (updated cmp k item map) → IsSoundChain cmp most (suc t) (updated cmp k item map) (mutated cmp 28 t k item ls)

@@ -7,7 +7,7 @@ use Rattle.cola_runs.specs.Cells.{Item, Cell, Entry, IsRising}
 use Rattle.cola_runs.specs.Weave.{Part, weave}
 use Rattle.cola_runs.specs.Steps.{consumed}
 use Rattle.cola_laws.specs.Chain.{Level, part_of, build_of, next_runs, first_keys}
-use Rattle.cola_laws.specs.Sound.{IsWorking}
+use Rattle.cola_laws.specs.Sound.{IsAtRest, IsWorking}
 
 -- the run of the one new item, which is what level 0 takes in
 abbrev pub new_run : {K V : Type 0} → K → Item V → List (Cell K V)
@@ -46,13 +46,11 @@ module _ {K V : Type 0} (cmp : K → K → Ordering) where
   AreAdvanced ahead t j above (l ∷ ls) [] = ⊥
   AreAdvanced ahead t j above (l ∷ ls) (m ∷ ms) = IsAdvanced ahead t j above l ls m × AreAdvanced ahead t (suc j) l.visible ls ms
 
-  -- level 0 with its shadow built whole from its visible run, the new item and the sample
+  -- level 0 with its shadow built whole from its visible run, the new item and the sample, and its cursors at 0
   pub record IsBuilt (t : ℕ) (k : K) (item : Item V) (top : Level K V) (below : List (Level K V)) (built : Level K V) : Type 0 where
     pub visible : built.visible ≡ top.visible
     pub shadow : built.shadow ≡ weave cmp (part_of (is_odd (period t 0)) below) top.visible (new_run k item) (first_keys (next_runs t 0 below))
-    pub own_rests : built.own ≡ top.own
-    pub incoming_rests : built.incoming ≡ top.incoming
-    pub sampled_rests : built.sampled ≡ top.sampled
+    pub at_rest : IsAtRest built
 
   -- a build that level j can do: its sources are in order, it samples at most 2^j keys, and the weave fits the slot
   pub record IsBuildable (part : Part) (j : ℕ) (own incoming : List (Cell K V)) (keys : List K) : Type 0 where

@@ -64,9 +64,9 @@ module _ {K V : Type 0} (cmp : K → K → Ordering) where
   built t k item top below = record {
     visible = top.visible;
     shadow = weave cmp (part_of (is_odd (period t 0)) below) top.visible (new_run k item) (first_keys (next_runs t 0 below));
-    own = top.own;
-    incoming = top.incoming;
-    sampled = top.sampled;
+    own = 0;
+    incoming = 0;
+    sampled = 0;
   }
 
   -- the levels after one mutation at clock t that gives key k this item, with so many steps of each working level
