@@ -1,5 +1,5 @@
 -- What the code above the laws asks of a sound chain.
-use Rattle.std.proofs.Common.{◌≡◌, inl, inr, ℕ, suc, ◌+◌, ◌^◌, ◌≤◌, not, List, [], ◌∷◌, length, sym, ◌∙◌, arith, Option}
+use Rattle.std.proofs.Common.{◌≡◌, inl, inr, ℕ, suc, ◌+◌, ◌^◌, ◌≤◌, Bool, true, false, cond, refl, not, List, [], ◌∷◌, length, sym, ◌∙◌, arith, Option}
 use Rattle.std.specs.Option.{IsSome}
 use Rattle.std.specs.declared.cmp.Ordering.{Ordering}
 use Rattle.std.specs.declared.cmp.Ordering.TheVariants.{Less}
@@ -8,7 +8,7 @@ use Rattle.std.specs.List.{AllByRecursion}
 use Rattle.std.specs.List.Sorted.{IsStrictlySortedBy}
 use Rattle.cola_clock.specs.Clock.{period, is_odd}
 use Rattle.cola_clock.proofs.Laws.{flips-over}
-use Rattle.cola_runs.specs.Cells.{Cell}
+use Rattle.cola_runs.specs.Cells.{Cell, sample}
 use Rattle.cola_runs.specs.Seen.{holds, seen, answer}
 use Rattle.cola_runs.specs.Search.{AreSampled}
 use Rattle.cola_runs.proofs.Order.{all_change}
@@ -19,6 +19,24 @@ use Rattle.cola_laws.proofs.Shadows.{shadows-answer}
 use Rattle.cola_laws.proofs.Live.{map-of_few}
 use Rattle.cola_laws.proofs.Lengths.{room-below, fit-length, next-length}
 use Rattle.cola_laws.proofs.Next.{kept-carried}
+
+keys-nothing : (K V : Type 0) (odd : Bool) → first_keys {K = K} {V = V} (cond odd [] []) ≡ []
+keys-nothing K V true = refl
+keys-nothing K V false = refl
+
+-- nothing is sampled at the bottom
+pub sampled-nothing : (K V : Type 0) (t j : ℕ) → first_keys (next_runs {K = K} {V = V} t j []) ≡ []
+sampled-nothing K V t j = keys-nothing K V (is_odd (period t j))
+
+module _ {K V : Type 0} where
+  keys-choice : (odd : Bool) (shadow visible : List (Cell K V)) (flipping staying : List (List (Cell K V))) →
+      first_keys (cond odd (shadow ∷ flipping) (visible ∷ staying)) ≡ sample (cond odd shadow visible)
+  keys-choice true shadow visible flipping staying = refl
+  keys-choice false shadow visible flipping staying = refl
+
+  -- what a build above the bottom samples: the shadow of the level below in an odd period, its visible run in an even one
+  pub sampled-run : (t j : ℕ) (m : Level K V) (ms : List (Level K V)) → first_keys (next_runs t j (m ∷ ms)) ≡ sample (cond (is_odd (period t j)) m.shadow m.visible)
+  sampled-run t j m ms = keys-choice (is_odd (period t j)) m.shadow m.visible _ _
 
 module _ {K V : Type 0} (cmp : K → K → Ordering) (most : ℕ) where
   -- a finished shadow with its next runs answers as the run above it and the visible runs from its level on do, for a key

@@ -1,17 +1,25 @@
 //! The builds of a sound chain: they can be done, in time, and overflow no slot.
 
-ghost use Rattle.std.specs.Prelude.{◌≡◌, ℕ, ◌+◌, ◌^◌, ◌≤◌, suc, List, [], ◌∷◌, length};
+ghost use Rattle.std.specs.Prelude.{◌≡◌, if◌then◌else◌, ℕ, ◌+◌, ◌^◌, ◌≤◌, suc, List, [], ◌∷◌, length};
 ghost use Rattle.std.specs.declared.option.Option.{Option};
 ghost use Rattle.std.specs.List.{AllByRecursion};
 ghost use Rattle.std.specs.List.Sorted.{IsStrictlySortedBy};
 ghost use Rattle.cola_clock.specs.Clock.{period, is_odd};
-ghost use Rattle.cola_runs.specs.Cells.{Item, Cell, IsRising, IsOldValue};
+ghost use Rattle.cola_runs.specs.Cells.{Item, Cell, IsRising, IsOldValue, sample};
 ghost use Rattle.cola_runs.specs.Weave.{Part};
 ghost use Rattle.cola_runs.specs.Steps.{Build, consumed, IsUnderWay};
 ghost use Rattle.cola_runs.specs.Steps as steps;
 ghost use Rattle.cola_laws.specs.Chain.{Level, part_of, visibles, next_runs, first_keys};
 ghost use Rattle.cola_laws.specs.Sound.{AreVisible, AreFew, IsFinished, AreKept, IsWorking, IsSoundFrom};
 ghost use Rattle.cola_laws.specs.Mutation.{IsBuildable, AreWorkable, new_run};
+
+/// What a build samples: in an odd period the shadow of the level below, in an even one its visible run, and nothing at
+/// the bottom.
+pub fn builds_sample_one_run<K, V>()
+    ensures above_bottom { (t j : ℕ) (next : Level K V) (below : List (Level K V)) →
+        first_keys (next_runs t j (next ∷ below)) ≡ sample (if is_odd (period t j) then next.shadow else next.visible) }
+    ensures at_bottom { (t j : ℕ) → first_keys (next_runs {K = K} {V = V} t j []) ≡ [] }
+{}
 
 /// Each level of a sound chain that works at its clock has a build that it can do: its sources are in order, their weave
 /// fits its slot, and 28 steps for each mutation of its window are enough.

@@ -14,8 +14,8 @@ mod reading;
 mod slots;
 
 pub use builds::{
-    bottom_is_short, builds_can_be_done, no_build_overflows, runs_fit_their_slots, steps_go_on,
-    top_can_be_built,
+    bottom_is_short, builds_can_be_done, builds_sample_one_run, no_build_overflows,
+    runs_fit_their_slots, steps_go_on, top_can_be_built,
 };
 pub use flips::{
     finished_shadow_answers, flipping_levels_are_finished, flips_keep_soundness,
