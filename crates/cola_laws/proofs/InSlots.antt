@@ -1,5 +1,5 @@
 -- Flipping the marks flips the chain and moves no cell; and the marks of a sound chain meet the rules on marks.
-use Rattle.std.proofs.Common.{get_or, drop, ◌<◌, ◌≡◌, inl, inr, ℕ, zero, suc, ◌+◌, ◌/◌, ◌^◌, ◌≤◌, Bool, true, false, not, cond, List, [], ◌∷◌, length, take, refl, ap, subst, arith, Option}
+use Rattle.std.proofs.Common.{get_or, drop, ◌<◌, ◌≡◌, inl, inr, ℕ, zero, suc, ◌+◌, ◌/◌, ◌^◌, ◌≤◌, Bool, true, false, not, cond, List, [], ◌∷◌, length, refl, ap, subst, arith, Option, ◌-◌, ◌∙◌, sym}
 use mathlib.Core.Path.{ap₂}
 use Rattle.std.proofs.lemmas.Bool.{cases_Bool}
 use Rattle.std.specs.declared.cmp.Ordering.{Ordering}
@@ -11,47 +11,67 @@ use Rattle.cola_runs.specs.Cells.{Cell}
 use Rattle.cola_runs.proofs.Samples.{sample_length}
 use Rattle.cola_laws.specs.Chain.{Level, part_of, build_of, visibles, next_runs, first_keys}
 use Rattle.cola_laws.specs.Sound.{AreVisible, AreKept, IsIdle, IsAtRest, IsPaced, ArePaced, IsSound}
-use Rattle.cola_laws.specs.Mutation.{left_window, level_after, levels_after, IsWorkable, AreWorkable}
+use Rattle.cola_laws.specs.Mutation.{turned, left_window, level_after, levels_after, IsWorkable, AreWorkable}
 use Rattle.cola_laws.specs.Slots.{Marks, AreHeld, AreLevelMarks, marks_after, all_marks_after, marks_of, all_marks_of, level_of, levels_of, AreCursorsAtRest, AreMarksIdle, sample_end, AreAllMarks, AreChainMarks}
 use Rattle.cola_laws.proofs.Lengths.{room-below, fit-length, visible-length-of, next-length}
 use Rattle.cola_laws.proofs.Workable.{all-workable, done-fits}
 
 -- ---- flips in slots
 
-module _ {K V : Type 0} (slots : ℕ → Bool → List (Cell K V)) where
-  stays-level : (t j : ℕ) (leaves : Bool) (m : Marks) → flips t j ≡ false →
-      level_of slots (suc t) j (cond leaves (record { visible = m.visible; shadow = m.shadow; own = 0; incoming = 0; sampled = 0 }) m)
-      ≡ cond leaves (left_window (level_of slots t j m)) (level_of slots t j m)
-  stays-level t j true m stay = rw (is_odd-next_stay t j stay) refl
-  stays-level t j false m stay = rw (is_odd-next_stay t j stay) refl
+-- the slot by the parity of the period
+pub slot-of_parity : (t j : ℕ) → visible_slot t j ≡ cond (is_odd (period t j)) 1 0
+unfolding visible_slot is_odd
+slot-of_parity t j = elim (bit_cases (period t j)) [ inl e ↦ rw e refl | inr e ↦ rw e refl ]
 
-  flips-level : (t j : ℕ) (m : Marks) → level_of slots (suc t) j (marks_after t j m) ≡ level_after t j (level_of slots t j m)
+-- a level that flips has its visible run in its other slot then, and one that stays in the same
+turned-slot : (odd : Bool) → cond (not odd) 1 0 ≡ 1 - cond odd 1 0
+turned-slot true = refl
+turned-slot false = refl
+
+slot-turns : (t j : ℕ) → flips t j ≡ true → visible_slot (suc t) j ≡ 1 - visible_slot t j
+slot-turns t j flip =
+    slot-of_parity (suc t) j ∙ ap (λ (b : Bool). cond b 1 0) (is_odd-next_flip t j flip) ∙ turned-slot (is_odd (period t j)) ∙ ap (λ (n : ℕ). 1 - n) (sym (slot-of_parity t j))
+
+slot-stays : (t j : ℕ) → flips t j ≡ false → visible_slot (suc t) j ≡ visible_slot t j
+slot-stays t j stay = slot-of_parity (suc t) j ∙ ap (λ (b : Bool). cond b 1 0) (is_odd-next_stay t j stay) ∙ sym (slot-of_parity t j)
+
+module _ {K V : Type 0} (cells : ℕ → ℕ → ℕ → List (Cell K V)) (none : (j s : ℕ) → cells j s 0 ≡ []) where
+  turns-level : (t j : ℕ) (m : Marks) → flips t j ≡ true →
+      level_of cells (suc t) j (record { visible = m.shadow; shadow = 0; own = m.own; incoming = m.incoming; sampled = m.sampled }) ≡ turned (level_of cells t j m)
+  turns-level t j m flip = λ i. record {
+    visible = cells j (slot-turns t j flip i) m.shadow;
+    shadow = none j (1 - visible_slot (suc t) j) i;
+    own = m.own;
+    incoming = m.incoming;
+    sampled = m.sampled;
+  }
+
+  stays-level : (t j : ℕ) (leaves : Bool) (m : Marks) → flips t j ≡ false →
+      level_of cells (suc t) j (cond leaves (record { visible = m.visible; shadow = m.shadow; own = 0; incoming = 0; sampled = 0 }) m)
+      ≡ cond leaves (left_window (level_of cells t j m)) (level_of cells t j m)
+  stays-level t j true m stay = rw (slot-stays t j stay) refl
+  stays-level t j false m stay = rw (slot-stays t j stay) refl
+
+  flips-level : (t j : ℕ) (m : Marks) → level_of cells (suc t) j (marks_after t j m) ≡ level_after t j (level_of cells t j m)
   flips-level t j m =
       elim (cases_Bool (flips t j)) [
-        | inl flip ↦ rw (flip, is_odd-next_flip t j flip) refl
+        | inl flip ↦ rw flip (turns-level t j m flip)
         | inr stay ↦ rw stay (stays-level t j (ends t j) m stay)
       ]
 
   -- the levels in their slots at the next clock, with the marks flipped, are the levels flipped
-  pub flips-move_nothing : (t j : ℕ) (ms : List Marks) → levels_of slots (suc t) j (all_marks_after t j ms) ≡ levels_after t j (levels_of slots t j ms)
+  pub flips-move_nothing : (t j : ℕ) (ms : List Marks) → levels_of cells (suc t) j (all_marks_after t j ms) ≡ levels_after t j (levels_of cells t j ms)
   flips-move_nothing t j [] = refl
   flips-move_nothing t j (m ∷ ms) = ap₂ (λ (x : Level K V) (xs : List (Level K V)). x ∷ xs) (flips-level t j m) (flips-move_nothing t (suc j) ms)
 
 -- ---- marks of levels in slots
 
-taken-length : {X : Type 0} (n : ℕ) (xs : List X) → n ≤ length xs → length (take n xs) ≡ n
-taken-length zero xs h = refl
-taken-length (suc n) [] h = absurd (omega arith)
-taken-length (suc n) (x ∷ xs) h = ap suc (taken-length n xs (omega arith))
-
-module _ {K V : Type 0} (slots : ℕ → Bool → List (Cell K V)) where
+module _ {K V : Type 0} (cells : ℕ → ℕ → ℕ → List (Cell K V)) where
   -- where the slots hold what the marks say, the levels in them have these marks
-  pub held-marks : (t j : ℕ) (ms : List Marks) → AreHeld slots t j ms → all_marks_of (levels_of slots t j ms) ≡ ms
+  pub held-marks : (t j : ℕ) (ms : List Marks) → AreHeld cells t j ms → all_marks_of (levels_of cells t j ms) ≡ ms
   held-marks t j [] h = refl
   held-marks t j (m ∷ ms) h =
-      ap₂ (λ (x : Marks) (xs : List Marks). x ∷ xs)
-      (λ i. record { visible = taken-length m.visible (slots j (is_odd (period t j))) h.0 i; shadow = taken-length m.shadow (slots j (not (is_odd (period t j)))) h.1 i; own = m.own; incoming = m.incoming; sampled = m.sampled })
-      (held-marks t (suc j) ms h.2)
+      ap₂ (λ (x : Marks) (xs : List Marks). x ∷ xs) (λ i. record { visible = h.0 i; shadow = h.1 i; own = m.own; incoming = m.incoming; sampled = m.sampled }) (held-marks t (suc j) ms h.2)
 
 -- ---- the rules on marks
 
@@ -134,11 +154,6 @@ module _ {K V : Type 0} {cmp : K → K → Ordering} (o : IsTotalOrder cmp) (mos
       }
 
 -- ---- the rules by the number of a level
-
--- the slot by the parity of the period
-pub slot-of_parity : (t j : ℕ) → visible_slot t j ≡ cond (is_odd (period t j)) 1 0
-unfolding visible_slot is_odd
-slot-of_parity t j = elim (bit_cases (period t j)) [ inl e ↦ rw e refl | inr e ↦ rw e refl ]
 
 -- the marks of each level, from those of the level above on
 pub marks-at : (t i : ℕ) (above : Marks) (ms : List Marks) (d : Marks) → AreAllMarks t i above.visible ms → (n : ℕ) → n < length ms →

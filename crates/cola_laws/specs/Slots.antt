@@ -1,6 +1,6 @@
 -- Levels as they stand in slots, by lengths and cursors alone; and the rules on those by the phase of each level.
-use Rattle.std.specs.Prelude.{◌≡◌, ℕ, suc, ◌+◌, ◌*◌, ◌/◌, ◌^◌, ◌≤◌, min, Bool, true, not, cond, List, [], ◌∷◌, length, take, ⊤}
-use Rattle.cola_clock.specs.Clock.{period, is_odd, works, is_before, is_over, window_step, flips, ends}
+use Rattle.std.specs.Prelude.{◌≡◌, ℕ, suc, ◌+◌, ◌-◌, ◌*◌, ◌/◌, ◌^◌, ◌≤◌, min, Bool, true, cond, List, [], ◌∷◌, length, ⊤}
+use Rattle.cola_clock.specs.Clock.{period, is_odd, works, is_before, is_over, window_step, flips, ends, visible_slot}
 use Rattle.cola_runs.specs.Cells.{Cell}
 use Rattle.cola_laws.specs.Chain.{Level}
 
@@ -33,27 +33,27 @@ module _ {K V : Type 0} where
   all_marks_of [] = []
   all_marks_of (l ∷ ls) = marks_of l ∷ all_marks_of ls
 
-  -- level j with these marks at clock t, over what its two slots hold: slot 0 is that of `false`. Its visible run stands
-  -- in slot 0 in an even period and in slot 1 in an odd one, its shadow in the other
-  abbrev pub level_of : (ℕ → Bool → List (Cell K V)) → ℕ → ℕ → Marks → Level K V
-  level_of slots t j m = record {
-    visible = take m.visible (slots j (is_odd (period t j)));
-    shadow = take m.shadow (slots j (not (is_odd (period t j))));
+  -- level j with these marks at clock t, where `cells j s n` are the first n cells of slot s of level j: its visible run
+  -- stands in slot 0 in an even period and in slot 1 in an odd one, its shadow in the other
+  abbrev pub level_of : (ℕ → ℕ → ℕ → List (Cell K V)) → ℕ → ℕ → Marks → Level K V
+  level_of cells t j m = record {
+    visible = cells j (visible_slot t j) m.visible;
+    shadow = cells j (1 - visible_slot t j) m.shadow;
     own = m.own;
     incoming = m.incoming;
     sampled = m.sampled;
   }
 
   -- the same of level j and of all below it
-  abbrev pub levels_of : (ℕ → Bool → List (Cell K V)) → ℕ → ℕ → List Marks → List (Level K V)
-  levels_of slots t j [] = []
-  levels_of slots t j (m ∷ ms) = level_of slots t j m ∷ levels_of slots t (suc j) ms
+  abbrev pub levels_of : (ℕ → ℕ → ℕ → List (Cell K V)) → ℕ → ℕ → List Marks → List (Level K V)
+  levels_of cells t j [] = []
+  levels_of cells t j (m ∷ ms) = level_of cells t j m ∷ levels_of cells t (suc j) ms
 
-  -- the slots of level j and of all below it hold at least as many cells as the marks say
-  abbrev pub AreHeld : (ℕ → Bool → List (Cell K V)) → ℕ → ℕ → List Marks → Type 0
-  AreHeld slots t j [] = ⊤
-  AreHeld slots t j (m ∷ ms) =
-      (m.visible ≤ length (slots j (is_odd (period t j)))) × (m.shadow ≤ length (slots j (not (is_odd (period t j))))) × AreHeld slots t (suc j) ms
+  -- the slots of level j and of all below it hold as many cells as the marks say
+  abbrev pub AreHeld : (ℕ → ℕ → ℕ → List (Cell K V)) → ℕ → ℕ → List Marks → Type 0
+  AreHeld cells t j [] = ⊤
+  AreHeld cells t j (m ∷ ms) =
+      (length (cells j (visible_slot t j) m.visible) ≡ m.visible) × (length (cells j (1 - visible_slot t j) m.shadow) ≡ m.shadow) × AreHeld cells t (suc j) ms
 
 -- cursors at 0
 pub record AreCursorsAtRest (m : Marks) : Type 0 where

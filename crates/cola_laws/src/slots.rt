@@ -1,6 +1,6 @@
 //! Levels in their slots, and the rules on their lengths and cursors.
 
-ghost use Rattle.std.specs.Prelude.{◌≡◌, ℕ, ◌+◌, ◌/◌, ◌^◌, ◌<◌, ◌≤◌, suc, Bool, if◌then◌else◌, List, ◌∷◌, length, drop, slice_index_or};
+ghost use Rattle.std.specs.Prelude.{◌≡◌, ℕ, ◌+◌, ◌/◌, ◌^◌, ◌<◌, ◌≤◌, suc, Bool, if◌then◌else◌, List, [], ◌∷◌, length, drop, slice_index_or};
 ghost use Rattle.cola_clock.specs.Clock.{period, is_odd, visible_slot};
 ghost use Rattle.std.specs.declared.option.Option.{Option};
 ghost use Rattle.cola_runs.specs.Cells.{Cell};
@@ -9,15 +9,16 @@ ghost use Rattle.cola_laws.specs.Sound.{IsSound};
 ghost use Rattle.cola_laws.specs.Mutation.{levels_after};
 ghost use Rattle.cola_laws.specs.Slots.{Marks, all_marks_after, marks_of, all_marks_of, levels_of, AreHeld, sample_end, AreLevelMarks, AreChainMarks};
 
-/// Flipping the marks flips the chain and moves no cell: what stands in the slots gives, with the marks and the parities
-/// of the next clock, the levels after the flips.
+/// Flipping the marks flips the chain and moves no cell: what stands in the slots gives, with the marks and the visible
+/// slots of the next clock, the levels after the flips. `cells j s n` are the first `n` cells of slot `s` of level `j`.
 pub fn flips_move_no_cell<K, V>()
-    ensures { (slots : ℕ → Bool → List (Cell K V)) (t j : ℕ) (marks : List Marks) → levels_of slots (suc t) j (all_marks_after t j marks) ≡ levels_after t j (levels_of slots t j marks) }
+    ensures { (cells : ℕ → ℕ → ℕ → List (Cell K V)) → ((j s : ℕ) → cells j s 0 ≡ []) → (t j : ℕ) (marks : List Marks) →
+        levels_of cells (suc t) j (all_marks_after t j marks) ≡ levels_after t j (levels_of cells t j marks) }
 {}
 
 /// Levels in slots that hold as many cells as the marks say have these marks.
 pub fn levels_have_their_marks<K, V>()
-    ensures { (slots : ℕ → Bool → List (Cell K V)) (t j : ℕ) (marks : List Marks) → AreHeld slots t j marks → all_marks_of (levels_of slots t j marks) ≡ marks }
+    ensures { (cells : ℕ → ℕ → ℕ → List (Cell K V)) (t j : ℕ) (marks : List Marks) → AreHeld cells t j marks → all_marks_of (levels_of cells t j marks) ≡ marks }
 {}
 
 /// The lengths and cursors of a sound chain meet the rules on marks: both runs of a level fit its slots, and its cursors
