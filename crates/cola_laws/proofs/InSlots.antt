@@ -52,7 +52,7 @@ module _ {K V : Type 0} (cells : ℕ → ℕ → ℕ → List (Cell K V)) (none 
   stays-level t j true m stay = rw (slot-stays t j stay) refl
   stays-level t j false m stay = rw (slot-stays t j stay) refl
 
-  flips-level : (t j : ℕ) (m : Marks) → level_of cells (suc t) j (marks_after t j m) ≡ level_after t j (level_of cells t j m)
+  pub flips-level : (t j : ℕ) (m : Marks) → level_of cells (suc t) j (marks_after t j m) ≡ level_after t j (level_of cells t j m)
   flips-level t j m =
       elim (cases_Bool (flips t j)) [
         | inl flip ↦ rw flip (turns-level t j m flip)

@@ -16,6 +16,7 @@ pub mod Empty
 pub mod InSlots
 pub mod Facts
 pub mod Loaded
+pub mod SlotSteps
 mod Tested
 mod Ablated
 mod Worked

@@ -156,7 +156,7 @@ module _ {K V : Type 0} {cmp : K → K → Ordering} (o : IsTotalOrder cmp) (mos
             (record { empty = refl; own_rests = rest.own_rests; incoming_rests = rest.incoming_rests; sampled_rests = rest.sampled_rests });
       }
 
-  advanced-length : (ahead t j : ℕ) (above : List (Cell K V)) (ls ms : List (Level K V)) → AreAdvanced cmp ahead t j above ls ms → length ls ≡ length ms
+  pub advanced-length : (ahead t j : ℕ) (above : List (Cell K V)) (ls ms : List (Level K V)) → AreAdvanced cmp ahead t j above ls ms → length ls ≡ length ms
   advanced-length ahead t j above [] [] h = refl
   advanced-length ahead t j above [] (m ∷ ms) h = absurd h
   advanced-length ahead t j above (l ∷ ls) [] h = absurd h

@@ -26,4 +26,7 @@ pub use mutation::{
     refused_mutation_keeps, steps_keep_soundness, whole_runs_keep,
 };
 pub use reading::{clock_may_wrap, few_live_keys, sound_reads, visible_runs_are_searched};
-pub use slots::{flips_move_no_cell, levels_have_their_marks, marks_by_level, sound_marks};
+pub use slots::{
+    clock_may_wrap_in_slots, flips_move_no_cell, levels_have_their_marks, marks_by_level,
+    one_mutation_in_slots, sound_marks,
+};
