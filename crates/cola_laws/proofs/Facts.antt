@@ -1,19 +1,23 @@
 -- What the code above the laws asks of a sound chain.
-use Rattle.std.proofs.Common.{◌≡◌, inl, inr, ℕ, suc, ◌+◌, ◌^◌, ◌≤◌, Bool, true, false, cond, refl, not, List, [], ◌∷◌, length, sym, ◌∙◌, arith, Option}
+use Rattle.std.proofs.Common.{◌≡◌, inl, inr, ℕ, suc, ◌+◌, ◌*◌, ◌^◌, ◌≤◌, Bool, true, false, cond, refl, not, List, [], ◌∷◌, length, sym, ◌∙◌, arith, Option}
 use Rattle.std.specs.Option.{IsSome}
 use Rattle.std.specs.declared.cmp.Ordering.{Ordering}
 use Rattle.std.specs.declared.cmp.Ordering.TheVariants.{Less}
 use Rattle.std.specs.Cmp.{IsTotalOrder, alike_right}
 use Rattle.std.specs.List.{AllByRecursion}
 use Rattle.std.specs.List.Sorted.{IsStrictlySortedBy}
-use Rattle.cola_clock.specs.Clock.{period, is_odd}
+use Rattle.cola_clock.specs.Clock.{period, is_odd, works, window_step}
 use Rattle.cola_clock.proofs.Laws.{flips-over}
 use Rattle.cola_runs.specs.Cells.{Cell, sample}
 use Rattle.cola_runs.specs.Seen.{holds, seen, answer}
 use Rattle.cola_runs.specs.Search.{AreSampled}
 use Rattle.cola_runs.proofs.Order.{all_change}
-use Rattle.cola_laws.specs.Chain.{Level, visibles, shadows, next_runs, first_keys, value_at}
-use Rattle.cola_laws.specs.Sound.{IsSettled, AreVisible, IsFinished, AreKept, HaveShadows, IsAmong, HasAtMost, IsSoundFrom}
+use Rattle.cola_laws.specs.Chain.{Level, part_of, build_of, visibles, shadows, next_runs, first_keys, value_at}
+use Rattle.cola_laws.specs.Sound.{IsPaced, IsSettled, AreVisible, IsFinished, AreKept, HaveShadows, IsAmong, HasAtMost, IsSoundFrom}
+use Rattle.std.proofs.lemmas.Bool.{false≢true}
+use Rattle.cola_runs.specs.Steps.{IsAdvanced as IsStepped}
+use Rattle.cola_laws.specs.Mutation.{IsAdvanced, IsWorkable}
+use Rattle.cola_laws.proofs.Workable.{stepped-working}
 use Rattle.cola_laws.proofs.Values.{value_or}
 use Rattle.cola_laws.proofs.Shadows.{shadows-answer}
 use Rattle.cola_laws.proofs.Live.{map-of_few}
@@ -100,3 +104,21 @@ module _ {K : Type 0} {cmp : K → K → Ordering} (o : IsTotalOrder cmp) where
 
   pub few-keys : {V : Type 0} (held : List K) (map : K → Option V) → IsStrictlySortedBy cmp held → ((k : K) → IsSome (map k) → IsAmong cmp k held) → HasAtMost cmp (length held) map
   few-keys held map s h keys sorted some = few-among keys held sorted s (all_change (λ k p. h k p) keys some)
+
+-- ---- one level's steps
+
+module _ {K V : Type 0} {cmp : K → K → Ordering} (o : IsTotalOrder cmp) where
+  -- a level that works, and whose build goes on by so many steps of the merge, is advanced by so many
+  pub works-advanced : (count t j : ℕ) (above : List (Cell K V)) (l m : Level K V) (ls : List (Level K V)) → works t j ≡ true → IsPaced cmp 0 t j above l ls →
+      IsWorkable cmp (part_of (is_odd (period t j)) ls) j l.visible above (first_keys (next_runs t j ls)) → m.visible ≡ l.visible →
+      IsStepped cmp (part_of (is_odd (period t j)) ls) l.visible above (first_keys (next_runs t j ls)) count (build_of l) (build_of m) → IsAdvanced cmp count t j above l ls m
+  works-advanced count t j above l m ls work p w e s = record {
+    visible = e;
+    moves = λ again. stepped-working o (part_of (is_odd (period t j)) ls) l.visible above (first_keys (next_runs t j ls)) (28 * window_step t j + 0) count (build_of l) (build_of m)
+        w.buildable.own_rising w.buildable.incoming_rising w.buildable.keys_rising (p.inside work) s;
+    rests = λ rests. absurd (false≢true (sym rests ∙ work));
+  }
+
+-- a level that does not work and stays as it is is advanced by any number
+pub rests-advanced : {K V : Type 0} (cmp : K → K → Ordering) (count t j : ℕ) (above : List (Cell K V)) (l : Level K V) (ls : List (Level K V)) → works t j ≡ false → IsAdvanced cmp count t j above l ls l
+rests-advanced cmp count t j above l ls rests = record { visible = refl; moves = λ work. absurd (false≢true (sym rests ∙ work)); rests = λ again. refl }

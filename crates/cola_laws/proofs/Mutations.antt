@@ -69,7 +69,7 @@ module _ {K V : Type 0} (cmp : K → K → Ordering) (ahead : ℕ) where
 
 module _ {K V : Type 0} (cmp : K → K → Ordering) where
   -- a level that is so many steps further is fewer steps further too
-  fewer-advanced : (ahead fewer t j : ℕ) (above : List (Cell K V)) (l m : Level K V) (ls : List (Level K V)) → fewer ≤ ahead → IsAdvanced cmp ahead t j above l ls m → IsAdvanced cmp fewer t j above l ls m
+  pub fewer-advanced : (ahead fewer t j : ℕ) (above : List (Cell K V)) (l m : Level K V) (ls : List (Level K V)) → fewer ≤ ahead → IsAdvanced cmp ahead t j above l ls m → IsAdvanced cmp fewer t j above l ls m
   fewer-advanced ahead fewer t j above l m ls h a = record {
     visible = a.visible;
     moves = λ work. working-less cmp _ l.visible above _ (consumed (build_of l) + ahead) (consumed (build_of l) + fewer) (build_of m) (omega arith) (a.moves work);

@@ -1,17 +1,18 @@
 -- The plain program does what the laws speak of; whole runs of it from a sound chain, and the chain with nothing in it.
-use Rattle.std.proofs.Common.{◌≡◌, inl, inr, ℕ, suc, ◌+◌, ◌*◌, ◌%◌, ◌^◌, ◌≤◌, true, false, List, [], ◌∷◌, length, refl, sym, ap, ◌∙◌, subst, arith, Option}
+use Rattle.std.proofs.Common.{◌≡◌, inl, inr, ℕ, suc, ◌+◌, ◌%◌, ◌^◌, ◌≤◌, true, false, List, [], ◌∷◌, length, refl, sym, ap, ◌∙◌, subst, arith, Option}
 use Rattle.std.proofs.lemmas.Bool.{cases_Bool}
 use Rattle.std.specs.declared.cmp.Ordering.{Ordering}
 use Rattle.std.specs.Cmp.{IsTotalOrder}
-use Rattle.cola_clock.specs.Clock.{period, is_odd, works, window_step}
+use Rattle.cola_clock.specs.Clock.{period, is_odd, works}
 use Rattle.cola_runs.specs.Cells.{Item, Cell}
-use Rattle.cola_runs.specs.Steps.{consumed, steps}
+use Rattle.cola_runs.specs.Steps.{Build, steps}
 use Rattle.cola_runs.proofs.Stepping.{steps_are_advanced}
 use Rattle.cola_laws.specs.Chain.{Level, part_of, build_of, next_runs, first_keys, updated}
-use Rattle.cola_laws.specs.Sound.{IsWorking, ArePaced, HasAtMost}
-use Rattle.cola_laws.specs.Mutation.{AreAdvanced, IsBuilt, AreWorkable, levels_after}
+use Rattle.cola_laws.specs.Sound.{IsPaced, ArePaced, HasAtMost}
+use Rattle.cola_laws.specs.Mutation.{IsAdvanced, AreAdvanced, IsBuilt, IsWorkable, AreWorkable, levels_after}
 use Rattle.cola_laws.specs.Plain.{with_build, worked, all_worked, built, mutated, clock_after, all_mutated, all_updated, StayWithin, IsSoundChain}
-use Rattle.cola_laws.proofs.Workable.{all-workable, stepped-working}
+use Rattle.cola_laws.proofs.Workable.{all-workable}
+use Rattle.cola_laws.proofs.Facts.{works-advanced, rests-advanced}
 use Rattle.cola_laws.proofs.Mutations.{mutation}
 use Rattle.cola_laws.proofs.Wraps.{clock-wraps}
 
@@ -27,32 +28,29 @@ module _ {K V : Type 0} {cmp : K → K → Ordering} (o : IsTotalOrder cmp) (cou
   unfolding worked
   worked-false t j above l ls rests = rw rests refl
 
-  worked-visible : (t j : ℕ) (above : List (Cell K V)) (l : Level K V) (ls : List (Level K V)) → (worked cmp count t j above l ls).visible ≡ l.visible
-  worked-visible t j above l ls =
+  -- the program's steps of one level are steps of the chain
+  level-worked : (t j : ℕ) (above : List (Cell K V)) (l : Level K V) (ls : List (Level K V)) → IsPaced cmp 0 t j above l ls →
+      (works t j ≡ true → IsWorkable cmp (part_of (is_odd (period t j)) ls) j l.visible above (first_keys (next_runs t j ls))) →
+      IsAdvanced cmp count t j above l ls (worked cmp count t j above l ls)
+  level-worked t j above l ls p w =
       elim (cases_Bool (works t j)) [
-        | inl work ↦ ap (λ (x : Level K V). x.visible) (worked-true t j above l ls work)
-        | inr rests ↦ ap (λ (x : Level K V). x.visible) (worked-false t j above l ls rests)
+        | inl work ↦
+            let part = part_of (is_odd (period t j)) ls in
+            let keys = first_keys (next_runs t j ls) in
+            let b = (w work).buildable in
+            let after : Build K V = steps cmp part l.visible above keys count (build_of l) in
+            subst (λ (x : Level K V). IsAdvanced cmp count t j above l ls x) (sym (worked-true t j above l ls work))
+            (works-advanced o count t j above l (with_build l after) ls work p (w work) refl
+            (steps_are_advanced o part l.visible above keys b.own_rising b.incoming_rising b.keys_rising count (build_of l) (p.inside work).under_way))
+        | inr rests ↦
+            subst (λ (x : Level K V). IsAdvanced cmp count t j above l ls x) (sym (worked-false t j above l ls rests)) (rests-advanced cmp count t j above l ls rests)
       ]
 
-  -- the program's steps are steps of the chain
+  -- and so are those of all levels
   pub worked-advanced : (t j : ℕ) (above : List (Cell K V)) (ls : List (Level K V)) → ArePaced cmp 0 t j above ls → AreWorkable cmp t j above ls →
       AreAdvanced cmp count t j above ls (all_worked cmp count t j above ls)
   worked-advanced t j above [] p w = tt
-  worked-advanced t j above (l ∷ ls) p w = (
-    record {
-      visible = worked-visible t j above l ls;
-      moves = λ work.
-          let part = part_of (is_odd (period t j)) ls in
-          let keys = first_keys (next_runs t j ls) in
-          let b = (w.0 work).buildable in
-          let was = p.0.inside work in
-          subst (λ (x : Level K V). IsWorking cmp part l.visible above keys (consumed (build_of l) + count) (build_of x)) (sym (worked-true t j above l ls work))
-          (stepped-working o part l.visible above keys (28 * window_step t j + 0) count (build_of l) (steps cmp part l.visible above keys count (build_of l)) b.own_rising b.incoming_rising b.keys_rising was
-          (steps_are_advanced o part l.visible above keys b.own_rising b.incoming_rising b.keys_rising count (build_of l) was.under_way));
-      rests = λ rests. worked-false t j above l ls rests;
-    },
-    worked-advanced t (suc j) l.visible ls p.1 w.1,
-  )
+  worked-advanced t j above (l ∷ ls) p w = (level-worked t j above l ls p.0 w.0, worked-advanced t (suc j) l.visible ls p.1 w.1)
 
 -- ---- one mutation and whole runs
 

@@ -22,8 +22,8 @@ pub use flips::{
     flips_show_shadows, window_ends_finished,
 };
 pub use mutation::{
-    empty_chain_is_sound, fewer_steps_count, loaded_chain_is_sound, one_mutation_keeps,
-    refused_mutation_keeps, steps_keep_soundness, whole_runs_keep,
+    empty_chain_is_sound, fewer_steps_count, loaded_chain_is_sound, one_level_advances,
+    one_mutation_keeps, refused_mutation_keeps, steps_keep_soundness, whole_runs_keep,
 };
 pub use reading::{clock_may_wrap, few_live_keys, sound_reads, visible_runs_are_searched};
 pub use slots::{

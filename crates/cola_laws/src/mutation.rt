@@ -1,12 +1,14 @@
 //! One mutation, a refused one, and whole runs of mutations.
 
-ghost use Rattle.std.specs.Prelude.{◌≡◌, ℕ, ◌+◌, ◌^◌, ◌≤◌, suc, List, [], ◌∷◌, length};
+ghost use Rattle.std.specs.Prelude.{◌≡◌, ℕ, ◌+◌, ◌^◌, ◌≤◌, suc, true, false, List, [], ◌∷◌, length};
 ghost use Rattle.std.specs.declared.option.Option.{Option};
 ghost use Rattle.std.specs.declared.option.Option.TheVariants.{None};
 ghost use Rattle.cola_runs.specs.Cells.{Item, Cell};
-ghost use Rattle.cola_laws.specs.Chain.{Level, updated, value_at};
-ghost use Rattle.cola_laws.specs.Sound.{IsBottomRun, IsIdle, ArePaced, HasAtMost, IsSoundFrom, IsSound};
-ghost use Rattle.cola_laws.specs.Mutation.{level_after, levels_after, AreAdvanced, IsBuilt};
+ghost use Rattle.cola_clock.specs.Clock.{period, is_odd, works};
+ghost use Rattle.cola_runs.specs.Steps as steps;
+ghost use Rattle.cola_laws.specs.Chain.{Level, part_of, build_of, next_runs, first_keys, updated, value_at};
+ghost use Rattle.cola_laws.specs.Sound.{IsBottomRun, IsIdle, IsPaced, ArePaced, HasAtMost, IsSoundFrom, IsSound};
+ghost use Rattle.cola_laws.specs.Mutation.{level_after, levels_after, IsAdvanced, AreAdvanced, IsBuilt, IsWorkable};
 ghost use Rattle.cola_laws.specs.Plain.{empty_levels, loaded, mutated, clock_after, all_mutated, all_updated, StayWithin, IsSoundChain};
 
 /// While levels take steps, of which the visible runs and the finished shadows see nothing, a sound chain stays sound and
@@ -22,6 +24,19 @@ pub fn fewer_steps_count<K: Ord, V>()
     ensures fewer { (ahead less t j : ℕ) (above : List (Cell K V)) (before after : List (Level K V)) → less ≤ ahead → AreAdvanced K.cmp ahead t j above before after →
         AreAdvanced K.cmp less t j above before after }
     ensures none { (ahead t j : ℕ) (above : List (Cell K V)) (levels : List (Level K V)) → ArePaced K.cmp ahead t j above levels → AreAdvanced K.cmp 0 t j above levels levels }
+{}
+
+/// How one level takes its steps: a level that works, and whose build goes on by so many steps of the merge, is advanced by
+/// so many; one that does not work stays as it is; and one that is advanced by so many is advanced by fewer.
+pub fn one_level_advances<K: Ord, V>()
+    ensures works { (count t j : ℕ) (above : List (Cell K V)) (before after : Level K V) (below : List (Level K V)) → works t j ≡ true →
+        IsPaced K.cmp 0 t j above before below →
+        IsWorkable K.cmp (part_of (is_odd (period t j)) below) j before.visible above (first_keys (next_runs t j below)) → after.visible ≡ before.visible →
+        steps.IsAdvanced K.cmp (part_of (is_odd (period t j)) below) before.visible above (first_keys (next_runs t j below)) count (build_of before) (build_of after) →
+        IsAdvanced K.cmp count t j above before below after }
+    ensures rests { (count t j : ℕ) (above : List (Cell K V)) (level : Level K V) (below : List (Level K V)) → works t j ≡ false → IsAdvanced K.cmp count t j above level below level }
+    ensures fewer { (ahead less t j : ℕ) (above : List (Cell K V)) (before after : Level K V) (below : List (Level K V)) → less ≤ ahead →
+        IsAdvanced K.cmp ahead t j above before below after → IsAdvanced K.cmp less t j above before below after }
 {}
 
 /// One mutation keeps a sound chain sound, at any clock: 28 steps of each working level, level 0 built whole with the new
