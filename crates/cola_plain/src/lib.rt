@@ -1,0 +1,6 @@
+//! A session over a small map in memory, slow and simple: what the store is compared with.
+#![tactic(auto)]
+
+pub mod command;
+pub mod lines;
+pub mod shape;
