@@ -1,5 +1,5 @@
 -- Lines by their last byte, and parts by the last part.
-use Rattle.std.proofs.Common.{ℕ, zero, suc, ◌≡◌, ◌≢◌, ◌+◌, Bool, true, false, cond, refl, sym, ◌∙◌, ap, subst, List, [], ◌∷◌, ◌++◌, length, get_or, take, arith, nat_eq}
+use Rattle.std.proofs.Common.{ℕ, zero, suc, ◌≡◌, ◌≢◌, ◌+◌, cond, refl, ap, subst, List, [], ◌∷◌, length, get_or, take, arith}
 use Rattle.std.proofs.lemmas.Bool.{eq-eqb, ne_eqb}
 use Rattle.std.specs.Borrow.{Bor}
 use Rattle.cola_spec.specs.Lines.{all_but_last, without_empty_last, without_return}

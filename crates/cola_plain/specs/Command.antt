@@ -1,5 +1,5 @@
 -- What the shapes and commands of this crate stand for.
-use Rattle.std.specs.Prelude.{ℕ, List, Option, option_map}
+use Rattle.std.specs.Prelude.{Option, option_map}
 use Rattle.cola_plain.specs.declared.command.Command.{Command}
 use Rattle.cola_plain.specs.declared.command.Command.TheVariants.{Put, PutIf, Del, Get, Stamp, Range, Scan, Count, Close, Reopen}
 use Rattle.cola_plain.specs.declared.shape.Shape.{Shape}

@@ -3,4 +3,9 @@
 
 pub mod command;
 pub mod lines;
+pub mod map;
+pub mod reply;
+pub mod session;
 pub mod shape;
+#[cfg(test)]
+mod tests;

@@ -13,6 +13,6 @@ overflow_add-value c =
 
 pub loop-digit-preserved : goal.loop-digit-preserved
 loop-digit-preserved c = record {
-    few = c.loop-digit.invariant.few;
-    so_far = next_digit c.args.word.now c.loop-digit.digit-index c.loop-digit.value (omega arith) (sym c.if-not-is_ascii_digit.ensures.value) c.if-not-is_ascii_digit.ensures.cases c.loop-digit.invariant.so_far;
-  }
+  few = c.loop-digit.invariant.few;
+  so_far = next_digit c.args.word.now c.loop-digit.digit-index c.loop-digit.value (omega arith) (sym c.if-not-is_ascii_digit.ensures.value) c.if-not-is_ascii_digit.ensures.cases c.loop-digit.invariant.so_far;
+}

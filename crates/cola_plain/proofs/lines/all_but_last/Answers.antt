@@ -1,4 +1,4 @@
-use Rattle.std.proofs.Common.{◌≡◌, ◌∙◌, ap, arith}
+use Rattle.std.proofs.Common.{◌∙◌, ap, arith}
 use Rattle.cola_plain.specs.Lines.{texts}
 use Rattle.cola_plain.proofs.LineLemmas.{last_left_out}
 use Rattle.cola_plain.proofs.lines.all_but_last.Goals as goal

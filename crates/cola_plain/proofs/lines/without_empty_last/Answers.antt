@@ -1,4 +1,4 @@
-use Rattle.std.proofs.Common.{◌≡◌, ◌∙◌, sym, ap, arith}
+use Rattle.std.proofs.Common.{◌∙◌, sym, ap, arith}
 use Rattle.std.proofs.lemmas.Bool.{eqb-true, eqb-false}
 use Rattle.cola_plain.specs.Lines.{texts}
 use Rattle.cola_plain.proofs.LineLemmas.{empty_read, full_read, nothing_left_out}
@@ -8,7 +8,7 @@ use Rattle.cola_plain.proofs.lines.without_empty_last.Goals.{else-end-gt0-via-th
 pub returns-then-is_empty : goal.returns-then-is_empty
 returns-then-is_empty c =
     ap texts c.truncate.ensures.items
-        ∙ empty_read c.args.parts.items _ c.index.result.now (omega (arith, c.args.parts.ok.0)) c.index.ensures (eqb-true _ _ (sym c.if-is_empty.ensures))
+    ∙ empty_read c.args.parts.items _ c.index.result.now (omega (arith, c.args.parts.ok.0)) c.index.ensures (eqb-true _ _ (sym c.if-is_empty.ensures))
 
 pub returns : goal.returns
 returns c =

@@ -1,4 +1,4 @@
-use Rattle.std.proofs.Common.{ℕ, ◌≡◌, ◌+◌, length, sym, arith}
+use Rattle.std.proofs.Common.{sym, arith}
 use Rattle.cola_plain.proofs.LineLemmas.{return_dropped, other_kept, nothing_dropped}
 use Rattle.cola_plain.proofs.lines.without_return.Goals as goal
 use Rattle.cola_plain.proofs.lines.without_return.Goals.{else-end-gt0-via-then-end-gt0+else-line-end-eq13, else-end-gt0-via-else-end-gt0}
