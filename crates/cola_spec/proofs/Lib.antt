@@ -6,3 +6,4 @@ pub mod RangeLaws
 pub mod LineLaws
 pub mod BoundLaws
 pub mod MachineLaws
+pub mod Digits

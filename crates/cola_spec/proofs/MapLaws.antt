@@ -219,6 +219,15 @@ count_with_value shape m key value =
 pub count_after_delete : (m : Map) (key : List ℕ) → count (after_delete m key) ≡ (if is_some (value_of m key) then count m - 1 else count m)
 count_after_delete m key = finite.len-remove nat_list_cmp_total m.entries key ∙ ap (λ b. cond b (count m - 1) (count m)) (valued_is (finite.get m.entries key))
 
+pub accepted_is_fresh : (shape : Shape) (m : Map) (key : List ℕ) → is_accepted (put_outcome shape m key) ≡ true → is_worn shape m ≡ false
+accepted_is_fresh shape m key accepted =
+    let found = finite.get m.entries key in
+    (fresh_when _ _ found (ap is_accepted (sym (by_tests shape m found)) ∙ accepted)).0
+
+pub accepted_if_is_fresh : (shape : Shape) (m : Map) (key : List ℕ) (seen : ℕ) → is_accepted (put_if_outcome shape m key seen) ≡ true → is_worn shape m ≡ false
+accepted_if_is_fresh shape m key seen accepted =
+    accepted_is_fresh shape m key (put_by_put_if (nat_eq (stamp_or_zero m key) seen) (stamp_or_zero m key) (put_outcome shape m key) accepted)
+
 -- Maps of the shape stay so
 
 all_put : (P : List ℕ × Stored → Type 0) (key : List ℕ) (new : Stored) (es : List (List ℕ × Stored)) → P (key, new) → All P es → All P (put key_cmp key new es)

@@ -1,0 +1,6 @@
+pub mod Lines
+pub mod Command
+pub mod Words
+pub mod Map
+pub mod Reply
+pub mod Session

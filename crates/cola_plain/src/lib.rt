@@ -1,0 +1,11 @@
+//! A session over a small map in memory, slow and simple: what the store is compared with.
+#![tactic(auto)]
+
+pub mod command;
+pub mod lines;
+pub mod map;
+pub mod reply;
+pub mod session;
+pub mod shape;
+#[cfg(test)]
+mod tests;
