@@ -30,7 +30,7 @@ impl<W: Write> Sink for StdSink<W> {
 
     ghost faults = { λ s. s.faults };
 
-    // What the writer knows of its own bytes, the last clause says.
+    // `inner` says what becomes of the bytes of the writer, where that tells them.
     fn write(&mut self, from: &[u8]) -> Result<usize, SinkFault>
         requires { 0 < length from.now }
         ensures some { IfOk result (λ n. 0 < n) }

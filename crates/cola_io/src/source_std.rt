@@ -30,7 +30,7 @@ impl<R: Read> Source for StdSource<R> {
 
     ghost faults = { λ s. s.faults };
 
-    // What the reader knows of its own bytes, the last clause says.
+    // `inner` says what becomes of the bytes of the reader, where that tells them.
     fn read(&mut self, into: &mut [u8]) -> Result<usize, SourceFault>
         requires { 0 < length into.old }
         ensures bound { IfOk result (λ n. n ≤ length into.new) }
