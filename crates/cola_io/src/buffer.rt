@@ -14,15 +14,18 @@ use arrayvec::ArrayVec;
 use std::marker::Model;
 
 /// The most bytes that one read asks for.
-pub const CHUNK: usize = 512;
+const CHUNK: usize = 512;
+
+/// The most bytes that a line may have before its end.
+const LONGEST: usize = 160;
 
 /// The text of a line, the beginning of the next one, and the bytes of a read behind it.
 #[derive(Drop)]
 pub struct Buffer {
-    chunk: [u8; 512],
+    chunk: [u8; CHUNK],
     from: usize,
     to: usize,
-    bytes: ArrayVec<u8, 160>,
+    bytes: ArrayVec<u8, LONGEST>,
     held: Held,
 }
 
@@ -39,7 +42,13 @@ impl Model for Buffer {
 
 /// Appends the bytes of the chunk from `from` on, up to `end`, to what is held of a line, and answers
 /// what is held then.
-fn hold(bytes: &mut ArrayVec<u8, 160>, held: Held, chunk: &[u8], from: usize, end: usize) -> Held
+fn hold(
+    bytes: &mut ArrayVec<u8, LONGEST>,
+    held: Held,
+    chunk: &[u8],
+    from: usize,
+    end: usize,
+) -> Held
     requires ordered { from ≤ end }
     requires within { end ≤ length chunk.now }
     requires line { line_held held bytes.old.items ≡ None }
@@ -69,7 +78,7 @@ fn feed_at(bytes: &[u8]) -> Option<usize>
 }
 
 /// Drops one carriage return from the end of the bytes.
-fn drop_return(bytes: &mut ArrayVec<u8, 160>)
+fn drop_return(bytes: &mut ArrayVec<u8, LONGEST>)
     requires { length bytes.old.items ≤ 160 }
     ensures text { bytes.new.items ≡ without_return bytes.old.items }
     ensures fits { length bytes.new.items ≤ 160 }
@@ -87,7 +96,7 @@ impl Buffer {
         ensures { result ≡ record { line = None; begun = []; rest = [] } }
     {
         Buffer {
-            chunk: [0; 512],
+            chunk: [0; CHUNK],
             from: 0,
             to: 0,
             bytes: ArrayVec::new(),
@@ -207,7 +216,11 @@ impl Buffer {
     {
         self.from = 0;
         self.to = 0;
-        let room = if most < 512 { most as usize } else { CHUNK };
+        let room = if most < CHUNK as u64 {
+            most as usize
+        } else {
+            CHUNK
+        };
         let count = source.read(&mut self.chunk[..room])?;
         self.to = count;
         Ok(count)

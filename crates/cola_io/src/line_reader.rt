@@ -57,11 +57,11 @@ impl LineReader {
     /// Reads the next line.
     ///
     /// `Line` and `TooLong` answer a line that was taken whole, of at most 160 bytes before its end,
-    /// or of more. `End` comes exactly where a read answered 0, which is not asked again, and no byte
-    /// is left. `Fault` comes only where the source's count of faults rose; a later call goes on.
-    /// `Budget` comes exactly where all allowed bytes were taken, the source not being asked for
-    /// more, so that an input of exactly so many bytes ends in it. At `Fault` and `Budget` no line
-    /// that a line feed ends is left among the bytes taken.
+    /// or of more. `End` comes exactly where a read answered 0 and no byte is left; the source is not
+    /// asked again. `Fault` comes only where the source's count of faults rose in this call; a later
+    /// call goes on with what was taken. `Budget` comes exactly where all allowed bytes were taken;
+    /// the source is not asked for more, so an input of exactly so many bytes ends in it. At `Fault`
+    /// and `Budget` no line that a line feed ends is left among the bytes taken.
     pub fn next_line<S: Source>(&mut self, source: &mut S) -> Next
         ensures lines { (took : List ℕ) × Taken took (S.left source.old) (S.left source.new) × NextLine self.old took result self.new }
         ensures end { self.old.ended ≡ false → self.new.ended ≡ true → IsAtEnd (S.left source.new) }

@@ -1,5 +1,8 @@
 //! A sink over a writer of std.
-ghost use Rattle.std.specs.Prelude.{◌≡◌, None};
+ghost use Rattle.std.specs.Prelude.{◌≡◌, ◌<◌, ◌≤◌, None, length, IfOk};
+ghost use Rattle.std.specs.Io.KnownBytes.{WriteAppends};
+ghost use Rattle.cola_outside.specs.Faults.{HasCause};
+ghost use Rattle.cola_io.specs.Streams as streams;
 
 use super::{Sink, SinkFault};
 use cola_outside::one_more;
@@ -27,13 +30,22 @@ impl<W: Write> Sink for StdSink<W> {
 
     ghost faults = { λ s. s.faults };
 
-    fn write(&mut self, from: &[u8]) -> Result<usize, SinkFault> {
+    // `inner` says what becomes of the bytes of the writer, where that tells them.
+    fn write(&mut self, from: &[u8]) -> Result<usize, SinkFault>
+        requires { 0 < length from.now }
+        ensures some { IfOk result (λ n. 0 < n) }
+        ensures bound { IfOk result (λ n. n ≤ length from.now) }
+        ensures cause { HasCause result self.old.faults self.new.faults }
+        ensures faults_kept { self.old.faults ≤ self.new.faults }
+        ensures bytes { streams.WriteAppends result from.now None None }
+        ensures inner { WriteAppends (W.contents self.old.inner) (W.contents self.new.inner) result from.now }
+    {
         match self.inner.write(from) {
-            Ok(count) if count > 0 => Ok(count),
-            _ => {
+            Ok(0) | Err(_) => {
                 self.faults = one_more(self.faults);
                 Err(SinkFault)
             }
+            Ok(count) => Ok(count),
         }
     }
 }

@@ -1,5 +1,8 @@
 //! A source over a reader of std.
-ghost use Rattle.std.specs.Prelude.{◌≡◌, None};
+ghost use Rattle.std.specs.Prelude.{◌≡◌, ◌<◌, ◌≤◌, None, length, IfOk};
+ghost use Rattle.std.specs.Io.KnownBytes.{IsAtEnd, ReadConsumes};
+ghost use Rattle.cola_outside.specs.Faults.{HasCause};
+ghost use Rattle.cola_io.specs.Streams.{ReadTakes};
 
 use super::{Source, SourceFault};
 use cola_outside::one_more;
@@ -27,7 +30,16 @@ impl<R: Read> Source for StdSource<R> {
 
     ghost faults = { λ s. s.faults };
 
-    fn read(&mut self, into: &mut [u8]) -> Result<usize, SourceFault> {
+    // `inner` says what becomes of the bytes of the reader, where that tells them.
+    fn read(&mut self, into: &mut [u8]) -> Result<usize, SourceFault>
+        requires { 0 < length into.old }
+        ensures bound { IfOk result (λ n. n ≤ length into.new) }
+        ensures cause { HasCause result self.old.faults self.new.faults }
+        ensures faults_kept { self.old.faults ≤ self.new.faults }
+        ensures bytes { ReadTakes result into.new None None }
+        ensures end { IfOk result (λ n. n ≡ 0 → IsAtEnd None) }
+        ensures inner { ReadConsumes (R.remaining self.old.inner) (R.remaining self.new.inner) result into.new }
+    {
         match self.inner.read(into) {
             Ok(count) => Ok(count),
             Err(_) => {
