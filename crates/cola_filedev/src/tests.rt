@@ -3,46 +3,40 @@ use cola_device::{Device, DeviceFault};
 use std::fs;
 use std::test::Fail;
 
-const FOLDER: &str = "cola_filedev_test";
+const PATH: &str = "cola_filedev_test_file";
 
-const PATH: &str = "cola_filedev_test/file";
+const LATE: &str = "cola_filedev_test_late";
 
 #[test]
-fn keeps_bytes_in_a_file_and_is_refused(rt: HostRuntime) -> Result<(), Fail> {
-    let _ = fs::remove_dir_all(&rt, FOLDER);
-    fs::create_dir(&rt, FOLDER)?;
-
-    let mut missing = FileDevice::new(&rt, PATH, false);
-    assert_eq!(rt; missing.size(), Err(DeviceFault));
-    assert!(rt; !fs::exists(&rt, PATH)?);
-
-    let mut made = FileDevice::new(&rt, PATH, true);
-    assert!(rt; !fs::exists(&rt, PATH)?);
-    assert_eq!(rt; made.size(), Ok(0));
-    made.lay_out(64)?;
-    made.write(61, b"abc")?;
-    made.settle()?;
+fn keeps_bytes_in_a_file(rt: HostRuntime) -> Result<(), Fail> {
+    let _ = fs::remove_file(&rt, PATH);
+    let mut device = FileDevice::new(&rt, PATH, true);
+    device.lay_out(64)?;
+    device.write(61, b"abc")?;
     let mut found = [1; 4];
-    made.read(60, &mut found)?;
+    device.read(60, &mut found)?;
     assert_eq!(rt; found, *b"\0abc");
-    assert_eq!(rt; made.read(62, &mut found), Err(DeviceFault));
-    assert_eq!(rt; made.write(u64::MAX, b"abc"), Err(DeviceFault));
-    assert_eq!(rt; (made.reads(), made.writes(), made.faults()), (2, 2, 2));
-
-    // What was refused stays refused, though the file is there now.
-    assert_eq!(rt; missing.size(), Err(DeviceFault));
-    assert_eq!(rt; missing.faults(), 2);
-    let mut again = FileDevice::new(&rt, PATH, false);
-    again.read(61, &mut found[..3])?;
-    assert_eq!(rt; found, *b"abcc");
-    again.lay_out(2)?;
-    assert_eq!(rt; fs::read(&rt, PATH)?.as_slice(), [0, 0].as_slice());
-
-    let mut folder = FileDevice::new(&rt, FOLDER, true);
-    assert_eq!(rt; folder.write(0, b"abc"), Err(DeviceFault));
-    let mut none = FileDevice::none(&rt);
-    assert_eq!(rt; none.settle(), Err(DeviceFault));
-    assert_eq!(rt; (folder.faults(), none.faults()), (1, 1));
-    fs::remove_dir_all(&rt, FOLDER)?;
+    // One byte past the end of the file.
+    assert_eq!(rt; device.read(61, &mut found), Err(DeviceFault));
+    fs::remove_file(&rt, PATH)?;
     Ok(())
+}
+
+#[test]
+fn keeps_the_refusal_of_a_missing_file(rt: HostRuntime) -> Result<(), Fail> {
+    let _ = fs::remove_file(&rt, LATE);
+    let mut device = FileDevice::new(&rt, LATE, false);
+    assert_eq!(rt; device.size(), Err(DeviceFault));
+    fs::write(&rt, LATE, b"abc".as_slice())?;
+    assert_eq!(rt; device.size(), Err(DeviceFault));
+    assert_eq!(rt; FileDevice::new(&rt, LATE, false).size(), Ok(3));
+    fs::remove_file(&rt, LATE)?;
+    Ok(())
+}
+
+#[test]
+fn is_refused_a_folder(rt: HostRuntime) {
+    let mut device = FileDevice::new(&rt, ".", true);
+    assert_eq!(rt; device.settle(), Err(DeviceFault));
+    assert_eq!(rt; FileDevice::none(&rt).settle(), Err(DeviceFault));
 }
