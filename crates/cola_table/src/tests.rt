@@ -1,7 +1,7 @@
 //! What no clause says: that calls succeed, and a session whose answers were worked out by hand.
 ghost use Rattle.std.specs.Prelude.{◌≡◌, ◌<◌};
 
-use crate::{FlatTable, Put, PutFault, Table};
+use crate::{FlatTable, Put, PutFault, PutIf, Table};
 use cola_cell::{Key, Value};
 use cola_outside::Steps;
 use std::marker::Brand;
@@ -30,6 +30,24 @@ fn put<T: Table, L: Ledger>(
     assert!(rt; key.fits(format) && value.fits(format));
     let found = table.put(&key, &value, steps).map(|answer| answer.0);
     assert_eq!(rt; found, want, "put {text}");
+    Ok(())
+}
+
+fn put_if<T: Table, L: Ledger>(
+    rt: &impl Abort,
+    table: &mut T,
+    (text, seen, given): (&str, u64, &str),
+    want: PutIf,
+    steps: &mut Steps<L>,
+) -> Result<(), Fail> {
+    let key = key(text)?;
+    let value = value(given)?;
+    let format = table.format();
+    assert!(rt; key.fits(format) && value.fits(format));
+    let (found, _) = table.put_if(&key, seen, &value, steps)?;
+    assert_eq!(rt; found, want, "put {text} where the stamp is {seen}");
+    let (stamp, _) = table.stamp(&key, steps)?;
+    assert_eq!(rt; stamp, Some(0), "the stamp of {text}");
     Ok(())
 }
 
@@ -102,6 +120,8 @@ fn answers<T: Table, L: Ledger>(
     range(rt, table, "aa", Some(key("b")?), &[("ab", "4")], steps)?;
     delete(rt, table, "a", Some("2"), steps)?;
     delete(rt, table, "a", None, steps)?;
+    put_if(rt, table, ("ab", 1, "5"), PutIf::Other(0), steps)?;
+    put_if(rt, table, ("ab", 0, "5"), PutIf::Old(value("4")?), steps)?;
     assert_eq!(rt; table.count(), 1);
     Ok(())
 }
