@@ -85,7 +85,7 @@ fn know_limits(cell: &Cell)
 
 // Writes the part at the place.
 #[inline(always)]
-fn put(into: &mut [u8], place: usize, part: &[u8])
+pub(crate) fn put(into: &mut [u8], place: usize, part: &[u8])
     requires { place + length part.now ≤ length into.old }
     ensures front { take (place + length part.now) into.new ≡ take place into.old ++ part.now }
     ensures size { length into.new ≡ length into.old }
