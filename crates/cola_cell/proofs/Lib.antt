@@ -5,4 +5,5 @@ pub mod Parts
 pub mod Reading
 pub mod Unique
 pub mod Words
+mod Worked
 pub mod Writing

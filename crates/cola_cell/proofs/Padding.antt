@@ -1,7 +1,8 @@
 -- A list with zeros behind it, to the end of its room.
-use Rattle.std.proofs.Common.{◌≡◌, ℕ, zero, suc, ◌+◌, ◌-◌, ◌≤◌, List, [], ◌∷◌, ◌++◌, slice_index, append_assoc, length, take, drop, replicate, refl, sym, ap, ◌∙◌, arith, length-append}
+use Rattle.std.proofs.Common.{◌≡◌, ℕ, zero, suc, Bool, true, false, ◌+◌, ◌-◌, ◌≤◌, List, [], ◌∷◌, ◌++◌, slice_index, append_assoc, length, take, drop, replicate, refl, sym, ap, ◌∙◌, arith, length-append}
 use Rattle.std.proofs.lemmas.List.{drop-replicate, get_or-drop, length-drop, length-replicate, length-take-le, replicate-append-replicate, take-append-drop, take-append-le}
 use Rattle.std.proofs.Math.Seq.{take-append_seam}
+use Rattle.std.specs.Bool.{IsTrue, MatchBool}
 use Rattle.cola_cell.specs.Bytes.{padded, Fills}
 
 -- its front is the list
@@ -63,26 +64,29 @@ fills room n fits all =
 pub fills-zero : (room : List ℕ) (n : ℕ) (list : List ℕ) → Fills room n list → (k : ℕ) → n ≤ k → slice_index room k ≡ 0
 fills-zero room n list f k low = ap (λ (xs : List ℕ). slice_index xs k) f.is ∙ zero-after list (length room - length list) k (omega (arith, f.long))
 
--- a room that was checked, copied to a larger room of zeros
-pub copied : (size len : ℕ) (room whole : List ℕ) → len ≤ length room → length room ≤ size → ((k : ℕ) → len ≤ k → slice_index room k ≡ 0)
-    → whole ≡ padded size room → (whole ≡ padded size (take len room)) × (take len whole ≡ take len room)
-copied size len room whole fits order all is =
-    let front = length-take-le len room fits in (
-      is ∙ ap (padded size) (padded-from len room fits all) ∙ padded-twice (length room) size (take len room) (omega arith) order,
-      ap (take len) is ∙ take-append-le len room (replicate (size - length room) 0) fits,
-    )
+-- a room that a list fills is at least as long, and is the list, padded
+filled : (room : List ℕ) (len : ℕ) → Fills room len (take len room) → len ≤ length room
+filled room len f = omega (arith, f.long, f.within)
+
+-- a filled room, copied to a larger room of zeros
+pub copied : (size len : ℕ) (room whole : List ℕ) → length room ≤ size → Fills room len (take len room) → whole ≡ padded size room
+    → (whole ≡ padded size (take len room)) × (take len whole ≡ take len room)
+copied size len room whole order f is = (
+  is ∙ ap (padded size) f.is ∙ padded-twice (length room) size (take len room) f.within order,
+  ap (take len) is ∙ take-append-le len room (replicate (size - length room) 0) (filled room len f),
+)
 
 -- what that makes of the larger room
-pub holds-copied : (size len : ℕ) (room whole : List ℕ) → len ≤ length room → length room ≤ size → ((k : ℕ) → len ≤ k → slice_index room k ≡ 0)
-    → whole ≡ padded size room → (len ≤ size) × (length whole ≡ size) × (whole ≡ padded size (take len whole))
-holds-copied size len room whole fits order all is =
-    let at = copied size len room whole fits order all is in
-    let front = length-take-le len room fits in
+pub holds-copied : (size len : ℕ) (room whole : List ℕ) → length room ≤ size → Fills room len (take len room) → whole ≡ padded size room
+    → (len ≤ size) × (length whole ≡ size) × (whole ≡ padded size (take len whole))
+holds-copied size len room whole order f is =
+    let at = copied size len room whole order f is in
+    let front = filled room len f in
     (omega arith, ap length is ∙ length-padded size room order, at.0 ∙ ap (padded size) (sym at.1))
 
--- the list of the larger room fills the room
-pub fills-copied : (size len : ℕ) (room whole : List ℕ) → len ≤ length room → length room ≤ size → ((k : ℕ) → len ≤ k → slice_index room k ≡ 0)
-    → whole ≡ padded size room → Fills room len (take len whole)
-fills-copied size len room whole fits order all is =
-    let at = copied size len room whole fits order all is in
-    rw at.1 (fills room len fits all)
+-- the answer to whether a list fills a room, from whether the room is zero behind it
+pub fills-answer : (room : List ℕ) (len : ℕ) (answer : Bool) → len ≤ length room
+    → (IsTrue answer → (k : ℕ) → len ≤ k → slice_index room k ≡ 0) × (((k : ℕ) → len ≤ k → slice_index room k ≡ 0) → IsTrue answer)
+    → MatchBool answer (Fills room len (take len room)) ((list : List ℕ) → ¬ Fills room len list)
+fills-answer room len true fits is = fills room len fits (is.0 refl)
+fills-answer room len false fits is = λ list f. let no : IsTrue false = is.1 (fills-zero room len list f) in cc

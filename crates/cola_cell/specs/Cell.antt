@@ -1,5 +1,5 @@
 -- The parts of a cell, as its bytes have them.
-use Rattle.std.specs.Prelude.{◌≡◌, ℕ, List, [], if◌then◌else◌}
+use Rattle.std.specs.Prelude.{◌≡◌, ◌≤◌, ◌<◌, ℕ, List, [], if◌then◌else◌}
 use Rattle.cola_cell.specs.declared.cell.Item.{Item}
 use Rattle.cola_cell.specs.declared.cell.Item.TheVariants.{Value, Tombstone}
 use Rattle.cola_cell.specs.declared.cell.Cell.{Cell}
@@ -50,11 +50,8 @@ abbrev pub stamp_of : Cell → ℕ
 stamp_of (cell.Item key item young link) = item_stamp item
 stamp_of (cell.Look key link) = 0
 
--- the cell has these parts
-pub record HasParts (cell : Cell) (kind young : ℕ) (key value : List ℕ) (stamp link : ℕ) : Type 0 where
-  pub kind_is : kind_of cell ≡ kind
-  pub young_is : young_of cell ≡ young
-  pub key_is : key_of cell ≡ key
-  pub value_is : value_of cell ≡ value
-  pub stamp_is : stamp_of cell ≡ stamp
-  pub link_is : link_of cell ≡ link
+-- some cell has this kind and youth, with a value of this length and this stamp: a lookahead cell is
+-- never young, and what is no value has neither value nor stamp
+abbrev pub KindIs : ℕ → ℕ → ℕ → ℕ → Type 0
+KindIs kind young value_length stamp =
+    (kind ≤ 2) × (young ≤ 1) × (kind ≡ 2 → young ≡ 0) × (0 < kind → value_length ≡ 0) × (0 < kind → stamp ≡ 0)

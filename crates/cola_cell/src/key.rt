@@ -1,5 +1,5 @@
 //! Keys.
-ghost use Rattle.std.specs.Prelude.{◌≡◌, ◌≤◌, ◌%◌, ◌↔◌, MatchOption, ℕ, List, length, IsTrue, SomeIff, Some, nat_eq, refl};
+ghost use Rattle.std.specs.Prelude.{◌≡◌, ◌≤◌, ◌↔◌, ℕ, List, length, take, IsTrue, SomeIff, Some, nat_eq, refl};
 ghost use Rattle.std.specs.Ordering.{nat_cmp};
 ghost use Rattle.std.specs.Cmp.{partial_equiv_from_equiv};
 ghost use Rattle.std.specs.Cmp.Lexicographic.{pointwise, slice_cmp, nat_list_eq_equiv, nat_list_cmp_total, texts_po, texts_ties};
@@ -78,17 +78,15 @@ impl Key {
         self.0.room(n)
     }
 
-    /// The key of `len` bytes that fills `room`, or none where no key does.
+    /// The key of `len` bytes that fills `room`.
     #[inline(always)]
-    pub(crate) fn in_room(room: &[u8], len: u8) -> Option<Key>
-        requires words { length room.now % 8 ≡ 0 }
+    pub(crate) fn of_room(room: &[u8], len: u8) -> Key
+        requires filled { Fills room.now len (take len room.now) }
+        requires some { 1 ≤ len }
         requires fits { length room.now ≤ 40 }
-        ensures { MatchOption result ((list : List ℕ) → IsKey list → ¬ Fills room.now len list) (λ key. IsKey key × Fills room.now len key) }
+        ensures { result ≡ take len room.now }
     {
-        if len == 0 {
-            return None;
-        }
-        Some(Key(Short::in_room(room, len)?))
+        Key(Short::of_room(room, len))
     }
 }
 

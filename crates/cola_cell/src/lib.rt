@@ -22,3 +22,6 @@ pub use key::Key;
 pub use law::{cell_is_one, decoding_gives_back, spelling_is_one};
 pub use spelling::{decode, decode_wide, encode, encode_wide};
 pub use value::Value;
+
+#[cfg(test)]
+mod tests;

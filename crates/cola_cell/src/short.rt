@@ -1,5 +1,6 @@
 //! Short lists of bytes that lie in the value itself.
-ghost use Rattle.std.specs.Prelude.{◌≡◌, ◌≤◌, ◌%◌, ◌↔◌, ℕ, List, length, slice_index, IsTrue, MatchOption};
+ghost use Rattle.std.specs.Prelude.{◌≡◌, ◌≤◌, ◌%◌, ◌↔◌, ℕ, List, length, take, slice_index, IsTrue};
+ghost use Rattle.std.specs.Bool.{MatchBool};
 ghost use Rattle.cola_cell.specs.Bytes.{padded, Fills};
 
 use byteorder::{ByteOrder, LittleEndian};
@@ -76,22 +77,28 @@ impl<const N: usize> Short<N> {
         &self.bytes[..n]
     }
 
-    /// The list of `len` bytes that fills `room`. None exactly where no list does: where `len` is
-    /// more than the room has, or a byte behind the list isn't zero.
+    /// The list of `len` bytes that fills `room`.
     #[inline(always)]
-    pub fn in_room(room: &[u8], len: u8) -> Option<Short<N>>
-        requires words { length room.now % 8 ≡ 0 }
+    pub fn of_room(room: &[u8], len: u8) -> Short<N>
+        requires filled { Fills room.now len (take len room.now) }
         requires fits { length room.now ≤ N }
         requires small { N ≤ 255 }
-        ensures { MatchOption result ((list : List ℕ) → ¬ Fills room.now len list) (Fills room.now len) }
+        ensures { result ≡ take len room.now }
     {
-        if len as usize > room.len() || !is_zero_from(room, len as usize) {
-            return None;
-        }
         let mut bytes = [0u8; N];
         bytes[..room.len()].copy_from_slice(room);
-        Some(Short { bytes, len })
+        Short { bytes, len }
     }
+}
+
+/// Whether a list of `len` bytes fills the room: the room has that many, and zeros behind them. A
+/// room is whole words of 8 bytes.
+#[inline(always)]
+pub fn is_filled(room: &[u8], len: u8) -> bool
+    requires words { length room.now % 8 ≡ 0 }
+    ensures { MatchBool result (Fills room.now len (take len room.now)) ((list : List ℕ) → ¬ Fills room.now len list) }
+{
+    len as usize <= room.len() && is_zero_from(room, len as usize)
 }
 
 /// Whether every byte of the room from `start` on is zero. A room is whole words of 8 bytes.

@@ -1,15 +1,15 @@
 //! Cells as bytes. Numbers are little-endian.
-ghost use Rattle.std.specs.Prelude.{◌≡◌, ◌+◌, ◌≤◌, ◌^◌, ℕ, List, [], ◌∷◌, ◌++◌, length, take, replicate, MatchOption};
-ghost use Rattle.cola_cell.specs.declared.cell.Cell.{Cell as AnyCell};
+ghost use Rattle.std.specs.Prelude.{◌≡◌, ◌+◌, ◌≤◌, ◌^◌, ℕ, List, [], ◌∷◌, ◌++◌, length, take, replicate, MatchOption, IsTrue, ◌↔◌};
 ghost use Rattle.cola_cell.specs.declared.format.Format.TheVariants.{One, Two};
 ghost use Rattle.cola_cell.specs.Bytes.{padded, IsKey, IsValue};
-ghost use Rattle.cola_cell.specs.Cell.{key_of, kind_of, young_of, value_of, stamp_of, HasParts};
+ghost use Rattle.cola_cell.specs.Cell.{key_of, kind_of, young_of, value_of, stamp_of, KindIs};
 ghost use Rattle.cola_cell.specs.Format.{width, CellFits};
 ghost use Rattle.cola_cell.specs.Spelling.{IsSpelling, Decodes, StampIs, key_at, stamp_bytes};
 
 use crate::cell::{Cell, Item};
 use crate::format::Format;
 use crate::key::Key;
+use crate::short::is_filled;
 use crate::value::Value;
 use byteorder::{ByteOrder, LittleEndian};
 
@@ -85,7 +85,7 @@ fn know_limits(cell: &Cell)
 
 // Writes the part at the place.
 #[inline(always)]
-fn put(into: &mut [u8], place: usize, part: &[u8])
+pub(crate) fn put(into: &mut [u8], place: usize, part: &[u8])
     requires { place + length part.now ≤ length into.old }
     ensures front { take (place + length part.now) into.new ≡ take place into.old ++ part.now }
     ensures size { length into.new ≡ length into.old }
@@ -170,11 +170,56 @@ fn decode_in(format: Format, bytes: &[u8]) -> Option<Cell>
     requires { length bytes.now ≡ width format }
     ensures { Decodes format bytes.now result }
 {
-    let key = Key::in_room(&bytes[format.key_at()..format.value_at()], bytes[2])?;
-    let value = Value::in_room(&bytes[format.value_at()..format.width()], bytes[3])?;
+    let key_room = &bytes[format.key_at()..format.value_at()];
+    let value_room = &bytes[format.value_at()..format.width()];
+    if bytes[2] == 0 || !is_filled(key_room, bytes[2]) || !is_filled(value_room, bytes[3]) {
+        return None;
+    }
     let stamp = stamp_in(format, bytes)?;
+    if !is_kind(bytes[0], bytes[1], bytes[3], stamp) {
+        return None;
+    }
     let link = LittleEndian::read_u32(&bytes[4..8]);
-    cell_of(bytes[0], bytes[1], key, value, stamp, link)
+    let key = Key::of_room(key_room, bytes[2]);
+    let young = bytes[1] == 1;
+    if bytes[0] == 0 {
+        let value = Value::of_room(value_room, bytes[3]);
+        let item = Item::Value { value, stamp };
+        return Some(Cell::Item {
+            key,
+            item,
+            young,
+            link,
+        });
+    }
+    if bytes[0] == 1 {
+        let item = Item::Tombstone;
+        return Some(Cell::Item {
+            key,
+            item,
+            young,
+            link,
+        });
+    }
+    Some(Cell::Look { key, link })
+}
+
+// Whether a cell has this kind and youth, with a value of this length and this stamp.
+#[inline(always)]
+fn is_kind(kind: u8, young: u8, value_len: u8, stamp: u64) -> bool
+    ensures { IsTrue result ↔ KindIs kind young value_len stamp }
+{
+    if kind == 0 {
+        return young <= 1;
+    }
+    if value_len != 0 || stamp != 0 {
+        return false;
+    }
+    if kind == 1 {
+        young <= 1
+    } else {
+        kind == 2 && young == 0
+    }
 }
 
 // The stamp in the bytes, or none where it is too large. Format One has no stamp but 0.
@@ -191,40 +236,4 @@ fn stamp_in(format: Format, bytes: &[u8]) -> Option<u64>
         return None;
     }
     Some(stamp)
-}
-
-// The cell of these parts, or none where no cell has them.
-#[inline(always)]
-fn cell_of(kind: u8, young: u8, key: Key, value: Value, stamp: u64, link: u32) -> Option<Cell>
-    ensures { MatchOption result ((cell : AnyCell) → ¬ HasParts cell kind young key value stamp link) (λ cell. HasParts cell kind young key value stamp link) }
-{
-    if young > 1 {
-        return None;
-    }
-    let young = young == 1;
-    if kind == 0 {
-        let item = Item::Value { value, stamp };
-        return Some(Cell::Item {
-            key,
-            item,
-            young,
-            link,
-        });
-    }
-    if value.len() != 0 || stamp != 0 {
-        return None;
-    }
-    if kind == 1 {
-        let item = Item::Tombstone;
-        return Some(Cell::Item {
-            key,
-            item,
-            young,
-            link,
-        });
-    }
-    if kind != 2 || young {
-        return None;
-    }
-    Some(Cell::Look { key, link })
 }

@@ -1,5 +1,5 @@
 //! Values.
-ghost use Rattle.std.specs.Prelude.{◌≡◌, ◌≤◌, ◌%◌, ◌↔◌, MatchOption, ℕ, List, length, IsTrue, SomeIff, nat_eq};
+ghost use Rattle.std.specs.Prelude.{◌≡◌, ◌≤◌, ◌↔◌, ℕ, List, length, take, IsTrue, SomeIff, nat_eq};
 ghost use Rattle.std.specs.Cmp.{partial_equiv_from_equiv};
 ghost use Rattle.std.specs.Cmp.Lexicographic.{pointwise, nat_list_eq_equiv};
 ghost use Rattle.cola_cell.specs.Bytes.{IsValue, Fills, padded};
@@ -74,14 +74,14 @@ impl Value {
         self.0.room(n)
     }
 
-    /// The value of `len` bytes that fills `room`, or none where no value does.
+    /// The value of `len` bytes that fills `room`.
     #[inline(always)]
-    pub(crate) fn in_room(room: &[u8], len: u8) -> Option<Value>
-        requires words { length room.now % 8 ≡ 0 }
+    pub(crate) fn of_room(room: &[u8], len: u8) -> Value
+        requires filled { Fills room.now len (take len room.now) }
         requires fits { length room.now ≤ 72 }
-        ensures { MatchOption result ((list : List ℕ) → ¬ Fills room.now len list) (λ value. IsValue value × Fills room.now len value) }
+        ensures { result ≡ take len room.now }
     {
-        Some(Value(Short::in_room(room, len)?))
+        Value(Short::of_room(room, len))
     }
 }
 
