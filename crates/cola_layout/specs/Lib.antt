@@ -1,2 +1,4 @@
 pub mod Geometry
 pub mod Place
+pub mod Marks
+pub mod Header

@@ -11,3 +11,11 @@ pub record IsPlace (bottom level slot index : ℕ) : Type 0 where
   pub level_exists : level ≤ bottom
   pub slot_exists : slot ≤ 1
   pub index_exists : index < 2 ^ (level + 2)
+
+-- the cell is that of a place of the store
+pub record HasPlace (bottom cell : ℕ) : Type 0 where
+  pub level : ℕ
+  pub slot : ℕ
+  pub index : ℕ
+  pub is : IsPlace bottom level slot index
+  pub at : place_of level slot index ≡ cell

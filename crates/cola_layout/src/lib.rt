@@ -4,6 +4,10 @@
 
 mod fault;
 mod geometry;
+mod law;
+mod marks;
 
 pub use fault::LayoutFault;
 pub use geometry::Geometry;
+pub use marks::{Marks, levels_fit};
+pub use law::{bottom_is_one, front_is_two_blocks, groups_lie_in_blocks, places_cover, places_differ, slots_are_blocks};

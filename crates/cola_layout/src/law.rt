@@ -1,0 +1,45 @@
+//! What holds of every geometry and header: each law is a function that does nothing and whose contract is the law.
+
+ghost use Rattle.std.specs.Prelude.{◌≡◌, ◌<◌, ◌≤◌, ◌^◌, ◌+◌, ◌*◌, ◌/◌, ◌%◌, ℕ};
+ghost use Rattle.cola_layout.specs.Geometry.{IsBottom};
+ghost use Rattle.cola_layout.specs.Place.{place_of, IsPlace, HasPlace};
+
+/// A number of keys has one lowest level.
+pub fn bottom_is_one()
+    ensures { (keys a b : ℕ) → IsBottom keys a → IsBottom keys b → a ≡ b }
+{
+}
+
+/// Different places of a store are in different cells.
+pub fn places_differ()
+    ensures { (bottom j a i k b h : ℕ) → IsPlace bottom j a i → IsPlace bottom k b h → place_of j a i ≡ place_of k b h → (j ≡ k) × (a ≡ b) × (i ≡ h) }
+{
+}
+
+/// The places of a store are its cells from 8 on: the header and the slots cover the file exactly.
+pub fn places_cover()
+    ensures behind { (bottom j a i : ℕ) → IsPlace bottom j a i → 8 ≤ place_of j a i }
+    ensures within { (bottom j a i : ℕ) → IsPlace bottom j a i → place_of j a i < 2 ^ (bottom + 4) }
+    ensures each { (bottom cell : ℕ) → 8 ≤ cell → cell < 2 ^ (bottom + 4) → HasPlace bottom cell }
+{
+}
+
+/// A device level's slots are whole blocks: each begins with a block and has a multiple of `2^b` cells.
+pub fn slots_are_blocks()
+    ensures { (b level slot : ℕ) → b ≤ level + 2 → (place_of level slot 0 % 2 ^ b ≡ 0) × (2 ^ (level + 2) % 2 ^ b ≡ 0) }
+{
+}
+
+/// The front is exactly the blocks 0 and 1, the header's cells among them: a level below `b - 2` stands in them, and
+/// every other level behind them.
+pub fn front_is_two_blocks()
+    ensures front { (b level slot index : ℕ) → slot ≤ 1 → index < 2 ^ (level + 2) → level + 2 < b → place_of level slot index < 2 ^ (b + 1) }
+    ensures device { (b level slot index : ℕ) → b ≤ level + 2 → 2 ^ (b + 1) ≤ place_of level slot index }
+{
+}
+
+/// An aligned group of 8 cells lies in one block.
+pub fn groups_lie_in_blocks()
+    ensures { (b c d : ℕ) → 3 ≤ b → c / 8 ≡ d / 8 → c / 2 ^ b ≡ d / 2 ^ b }
+{
+}
