@@ -1,12 +1,12 @@
 -- The header of a store: what it says, which headers there are, and their bytes.
-use Rattle.std.specs.Prelude.{◌≡◌, ℕ, ◌+◌, ◌-◌, ◌*◌, ◌^◌, ◌<◌, ◌≤◌, Bool, if◌then◌else◌, List, [], ◌∷◌, ◌++◌, length, replicate, flat_map, codes, EachIndex, Option, MatchOption}
+use Rattle.std.specs.Prelude.{◌≡◌, ℕ, ◌+◌, ◌-◌, ◌*◌, ◌^◌, ◌<◌, ◌≤◌, Bool, if◌then◌else◌, List, [], ◌∷◌, ◌++◌, length, replicate, flat_map, codes}
 use Rattle.byteorder.specs.Endian.{little_bytes}
 use Rattle.cola_cell.specs.declared.format.Format.{Format}
 use Rattle.cola_cell.specs.declared.format.Format.TheVariants.{One, Two}
 use Rattle.cola_cell.specs.Format.{stamp_limit}
 use Rattle.cola_layout.specs.Geometry.{AreKeys, IsBottom, IsBlock}
 use Rattle.cola_layout.specs.declared.marks.Marks.{Marks}
-use Rattle.cola_layout.specs.Marks.{AreMarks, marks_of}
+use Rattle.cola_layout.specs.Marks.{AreMarks}
 
 -- what a header says
 pub record Fields : Type 0 where
@@ -71,16 +71,11 @@ marks_bytes m =
 abbrev pub header_bytes : Fields → List ℕ
 header_bytes f = head_bytes f ++ (flat_map marks_bytes f.levels ++ replicate (464 - 20 * length f.levels) 0)
 
--- a mark is a number of 32 bits
-pub record AreSmall (m : Marks) : Type 0 where
-  pub visible : m.visible < 2 ^ 32
-  pub shadow : m.shadow < 2 ^ 32
-  pub own : m.own < 2 ^ 32
-  pub incoming : m.incoming < 2 ^ 32
-  pub sample : m.sample < 2 ^ 32
-
 -- the bytes spell the header
 pub record IsSpelling (f : Fields) (bytes : List ℕ) : Type 0 where
   pub text : bytes ≡ header_bytes f
   pub sound : IsSound f
-  pub small : (j : ℕ) → AreSmall (marks_of f.levels j)
+
+-- the bytes are the spelling of no header
+abbrev pub IsNoSpelling : List ℕ → Type 0
+IsNoSpelling bytes = (f : Fields) → ¬ IsSpelling f bytes

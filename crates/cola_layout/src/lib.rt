@@ -2,12 +2,16 @@
 //! header, with its bytes in both formats.
 #![tactic(auto)]
 
+mod bytes;
+mod encode;
 mod fault;
 mod geometry;
+mod header;
 mod law;
 mod marks;
 
 pub use fault::LayoutFault;
 pub use geometry::Geometry;
+pub use header::Header;
 pub use marks::{Marks, levels_fit};
 pub use law::{bottom_is_one, front_is_two_blocks, groups_lie_in_blocks, places_cover, places_differ, slots_are_blocks};

@@ -1,0 +1,45 @@
+//! The header of a store, and its bytes.
+
+ghost use Rattle.std.specs.Prelude.{◌≡◌, ◌<◌, ◌≤◌, ◌^◌, ◌+◌, length};
+ghost use Rattle.cola_cell.specs.Format.{stamp_limit};
+ghost use Rattle.cola_layout.specs.Marks.{AreMarks};
+
+use crate::encode::write;
+use crate::geometry::Geometry;
+use crate::marks::Marks;
+use arrayvec::ArrayVec;
+
+/// What a store's file says of the whole store: its geometry, whether it was closed, how many keys it has, its clock, its
+/// last number and the marks of its levels. The invariants are the rules of a header.
+#[derive(Drop)]
+pub struct Header {
+    /// The keys that the store is for, its levels, its blocks and its format.
+    pub geometry: Geometry,
+    /// Whether the store was closed, so that its file holds all of it.
+    pub closed: bool,
+    /// The keys that the store has, at most those that it is for.
+    pub count: u64,
+    /// The accepted mutations, modulo `2^(bottom+1)`.
+    pub clock: u64,
+    /// The last number that was given to a value: 0 in format One, at most `2^63` in format Two.
+    pub last: u64,
+    /// The marks of the levels 0 to bottom.
+    pub levels: ArrayVec<Marks, 23>,
+    pub ghost count_fits: { count ≤ geometry.keys },
+    pub ghost clock_fits: { clock < 2 ^ (geometry.bottom + 1) },
+    pub ghost last_fits: { last ≤ stamp_limit geometry.format },
+    pub ghost one_each: { length levels.items ≡ geometry.bottom + 1 },
+    pub ghost marks_fit: { AreMarks clock geometry.bottom levels.items },
+}
+
+impl Header {
+    ghost use Rattle.cola_layout.specs.Header.{IsSpelling};
+    ghost use Rattle.cola_layout.specs.Fields.{fields_of};
+
+    /// Writes the header's spelling: all 512 bytes. Numbers are little-endian.
+    pub fn encode(&self, into: &mut [u8; 512])
+        ensures { IsSpelling (fields_of self.now) into.new }
+    {
+        write(self, into);
+    }
+}
