@@ -1,6 +1,6 @@
 //! The bytes of a header, written.
 
-ghost use Rattle.std.specs.Prelude.{◌≡◌, ◌≤◌, ◌+◌, ◌*◌, ◌++◌, length, take, flat_map};
+ghost use Rattle.std.specs.Prelude.{◌≡◌, ◌≤◌, ◌+◌, ◌*◌, ◌++◌, length, take, flat_map, if◌then◌else◌};
 ghost use Rattle.cola_layout.specs.Header.{header_bytes, head_bytes, marks_bytes, version_of};
 ghost use Rattle.cola_layout.specs.Fields.{fields_of};
 
@@ -37,7 +37,7 @@ fn write_head(header: &Header, into: &mut [u8])
     let geometry = &header.geometry;
     put(into, 0, &NAME);
     put_u32(into, 8, version(geometry.format));
-    put(into, 12, &[geometry.block_exp, geometry.bottom, u8::from(!header.closed), 0]);
+    put(into, 12, &[geometry.block_exp, geometry.bottom, state(header.closed), 0]);
     put_u64(into, 16, geometry.keys);
     put_u64(into, 24, header.count);
     put_u64(into, 32, header.clock);
@@ -67,6 +67,13 @@ fn write_marks(marks: &Marks, at: usize, into: &mut [u8])
     put_u32(into, at + 8, marks.own);
     put_u32(into, at + 12, marks.incoming);
     put_u32(into, at + 16, marks.sample);
+}
+
+// The byte that says whether a store is closed.
+fn state(closed: bool) -> u8
+    ensures { result ≡ (if closed then 0 else 1) }
+{
+    if closed { 0 } else { 1 }
 }
 
 // The version of a format.
