@@ -4,6 +4,7 @@ ghost use Rattle.std.specs.Prelude.{◌≡◌, ◌<◌, ◌≤◌, ◌^◌, ◌+
 ghost use Rattle.cola_cell.specs.Format.{stamp_limit};
 ghost use Rattle.cola_layout.specs.Marks.{AreMarks};
 
+use crate::decode::read;
 use crate::encode::write;
 use crate::geometry::Geometry;
 use crate::marks::Marks;
@@ -34,12 +35,19 @@ pub struct Header {
 
 impl Header {
     ghost use Rattle.cola_layout.specs.Header.{IsSpelling};
-    ghost use Rattle.cola_layout.specs.Fields.{fields_of};
+    ghost use Rattle.cola_layout.specs.Fields.{fields_of, Decodes};
 
     /// Writes the header's spelling: all 512 bytes. Numbers are little-endian.
     pub fn encode(&self, into: &mut [u8; 512])
         ensures { IsSpelling (fields_of self.now) into.new }
     {
         write(self, into);
+    }
+
+    /// The header that the bytes spell, in the format that their version says: none exactly where they are no spelling.
+    pub fn decode(bytes: &[u8; 512]) -> Option<Header>
+        ensures { Decodes bytes.now result }
+    {
+        read(bytes)
     }
 }

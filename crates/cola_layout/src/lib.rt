@@ -3,6 +3,7 @@
 #![tactic(auto)]
 
 mod bytes;
+mod decode;
 mod encode;
 mod fault;
 mod geometry;
