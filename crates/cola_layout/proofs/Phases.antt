@@ -70,7 +70,7 @@ unfolding below_at
 shadow-above_bottom t j bottom h = eqb-false j bottom (below_shadow (eqb j bottom) (is_odd (period t j)) h).0
 
 -- the phases exclude each other, at a level of 1 and more
-to_come : (t j : ℕ) → 1 ≤ j → works t j ≡ false → is_over t j ≡ false → is_before t j ≡ true
+pub to_come : (t j : ℕ) → 1 ≤ j → works t j ≡ false → is_over t j ≡ false → is_before t j ≡ true
 to_come t zero some rests over = absurd (omega arith)
 to_come t (suc j) some rests over = before_else t j rests over
 
