@@ -1,19 +1,23 @@
 -- Why bytes are no spelling: what a spelling's bytes say, and that they say one thing.
-use Rattle.std.proofs.Common.{◌≡◌, ℕ, zero, suc, ◌+◌, ◌-◌, ◌*◌, ◌^◌, ◌<◌, ◌≤◌, min, ◌⊎◌, inl, inr, Bool, true, false, cond, List, [], ◌∷◌, ◌++◌, length, take, drop, get_or, slice_index, replicate, flat_map, EachIndex, refl, sym, ◌∙◌, ap, subst, arith}
+use Rattle.std.proofs.Common.{◌≡◌, ℕ, zero, suc, ◌+◌, ◌-◌, ◌*◌, ◌^◌, ◌<◌, ◌≤◌, min, ◌⊎◌, inl, inr, Bool, true, false, cond, List, [], ◌∷◌, ◌++◌, length, take, drop, get_or, slice_index, replicate, flat_map, EachIndex, IsTrue, ◌↔◌, refl, sym, ◌∙◌, ap, subst, arith}
 use Rattle.std.specs.Prelude.{codes}
-use Rattle.std.proofs.lemmas.List.{drop_at, length-append, length-drop, length-replicate, get_or-replicate, append_assoc, same_lists, get_or_default}
+use Rattle.std.proofs.lemmas.List.{drop_at, length-append, length-drop, length-replicate, get_or-replicate, append_assoc, same_lists, get_or_default, take_rest}
 use Rattle.byteorder.specs.Endian.{little_number, little_bytes}
 use Rattle.cola_cell.specs.declared.format.Format.{Format}
 use Rattle.cola_cell.specs.declared.format.Format.TheVariants.{One, Two}
 use Rattle.cola_layout.specs.declared.fault.LayoutFault.{LayoutFault}
 use Rattle.cola_layout.specs.declared.fault.LayoutFault.TheVariants.{Keys, Block}
 use Rattle.cola_layout.specs.declared.marks.Marks.{Marks}
+use Rattle.cola_cell.specs.Format.{stamp_limit}
+use Rattle.cola_cell.proofs.Numbers.{AreBytes}
+use Rattle.cola_layout.specs.declared.geometry.Geometry.{Geometry}
+use Rattle.cola_layout.specs.Marks.{AreMarks}
 use Rattle.cola_layout.specs.Geometry.{AreKeys, IsBottom, IsBlock, Refuses}
 use Rattle.cola_layout.specs.Header.{Fields, IsSound, IsSpelling, IsNoSpelling, head_bytes, marks_bytes, header_bytes, version_of}
 use Rattle.cola_layout.specs.Read.{HasFormat, HasGeometry, Says, IsZeroBehind, levels_in}
 use Rattle.cola_layout.proofs.Powers.{bottom-is_one}
-use Rattle.cola_layout.proofs.Readings.{marks-length}
-use Rattle.cola_layout.proofs.Saying.{text-says, head-length}
+use Rattle.cola_layout.proofs.Readings.{marks-length, levels-length_in}
+use Rattle.cola_layout.proofs.Saying.{text-says, text-from, head-length}
 
 -- ---- bytes say one thing
 
@@ -87,6 +91,17 @@ zeros-each n xs is k within =
     let size : length xs ≡ n = ap length is ∙ length-replicate n 0 in
     ap (λ (ys : List ℕ). slice_index ys k) is ∙ get_or-replicate n k 0 0 (omega arith)
 
+-- the test of the bytes behind the marks
+pub zero-behind : (n : ℕ) (bytes : List ℕ) (r : Bool) → length bytes ≡ 512 → n ≤ 23 →
+    IsTrue r ↔ EachIndex (take (length bytes - (48 + 20 * n)) (drop (48 + 20 * n) bytes)) (λ k. slice_index (take (length bytes - (48 + 20 * n)) (drop (48 + 20 * n) bytes)) k ≡ 0) →
+    IsTrue r ↔ IsZeroBehind n bytes
+zero-behind n bytes r size few tests =
+    let all : take (length bytes - (48 + 20 * n)) (drop (48 + 20 * n) bytes) ≡ drop (48 + 20 * n) bytes = take_rest bytes (48 + 20 * n) in
+    let room : length (drop (48 + 20 * n) bytes) ≡ 464 - 20 * n = length-drop (48 + 20 * n) bytes ∙ omega arith in
+    let of_rest = rw all at tests in
+    ( (λ yes. zeros-from_each (464 - 20 * n) (drop (48 + 20 * n) bytes) room (of_rest.0 yes))
+    , (λ zeros. of_rest.1 (zeros-each (464 - 20 * n) (drop (48 + 20 * n) bytes) zeros)) )
+
 -- ---- bytes that are no spelling
 
 module _ (bytes : List ℕ) where
@@ -129,3 +144,31 @@ module _ (bytes : List ℕ) where
   pub no-end : (said : Fields) → Says said bytes → (IsZeroBehind (said.bottom + 1) bytes → ⊥) → IsNoSpelling bytes
   no-end said says broken f s =
       broken (subst (λ (g : Fields). IsZeroBehind (g.bottom + 1) bytes) (says-one f said bytes (text-says f bytes s) says) (text-zeros f bytes s))
+
+-- ---- what was read of the bytes
+
+-- the fields that were read
+abbrev pub said : Geometry → Bool → ℕ → ℕ → ℕ → List Marks → Fields
+said g closed count clock last levels = record {
+  format = g.format; block_exp = g.block_exp; bottom = g.bottom; closed = closed; keys = g.keys; count = count; clock = clock; last = last; levels = levels
+}
+
+module _ (g : Geometry) (closed : Bool) (count clock last : ℕ) (levels : List Marks) (bytes : List ℕ) where
+  pub says-said : HasGeometry g.format g.block_exp g.bottom g.keys bytes → cond closed 0 1 ≡ slice_index bytes 14 →
+      count ≡ little_number 8 (drop 24 bytes) → clock ≡ little_number 8 (drop 32 bytes) → last ≡ little_number 8 (drop 40 bytes) →
+      levels ≡ levels_in (g.bottom + 1) (drop 48 bytes) → Says (said g closed count clock last levels) bytes
+  says-said geometry state count_is clock_is last_is levels_are =
+      record { geometry = geometry; state = state; count = count_is; clock = clock_is; last = last_is; levels = levels_are }
+
+  -- the bytes spell what was read of them
+  pub spells-said : length bytes ≡ 512 → AreBytes bytes → Says (said g closed count clock last levels) bytes → IsZeroBehind (g.bottom + 1) bytes →
+      count ≤ g.keys → clock < 2 ^ (g.bottom + 1) → last ≤ stamp_limit g.format → length levels ≡ g.bottom + 1 → AreMarks clock g.bottom levels →
+      IsSpelling (said g closed count clock last levels) bytes
+  spells-said size small says zeros count_fits clock_fits last_fits one_each marks_fit = record {
+    text = text-from (said g closed count clock last levels) bytes size small one_each g.shallow says zeros;
+    sound = record {
+      keys_in_range = g.keys_in_range; bottom_fits = g.bottom_fits; block_fits = g.block_fits;
+      count_fits = count_fits; clock_fits = clock_fits; last_fits = last_fits;
+      one_each = one_each; marks_fit = marks_fit
+    }
+  }

@@ -5,7 +5,7 @@ ghost use Rattle.cola_cell.specs.declared.format.Format.{Format as AnyFormat};
 ghost use Rattle.cola_cell.specs.Format.{stamp_limit};
 ghost use Rattle.cola_layout.specs.Header.{IsNoSpelling};
 ghost use Rattle.cola_layout.specs.Fields.{Decodes};
-ghost use Rattle.cola_layout.specs.Read.{HasFormat, HasGeometry, levels_in, marks_in};
+ghost use Rattle.cola_layout.specs.Read.{HasFormat, HasGeometry, IsZeroBehind, levels_in, marks_in};
 
 use crate::bytes::{u32_at, u64_at};
 use crate::encode::{LEVELS_AT, MARKS_SIZE, NAME};
@@ -31,9 +31,8 @@ pub(crate) fn read(bytes: &[u8]) -> Option<Header>
     if count > geometry.keys || clock >= clock_end(geometry.bottom) || last > last_limit(geometry.format) {
         return None;
     }
-    let levels = read_levels(bytes, geometry.levels() as usize);
-    let end = LEVELS_AT + MARKS_SIZE * levels.len();
-    if !is_zero(&bytes[end..]) || !levels_fit(clock, geometry.bottom, &levels) {
+    let levels = read_levels(bytes, geometry.levels());
+    if !is_zero_behind(bytes, geometry.levels()) || !levels_fit(clock, geometry.bottom, levels.as_slice()) {
         return None;
     }
     Some(Header { geometry, closed, count, clock, last, levels })
@@ -100,14 +99,14 @@ fn last_limit(format: Format) -> u64
 }
 
 // The marks of so many levels.
-fn read_levels(bytes: &[u8], levels: usize) -> ArrayVec<Marks, 23>
+fn read_levels(bytes: &[u8], levels: u8) -> ArrayVec<Marks, 23>
     requires size { length bytes.now ≡ 512 }
     requires few { levels ≤ 23 }
     ensures { result.items ≡ levels_in levels (drop 48 bytes.now) }
 {
     let mut read = ArrayVec::new();
     for level in 0..levels {
-        read.push(read_marks(bytes, LEVELS_AT + MARKS_SIZE * level));
+        read.push(read_marks(bytes, LEVELS_AT + MARKS_SIZE * level as usize));
     }
     read
 }
@@ -124,6 +123,15 @@ fn read_marks(bytes: &[u8], at: usize) -> Marks
         incoming: u32_at(bytes, at + 12),
         sample: u32_at(bytes, at + 16),
     }
+}
+
+// Whether the bytes behind the marks of so many levels are zero.
+fn is_zero_behind(bytes: &[u8], levels: u8) -> bool
+    requires size { length bytes.now ≡ 512 }
+    requires few { levels ≤ 23 }
+    ensures { IsTrue result ↔ IsZeroBehind levels bytes.now }
+{
+    is_zero(&bytes[LEVELS_AT + MARKS_SIZE * levels as usize..])
 }
 
 // Whether all bytes are zero.
