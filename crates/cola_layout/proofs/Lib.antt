@@ -6,3 +6,4 @@ pub mod Readings
 pub mod Small
 pub mod Saying
 pub mod Refusing
+pub mod Levels

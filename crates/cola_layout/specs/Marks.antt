@@ -1,6 +1,6 @@
 -- The marks of a level in a header, and which marks a level may have at a clock. Written over the clock and the marks
 -- alone, so that whoever keeps a chain of levels can cite them.
-use Rattle.std.specs.Prelude.{◌≡◌, ℕ, ◌+◌, ◌-◌, ◌*◌, ◌/◌, ◌^◌, ◌<◌, ◌≤◌, min, Bool, true, ◌==◌, if◌then◌else◌, List, slice_index_or}
+use Rattle.std.specs.Prelude.{◌≡◌, ℕ, suc, ◌+◌, ◌-◌, ◌*◌, ◌/◌, ◌^◌, ◌<◌, ◌≤◌, min, Bool, true, ◌==◌, if◌then◌else◌, List, [], ◌∷◌, slice_index_or, ⊤}
 use Rattle.cola_clock.specs.Clock.{period, is_odd, works, is_before, is_over, window_step}
 use Rattle.cola_layout.specs.declared.marks.Marks.{Marks}
 
@@ -67,3 +67,13 @@ FitsAt t bottom levels j = FitsLevel t bottom j (marks_of levels (j - 1)) (marks
 -- each level up to the bottom has marks that it may have
 abbrev pub AreMarks : ℕ → ℕ → List Marks → Type 0
 AreMarks t bottom levels = (j : ℕ) → j ≤ bottom → FitsAt t bottom levels j
+
+-- the marks of the first of these levels
+abbrev pub first_marks : List Marks → Marks
+first_marks [] = no_marks
+first_marks (m ∷ levels) = m
+
+-- the same from level j on, level by level, where the level above has the marks `above`
+abbrev pub AreMarksFrom : ℕ → ℕ → ℕ → Marks → List Marks → Type 0
+AreMarksFrom t bottom j above [] = ⊤
+AreMarksFrom t bottom j above (m ∷ levels) = FitsLevel t bottom j above m (first_marks levels) × AreMarksFrom t bottom (suc j) m levels
