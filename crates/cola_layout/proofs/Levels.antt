@@ -26,8 +26,12 @@ pub marks-from : (t bottom : ℕ) (above : Marks) (levels : List Marks) → leng
 marks-from t bottom above levels one_each h zero within =
     let f = from-at t bottom 0 above levels h 0 (omega arith) in
     record {
-      visible_fits = f.visible_fits; shadow_fits = f.shadow_fits; first = f.first; before = f.before;
-      inside = λ some _. absurd (omega arith); after = f.after;
+      visible_fits = f.visible_fits;
+      shadow_fits = f.shadow_fits;
+      first = f.first;
+      before = f.before;
+      inside = λ some _. absurd (omega arith);
+      after = f.after;
     }
 marks-from t bottom above levels one_each h (suc j) within =
     let f = from-at t bottom 0 above levels h (suc j) (omega arith) in
@@ -39,15 +43,15 @@ marks-from t bottom above levels one_each h (suc j) within =
 none : (n j : ℕ) → marks_of (replicate n no_marks) j ≡ no_marks
 none n j =
     elim (cases_lt j n) [
-      inl within ↦ get_or-replicate n j no_marks no_marks within
-    | inr past ↦ get_or_past (replicate n no_marks) j no_marks (rw (length-replicate n no_marks) past)
+      | inl within ↦ get_or-replicate n j no_marks no_marks within
+      | inr past ↦ get_or_past (replicate n no_marks) j no_marks (rw (length-replicate n no_marks) past)
     ]
 
 empty-sample : (t bottom j : ℕ) → sampled_length t j bottom no_marks ≡ 0
 empty-sample t bottom j =
     elim (cases_Bool (eqb j bottom)) [
-      inl last ↦ rw last refl
-    | inr inner ↦ elim (cases_Bool (is_odd (period t j))) [ inl odd ↦ rw (inner, odd) refl | inr even ↦ rw (inner, even) refl ]
+      | inl last ↦ rw last refl
+      | inr inner ↦ elim (cases_Bool (is_odd (period t j))) [ inl odd ↦ rw (inner, odd) refl | inr even ↦ rw (inner, even) refl ]
     ]
 
 empty-works : (t bottom j : ℕ) → IsWorking 0 0 (sampled_length t j bottom no_marks / 8) (28 * window_step t j) no_marks
@@ -59,7 +63,8 @@ empty-fits : (t bottom j : ℕ) → FitsLevel t bottom j no_marks no_marks no_ma
 empty-fits t bottom j =
     let room : 0 ≤ 2 ^ (j + 2) = omega arith in
     record {
-      visible_fits = room; shadow_fits = room;
+      visible_fits = room;
+      shadow_fits = room;
       first = λ _. record { empty = refl; own_rests = refl; incoming_rests = refl; sample_rests = refl };
       before = λ _. record { empty = refl; own_rests = refl; incoming_rests = refl; sample_rests = refl };
       inside = λ _ _. empty-works t bottom j;

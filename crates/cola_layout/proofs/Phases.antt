@@ -91,43 +91,49 @@ module _ (t bottom j : ℕ) (above here below : Marks) (visible_fits : here.visi
   pub fits-before : 1 ≤ j → phase_at t j ≡ Before → IsIdle here ↔ FitsLevel t bottom j above here below
   unfolding phase_at
   fits-before some h =
-      let tests : (works t j ≡ false) × (is_over t j ≡ false) = phase_before (works t j) (is_over t j) (window_step t j) h in
-      ( (λ idle. record {
-          visible_fits = visible_fits; shadow_fits = shadow_fits;
+      let tests : (works t j ≡ false) × (is_over t j ≡ false) = phase_before (works t j) (is_over t j) (window_step t j) h in (
+        (λ idle. record {
+          visible_fits = visible_fits;
+          shadow_fits = shadow_fits;
           first = λ zero_level. absurd (omega arith);
           before = λ early. idle;
           inside = λ one works_now. absurd (false≢true (sym tests.0 ∙ works_now));
           after = λ over. absurd (false≢true (sym tests.1 ∙ over));
-        })
-      , (λ fits. fits.before (to_come t j some tests.0 tests.1)) )
+        }),
+        (λ fits. fits.before (to_come t j some tests.0 tests.1)),
+      )
 
   pub fits-inside : (w : ℕ) → 1 ≤ j → phase_at t j ≡ Inside w →
       IsWorking here.visible above.visible (sampled_length t j bottom below / 8) (28 * w) here ↔ FitsLevel t bottom j above here below
   unfolding phase_at
   fits-inside w some h =
       let tests : (works t j ≡ true) × (window_step t j ≡ w) = phase_inside (works t j) (is_over t j) (window_step t j) w h in
-      let over_not : is_over t j ≡ false = not_over t j some tests.0 in
-      ( (λ working. record {
-          visible_fits = visible_fits; shadow_fits = shadow_fits;
+      let over_not : is_over t j ≡ false = not_over t j some tests.0 in (
+        (λ working. record {
+          visible_fits = visible_fits;
+          shadow_fits = shadow_fits;
           first = λ zero_level. absurd (omega arith);
           before = λ early. absurd (clash t j some early tests.0);
           inside = λ one works_now. rw tests.1 working;
           after = λ over. absurd (false≢true (sym over_not ∙ over));
-        })
-      , (λ fits. rw tests.1 at (fits.inside some tests.0)) )
+        }),
+        (λ fits. rw tests.1 at (fits.inside some tests.0)),
+      )
 
   pub fits-after : 1 ≤ j → phase_at t j ≡ After → IsAtRest here ↔ FitsLevel t bottom j above here below
   unfolding phase_at
   fits-after some h =
-      let tests : (works t j ≡ false) × (is_over t j ≡ true) = phase_after (works t j) (is_over t j) (window_step t j) h in
-      ( (λ rests. record {
-          visible_fits = visible_fits; shadow_fits = shadow_fits;
+      let tests : (works t j ≡ false) × (is_over t j ≡ true) = phase_after (works t j) (is_over t j) (window_step t j) h in (
+        (λ rests. record {
+          visible_fits = visible_fits;
+          shadow_fits = shadow_fits;
           first = λ zero_level. absurd (omega arith);
           before = λ early. absurd (early_over t j some early tests.1);
           inside = λ one works_now. absurd (false≢true (sym tests.0 ∙ works_now));
           after = λ over. rests;
-        })
-      , (λ fits. fits.after tests.1) )
+        }),
+        (λ fits. fits.after tests.1),
+      )
 
 -- two equivalences, one after the other
 pub then : {A B C : Type 0} → A ↔ B → B ↔ C → A ↔ C

@@ -14,8 +14,8 @@ place-below j a i slot index =
     let half : 2 ^ (j + 3) ≡ 2 ^ (j + 2) + 2 ^ (j + 2) = next_power (j + 2) (j + 3) (omega arith) in
     let whole : 2 ^ (j + 4) ≡ 2 ^ (j + 3) + 2 ^ (j + 3) = next_power (j + 3) (j + 4) (omega arith) in
     elim (cases_lt a 1) [
-      inl first ↦ let zero_slot : a ≡ 0 = omega arith in rw zero_slot (omega arith)
-    | inr second ↦ let one_slot : a ≡ 1 = omega arith in rw one_slot (omega arith)
+      | inl first ↦ let zero_slot : a ≡ 0 = omega arith in rw zero_slot (omega arith)
+      | inr second ↦ let one_slot : a ≡ 1 = omega arith in rw one_slot (omega arith)
     ]
 
 pub place-behind : (j a i : ℕ) → 8 ≤ place_of j a i
@@ -34,14 +34,14 @@ place-differ bottom j a i k b h first second same =
     let j_below : place_of j a i < 2 ^ (j + 4) = place-below j a i first.slot_exists first.index_exists in
     let k_below : place_of k b h < 2 ^ (k + 4) = place-below k b h second.slot_exists second.index_exists in
     elim (cases_order j k) [
-      inl levels ↦
-        let here : h < 2 ^ (j + 2) = rw levels second.index_exists in
-        let at_j : place_of j a i ≡ place_of j b h = rw (← levels) at same in
-        let both : (a ≡ b) × (i ≡ h) = same_from_place a i b h (2 ^ (j + 2)) first.index_exists here (omega arith) in
-        (levels, both.0, both.1)
-    | inr apart ↦ elim apart [
-        inl above ↦ let more : 2 ^ (j + 4) ≤ 2 ^ (k + 3) = power-le (j + 4) (k + 3) (omega arith) in absurd (omega (arith, place-from k b h))
-      | inr beneath ↦ let more : 2 ^ (k + 4) ≤ 2 ^ (j + 3) = power-le (k + 4) (j + 3) (omega arith) in absurd (omega (arith, place-from j a i))
+      | inl levels ↦
+          let here : h < 2 ^ (j + 2) = rw levels second.index_exists in
+          let at_j : place_of j a i ≡ place_of j b h = rw (← levels) at same in
+          let both : (a ≡ b) × (i ≡ h) = same_from_place a i b h (2 ^ (j + 2)) first.index_exists here (omega arith) in
+          (levels, both.0, both.1)
+      | inr apart ↦ elim apart [
+        | inl above ↦ let more : 2 ^ (j + 4) ≤ 2 ^ (k + 3) = power-le (j + 4) (k + 3) (omega arith) in absurd (omega (arith, place-from k b h))
+        | inr beneath ↦ let more : 2 ^ (k + 4) ≤ 2 ^ (j + 3) = power-le (k + 4) (j + 3) (omega arith) in absurd (omega (arith, place-from j a i))
       ]
     ]
 
@@ -51,13 +51,17 @@ upper-half bottom c from below =
     let half : 2 ^ (bottom + 3) ≡ 2 ^ (bottom + 2) + 2 ^ (bottom + 2) = next_power (bottom + 2) (bottom + 3) (omega arith) in
     let whole : 2 ^ (bottom + 4) ≡ 2 ^ (bottom + 3) + 2 ^ (bottom + 3) = next_power (bottom + 3) (bottom + 4) (omega arith) in
     elim (cases_lt c (2 ^ (bottom + 3) + 2 ^ (bottom + 2))) [
-      inl first ↦ record {
-        level = bottom; slot = 0; index = c - 2 ^ (bottom + 3);
+      | inl first ↦ record {
+        level = bottom;
+        slot = 0;
+        index = c - 2 ^ (bottom + 3);
         is = record { level_exists = omega arith; slot_exists = omega arith; index_exists = omega arith };
         at = omega arith;
       }
-    | inr second ↦ record {
-        level = bottom; slot = 1; index = c - 2 ^ (bottom + 3) - 2 ^ (bottom + 2);
+      | inr second ↦ record {
+        level = bottom;
+        slot = 1;
+        index = c - 2 ^ (bottom + 3) - 2 ^ (bottom + 2);
         is = record { level_exists = omega arith; slot_exists = omega arith; index_exists = omega arith };
         at = omega arith;
       }
@@ -68,16 +72,18 @@ pub place-covers : (bottom c : ℕ) → 8 ≤ c → c < 2 ^ (bottom + 4) → Has
 place-covers zero c behind below = upper-half 0 c behind below
 place-covers (suc bottom) c behind below =
     elim (cases_lt c (2 ^ (suc bottom + 3))) [
-      inr upper ↦ upper-half (suc bottom) c upper below
-    | inl lower ↦
-        let same : suc bottom + 3 ≡ bottom + 4 = omega arith in
-        let p : HasPlace bottom c = place-covers bottom c behind (rw same at lower) in
-        let level_below : p.level ≤ bottom = p.is.level_exists in
-        record {
-          level = p.level; slot = p.slot; index = p.index;
-          is = record { level_exists = omega arith; slot_exists = p.is.slot_exists; index_exists = p.is.index_exists };
-          at = p.at;
-        }
+      | inr upper ↦ upper-half (suc bottom) c upper below
+      | inl lower ↦
+          let same : suc bottom + 3 ≡ bottom + 4 = omega arith in
+          let p : HasPlace bottom c = place-covers bottom c behind (rw same at lower) in
+          let level_below : p.level ≤ bottom = p.is.level_exists in
+          record {
+            level = p.level;
+            slot = p.slot;
+            index = p.index;
+            is = record { level_exists = omega arith; slot_exists = p.is.slot_exists; index_exists = p.is.index_exists };
+            at = p.at;
+          }
     ]
 
 blocks-whole : (c length times block slot : ℕ) → 0 < block → length ≡ times * block → c ≡ length + length + slot * length →

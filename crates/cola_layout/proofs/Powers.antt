@@ -19,46 +19,46 @@ power-le i j h = pow_mono h
 pub exponent-le : (i j : ℕ) → 2 ^ i < 2 ^ suc j → i ≤ j
 exponent-le i j h =
     elim (cases_lt j i) [
-      inl above ↦ let more : 2 ^ suc j ≤ 2 ^ i = pow_mono above in absurd (omega arith)
-    | inr within ↦ within
+      | inl above ↦ let more : 2 ^ suc j ≤ 2 ^ i = pow_mono above in absurd (omega arith)
+      | inr within ↦ within
     ]
 
 -- the lowest level from an exponent m with 2^(m-1) < keys ≤ 2^m
 pub bottom-from : (keys m : ℕ) → 1 ≤ keys → keys ≤ 2 ^ m → 2 ^ m ≤ 2 * (keys - 1) + 1 → IsBottom keys (max m 5 - 2)
 bottom-from keys m some holds least =
     elim (cases_lt m 5) [
-      inl small ↦
-        let is : max m 5 - 2 ≡ 3 = omega arith in
-        let grows : 2 ^ m ≤ 2 ^ 5 = power-le m 5 (omega arith) in
-        rw is (record { three = omega arith; holds = omega arith; least = λ h. absurd (omega arith) })
-    | inr large ↦
-        let is : max m 5 - 2 ≡ m - 2 = omega arith in
-        let up : (m - 2) + 2 ≡ m = omega arith in
-        let twice : 2 ^ m ≡ 2 ^ (m - 2 + 1) + 2 ^ (m - 2 + 1) = next_power (m - 2 + 1) m (omega arith) in
-        rw is (record { three = omega arith; holds = rw up holds; least = λ h. omega arith })
+      | inl small ↦
+          let is : max m 5 - 2 ≡ 3 = omega arith in
+          let grows : 2 ^ m ≤ 2 ^ 5 = power-le m 5 (omega arith) in
+          rw is (record { three = omega arith; holds = omega arith; least = λ h. absurd (omega arith) })
+      | inr large ↦
+          let is : max m 5 - 2 ≡ m - 2 = omega arith in
+          let up : (m - 2) + 2 ≡ m = omega arith in
+          let twice : 2 ^ m ≡ 2 ^ (m - 2 + 1) + 2 ^ (m - 2 + 1) = next_power (m - 2 + 1) m (omega arith) in
+          rw is (record { three = omega arith; holds = rw up holds; least = λ h. omega arith })
     ]
 
 -- the lowest level of a store has at most the number 22
 pub bottom-shallow : (keys bottom : ℕ) → keys ≤ 2 ^ 24 → IsBottom keys bottom → bottom ≤ 22
 bottom-shallow keys bottom few is =
     elim (cases_lt 3 bottom) [
-      inl deep ↦
-        let least : 2 ^ (bottom + 1) < keys = is.least deep in
-        let below : bottom + 1 ≤ 23 = exponent-le (bottom + 1) 23 (omega arith) in
-        omega arith
-    | inr three ↦ omega arith
+      | inl deep ↦
+          let least : 2 ^ (bottom + 1) < keys = is.least deep in
+          let below : bottom + 1 ≤ 23 = exponent-le (bottom + 1) 23 (omega arith) in
+          omega arith
+      | inr three ↦ omega arith
     ]
 
 bottom-le : (keys a b : ℕ) → IsBottom keys a → IsBottom keys b → a ≤ b
 bottom-le keys a b is_a is_b =
     elim (cases_lt b a) [
-      inl above ↦
-        let three : 3 ≤ b = is_b.three in
-        let least : 2 ^ (a + 1) < keys = is_a.least (omega arith) in
-        let holds : keys ≤ 2 ^ (b + 2) = is_b.holds in
-        let more : 2 ^ (b + 2) ≤ 2 ^ (a + 1) = power-le (b + 2) (a + 1) (omega arith) in
-        absurd (omega arith)
-    | inr within ↦ within
+      | inl above ↦
+          let three : 3 ≤ b = is_b.three in
+          let least : 2 ^ (a + 1) < keys = is_a.least (omega arith) in
+          let holds : keys ≤ 2 ^ (b + 2) = is_b.holds in
+          let more : 2 ^ (b + 2) ≤ 2 ^ (a + 1) = power-le (b + 2) (a + 1) (omega arith) in
+          absurd (omega arith)
+      | inr within ↦ within
     ]
 
 -- there is one lowest level for a number of keys

@@ -64,11 +64,11 @@ marks-in_bytes m rest small =
     let own_bytes = little_bytes 4 m.own ++ incoming_bytes in
     let shadow_bytes = little_bytes 4 m.shadow ++ own_bytes in
     marks-same _ m
-      (little_number-reads_back 4 m.visible shadow_bytes small.visible)
-      (little_number-reads_back 4 m.shadow own_bytes small.shadow)
-      (little_number-reads_back 4 m.own incoming_bytes small.own)
-      (little_number-reads_back 4 m.incoming sample_bytes small.incoming)
-      (little_number-reads_back 4 m.sample rest small.sample)
+    (little_number-reads_back 4 m.visible shadow_bytes small.visible)
+    (little_number-reads_back 4 m.shadow own_bytes small.shadow)
+    (little_number-reads_back 4 m.own incoming_bytes small.own)
+    (little_number-reads_back 4 m.incoming sample_bytes small.incoming)
+    (little_number-reads_back 4 m.sample rest small.sample)
 
 -- the bytes of the levels that bytes say are those
 pub levels-bytes_in : (n : ℕ) (xs : List ℕ) → 20 * n ≤ length xs → AreBytes xs → flat_map marks_bytes (levels_in n xs) ≡ take (20 * n) xs

@@ -1,6 +1,6 @@
 -- Why bytes are no spelling: what a spelling's bytes say, and that they say one thing.
 use Rattle.std.proofs.Common.{◌≡◌, ℕ, zero, suc, ◌+◌, ◌-◌, ◌*◌, ◌^◌, ◌<◌, ◌≤◌, min, ◌⊎◌, inl, inr, Bool, true, false, cond, List, [], ◌∷◌, ◌++◌, length, take, drop, get_or, slice_index, replicate, flat_map, EachIndex, IsTrue, ◌↔◌, refl, sym, ◌∙◌, ap, subst, arith}
-use Rattle.std.specs.Prelude.{codes}
+use Rattle.std.specs.Prelude.{codes, Option, Some, None, MatchOption}
 use Rattle.std.proofs.lemmas.List.{drop_at, length-append, length-drop, length-replicate, get_or-replicate, append_assoc, same_lists, get_or_default, take_rest}
 use Rattle.byteorder.specs.Endian.{little_number, little_bytes}
 use Rattle.cola_cell.specs.declared.format.Format.{Format}
@@ -11,6 +11,8 @@ use Rattle.cola_layout.specs.declared.marks.Marks.{Marks}
 use Rattle.cola_cell.specs.Format.{stamp_limit}
 use Rattle.cola_cell.proofs.Numbers.{AreBytes}
 use Rattle.cola_layout.specs.declared.geometry.Geometry.{Geometry}
+use Rattle.cola_layout.specs.declared.header.Header.{Header}
+use Rattle.cola_layout.specs.Fields.{fields_of, Decodes}
 use Rattle.cola_layout.specs.Marks.{AreMarks}
 use Rattle.cola_layout.specs.Geometry.{AreKeys, IsBottom, IsBlock, Refuses}
 use Rattle.cola_layout.specs.Header.{Fields, IsSound, IsSpelling, IsNoSpelling, head_bytes, marks_bytes, header_bytes, version_of}
@@ -46,15 +48,15 @@ unfolding fields_from
 says-one f g bytes a b =
     let bottom : f.bottom ≡ g.bottom = a.geometry.bottom_is ∙ sym b.geometry.bottom_is in
     fields-same_from f.format g.format f.block_exp g.block_exp f.bottom g.bottom f.closed g.closed f.keys g.keys f.count g.count f.clock g.clock f.last g.last f.levels g.levels
-      (one-format f.format g.format (sym a.geometry.format_is ∙ b.geometry.format_is))
-      (a.geometry.block_is ∙ sym b.geometry.block_is)
-      bottom
-      (one-state f.closed g.closed (a.state ∙ sym b.state))
-      (a.geometry.keys_is ∙ sym b.geometry.keys_is)
-      (a.count ∙ sym b.count)
-      (a.clock ∙ sym b.clock)
-      (a.last ∙ sym b.last)
-      (a.levels ∙ ap (λ (k : ℕ). levels_in (k + 1) (drop 48 bytes)) bottom ∙ sym b.levels)
+    (one-format f.format g.format (sym a.geometry.format_is ∙ b.geometry.format_is))
+    (a.geometry.block_is ∙ sym b.geometry.block_is)
+    bottom
+    (one-state f.closed g.closed (a.state ∙ sym b.state))
+    (a.geometry.keys_is ∙ sym b.geometry.keys_is)
+    (a.count ∙ sym b.count)
+    (a.clock ∙ sym b.clock)
+    (a.last ∙ sym b.last)
+    (a.levels ∙ ap (λ (k : ℕ). levels_in (k + 1) (drop 48 bytes)) bottom ∙ sym b.levels)
 
 -- bytes spell one header
 pub spelling-one : (f g : Fields) (bytes : List ℕ) → IsSpelling f bytes → IsSpelling g bytes → f ≡ g
@@ -73,18 +75,18 @@ pub text-zeros : (f : Fields) (bytes : List ℕ) → IsSpelling f bytes → IsZe
 text-zeros f bytes s =
     let levels : length f.levels ≡ f.bottom + 1 = s.sound.one_each in
     let front : length (head_bytes f ++ flat_map marks_bytes f.levels) ≡ 48 + 20 * length f.levels =
-        length-append (head_bytes f) (flat_map marks_bytes f.levels) ∙ omega (arith, head-length f, marks-room f.levels) in
+    length-append (head_bytes f) (flat_map marks_bytes f.levels) ∙ omega (arith, head-length f, marks-room f.levels) in
     let group : bytes ≡ (head_bytes f ++ flat_map marks_bytes f.levels) ++ replicate (464 - 20 * length f.levels) 0 =
-        s.text ∙ sym (append_assoc (head_bytes f) (flat_map marks_bytes f.levels) (replicate (464 - 20 * length f.levels) 0)) in
+    s.text ∙ sym (append_assoc (head_bytes f) (flat_map marks_bytes f.levels) (replicate (464 - 20 * length f.levels) 0)) in
     let at : drop (48 + 20 * length f.levels) bytes ≡ replicate (464 - 20 * length f.levels) 0 =
-        ap (drop (48 + 20 * length f.levels)) group ∙ drop_at (head_bytes f ++ flat_map marks_bytes f.levels) (replicate (464 - 20 * length f.levels) 0) (48 + 20 * length f.levels) front in
+    ap (drop (48 + 20 * length f.levels)) group ∙ drop_at (head_bytes f ++ flat_map marks_bytes f.levels) (replicate (464 - 20 * length f.levels) 0) (48 + 20 * length f.levels) front in
     subst (λ (n : ℕ). IsZeroBehind n bytes) levels at
 
 -- a list of zeros, item by item
 pub zeros-from_each : (n : ℕ) (xs : List ℕ) → length xs ≡ n → EachIndex xs (λ k. slice_index xs k ≡ 0) → xs ≡ replicate n 0
 zeros-from_each n xs size each =
     same_lists xs (replicate n 0) (size ∙ sym (length-replicate n 0))
-      (λ k d within. get_or_default xs k d 0 within ∙ each k within ∙ sym (get_or-replicate n k 0 d (omega arith)))
+    (λ k d within. get_or_default xs k d 0 within ∙ each k within ∙ sym (get_or-replicate n k 0 d (omega arith)))
 
 pub zeros-each : (n : ℕ) (xs : List ℕ) → xs ≡ replicate n 0 → EachIndex xs (λ k. slice_index xs k ≡ 0)
 zeros-each n xs is k within =
@@ -98,9 +100,10 @@ pub zero-behind : (n : ℕ) (bytes : List ℕ) (r : Bool) → length bytes ≡ 5
 zero-behind n bytes r size few tests =
     let all : take (length bytes - (48 + 20 * n)) (drop (48 + 20 * n) bytes) ≡ drop (48 + 20 * n) bytes = take_rest bytes (48 + 20 * n) in
     let room : length (drop (48 + 20 * n) bytes) ≡ 464 - 20 * n = length-drop (48 + 20 * n) bytes ∙ omega arith in
-    let of_rest = rw all at tests in
-    ( (λ yes. zeros-from_each (464 - 20 * n) (drop (48 + 20 * n) bytes) room (of_rest.0 yes))
-    , (λ zeros. of_rest.1 (zeros-each (464 - 20 * n) (drop (48 + 20 * n) bytes) zeros)) )
+    let of_rest = rw all at tests in (
+      (λ yes. zeros-from_each (464 - 20 * n) (drop (48 + 20 * n) bytes) room (of_rest.0 yes)),
+      (λ zeros. of_rest.1 (zeros-each (464 - 20 * n) (drop (48 + 20 * n) bytes) zeros)),
+    )
 
 -- ---- bytes that are no spelling
 
@@ -150,7 +153,15 @@ module _ (bytes : List ℕ) where
 -- the fields that were read
 abbrev pub said : Geometry → Bool → ℕ → ℕ → ℕ → List Marks → Fields
 said g closed count clock last levels = record {
-  format = g.format; block_exp = g.block_exp; bottom = g.bottom; closed = closed; keys = g.keys; count = count; clock = clock; last = last; levels = levels
+  format = g.format;
+  block_exp = g.block_exp;
+  bottom = g.bottom;
+  closed = closed;
+  keys = g.keys;
+  count = count;
+  clock = clock;
+  last = last;
+  levels = levels;
 }
 
 module _ (g : Geometry) (closed : Bool) (count clock last : ℕ) (levels : List Marks) (bytes : List ℕ) where
@@ -167,8 +178,25 @@ module _ (g : Geometry) (closed : Bool) (count clock last : ℕ) (levels : List 
   spells-said size small says zeros count_fits clock_fits last_fits one_each marks_fit = record {
     text = text-from (said g closed count clock last levels) bytes size small one_each g.shallow says zeros;
     sound = record {
-      keys_in_range = g.keys_in_range; bottom_fits = g.bottom_fits; block_fits = g.block_fits;
-      count_fits = count_fits; clock_fits = clock_fits; last_fits = last_fits;
-      one_each = one_each; marks_fit = marks_fit
-    }
+      keys_in_range = g.keys_in_range;
+      bottom_fits = g.bottom_fits;
+      block_fits = g.block_fits;
+      count_fits = count_fits;
+      clock_fits = clock_fits;
+      last_fits = last_fits;
+      one_each = one_each;
+      marks_fit = marks_fit;
+    };
   }
+
+-- ---- decoding and encoding
+
+-- a header has one spelling
+pub text-one : (f : Fields) (a b : List ℕ) → IsSpelling f a → IsSpelling f b → a ≡ b
+text-one f a b first second = first.text ∙ sym second.text
+
+-- what a spelling decodes to
+pub decodes-back : (h : Header) (bytes : List ℕ) (answer : Option Header) → IsSpelling (fields_of h) bytes → Decodes bytes answer →
+    MatchOption answer ⊥ (λ g. fields_of g ≡ fields_of h)
+decodes-back h bytes None spelled none = none (fields_of h) spelled
+decodes-back h bytes (Some g) spelled found = spelling-one (fields_of g) (fields_of h) bytes found spelled

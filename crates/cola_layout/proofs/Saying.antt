@@ -49,14 +49,14 @@ text-from f xs size small one_each shallow says zeros =
     let n = f.bottom + 1 in
     let room : 20 * (f.bottom + 1) ≤ length (drop 48 xs) = rw length-drop (omega arith) in
     let marks : take (20 * (f.bottom + 1)) (drop 48 xs) ≡ flat_map marks_bytes f.levels =
-        sym (levels-bytes_in (f.bottom + 1) (drop 48 xs) room (drop-bytes 48 xs small)) ∙ ap (flat_map marks_bytes) (sym says.levels) in
+    sym (levels-bytes_in (f.bottom + 1) (drop 48 xs) room (drop-bytes 48 xs small)) ∙ ap (flat_map marks_bytes) (sym says.levels) in
     let behind : drop (20 * (f.bottom + 1)) (drop 48 xs) ≡ replicate (464 - 20 * length f.levels) 0 =
-        drop-drop (20 * (f.bottom + 1)) 48 xs ∙ zeros ∙ ap (λ (k : ℕ). replicate (464 - 20 * k) 0) (sym one_each) in
+    drop-drop (20 * (f.bottom + 1)) 48 xs ∙ zeros ∙ ap (λ (k : ℕ). replicate (464 - 20 * k) 0) (sym one_each) in
     sym (take-append-drop 48 xs)
-      ∙ ap (λ (ys : List ℕ). ys ++ drop 48 xs) (head-from f xs size small says)
-      ∙ ap (λ (ys : List ℕ). head_bytes f ++ ys) (sym (take-append-drop (20 * (f.bottom + 1)) (drop 48 xs)))
-      ∙ ap (λ (ys : List ℕ). head_bytes f ++ (ys ++ drop (20 * (f.bottom + 1)) (drop 48 xs))) marks
-      ∙ ap (λ (ys : List ℕ). head_bytes f ++ (flat_map marks_bytes f.levels ++ ys)) behind
+    ∙ ap (λ (ys : List ℕ). ys ++ drop 48 xs) (head-from f xs size small says)
+    ∙ ap (λ (ys : List ℕ). head_bytes f ++ ys) (sym (take-append-drop (20 * (f.bottom + 1)) (drop 48 xs)))
+    ∙ ap (λ (ys : List ℕ). head_bytes f ++ (ys ++ drop (20 * (f.bottom + 1)) (drop 48 xs))) marks
+    ∙ ap (λ (ys : List ℕ). head_bytes f ++ (flat_map marks_bytes f.levels ++ ys)) behind
 
 last-small : (format : Format) (last : ℕ) → last ≤ stamp_limit format → last ≤ 2 ^ 63
 last-small One last h = omega arith
@@ -76,7 +76,10 @@ says-head f rest sound levels =
     let count_bytes = little_bytes 8 f.count ++ clock_bytes in
     record {
       geometry = record {
-        format_is = refl; block_is = refl; bottom_is = refl; zero_is = refl;
+        format_is = refl;
+        block_is = refl;
+        bottom_is = refl;
+        zero_is = refl;
         keys_is = sym (little_number-reads_back 8 f.keys count_bytes (omega arith));
       };
       state = refl;
@@ -93,6 +96,6 @@ head-length f = refl
 pub text-says : (f : Fields) (bytes : List ℕ) → IsSpelling f bytes → Says f bytes
 text-says f bytes s =
     let marks : levels_in (f.bottom + 1) (flat_map marks_bytes f.levels ++ replicate (464 - 20 * length f.levels) 0) ≡ f.levels =
-        ap (λ (k : ℕ). levels_in k (flat_map marks_bytes f.levels ++ replicate (464 - 20 * length f.levels) 0)) (sym s.sound.one_each)
-          ∙ levels-in_bytes f.levels (replicate (464 - 20 * length f.levels) 0) (sound-small f s.sound) in
+    ap (λ (k : ℕ). levels_in k (flat_map marks_bytes f.levels ++ replicate (464 - 20 * length f.levels) 0)) (sym s.sound.one_each)
+    ∙ levels-in_bytes f.levels (replicate (464 - 20 * length f.levels) 0) (sound-small f s.sound) in
     subst (Says f) (sym s.text) (says-head f (flat_map marks_bytes f.levels ++ replicate (464 - 20 * length f.levels) 0) s.sound (sym marks))

@@ -20,14 +20,14 @@ sampled-small : (t bottom j : ℕ) (levels : List Marks) → bottom ≤ 22 → j
     sampled_length t j bottom (marks_of levels (j + 1)) ≤ 2 ^ 24
 sampled-small t bottom j levels shallow within fit =
     elim (cases_Bool (eqb j bottom)) [
-      inl last ↦ rw last (omega arith)
-    | inr inner ↦
-        let apart : j ≡ bottom → ⊥ = eqb-false j bottom inner in
-        let below = fit (j + 1) (omega arith) in
-        elim (cases_Bool (is_odd (period t j))) [
-          inl odd ↦ rw (inner, odd) (run-small (j + 1) (marks_of levels (j + 1)).shadow (omega arith) below.shadow_fits)
-        | inr even ↦ rw (inner, even) (run-small (j + 1) (marks_of levels (j + 1)).visible (omega arith) below.visible_fits)
-        ]
+      | inl last ↦ rw last (omega arith)
+      | inr inner ↦
+          let apart : j ≡ bottom → ⊥ = eqb-false j bottom inner in
+          let below = fit (j + 1) (omega arith) in
+          elim (cases_Bool (is_odd (period t j))) [
+            | inl odd ↦ rw (inner, odd) (run-small (j + 1) (marks_of levels (j + 1)).shadow (omega arith) below.shadow_fits)
+            | inr even ↦ rw (inner, even) (run-small (j + 1) (marks_of levels (j + 1)).visible (omega arith) below.visible_fits)
+          ]
     ]
 
 idle-small : (m : Marks) → m.visible ≤ 2 ^ 24 → m.shadow ≤ 2 ^ 24 → m.own ≡ 0 → m.incoming ≡ 0 → m.sample ≡ 0 → AreSmall m
@@ -46,24 +46,24 @@ level-small t bottom j levels shallow within fit =
     let visible : (marks_of levels j).visible ≤ 2 ^ 24 = run-small j (marks_of levels j).visible (omega arith) fits.visible_fits in
     let shadow : (marks_of levels j).shadow ≤ 2 ^ 24 = run-small j (marks_of levels j).shadow (omega arith) fits.shadow_fits in
     elim (cases_lt 0 j) [
-      inr first ↦
-        let idle : IsIdle (marks_of levels j) = fits.first (omega arith) in
-        idle-small (marks_of levels j) visible shadow idle.own_rests idle.incoming_rests idle.sample_rests
-    | inl some ↦ elim (cases_Bool (works t j)) [
-        inl works_now ↦
-          let w = fits.inside some works_now in
-          let above = fit (j - 1) (omega arith) in
-          let incoming : (marks_of levels (j - 1)).visible ≤ 2 ^ 24 = run-small (j - 1) (marks_of levels (j - 1)).visible (omega arith) above.visible_fits in
-          let sampled : sampled_length t j bottom (marks_of levels (j + 1)) ≤ 2 ^ 24 = sampled-small t bottom j levels shallow within fit in
-          working-small (marks_of levels j) (marks_of levels (j - 1)).visible (sampled_length t j bottom (marks_of levels (j + 1))) visible shadow incoming sampled
+      | inr first ↦
+          let idle : IsIdle (marks_of levels j) = fits.first (omega arith) in
+          idle-small (marks_of levels j) visible shadow idle.own_rests idle.incoming_rests idle.sample_rests
+      | inl some ↦ elim (cases_Bool (works t j)) [
+        | inl works_now ↦
+            let w = fits.inside some works_now in
+            let above = fit (j - 1) (omega arith) in
+            let incoming : (marks_of levels (j - 1)).visible ≤ 2 ^ 24 = run-small (j - 1) (marks_of levels (j - 1)).visible (omega arith) above.visible_fits in
+            let sampled : sampled_length t j bottom (marks_of levels (j + 1)) ≤ 2 ^ 24 = sampled-small t bottom j levels shallow within fit in
+            working-small (marks_of levels j) (marks_of levels (j - 1)).visible (sampled_length t j bottom (marks_of levels (j + 1))) visible shadow incoming sampled
             w.own_within w.incoming_within w.sample_within
-      | inr rests ↦ elim (cases_Bool (is_over t j)) [
-          inl over ↦
-            let done : IsAtRest (marks_of levels j) = fits.after over in
-            idle-small (marks_of levels j) visible shadow done.own_rests done.incoming_rests done.sample_rests
-        | inr early ↦
-            let idle : IsIdle (marks_of levels j) = fits.before (to_come t j some rests early) in
-            idle-small (marks_of levels j) visible shadow idle.own_rests idle.incoming_rests idle.sample_rests
+        | inr rests ↦ elim (cases_Bool (is_over t j)) [
+          | inl over ↦
+              let done : IsAtRest (marks_of levels j) = fits.after over in
+              idle-small (marks_of levels j) visible shadow done.own_rests done.incoming_rests done.sample_rests
+          | inr early ↦
+              let idle : IsIdle (marks_of levels j) = fits.before (to_come t j some rests early) in
+              idle-small (marks_of levels j) visible shadow idle.own_rests idle.incoming_rests idle.sample_rests
         ]
       ]
     ]
@@ -72,9 +72,9 @@ level-small t bottom j levels shallow within fit =
 pub sound-small : (f : Fields) → IsSound f → (j : ℕ) → AreSmall (marks_of f.levels j)
 sound-small f sound j =
     elim (cases_lt f.bottom j) [
-      inr within ↦ level-small f.clock f.bottom j f.levels (bottom-shallow f.keys f.bottom sound.keys_in_range.few sound.bottom_fits) within sound.marks_fit
-    | inl past ↦
-        let long : length f.levels ≡ f.bottom + 1 = sound.one_each in
-        let none : marks_of f.levels j ≡ no_marks = get_or_past f.levels j no_marks (omega arith) in
-        subst AreSmall (sym none) (idle-small no_marks (omega arith) (omega arith) refl refl refl)
+      | inr within ↦ level-small f.clock f.bottom j f.levels (bottom-shallow f.keys f.bottom sound.keys_in_range.few sound.bottom_fits) within sound.marks_fit
+      | inl past ↦
+          let long : length f.levels ≡ f.bottom + 1 = sound.one_each in
+          let none : marks_of f.levels j ≡ no_marks = get_or_past f.levels j no_marks (omega arith) in
+          subst AreSmall (sym none) (idle-small no_marks (omega arith) (omega arith) refl refl refl)
     ]

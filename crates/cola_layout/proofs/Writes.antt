@@ -30,8 +30,8 @@ module _ {at n : ℕ} {block before after : List ℕ} (w : Written at n block be
       let long : length block ≡ n = w.long in
       let both : length (take at before ++ block) ≡ at + n = length-append (take at before) block ∙ omega (arith, front_long, long) in
       ap (λ (k : ℕ). take k after) end_is ∙ ap (take (at + n)) (w.is ∙ sym (append_assoc (take at before) block (drop (at + n) before)))
-        ∙ take_at (take at before ++ block) (drop (at + n) before) (at + n) both
-        ∙ ap (λ (xs : List ℕ). xs ++ block) e
+      ∙ take_at (take at before ++ block) (drop (at + n) before) (at + n) both
+      ∙ ap (λ (xs : List ℕ). xs ++ block) e
 
 -- blocks behind a front
 regroup : (p a b c d e : List ℕ) → ((((p ++ a) ++ b) ++ c) ++ d) ++ e ≡ p ++ ((((a ++ b) ++ c) ++ d) ++ e)
@@ -61,7 +61,7 @@ marks-written at m s0 s1 s2 s3 s4 s5 fits e1 e2 e3 e4 e5 =
     let f4 = written-front w4 (at + 16) (omega arith) _ f3 in
     let w5 : Written (at + 16) 4 (little_bytes 4 m.sample) s4 s5 = record { is = e5; long = refl; fits = omega arith } in
     written-front w5 (at + 20) (omega arith) _ f4
-      ∙ regroup (take at s0) (little_bytes 4 m.visible) (little_bytes 4 m.shadow) (little_bytes 4 m.own) (little_bytes 4 m.incoming) (little_bytes 4 m.sample)
+    ∙ regroup (take at s0) (little_bytes 4 m.visible) (little_bytes 4 m.shadow) (little_bytes 4 m.own) (little_bytes 4 m.incoming) (little_bytes 4 m.sample)
 
 -- the bytes before the levels' marks, part by part
 pub head-written : (f : Fields) (s0 s1 s2 s3 s4 s5 s6 s7 : List ℕ) → length s0 ≡ 512 →
@@ -104,10 +104,10 @@ pub levels-more : (j : ℕ) (front before after : List ℕ) (levels : List Marks
 levels-more j front before after levels within so_far text =
     let end : 48 + 20 * (j + 1) ≡ 48 + 20 * j + 20 = omega arith in
     ap (λ (k : ℕ). take k after) end
-      ∙ text
-      ∙ ap (λ (xs : List ℕ). xs ++ marks_bytes (get_or levels j no_marks)) so_far
-      ∙ flat_map_more marks_bytes front (take j levels) (get_or levels j no_marks)
-      ∙ ap (λ (ms : List Marks). front ++ flat_map marks_bytes ms) (sym (take_more levels j no_marks within))
+    ∙ text
+    ∙ ap (λ (xs : List ℕ). xs ++ marks_bytes (get_or levels j no_marks)) so_far
+    ∙ flat_map_more marks_bytes front (take j levels) (get_or levels j no_marks)
+    ∙ ap (λ (ms : List Marks). front ++ flat_map marks_bytes ms) (sym (take_more levels j no_marks within))
 
 -- all levels' marks
 pub levels-all : (j : ℕ) (front into : List ℕ) (levels : List Marks) → length levels ≡ j →
@@ -115,5 +115,5 @@ pub levels-all : (j : ℕ) (front into : List ℕ) (levels : List Marks) → len
     take (48 + 20 * length levels) into ≡ front ++ flat_map marks_bytes levels
 levels-all j front into levels is so_far =
     ap (λ (k : ℕ). take (48 + 20 * k) into) is
-      ∙ so_far
-      ∙ ap (λ (ms : List Marks). front ++ flat_map marks_bytes ms) (take_all j levels (omega arith))
+    ∙ so_far
+    ∙ ap (λ (ms : List Marks). front ++ flat_map marks_bytes ms) (take_all j levels (omega arith))

@@ -28,14 +28,26 @@ pub(crate) fn read(bytes: &[u8]) -> Option<Header>
     let count = u64_at(bytes, 24);
     let clock = u64_at(bytes, 32);
     let last = u64_at(bytes, 40);
-    if count > geometry.keys || clock >= clock_end(geometry.bottom) || last > last_limit(geometry.format) {
+    if count > geometry.keys
+        || clock >= clock_end(geometry.bottom)
+        || last > last_limit(geometry.format)
+    {
         return None;
     }
     let levels = read_levels(bytes, geometry.levels());
-    if !is_zero_behind(bytes, geometry.levels()) || !levels_fit(clock, geometry.bottom, levels.as_slice()) {
+    if !is_zero_behind(bytes, geometry.levels())
+        || !levels_fit(clock, geometry.bottom, levels.as_slice())
+    {
         return None;
     }
-    Some(Header { geometry, closed, count, clock, last, levels })
+    Some(Header {
+        geometry,
+        closed,
+        count,
+        clock,
+        last,
+        levels,
+    })
 }
 
 // The format, by the name and the version.

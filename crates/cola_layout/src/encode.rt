@@ -37,7 +37,11 @@ fn write_head(header: &Header, into: &mut [u8])
     let geometry = &header.geometry;
     put(into, 0, &NAME);
     put_u32(into, 8, version(geometry.format));
-    put(into, 12, &[geometry.block_exp, geometry.bottom, state(header.closed), 0]);
+    put(
+        into,
+        12,
+        &[geometry.block_exp, geometry.bottom, state(header.closed), 0],
+    );
     put_u64(into, 16, geometry.keys);
     put_u64(into, 24, header.count);
     put_u64(into, 32, header.clock);

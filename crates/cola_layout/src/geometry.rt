@@ -9,7 +9,7 @@ use cola_cell::Format;
 
 /// The sizes of a store, in cells: it is for `keys` keys, has the levels 0 to `bottom`, and its blocks have `2^block_exp`
 /// cells of the width of its format.
-#[derive(Clone, Copy, Debug, Drop)]
+#[derive(Clone, Copy, Debug, PartialEq, Eq, Drop)]
 pub struct Geometry {
     pub keys: u64,
     pub block_exp: u8,
@@ -47,7 +47,12 @@ impl Geometry {
         if block_exp < 3 || block_exp > 9.min(bottom + 2) {
             return Err(LayoutFault::Block);
         }
-        Ok(Geometry { keys, block_exp, bottom, format })
+        Ok(Geometry {
+            keys,
+            block_exp,
+            bottom,
+            format,
+        })
     }
 
     /// The number of levels, 4 to 23.

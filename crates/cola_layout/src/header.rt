@@ -1,8 +1,8 @@
 //! The header of a store, and its bytes.
 
-ghost use Rattle.std.specs.Prelude.{◌≡◌, ◌<◌, ◌≤◌, ◌^◌, ◌+◌, length};
+ghost use Rattle.std.specs.Prelude.{◌≡◌, ◌<◌, ◌≤◌, ◌^◌, ◌+◌, length, replicate};
 ghost use Rattle.cola_cell.specs.Format.{stamp_limit};
-ghost use Rattle.cola_layout.specs.Marks.{AreMarks};
+ghost use Rattle.cola_layout.specs.Marks.{AreMarks, no_marks};
 
 use crate::decode::read;
 use crate::encode::write;
@@ -12,7 +12,7 @@ use arrayvec::ArrayVec;
 
 /// What a store's file says of the whole store: its geometry, whether it was closed, how many keys it has, its clock, its
 /// last number and the marks of its levels. The invariants are the rules of a header.
-#[derive(Drop)]
+#[derive(Debug, Drop)]
 pub struct Header {
     /// The keys that the store is for, its levels, its blocks and its format.
     pub geometry: Geometry,
@@ -34,8 +34,29 @@ pub struct Header {
 }
 
 impl Header {
+    ghost use Rattle.std.specs.Prelude.{true};
     ghost use Rattle.cola_layout.specs.Header.{IsSpelling};
     ghost use Rattle.cola_layout.specs.Fields.{fields_of, Decodes};
+
+    /// The header of a closed store with no keys.
+    pub fn empty(geometry: Geometry) -> Header
+        ensures geometry { result.geometry ≡ geometry }
+        ensures closed { result.closed ≡ true }
+        ensures count { result.count ≡ 0 }
+        ensures clock { result.clock ≡ 0 }
+        ensures last { result.last ≡ 0 }
+        ensures levels { result.levels.items ≡ replicate (geometry.bottom + 1) no_marks }
+    {
+        let levels = empty_levels(geometry.levels());
+        Header {
+            geometry,
+            closed: true,
+            count: 0,
+            clock: 0,
+            last: 0,
+            levels,
+        }
+    }
 
     /// Writes the header's spelling: all 512 bytes. Numbers are little-endian.
     pub fn encode(&self, into: &mut [u8; 512])
@@ -50,4 +71,16 @@ impl Header {
     {
         read(bytes)
     }
+}
+
+// The marks of so many levels with nothing in them.
+fn empty_levels(levels: u8) -> ArrayVec<Marks, 23>
+    requires { levels ≤ 23 }
+    ensures { result.items ≡ replicate levels no_marks }
+{
+    let mut empty = ArrayVec::new();
+    for _level in 0..levels {
+        empty.push(Marks::default());
+    }
+    empty
 }

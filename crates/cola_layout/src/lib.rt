@@ -14,5 +14,12 @@ mod marks;
 pub use fault::LayoutFault;
 pub use geometry::Geometry;
 pub use header::Header;
-pub use marks::{Marks, levels_fit};
-pub use law::{bottom_is_one, front_is_two_blocks, groups_lie_in_blocks, places_cover, places_differ, slots_are_blocks};
+pub use law::{
+    bottom_is_one, decoding_gives_back, empty_marks_fit, front_is_two_blocks, groups_lie_in_blocks,
+    header_is_one, marks_fit_level_by_level, places_cover, places_differ, slots_are_blocks,
+    spelling_is_one,
+};
+pub use marks::Marks;
+
+#[cfg(test)]
+mod tests;

@@ -101,7 +101,7 @@ fn level_fits(clock: u64, bottom: u8, levels: &[Marks], level: u8) -> bool
 }
 
 /// Whether each level has marks that it may have at the clock.
-pub fn levels_fit(clock: u64, bottom: u8, levels: &[Marks]) -> bool
+pub(crate) fn levels_fit(clock: u64, bottom: u8, levels: &[Marks]) -> bool
     requires bottom_in_range { bottom ≤ 22 }
     requires clock_in_range { clock < 2 ^ 23 }
     requires one_each { length levels.now ≡ bottom + 1 }

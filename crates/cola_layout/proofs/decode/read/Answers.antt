@@ -23,36 +23,36 @@ returns-then-count-geometry c =
     let g = c.in_ok-geometry.geometry in
     let levels = levels_in (g.bottom + 1) (drop 48 c.args.bytes.now) in
     let says = says-said g c.in_ok-closed.closed c.u64_at-count.result c.u64_at-clock.result c.u64_at-last.result levels c.args.bytes.now
-        c.in_ok-geometry.ensures c.in_ok-closed.ensures c.u64_at-count.ensures c.u64_at-clock.ensures c.u64_at-last.ensures refl in
+    c.in_ok-geometry.ensures c.in_ok-closed.ensures c.u64_at-count.ensures c.u64_at-clock.ensures c.u64_at-last.ensures refl in
     no-rule c.args.bytes.now (said g c.in_ok-closed.closed c.u64_at-count.result c.u64_at-clock.result c.u64_at-last.result levels) says
-      (λ (sound : IsSound (said g c.in_ok-closed.closed c.u64_at-count.result c.u64_at-clock.result c.u64_at-last.result levels)).
-        elim c.then-count-geometry.branch [
-          then-count-geometry-via-then-count-geometry w ↦ omega (arith, sound.count_fits, w.if-count-geometry.true)
-        | then-count-geometry-via-else-count-geometry+then-clock-clock_end w ↦ omega (arith, sound.clock_fits, w.if-clock-clock_end.true, w.clock_end.ensures.value)
-        | then-count-geometry-via-else-count-geometry+else-clock-clock_end+then-last-last_limit w ↦ omega (arith, sound.last_fits, w.if-last-last_limit.true, w.last_limit.ensures)
-        ])
+    (λ (sound : IsSound (said g c.in_ok-closed.closed c.u64_at-count.result c.u64_at-clock.result c.u64_at-last.result levels)).
+    elim c.then-count-geometry.branch [
+      | then-count-geometry-via-then-count-geometry w ↦ omega (arith, sound.count_fits, w.if-count-geometry.true)
+      | then-count-geometry-via-else-count-geometry+then-clock-clock_end w ↦ omega (arith, sound.clock_fits, w.if-clock-clock_end.true, w.clock_end.ensures.value)
+      | then-count-geometry-via-else-count-geometry+else-clock-clock_end+then-last-last_limit w ↦ omega (arith, sound.last_fits, w.if-last-last_limit.true, w.last_limit.ensures)
+    ])
 
 pub levels_fit-requires-clause-one_each : goal.levels_fit-requires-clause-one_each
 levels_fit-requires-clause-one_each c =
     ap length (c.as_slice.ensures.value ∙ read_all _ (c.in_ok-geometry.geometry.bottom + 1) _ (drop 48 c.args.bytes.now) c.levels.ensures.value c.read_levels-levels.ensures)
-      ∙ levels-length_in (c.in_ok-geometry.geometry.bottom + 1) (drop 48 c.args.bytes.now)
+    ∙ levels-length_in (c.in_ok-geometry.geometry.bottom + 1) (drop 48 c.args.bytes.now)
 
 pub returns-then-not-is_zero_behind : goal.returns-then-not-is_zero_behind
 returns-then-not-is_zero_behind c =
     let g = c.in_ok-geometry.geometry in
     let levels = c.read_levels-levels.result.items in
     let levels_are : levels ≡ levels_in (g.bottom + 1) (drop 48 c.args.bytes.now) =
-        read_all c.levels.result (g.bottom + 1) levels (drop 48 c.args.bytes.now) c.levels.ensures.value c.read_levels-levels.ensures in
+    read_all c.levels.result (g.bottom + 1) levels (drop 48 c.args.bytes.now) c.levels.ensures.value c.read_levels-levels.ensures in
     let says = says-said g c.in_ok-closed.closed c.u64_at-count.result c.u64_at-clock.result c.u64_at-last.result levels c.args.bytes.now
-        c.in_ok-geometry.ensures c.in_ok-closed.ensures c.u64_at-count.ensures c.u64_at-clock.ensures c.u64_at-last.ensures levels_are in
+    c.in_ok-geometry.ensures c.in_ok-closed.ensures c.u64_at-count.ensures c.u64_at-clock.ensures c.u64_at-last.ensures levels_are in
     elim c.then-not-is_zero_behind.branch [
-      then-not-is_zero_behind-via-then-not-is_zero_behind w ↦
-        no-end c.args.bytes.now (said g c.in_ok-closed.closed c.u64_at-count.result c.u64_at-clock.result c.u64_at-last.result levels) says
+      | then-not-is_zero_behind-via-then-not-is_zero_behind w ↦
+          no-end c.args.bytes.now (said g c.in_ok-closed.closed c.u64_at-count.result c.u64_at-clock.result c.u64_at-last.result levels) says
           (λ zeros. false≢true (sym w.if-not-is_zero_behind.true ∙ c.is_zero_behind.ensures.1 (rw c.levels-2.ensures.value zeros)))
-    | then-not-is_zero_behind-via-else-not-is_zero_behind+then-not-levels_fit w ↦
-        no-rule c.args.bytes.now (said g c.in_ok-closed.closed c.u64_at-count.result c.u64_at-clock.result c.u64_at-last.result levels) says
+      | then-not-is_zero_behind-via-else-not-is_zero_behind+then-not-levels_fit w ↦
+          no-rule c.args.bytes.now (said g c.in_ok-closed.closed c.u64_at-count.result c.u64_at-clock.result c.u64_at-last.result levels) says
           (λ sound. false≢true (sym w.if-not-levels_fit.true ∙ w.levels_fit.ensures.1
-            (subst (λ (ms : List Marks). AreMarks c.u64_at-clock.result g.bottom ms) (sym w.as_slice.ensures.value) sound.marks_fit)))
+          (subst (λ (ms : List Marks). AreMarks c.u64_at-clock.result g.bottom ms) (sym w.as_slice.ensures.value) sound.marks_fit)))
     ]
 
 pub invariant_of-result : goal.invariant_of-result
@@ -64,7 +64,7 @@ invariant_of-result c =
       clock_fits = omega (arith, c.if-clock-clock_end.false, c.clock_end.ensures.value);
       last_fits = omega (arith, c.if-last-last_limit.false, c.last_limit.ensures);
       one_each = ap length (read_all c.levels.result (g.bottom + 1) levels (drop 48 c.args.bytes.now) c.levels.ensures.value c.read_levels-levels.ensures)
-        ∙ levels-length_in (g.bottom + 1) (drop 48 c.args.bytes.now);
+          ∙ levels-length_in (g.bottom + 1) (drop 48 c.args.bytes.now);
       marks_fit = subst (λ (ms : List Marks). AreMarks c.u64_at-clock.result g.bottom ms) c.as_slice.ensures.value (c.levels_fit.ensures.0 c.if-not-levels_fit.false);
     }
 
@@ -73,14 +73,14 @@ returns c =
     let g = c.in_ok-geometry.geometry in
     let levels = c.read_levels-levels.result.items in
     let levels_are : levels ≡ levels_in (g.bottom + 1) (drop 48 c.args.bytes.now) =
-        read_all c.levels.result (g.bottom + 1) levels (drop 48 c.args.bytes.now) c.levels.ensures.value c.read_levels-levels.ensures in
+    read_all c.levels.result (g.bottom + 1) levels (drop 48 c.args.bytes.now) c.levels.ensures.value c.read_levels-levels.ensures in
     let says = says-said g c.in_ok-closed.closed c.u64_at-count.result c.u64_at-clock.result c.u64_at-last.result levels c.args.bytes.now
-        c.in_ok-geometry.ensures c.in_ok-closed.ensures c.u64_at-count.ensures c.u64_at-clock.ensures c.u64_at-last.ensures levels_are in
+    c.in_ok-geometry.ensures c.in_ok-closed.ensures c.u64_at-count.ensures c.u64_at-clock.ensures c.u64_at-last.ensures levels_are in
     let small : AreBytes c.args.bytes.now = λ i. (let fits = c.type_inv.bytes i in omega arith) in
     spells-said g c.in_ok-closed.closed c.u64_at-count.result c.u64_at-clock.result c.u64_at-last.result levels c.args.bytes.now
-      c.requires small says (rw c.levels-2.ensures.value at (c.is_zero_behind.ensures.0 c.if-not-is_zero_behind.false))
-      c.if-count-geometry.false
-      (omega (arith, c.if-clock-clock_end.false, c.clock_end.ensures.value))
-      (omega (arith, c.if-last-last_limit.false, c.last_limit.ensures))
-      (ap length levels_are ∙ levels-length_in (g.bottom + 1) (drop 48 c.args.bytes.now))
-      (subst (λ (ms : List Marks). AreMarks c.u64_at-clock.result g.bottom ms) c.as_slice.ensures.value (c.levels_fit.ensures.0 c.if-not-levels_fit.false))
+    c.requires small says (rw c.levels-2.ensures.value at (c.is_zero_behind.ensures.0 c.if-not-is_zero_behind.false))
+    c.if-count-geometry.false
+    (omega (arith, c.if-clock-clock_end.false, c.clock_end.ensures.value))
+    (omega (arith, c.if-last-last_limit.false, c.last_limit.ensures))
+    (ap length levels_are ∙ levels-length_in (g.bottom + 1) (drop 48 c.args.bytes.now))
+    (subst (λ (ms : List Marks). AreMarks c.u64_at-clock.result g.bottom ms) c.as_slice.ensures.value (c.levels_fit.ensures.0 c.if-not-levels_fit.false))

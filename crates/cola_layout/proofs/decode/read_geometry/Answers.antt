@@ -15,7 +15,7 @@ pub returns-then-geometry-bytes : goal.returns-then-geometry-bytes
 returns-then-geometry-bytes c =
     let keys_are : c.in-Ok.geometry.keys ≡ little_number 8 (drop 16 c.args.bytes.now) = c.in-Ok.ensures.keys ∙ c.u64_at.ensures in
     elim c.then-geometry-bytes.branch [
-      then-geometry-bytes-via-then-geometry-bytes w ↦
-        no-bottom c.args.bytes.now c.in-Ok.geometry.keys c.in-Ok.geometry.bottom keys_are c.in-Ok.geometry.bottom_fits w.if-geometry-bytes.true
-    | then-geometry-bytes-via-else-geometry-bytes+then-bytes-ne0 w ↦ no-zero c.args.bytes.now w.if-bytes-ne0.true
+      | then-geometry-bytes-via-then-geometry-bytes w ↦
+          no-bottom c.args.bytes.now c.in-Ok.geometry.keys c.in-Ok.geometry.bottom keys_are c.in-Ok.geometry.bottom_fits w.if-geometry-bytes.true
+      | then-geometry-bytes-via-else-geometry-bytes+then-bytes-ne0 w ↦ no-zero c.args.bytes.now w.if-bytes-ne0.true
     ]

@@ -13,10 +13,10 @@ loop-level-preserved c =
     let here : marks_in (drop (48 + 20 * j) bytes) ≡ marks_in (drop (20 * j) (drop 48 bytes)) = ap marks_in (sym (drop-drop (20 * j) 48 bytes)) in
     record {
       read_so_far =
-        c.push.ensures.items
+          c.push.ensures.items
           ∙ ap (λ (ms : List Marks). ms ++ c.read_marks.result ∷ []) c.loop-level.invariant.read_so_far
           ∙ ap (λ (m : Marks). levels_in j (drop 48 bytes) ++ m ∷ []) (c.read_marks.ensures ∙ here)
           ∙ sym (levels-in_more j (drop 48 bytes))
           ∙ ap (λ (k : ℕ). levels_in k (drop 48 bytes)) (sym (add-one j));
-      size = omega (arith, c.push.ensures.len)
+      size = omega (arith, c.push.ensures.len);
     }

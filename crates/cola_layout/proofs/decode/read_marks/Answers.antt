@@ -9,6 +9,6 @@ pub returns : goal.returns
 unfolding marks_in
 returns c =
     let behind : (k : ℕ) → little_number 4 (drop (c.args.at + k) c.args.bytes.now) ≡ little_number 4 (drop k (drop c.args.at c.args.bytes.now)) =
-        λ k. ap (little_number 4) (sym (drop-drop k c.args.at c.args.bytes.now)) in
+    λ k. ap (little_number 4) (sym (drop-drop k c.args.at c.args.bytes.now)) in
     marks-same _ (marks_in (drop c.args.at c.args.bytes.now)) c.u32_at.ensures
-      (c.u32_at-2.ensures ∙ behind 4) (c.u32_at-3.ensures ∙ behind 8) (c.u32_at-4.ensures ∙ behind 12) (c.u32_at-5.ensures ∙ behind 16)
+    (c.u32_at-2.ensures ∙ behind 4) (c.u32_at-3.ensures ∙ behind 8) (c.u32_at-4.ensures ∙ behind 12) (c.u32_at-5.ensures ∙ behind 16)

@@ -7,7 +7,7 @@ pub loop-level-preserved : goal.loop-level-preserved
 loop-level-preserved c = record {
   written = levels-more c.loop-level.level (take 48 c.args.into.now) c.loop-level.into c.write_marks.new.into c.args.levels.now c.loop-level-test.true
       c.loop-level.invariant.written c.write_marks.ensures.text;
-  size = c.write_marks.ensures.size ∙ c.loop-level.invariant.size
+  size = c.write_marks.ensures.size ∙ c.loop-level.invariant.size;
 }
 
 pub returns-clause-text : goal.returns-clause-text

@@ -6,13 +6,13 @@ use Rattle.cola_layout.proofs.marks.sampled.Goals as goal
 pub bounds-levels-level : goal.bounds-levels-level
 bounds-levels-level c =
     let above : c.args.level ≡ c.args.bottom → ⊥ =
-        visible-above_bottom c.args.clock c.args.level c.args.bottom (sym c.next_of.ensures ∙ c.in-Visible.is) in
+    visible-above_bottom c.args.clock c.args.level c.args.bottom (sym c.next_of.ensures ∙ c.in-Visible.is) in
     omega arith
 
 pub bounds-levels-level-in-Shadow : goal.bounds-levels-level-in-Shadow
 bounds-levels-level-in-Shadow c =
     let above : c.args.level ≡ c.args.bottom → ⊥ =
-        shadow-above_bottom c.args.clock c.args.level c.args.bottom (sym c.next_of.ensures ∙ c.in-Shadow.is) in
+    shadow-above_bottom c.args.clock c.args.level c.args.bottom (sym c.next_of.ensures ∙ c.in-Shadow.is) in
     omega arith
 
 pub returns-in-Visible : goal.returns-in-Visible
