@@ -1,11 +1,11 @@
 -- The marks of levels, one level after another; and those of an empty store.
-use Rattle.std.proofs.Common.{◌≡◌, ℕ, zero, suc, ◌+◌, ◌-◌, ◌*◌, ◌/◌, ◌^◌, ◌<◌, ◌≤◌, ◌⊎◌, inl, inr, min, Bool, true, false, cond, eqb, List, [], ◌∷◌, length, replicate, get_or, refl, sym, ◌∙◌, ap, subst, arith}
+use Rattle.std.proofs.Common.{◌≡◌, ℕ, zero, suc, ◌+◌, ◌-◌, ◌*◌, ◌/◌, ◌^◌, ◌<◌, ◌≤◌, inl, inr, eqb, List, [], ◌∷◌, length, replicate, refl, arith}
 use Rattle.std.proofs.lemmas.Bool.{cases_Bool, cases_lt}
 use Rattle.std.proofs.lemmas.List.{get_or-replicate, get_or_past, length-replicate}
 use Rattle.std.proofs.Math.Nat.{add-zero}
-use Rattle.cola_clock.specs.Clock.{period, is_odd, works, is_before, is_over, window_step}
+use Rattle.cola_clock.specs.Clock.{period, is_odd, window_step}
 use Rattle.cola_layout.specs.declared.marks.Marks.{Marks}
-use Rattle.cola_layout.specs.Marks.{IsIdle, IsAtRest, IsWorking, FitsLevel, FitsAt, AreMarks, AreMarksFrom, marks_of, first_marks, no_marks, sampled_length}
+use Rattle.cola_layout.specs.Marks.{IsWorking, FitsLevel, AreMarks, AreMarksFrom, marks_of, first_marks, no_marks, sampled_length}
 
 -- the marks behind the first are those of the next
 first-of : (levels : List Marks) → first_marks levels ≡ marks_of levels 0

@@ -1,11 +1,9 @@
 -- What the answers of the clock's calls say of its tests, and which marks a level may have in each of its phases.
-use Rattle.std.proofs.Common.{◌≡◌, ℕ, zero, suc, ◌+◌, ◌-◌, ◌*◌, ◌/◌, ◌^◌, ◌<◌, ◌≤◌, Bool, true, false, cond, eqb, ◌↔◌, IsTrue, refl, sym, ◌∙◌, ap, arith}
+use Rattle.std.proofs.Common.{◌≡◌, ℕ, zero, suc, ◌+◌, ◌*◌, ◌/◌, ◌^◌, ◌≤◌, Bool, true, false, cond, eqb, ◌↔◌, refl, sym, ◌∙◌, arith}
 use Rattle.std.proofs.lemmas.Bool.{false≢true, eqb-false}
 use Rattle.cola_clock.specs.Clock.{period, is_odd, works, is_before, is_over, window_step}
 use Rattle.cola_clock.specs.Schedule.{phase_at, below_at}
-use Rattle.cola_clock.specs.declared.state.Phase.{Phase}
 use Rattle.cola_clock.specs.declared.state.Phase.TheVariants.{Before, Inside, After}
-use Rattle.cola_clock.specs.declared.state.Below.{Below}
 use Rattle.cola_clock.specs.declared.state.Below.TheVariants.{Visible, Shadow, Nothing}
 use Rattle.cola_clock.proofs.Laws.{before_else, works-not_over, before-not_works, before-not_over}
 use Rattle.cola_layout.specs.declared.marks.Marks.{Marks}

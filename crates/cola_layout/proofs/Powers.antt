@@ -1,9 +1,9 @@
 -- Powers of two: neighbours, and the lowest level of a store by the logarithm of its keys.
-use Rattle.std.proofs.Common.{◌≡◌, ℕ, zero, suc, ◌+◌, ◌-◌, ◌*◌, ◌/◌, ◌%◌, ◌^◌, ◌<◌, ◌≤◌, min, max, ◌⊎◌, inl, inr, refl, sym, ◌∙◌, ap, arith}
+use Rattle.std.proofs.Common.{◌≡◌, ℕ, suc, ◌+◌, ◌-◌, ◌*◌, ◌^◌, ◌<◌, ◌≤◌, max, inl, inr, arith}
 use Rattle.std.proofs.lemmas.Bool.{cases_lt}
-use Rattle.std.proofs.lemmas.Nat.{leading_length, one_shl}
+use Rattle.std.proofs.lemmas.Nat.{leading_length}
 use Rattle.std.proofs.Math.Nat.{two-pow-succ}
-use Rattle.std.proofs.Math.Pow.{pow_mono, pow-lt}
+use Rattle.std.proofs.Math.Pow.{pow_mono}
 use Rattle.std.specs.Int.Count.{count_leading_zeros}
 use Rattle.cola_layout.specs.Geometry.{IsBottom}
 

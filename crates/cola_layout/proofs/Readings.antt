@@ -1,18 +1,14 @@
 -- What a header's bytes say, read part by part, and the bytes from what they say.
-use Rattle.std.proofs.Common.{◌≡◌, ℕ, zero, suc, ◌+◌, ◌-◌, ◌*◌, ◌/◌, ◌^◌, ◌<◌, ◌≤◌, Bool, true, false, cond, List, [], ◌∷◌, ◌++◌, length, take, drop, get_or, slice_index, replicate, flat_map, refl, sym, ◌∙◌, ap, subst, arith}
-use Rattle.std.specs.Prelude.{codes}
-use Rattle.std.proofs.lemmas.List.{take_at, drop_at, append_assoc, take-append-drop, drop-drop, length-drop, get_or_past}
-use Rattle.std.proofs.lemmas.List.Concat.{flat_map-append}
+use Rattle.std.proofs.Common.{◌≡◌, ℕ, zero, suc, ◌+◌, ◌*◌, ◌^◌, ◌<◌, ◌≤◌, List, [], ◌∷◌, ◌++◌, length, take, drop, flat_map, refl, sym, ◌∙◌, ap, arith}
+use Rattle.std.proofs.lemmas.List.{drop_at, append_assoc, drop-drop, length-drop}
 use Rattle.std.proofs.Math.Seq.{take-add}
 use Rattle.byteorder.specs.Endian.{little_number, little_bytes}
 use Rattle.byteorder.specs.Numbers.{little_number-reads_back}
-use Rattle.cola_cell.specs.declared.format.Format.{Format}
-use Rattle.cola_cell.specs.declared.format.Format.TheVariants.{One, Two}
 use Rattle.cola_cell.proofs.Numbers.{AreBytes, bytes-of-first, drop-bytes}
 use Rattle.cola_layout.specs.declared.marks.Marks.{Marks}
-use Rattle.cola_layout.specs.Marks.{marks_of, no_marks}
-use Rattle.cola_layout.specs.Header.{Fields, IsSound, IsSpelling, head_bytes, marks_bytes, header_bytes, version_of}
-use Rattle.cola_layout.specs.Read.{HasFormat, HasGeometry, Says, IsZeroBehind, marks_in, levels_in}
+use Rattle.cola_layout.specs.Marks.{marks_of}
+use Rattle.cola_layout.specs.Header.{marks_bytes}
+use Rattle.cola_layout.specs.Read.{marks_in, levels_in}
 
 -- a mark is a number of 32 bits
 pub record AreSmall (m : Marks) : Type 0 where

@@ -1,5 +1,5 @@
 -- Why bytes are no spelling: what a spelling's bytes say, and that they say one thing.
-use Rattle.std.proofs.Common.{◌≡◌, ℕ, zero, suc, ◌+◌, ◌-◌, ◌*◌, ◌^◌, ◌<◌, ◌≤◌, min, ◌⊎◌, inl, inr, Bool, true, false, cond, List, [], ◌∷◌, ◌++◌, length, take, drop, get_or, slice_index, replicate, flat_map, EachIndex, IsTrue, ◌↔◌, refl, sym, ◌∙◌, ap, subst, arith}
+use Rattle.std.proofs.Common.{◌≡◌, ℕ, ◌+◌, ◌-◌, ◌*◌, ◌^◌, ◌<◌, ◌≤◌, min, inl, inr, Bool, true, false, cond, List, [], ◌∷◌, ◌++◌, length, take, drop, slice_index, replicate, flat_map, EachIndex, IsTrue, ◌↔◌, refl, sym, ◌∙◌, ap, subst, arith}
 use Rattle.std.specs.Prelude.{codes, Option, Some, None, MatchOption}
 use Rattle.std.proofs.lemmas.List.{drop_at, length-append, length-drop, length-replicate, get_or-replicate, append_assoc, same_lists, get_or_default, take_rest}
 use Rattle.byteorder.specs.Endian.{little_number, little_bytes}
@@ -14,11 +14,11 @@ use Rattle.cola_layout.specs.declared.geometry.Geometry.{Geometry}
 use Rattle.cola_layout.specs.declared.header.Header.{Header}
 use Rattle.cola_layout.specs.Fields.{fields_of, Decodes}
 use Rattle.cola_layout.specs.Marks.{AreMarks}
-use Rattle.cola_layout.specs.Geometry.{AreKeys, IsBottom, IsBlock, Refuses}
-use Rattle.cola_layout.specs.Header.{Fields, IsSound, IsSpelling, IsNoSpelling, head_bytes, marks_bytes, header_bytes, version_of}
+use Rattle.cola_layout.specs.Geometry.{IsBottom, Refuses}
+use Rattle.cola_layout.specs.Header.{Fields, IsSound, IsSpelling, IsNoSpelling, head_bytes, marks_bytes, version_of}
 use Rattle.cola_layout.specs.Read.{HasFormat, HasGeometry, Says, IsZeroBehind, levels_in}
 use Rattle.cola_layout.proofs.Powers.{bottom-is_one}
-use Rattle.cola_layout.proofs.Readings.{marks-length, levels-length_in}
+use Rattle.cola_layout.proofs.Readings.{marks-length}
 use Rattle.cola_layout.proofs.Saying.{text-says, text-from, head-length}
 
 -- ---- bytes say one thing

@@ -1,7 +1,6 @@
 -- A header from its bytes and its bytes from what they say.
-use Rattle.std.proofs.Common.{◌≡◌, ℕ, zero, suc, ◌+◌, ◌-◌, ◌*◌, ◌^◌, ◌<◌, ◌≤◌, Bool, true, false, cond, List, [], ◌∷◌, ◌++◌, length, take, drop, get_or, slice_index, replicate, flat_map, refl, sym, ◌∙◌, ap, subst, arith}
-use Rattle.std.specs.Prelude.{codes}
-use Rattle.std.proofs.lemmas.List.{drop_at, drop_more, append_assoc, take-append-drop, drop-drop, length-drop}
+use Rattle.std.proofs.Common.{◌≡◌, ℕ, ◌+◌, ◌-◌, ◌*◌, ◌^◌, ◌<◌, ◌≤◌, cond, List, [], ◌∷◌, ◌++◌, length, take, drop, slice_index, replicate, flat_map, refl, sym, ◌∙◌, ap, subst, arith}
+use Rattle.std.proofs.lemmas.List.{drop_more, take-append-drop, drop-drop, length-drop}
 use Rattle.std.proofs.Math.Seq.{take-add}
 use Rattle.byteorder.specs.Endian.{little_number, little_bytes}
 use Rattle.byteorder.specs.Numbers.{little_number-reads_back}
@@ -9,10 +8,8 @@ use Rattle.cola_cell.specs.declared.format.Format.{Format}
 use Rattle.cola_cell.specs.declared.format.Format.TheVariants.{One, Two}
 use Rattle.cola_cell.specs.Format.{stamp_limit}
 use Rattle.cola_cell.proofs.Numbers.{AreBytes, bytes-of-first, drop-bytes}
-use Rattle.cola_layout.specs.declared.marks.Marks.{Marks}
-use Rattle.cola_layout.specs.Marks.{marks_of, no_marks}
-use Rattle.cola_layout.specs.Header.{Fields, IsSound, IsSpelling, head_bytes, marks_bytes, header_bytes, version_of}
-use Rattle.cola_layout.specs.Read.{HasFormat, HasGeometry, Says, IsZeroBehind, marks_in, levels_in}
+use Rattle.cola_layout.specs.Header.{Fields, IsSound, IsSpelling, head_bytes, marks_bytes, header_bytes}
+use Rattle.cola_layout.specs.Read.{Says, IsZeroBehind, levels_in}
 use Rattle.cola_layout.proofs.Powers.{power-le, bottom-shallow}
 use Rattle.cola_layout.proofs.Readings.{levels-in_bytes, levels-bytes_in}
 use Rattle.cola_layout.proofs.Small.{sound-small}

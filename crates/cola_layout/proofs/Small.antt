@@ -1,10 +1,10 @@
 -- The marks of a sound header are small numbers, so that 32 bits hold each.
-use Rattle.std.proofs.Common.{◌≡◌, ℕ, zero, suc, ◌+◌, ◌-◌, ◌*◌, ◌/◌, ◌^◌, ◌<◌, ◌≤◌, ◌⊎◌, inl, inr, Bool, true, false, cond, eqb, List, length, get_or, refl, sym, ◌∙◌, ap, subst, arith}
+use Rattle.std.proofs.Common.{◌≡◌, ℕ, ◌+◌, ◌-◌, ◌/◌, ◌^◌, ◌≤◌, inl, inr, eqb, List, length, refl, sym, subst, arith}
 use Rattle.std.proofs.lemmas.Bool.{cases_Bool, cases_lt, eqb-false}
 use Rattle.std.proofs.lemmas.List.{get_or_past}
-use Rattle.cola_clock.specs.Clock.{period, is_odd, works, is_before, is_over}
+use Rattle.cola_clock.specs.Clock.{period, is_odd, works, is_over}
 use Rattle.cola_layout.specs.declared.marks.Marks.{Marks}
-use Rattle.cola_layout.specs.Marks.{IsIdle, IsAtRest, IsWorking, FitsLevel, FitsAt, AreMarks, marks_of, no_marks, sampled_length}
+use Rattle.cola_layout.specs.Marks.{IsIdle, IsAtRest, AreMarks, marks_of, no_marks, sampled_length}
 use Rattle.cola_layout.specs.Header.{Fields, IsSound}
 use Rattle.cola_layout.proofs.Powers.{power-le, bottom-shallow}
 use Rattle.cola_layout.proofs.Phases.{to_come}

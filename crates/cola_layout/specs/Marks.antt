@@ -1,6 +1,6 @@
 -- The marks of a level in a header, and which marks a level may have at a clock. Written over the clock and the marks
 -- alone, so that whoever keeps a chain of levels can cite them.
-use Rattle.std.specs.Prelude.{◌≡◌, ℕ, suc, ◌+◌, ◌-◌, ◌*◌, ◌/◌, ◌^◌, ◌<◌, ◌≤◌, min, Bool, true, ◌==◌, if◌then◌else◌, List, [], ◌∷◌, slice_index_or, ⊤}
+use Rattle.std.specs.Prelude.{◌≡◌, ℕ, suc, ◌+◌, ◌-◌, ◌*◌, ◌/◌, ◌^◌, ◌≤◌, min, true, ◌==◌, if◌then◌else◌, List, [], ◌∷◌, slice_index_or, ⊤}
 use Rattle.cola_clock.specs.Clock.{period, is_odd, works, is_before, is_over, window_step}
 use Rattle.cola_layout.specs.declared.marks.Marks.{Marks}
 

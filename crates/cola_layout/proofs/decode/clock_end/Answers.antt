@@ -1,4 +1,4 @@
-use Rattle.std.proofs.Common.{◌≡◌, ◌≤◌, ◌<◌, ◌^◌, ◌+◌, ◌*◌, ◌%◌, arith}
+use Rattle.std.proofs.Common.{◌≤◌, ◌+◌, arith}
 use Rattle.std.proofs.lemmas.Nat.{one_shl}
 use Rattle.cola_layout.proofs.Powers.{power-le}
 use Rattle.cola_layout.proofs.decode.clock_end.Goals as goal

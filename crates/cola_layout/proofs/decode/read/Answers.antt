@@ -1,11 +1,10 @@
-use Rattle.std.proofs.Common.{◌≡◌, ℕ, ◌+◌, ◌-◌, ◌*◌, ◌≤◌, ◌<◌, ◌^◌, Bool, true, false, List, length, drop, get_or, refl, sym, ◌∙◌, ap, subst, arith}
+use Rattle.std.proofs.Common.{◌≡◌, ℕ, ◌+◌, List, length, drop, refl, sym, ◌∙◌, ap, subst, arith}
 use Rattle.std.proofs.lemmas.Bool.{false≢true}
-use Rattle.cola_cell.specs.Format.{stamp_limit}
 use Rattle.cola_cell.proofs.Numbers.{AreBytes}
 use Rattle.cola_layout.specs.declared.marks.Marks.{Marks}
 use Rattle.cola_layout.specs.Marks.{AreMarks}
 use Rattle.cola_layout.specs.Header.{IsSound}
-use Rattle.cola_layout.specs.Read.{IsZeroBehind, Says, levels_in}
+use Rattle.cola_layout.specs.Read.{levels_in}
 use Rattle.cola_layout.proofs.Readings.{levels-length_in}
 use Rattle.cola_layout.proofs.Refusing.{no-state, no-rule, no-end, said, says-said, spells-said}
 use Rattle.cola_layout.proofs.decode.read.Goals as goal

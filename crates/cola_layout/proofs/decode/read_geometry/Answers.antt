@@ -1,4 +1,4 @@
-use Rattle.std.proofs.Common.{◌≡◌, ℕ, ◌+◌, ◌≤◌, ◌<◌, length, drop, slice_index, refl, sym, ◌∙◌, ap, arith}
+use Rattle.std.proofs.Common.{◌≡◌, drop, slice_index, refl, ◌∙◌}
 use Rattle.byteorder.specs.Endian.{little_number}
 use Rattle.cola_layout.proofs.Refusing.{no-format, no-geometry, no-bottom, no-zero}
 use Rattle.cola_layout.proofs.decode.read_geometry.Goals as goal

@@ -1,5 +1,4 @@
-use Rattle.std.proofs.Common.{◌≡◌, ◌≤◌, ◌+◌, ◌*◌, ◌++◌, length, take, flat_map, ◌∙◌, arith}
-use Rattle.cola_layout.specs.Header.{marks_bytes}
+use Rattle.std.proofs.Common.{◌≡◌, length, take, ◌∙◌, arith}
 use Rattle.cola_layout.proofs.Writes.{levels-more, levels-all}
 use Rattle.cola_layout.proofs.encode.write_levels.Goals as goal
 

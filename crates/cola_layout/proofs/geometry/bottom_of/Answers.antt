@@ -1,5 +1,3 @@
-use Rattle.std.proofs.Common.{◌≡◌, ◌≤◌, ◌<◌, ◌^◌, ◌+◌, ◌-◌, ◌*◌, ◌%◌, arith}
-use Rattle.std.proofs.lemmas.Nat.{leading_length}
 use Rattle.cola_layout.proofs.Powers.{bottom-of_leading, bottom-shallow}
 use Rattle.cola_layout.proofs.geometry.bottom_of.Goals as goal
 

@@ -1,5 +1,5 @@
-use Rattle.std.proofs.Common.{◌≡◌, ◌<◌, ◌≤◌, ◌+◌, ◌-◌, ◌*◌, ◌/◌, ◌^◌, ◌↔◌, IsTrue, ℕ, length, sym, ◌∙◌, ap, arith}
-use Rattle.cola_layout.specs.Marks.{marks_of, sampled_length, IsWorking}
+use Rattle.std.proofs.Common.{◌≡◌, ◌≤◌, ◌+◌, ◌-◌, ◌*◌, ◌/◌, ◌^◌, ℕ, sym, ◌∙◌, ap, arith}
+use Rattle.cola_layout.specs.Marks.{marks_of, sampled_length}
 use Rattle.cola_layout.proofs.Phases.{fits-before, fits-inside, fits-after, then}
 use Rattle.cola_layout.proofs.marks.level_fits.Goals as goal
 

@@ -1,5 +1,5 @@
-use Rattle.std.proofs.Common.{◌≡◌, ◌<◌, ◌≤◌, ◌+◌, IsTrue, ℕ, length, refl, arith, below_more}
-use Rattle.cola_layout.specs.Marks.{FitsAt, AreMarks}
+use Rattle.std.proofs.Common.{◌≤◌, refl, arith, below_more}
+use Rattle.cola_layout.specs.Marks.{FitsAt}
 use Rattle.cola_layout.proofs.marks.levels_fit.Goals as goal
 
 pub loop-level-preserved : goal.loop-level-preserved

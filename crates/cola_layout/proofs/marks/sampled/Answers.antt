@@ -1,4 +1,4 @@
-use Rattle.std.proofs.Common.{◌≡◌, ◌<◌, ◌≤◌, ◌+◌, ℕ, length, sym, ◌∙◌, arith}
+use Rattle.std.proofs.Common.{◌≡◌, ◌+◌, sym, ◌∙◌, arith}
 use Rattle.cola_layout.specs.Marks.{marks_of}
 use Rattle.cola_layout.proofs.Phases.{sampled-visible, sampled-shadow, sampled-nothing, visible-above_bottom, shadow-above_bottom}
 use Rattle.cola_layout.proofs.marks.sampled.Goals as goal

@@ -1,4 +1,3 @@
-use Rattle.std.proofs.Common.{◌≡◌, ◌≤◌, ◌<◌, ◌^◌, ◌+◌, sym, arith}
 use Rattle.cola_layout.specs.Place.{IsPlace}
 use Rattle.cola_layout.proofs.Places.{place-behind, place-within}
 use Rattle.cola_layout.proofs.geometry.Geometry.place.Goals as goal
