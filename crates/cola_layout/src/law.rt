@@ -1,0 +1,69 @@
+//! What holds of every geometry and header: each law is a function that does nothing and whose contract is the law.
+
+ghost use Rattle.std.specs.Prelude.{◌≡◌, ◌<◌, ◌≤◌, ◌^◌, ◌+◌, ◌/◌, ◌%◌, ℕ, List, length, replicate, Option, MatchOption};
+ghost use Rattle.cola_layout.specs.Geometry.{IsBottom};
+ghost use Rattle.cola_layout.specs.Place.{place_of, IsPlace, HasPlace};
+ghost use Rattle.cola_layout.specs.Header.{Fields, IsSpelling, IsNoSpelling};
+ghost use Rattle.cola_layout.specs.Fields.{fields_of, Decodes};
+ghost use Rattle.cola_layout.specs.Marks.{AreMarks, AreMarksFrom, no_marks};
+ghost use Rattle.cola_layout.specs.declared.marks.Marks.{Marks as AnyMarks};
+ghost use Rattle.cola_layout.specs.declared.header.Header.{Header as AnyHeader};
+
+/// A number of keys has one lowest level.
+pub fn bottom_is_one()
+    ensures { (keys a b : ℕ) → IsBottom keys a → IsBottom keys b → a ≡ b }
+{}
+
+/// Different places of a store are in different cells.
+pub fn places_differ()
+    ensures { (bottom j a i k b h : ℕ) → IsPlace bottom j a i → IsPlace bottom k b h → place_of j a i ≡ place_of k b h → (j ≡ k) × (a ≡ b) × (i ≡ h) }
+{}
+
+/// The places of a store are its cells from 8 on: the header and the slots cover the file exactly.
+pub fn places_cover()
+    ensures behind { (bottom j a i : ℕ) → IsPlace bottom j a i → 8 ≤ place_of j a i }
+    ensures within { (bottom j a i : ℕ) → IsPlace bottom j a i → place_of j a i < 2 ^ (bottom + 4) }
+    ensures each { (bottom cell : ℕ) → 8 ≤ cell → cell < 2 ^ (bottom + 4) → HasPlace bottom cell }
+{}
+
+/// A device level's slots are whole blocks: each begins with a block and has a multiple of `2^b` cells.
+pub fn slots_are_blocks()
+    ensures { (b level slot : ℕ) → b ≤ level + 2 → (place_of level slot 0 % 2 ^ b ≡ 0) × (2 ^ (level + 2) % 2 ^ b ≡ 0) }
+{}
+
+/// The front is exactly the blocks 0 and 1, the header's cells among them: a level below `b - 2` stands in them, and
+/// every other level behind them.
+pub fn front_is_two_blocks()
+    ensures front { (b level slot index : ℕ) → slot ≤ 1 → index < 2 ^ (level + 2) → level + 2 < b → place_of level slot index < 2 ^ (b + 1) }
+    ensures device { (b level slot index : ℕ) → b ≤ level + 2 → 2 ^ (b + 1) ≤ place_of level slot index }
+{}
+
+/// An aligned group of 8 cells lies in one block.
+pub fn groups_lie_in_blocks()
+    ensures { (b c d : ℕ) → 3 ≤ b → c / 8 ≡ d / 8 → c / 2 ^ b ≡ d / 2 ^ b }
+{}
+
+/// A header has one spelling.
+pub fn spelling_is_one()
+    ensures { (f : Fields) (a b : List ℕ) → IsSpelling f a → IsSpelling f b → a ≡ b }
+{}
+
+/// Bytes spell one header at most.
+pub fn header_is_one()
+    ensures { (f g : Fields) (bytes : List ℕ) → IsSpelling f bytes → IsSpelling g bytes → f ≡ g }
+{}
+
+/// Decoding what encoding wrote gives the header back, in every state that the type allows.
+pub fn decoding_gives_back()
+    ensures { (h : AnyHeader) (bytes : List ℕ) (answer : Option AnyHeader) → IsSpelling (fields_of h) bytes → Decodes bytes answer → MatchOption answer ⊥ (λ g. fields_of g ≡ fields_of h) }
+{}
+
+/// Marks that fit level by level, each beside the level above it and the one below it, are marks that a header may have.
+pub fn marks_fit_level_by_level()
+    ensures { (t bottom : ℕ) (above : AnyMarks) (levels : List AnyMarks) → length levels ≡ bottom + 1 → AreMarksFrom t bottom 0 above levels → AreMarks t bottom levels }
+{}
+
+/// Levels with nothing in them fit at every clock.
+pub fn empty_marks_fit()
+    ensures { (t bottom n : ℕ) → AreMarks t bottom (replicate n no_marks) }
+{}

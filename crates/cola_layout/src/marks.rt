@@ -1,0 +1,116 @@
+//! The marks of a level, and the test of the marks that a level may have.
+
+ghost use Rattle.std.specs.Prelude.{◌≡◌, ◌<◌, ◌≤◌, ◌^◌, ◌+◌, ◌/◌, ◌*◌, ◌↔◌, IsTrue, length};
+ghost use Rattle.cola_layout.specs.Marks.{IsIdle, IsAtRest, IsWorking, FitsAt, AreMarks, marks_of, sampled_length};
+
+use cola_clock::{Below, Phase, next_of, phase};
+
+/// The lengths of a level's runs, in cells, and the cursors of its merge: how many cells of each source it has consumed.
+#[derive(Clone, Copy, Debug, Default, PartialEq, Eq, Drop)]
+pub struct Marks {
+    /// The length of the visible run.
+    pub visible: u32,
+    /// The length of the shadow run.
+    pub shadow: u32,
+    /// The cells consumed of the level's own visible run.
+    pub own: u32,
+    /// The cells consumed of the visible run of the level above.
+    pub incoming: u32,
+    /// The cells consumed of the sample of the level below.
+    pub sample: u32,
+}
+
+impl Marks {
+    /// Whether the level's merge has not begun.
+    fn is_idle(&self) -> bool
+        ensures { IsTrue result ↔ IsIdle self.now }
+    {
+        self.shadow == 0 && self.is_at_rest()
+    }
+
+    /// Whether the level's merge is done.
+    fn is_at_rest(&self) -> bool
+        ensures { IsTrue result ↔ IsAtRest self.now }
+    {
+        self.own == 0 && self.incoming == 0 && self.sample == 0
+    }
+
+    /// Whether the level's merge is under way over sources of these lengths and has taken so many steps, or all.
+    fn is_working(&self, own: u32, incoming: u32, sample: u32, steps: u64) -> bool
+        ensures { IsTrue result ↔ IsWorking own incoming sample steps self.now }
+    {
+        let total = u64::from(own) + u64::from(incoming) + u64::from(sample);
+        let consumed = u64::from(self.own) + u64::from(self.incoming) + u64::from(self.sample);
+        self.own <= own
+            && self.incoming <= incoming
+            && self.sample <= sample
+            && total.min(steps) <= consumed
+            && self.sample <= self.shadow
+            && u64::from(self.shadow) <= consumed
+    }
+}
+
+/// The length of the run that a level is sampled from.
+fn sampled(clock: u64, bottom: u8, levels: &[Marks], level: u8) -> u32
+    requires bottom_in_range { bottom ≤ 22 }
+    requires level_exists { level ≤ bottom }
+    requires clock_in_range { clock < 2 ^ 23 }
+    requires one_each { length levels.now ≡ bottom + 1 }
+    ensures { result ≡ sampled_length clock level bottom (marks_of levels.now (level + 1)) }
+{
+    match next_of(clock, level, bottom) {
+        Below::Visible => levels[level as usize + 1].visible,
+        Below::Shadow => levels[level as usize + 1].shadow,
+        Below::Nothing => 0,
+    }
+}
+
+/// The cells of a slot of a level.
+fn slot_cells(level: u8) -> u32
+    requires { level ≤ 22 }
+    ensures { result ≡ 2 ^ (level + 2) }
+{
+    1 << (level + 2)
+}
+
+/// Whether a level has marks that it may have at the clock.
+fn level_fits(clock: u64, bottom: u8, levels: &[Marks], level: u8) -> bool
+    requires bottom_in_range { bottom ≤ 22 }
+    requires level_exists { level ≤ bottom }
+    requires clock_in_range { clock < 2 ^ 23 }
+    requires one_each { length levels.now ≡ bottom + 1 }
+    ensures { IsTrue result ↔ FitsAt clock bottom levels.now level }
+{
+    let here = levels[level as usize];
+    let slot = slot_cells(level);
+    if here.visible > slot || here.shadow > slot {
+        return false;
+    }
+    if level == 0 {
+        return here.is_idle();
+    }
+    match phase(clock, level) {
+        Phase::Before => here.is_idle(),
+        Phase::Inside(step) => {
+            let above = levels[level as usize - 1];
+            let sample = sampled(clock, bottom, levels, level) / 8;
+            here.is_working(here.visible, above.visible, sample, 28 * u64::from(step))
+        }
+        Phase::After => here.is_at_rest(),
+    }
+}
+
+/// Whether each level has marks that it may have at the clock.
+pub(crate) fn levels_fit(clock: u64, bottom: u8, levels: &[Marks]) -> bool
+    requires bottom_in_range { bottom ≤ 22 }
+    requires clock_in_range { clock < 2 ^ 23 }
+    requires one_each { length levels.now ≡ bottom + 1 }
+    ensures { IsTrue result ↔ AreMarks clock bottom levels.now }
+{
+    for level in 0..=bottom {
+        if !level_fits(clock, bottom, levels, level) {
+            return false;
+        }
+    }
+    true
+}
