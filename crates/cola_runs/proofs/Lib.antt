@@ -10,3 +10,4 @@ pub mod Builds
 pub mod Samples
 pub mod Searches
 mod Worked
+pub mod PlainLemmas

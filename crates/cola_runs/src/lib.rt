@@ -10,6 +10,7 @@
 #![tactic(auto)]
 
 mod building;
+pub mod plain;
 mod sampling;
 mod searching;
 mod weaving;

@@ -1,0 +1,4 @@
+//! Plain slow programs over lists of cells, whose contracts are the definitions. They are for tests.
+
+pub mod cells;
+pub mod merge;
