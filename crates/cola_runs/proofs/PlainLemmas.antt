@@ -1,11 +1,17 @@
 -- Lists of plain cells as runs, from a cursor on.
-use Rattle.std.proofs.Common.{◌≡◌, ℕ, zero, suc, ◌+◌, ◌-◌, ◌*◌, ◌/◌, ◌%◌, ◌≤◌, ◌<◌, ◌↔◌, ◌⊎◌, inl, inr, Bool, true, false, List, [], ◌∷◌, ◌++◌, refl, sym, ap, ◌∙◌, subst, Less, Equal, Greater, Ordering, length, drop, take, get_or, map, arith, length-drop, add-one, is_lt, if◌then◌else◌}
+use Rattle.std.proofs.Common.{◌≡◌, ℕ, zero, suc, ◌+◌, ◌-◌, ◌*◌, ◌/◌, ◌%◌, ◌≤◌, ◌<◌, ◌↔◌, ◌⊎◌, inl, inr, Bool, true, false, List, [], ◌∷◌, ◌++◌, refl, sym, ap, ◌∙◌, subst, Less, Equal, Greater, Ordering, length, drop, take, get_or, map, arith, length-drop, add-one, is_lt, Option, Some, None}
 use Rattle.std.specs.Bool.{IsTrue}
-use Rattle.std.specs.List.{AllByRecursion}
+use Rattle.std.specs.List.{AllByRecursion, slice_get}
+use Rattle.std.specs.Option.{option_map}
+use Rattle.std.proofs.lemmas.Option.{slice_get-map}
 use Rattle.std.specs.List.Sorted.{IsStrictlySortedBy}
 use Rattle.cola_runs.specs.declared.plain.cells.PlainCell.{PlainCell}
 use Rattle.cola_runs.specs.Cells.{Cell, Entry, Look, place_cmp, link_of, is_look, IsRising, IsLinked}
-use Rattle.cola_runs.specs.Plain.{as_cell, as_run}
+use Rattle.cola_runs.specs.declared.plain.merge.PlainHead.{PlainHead}
+use Rattle.cola_runs.specs.declared.plain.merge.PlainHead.TheVariants as head
+use Rattle.cola_runs.specs.Weave.{Part}
+use Rattle.cola_runs.specs.Steps.{Action, Build, rule, step, after, consumed_from}
+use Rattle.cola_runs.specs.Plain.{as_cell, as_run, as_head, own_after, incoming_after, sampled_after}
 use Rattle.cola_runs.proofs.Stepping.{drop_all}
 
 module _ {K V : Type 0} where
@@ -123,3 +129,25 @@ link_counts l n e f = omega arith
 
 pub false_is : (b : Bool) → b ≡ false → IsTrue b → ⊥
 false_is b e h = let f : false ≡ true = sym e ∙ h in cc
+
+-- ---- one step of a merge
+
+module _ {K V : Type 0} (cmp : K → K → Ordering) (part : Part) (own incoming : List (PlainCell K V)) (keys : List K) (b : Build K V) where
+  -- the step is what the rule at the heads does
+  pub step_by : (a : Action K V) (x y : Option (PlainCell K V)) (k : Option K) → x ≡ slice_get own b.own → y ≡ slice_get incoming b.incoming → k ≡ slice_get keys b.sampled →
+      a ≡ rule cmp part (8 * b.sampled) (option_map as_cell x) (option_map as_cell y) k → step cmp part (as_run own) (as_run incoming) keys b ≡ after a b
+  unfolding step
+  step_by a x y k e f h r =
+      let p = ap (option_map as_cell) e ∙ sym (slice_get-map as_cell own b.own) in
+      let q = ap (option_map as_cell) f ∙ sym (slice_get-map as_cell incoming b.incoming) in
+      let s = r ∙ ap (λ z. rule cmp part (8 * b.sampled) z (option_map as_cell y) k) p ∙ ap (λ z. rule cmp part (8 * b.sampled) (slice_get (as_run own) b.own) z k) q
+          ∙ ap (λ z. rule cmp part (8 * b.sampled) (slice_get (as_run own) b.own) (slice_get (as_run incoming) b.incoming) z) h in
+      ap (λ z. after z b) (sym s)
+
+-- a build after a head was consumed and cells were emitted, by its parts
+pub consumed_is : {K V : Type 0} (head : PlainHead) (cells done : List (Cell K V)) (b : Build K V) (o i s : ℕ) →
+    o ≡ own_after head b.own → i ≡ incoming_after head b.incoming → s ≡ sampled_after head b.sampled → done ≡ b.done ++ cells →
+    record { own = o; incoming = i; sampled = s; done = done } ≡ consumed_from (as_head head) cells b
+consumed_is head.Own cells done b o i s e f g h = rw (e, f, g, h) refl
+consumed_is head.Incoming cells done b o i s e f g h = rw (e, f, g, h) refl
+consumed_is head.Sample cells done b o i s e f g h = rw (e, f, g, h) refl

@@ -1,5 +1,5 @@
 -- The cells, parts, actions and builds of the plain programs as those of the definitions.
-use Rattle.std.specs.Prelude.{List, map}
+use Rattle.std.specs.Prelude.{ℕ, suc, List, map}
 use Rattle.std.specs.Option.{option_map}
 use Rattle.cola_runs.specs.declared.plain.cells.PlainItem.{PlainItem}
 use Rattle.cola_runs.specs.declared.plain.cells.PlainItem.TheVariants as item
@@ -47,3 +47,21 @@ as_action action.Ended = Ended
 -- the build that a plain build is
 abbrev pub as_build : {K V : Type 0} → PlainBuild K V → Build K V
 as_build b = record { own = b.own; incoming = b.incoming; sampled = b.sampled; done = as_run b.done.items }
+
+-- the own cursor once this head is consumed
+abbrev pub own_after : PlainHead → ℕ → ℕ
+own_after head.Own n = suc n
+own_after head.Incoming n = n
+own_after head.Sample n = n
+
+-- the incoming cursor
+abbrev pub incoming_after : PlainHead → ℕ → ℕ
+incoming_after head.Own n = n
+incoming_after head.Incoming n = suc n
+incoming_after head.Sample n = n
+
+-- the sample cursor
+abbrev pub sampled_after : PlainHead → ℕ → ℕ
+sampled_after head.Own n = n
+sampled_after head.Incoming n = n
+sampled_after head.Sample n = suc n
