@@ -11,3 +11,4 @@ pub mod Samples
 pub mod Searches
 mod Worked
 pub mod PlainLemmas
+pub mod PlainWeave

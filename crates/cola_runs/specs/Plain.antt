@@ -65,3 +65,8 @@ abbrev pub sampled_after : PlainHead → ℕ → ℕ
 sampled_after head.Own n = n
 sampled_after head.Incoming n = n
 sampled_after head.Sample n = suc n
+
+-- the cell with this link
+abbrev pub linked_to : {K V : Type 0} → ℕ → Cell K V → Cell K V
+linked_to link (Entry k i y l) = Entry k i y link
+linked_to link (Look k l) = Look k link

@@ -1,11 +1,13 @@
 //! Plain cells, the order of two of them, and the test of a run.
 
-ghost use Rattle.std.specs.Prelude.{◌≡◌, ◌↔◌, IsTrue};
+ghost use Rattle.std.specs.Prelude.{◌≡◌, ◌↔◌, ◌++◌, IsTrue, OnOk, OnErr};
+ghost use Rattle.std.specs.Option.{option_map, option_to_list};
 ghost use Rattle.std.specs.List.{AllByRecursion};
 ghost use Rattle.std.specs.declared.cmp.Ordering.TheVariants.{Less};
 ghost use Rattle.cola_runs.specs.Cells.{key_of, link_of, is_look, place_cmp, IsRising, IsLinked, IsWellFormed};
 ghost use Rattle.cola_runs.specs.Plain.{as_cell, as_run};
 
+use std::alloc::AllocError;
 use std::cmp::Ordering;
 
 /// What a mutation leaves of its key.
@@ -66,6 +68,17 @@ pub fn compare<K: Ord + Copy, V>(cell: &PlainCell<K, V>, other: &PlainCell<K, V>
     ensures { result ≡ place_cmp K.cmp (as_cell cell.now) (as_cell other.now) }
 {
     key(cell).cmp(&key(other)).then(looks_ahead(cell).cmp(&looks_ahead(other)))
+}
+
+/// Puts the cell, if there is one, behind those that were emitted.
+pub fn emit_cell<K: Copy, V: Copy>(done: &mut Vec<PlainCell<K, V>>, cell: Option<PlainCell<K, V>>) -> Result<(), AllocError>
+    ensures emitted { OnOk result (as_run done.new.items ≡ as_run done.old.items ++ option_to_list (option_map as_cell cell)) }
+    ensures kept { OnErr result (done.new.items ≡ done.old.items) }
+{
+    if let Some(cell) = cell {
+        done.push(cell)?;
+    }
+    Ok(())
 }
 
 /// Whether a cell stands before each of these.

@@ -1,14 +1,14 @@
 //! The five rules of a merge on plain cells, and one step.
 
-ghost use Rattle.std.specs.Prelude.{◌≡◌, ◌*◌, ◌<◌, ◌^◌, OnOk, OnErr, ◌++◌, Some, slice_get};
-ghost use Rattle.std.specs.Option.{option_map, option_to_list};
+ghost use Rattle.std.specs.Prelude.{◌≡◌, ◌*◌, ◌<◌, ◌^◌, OnOk, OnErr, Some, slice_get};
+ghost use Rattle.std.specs.Option.{option_map};
 ghost use Rattle.cola_runs.specs.Steps.{emitted, item_or_look, least, rule, skips_own, skips_incoming, step};
 ghost use Rattle.cola_runs.specs.Plain.{as_cell, as_run, as_part, as_head, as_action, as_build, own_after, incoming_after, sampled_after};
 
 use std::alloc::AllocError;
 use std::cmp::Ordering;
 
-use crate::plain::cells::{PlainCell, PlainItem, PlainPart, key, looks_ahead};
+use crate::plain::cells::{PlainCell, PlainItem, PlainPart, emit_cell, key, looks_ahead};
 
 /// The head of one of the three sources of a build.
 #[derive(Clone, Copy, PartialEq)]
@@ -129,17 +129,6 @@ fn item_at<T: Copy>(items: &[T], index: usize) -> Option<T>
     ensures { result ≡ slice_get items.now index }
 {
     items.get(index).copied()
-}
-
-/// Puts the cell, if there is one, behind those that were emitted.
-fn emit_cell<K: Copy, V: Copy>(done: &mut Vec<PlainCell<K, V>>, cell: Option<PlainCell<K, V>>) -> Result<(), AllocError>
-    ensures emitted { OnOk result (as_run done.new.items ≡ as_run done.old.items ++ option_to_list (option_map as_cell cell)) }
-    ensures kept { OnErr result (done.new.items ≡ done.old.items) }
-{
-    if let Some(cell) = cell {
-        done.push(cell)?;
-    }
-    Ok(())
 }
 
 /// One more cell consumed of the source of this head. The cursors are far from the end of their type.
