@@ -1,9 +1,9 @@
 -- Plain cells set into a list, and lists that are made cell by cell.
-use Rattle.std.proofs.Common.{◌≡◌, ◌≢◌, ℕ, zero, suc, ◌+◌, ◌-◌, ◌*◌, ◌≤◌, ◌<◌, Bool, true, false, cond, List, [], ◌∷◌, ◌++◌, refl, sym, ap, ◌∙◌, subst, Less, Equal, Greater, Ordering, length, drop, take, set, get_or, map, arith, add-one, append_assoc, Option, Some, None, Result, Ok, Err, IfOk}
+use Rattle.std.proofs.Common.{◌≡◌, ◌≢◌, ℕ, zero, suc, ◌+◌, ◌-◌, ◌*◌, ◌%◌, ◌≤◌, ◌<◌, Bool, true, false, cond, List, [], ◌∷◌, ◌++◌, refl, sym, ap, ◌∙◌, subst, Less, Equal, Greater, Ordering, length, drop, take, set, get_or, map, arith, add-one, append_assoc, Option, Some, None, Result, Ok, Err, IfOk}
 use Rattle.std.specs.List.{filter, slice_get}
 use Rattle.std.specs.Ordering.{is_eq, is_gt, match_ordering}
 use Rattle.cola_runs.specs.declared.plain.cells.PlainCell.{PlainCell}
-use Rattle.cola_runs.specs.Cells.{Cell, Entry, Look, is_look, place_cmp}
+use Rattle.cola_runs.specs.Cells.{Cell, Entry, Look, key_of, is_look, place_cmp, every_eighth}
 use Rattle.cola_runs.specs.Weave.{Part, is_wanted, taken, taken_own, taken_incoming, unlinked, weave, stays, look_at, relinked, set_cell, set_cells}
 use Rattle.cola_runs.specs.Plain.{as_cell, as_run, linked_to}
 use Rattle.cola_runs.proofs.PlainLemmas.{run_length}
@@ -215,3 +215,19 @@ module _ {K V : Type 0} (cmp : K → K → Ordering) where
       let b = ap length e in
       let c1 = run_length cells in let c2 = run_length own in let c3 = run_length incoming in
       omega arith
+
+module _ {K V : Type 0} where
+  -- a cell whose key is sampled, and one whose key is not
+  pub sample_take : (i : ℕ) (c : Cell K V) (cells all : List (Cell K V)) (made now whole : List K) (k : K) → i % 8 ≡ 7 → all ≡ c ∷ cells → k ≡ key_of c → now ≡ made ++ (k ∷ []) →
+      made ++ every_eighth (7 - i % 8) all ≡ whole → now ++ every_eighth (7 - (i + 1) % 8) cells ≡ whole
+  sample_take i c cells all made now whole k r e f g h =
+      let a : 7 - i % 8 ≡ 0 = omega arith in
+      let b : 7 - (i + 1) % 8 ≡ 7 = omega arith in
+      ap (λ m. now ++ every_eighth m cells) b ∙ ap (λ z. z ++ every_eighth 7 cells) (g ∙ ap (λ x. made ++ (x ∷ [])) f) ∙ append_assoc made (key_of c ∷ []) (every_eighth 7 cells)
+      ∙ sym (ap (λ m. made ++ every_eighth m all) a ∙ ap (λ z. made ++ every_eighth 0 z) e) ∙ h
+
+  pub sample_skip : (i : ℕ) (c : Cell K V) (cells all : List (Cell K V)) (made whole : List K) → (i % 8 ≡ 7 → ⊥) → all ≡ c ∷ cells →
+      made ++ every_eighth (7 - i % 8) all ≡ whole → made ++ every_eighth (7 - (i + 1) % 8) cells ≡ whole
+  sample_skip i c cells all made whole r e h =
+      let a : 7 - i % 8 ≡ suc (7 - (i + 1) % 8) = omega arith in
+      sym (ap (λ m. made ++ every_eighth m all) a ∙ ap (λ z. made ++ every_eighth (suc (7 - (i + 1) % 8)) z) e) ∙ h

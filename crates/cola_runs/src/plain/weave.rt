@@ -11,7 +11,7 @@ ghost use Rattle.cola_runs.specs.declared.plain.cells.PlainCell.{PlainCell};
 
 use std::alloc::{AllocError, Global};
 
-use crate::plain::cells::{PlainCell, PlainItem, PlainPart, compare, emit_cell, looks_ahead};
+use crate::plain::cells::{PlainCell, PlainItem, PlainPart, compare, emit_cell, key, looks_ahead};
 
 /// How many cells, from the first on, stand before this one.
 fn seat<K: Ord + Copy, V>(cells: &[PlainCell<K, V>], cell: &PlainCell<K, V>) -> usize
@@ -150,4 +150,17 @@ pub fn weave<K: Ord + Copy, V: Copy>(
     let looks = lookahead_cells(alloc, keys)?;
     set_all(&mut cells, looks.as_slice())?;
     link_cells(alloc, cells.as_slice())
+}
+
+/// The sample of a run: the keys at indices 7, 15, 23 and so on.
+pub fn sample<K: Copy, V>(alloc: Global, run: &[PlainCell<K, V>]) -> Result<Vec<K>, AllocError>
+    ensures { IfOk result (λ v. v.items ≡ sample (as_run run.now)) }
+{
+    let mut keys = Vec::new(alloc);
+    for (i, cell) in run.iter().enumerate() {
+        if i % 8 == 7 {
+            keys.push(key(cell))?;
+        }
+    }
+    Ok(keys)
 }
