@@ -26,7 +26,7 @@ pub enum PlainCell<K, V> {
 }
 
 /// Which items a build takes, and how it marks them.
-#[derive(Clone, Copy, PartialEq)]
+#[derive(Clone, Copy)]
 pub struct PlainPart {
     /// Of the own run only the young items are taken.
     pub only_young: bool,

@@ -11,7 +11,7 @@ use std::cmp::Ordering;
 use crate::plain::cells::{PlainCell, PlainItem, PlainPart, emit_cell, key, looks_ahead};
 
 /// The head of one of the three sources of a build.
-#[derive(Clone, Copy, PartialEq)]
+#[derive(Clone, Copy)]
 pub enum PlainHead {
     Own,
     Incoming,
@@ -19,7 +19,7 @@ pub enum PlainHead {
 }
 
 /// What one step does: it consumes a head and emits a cell, if there is one; or nothing, where no head is left.
-#[derive(Clone, Copy, PartialEq)]
+#[derive(Clone, Copy)]
 pub enum PlainAction<K, V> {
     Take { head: PlainHead, cell: Option<PlainCell<K, V>> },
     Ended,
