@@ -1,5 +1,5 @@
 -- Lists of plain cells as runs, from a cursor on.
-use Rattle.std.proofs.Common.{◌≡◌, ℕ, zero, suc, ◌+◌, ◌-◌, ◌*◌, ◌/◌, ◌%◌, ◌≤◌, ◌<◌, ◌↔◌, ◌⊎◌, inl, inr, Bool, true, false, List, [], ◌∷◌, ◌++◌, refl, sym, ap, ◌∙◌, subst, Less, Equal, Greater, Ordering, length, drop, take, get_or, map, arith, length-drop, add-one, is_lt, Option, Some, None}
+use Rattle.std.proofs.Common.{◌≡◌, ℕ, zero, suc, ◌+◌, ◌-◌, ◌*◌, ◌/◌, ◌%◌, ◌≤◌, ◌<◌, ◌↔◌, ◌⊎◌, inl, inr, Bool, true, false, List, [], ◌∷◌, ◌++◌, refl, sym, ap, ◌∙◌, subst, Less, Equal, Greater, Ordering, length, drop, take, get_or, arith, length-drop, add-one, is_lt, Option}
 use Rattle.std.specs.Bool.{IsTrue}
 use Rattle.std.specs.List.{AllByRecursion, slice_get}
 use Rattle.std.specs.Option.{option_map}
@@ -141,7 +141,7 @@ module _ {K V : Type 0} (cmp : K → K → Ordering) (part : Part) (own incoming
       let p = ap (option_map as_cell) e ∙ sym (slice_get-map as_cell own b.own) in
       let q = ap (option_map as_cell) f ∙ sym (slice_get-map as_cell incoming b.incoming) in
       let s = r ∙ ap (λ z. rule cmp part (8 * b.sampled) z (option_map as_cell y) k) p ∙ ap (λ z. rule cmp part (8 * b.sampled) (slice_get (as_run own) b.own) z k) q
-          ∙ ap (λ z. rule cmp part (8 * b.sampled) (slice_get (as_run own) b.own) (slice_get (as_run incoming) b.incoming) z) h in
+      ∙ ap (λ z. rule cmp part (8 * b.sampled) (slice_get (as_run own) b.own) (slice_get (as_run incoming) b.incoming) z) h in
       ap (λ z. after z b) (sym s)
 
 -- a build after a head was consumed and cells were emitted, by its parts

@@ -1,5 +1,5 @@
 -- Plain cells set into a list, and lists that are made cell by cell.
-use Rattle.std.proofs.Common.{◌≡◌, ◌≢◌, ℕ, zero, suc, ◌+◌, ◌-◌, ◌*◌, ◌%◌, ◌≤◌, ◌<◌, Bool, true, false, cond, List, [], ◌∷◌, ◌++◌, refl, sym, ap, ◌∙◌, subst, Less, Equal, Greater, Ordering, length, drop, take, set, get_or, map, arith, add-one, append_assoc, Option, Some, None, Result, Ok, Err, IfOk}
+use Rattle.std.proofs.Common.{◌≡◌, ◌≢◌, ℕ, zero, suc, ◌+◌, ◌-◌, ◌*◌, ◌%◌, ◌≤◌, ◌<◌, Bool, true, false, cond, List, [], ◌∷◌, ◌++◌, refl, sym, ap, ◌∙◌, subst, Less, Equal, Greater, Ordering, length, drop, take, set, get_or, map, arith, add-one, append_assoc, Some, Result, Ok, Err, IfOk}
 use Rattle.std.specs.List.{filter, slice_get}
 use Rattle.std.specs.Ordering.{is_eq, is_gt, match_ordering}
 use Rattle.cola_runs.specs.declared.plain.cells.PlainCell.{PlainCell}
@@ -28,7 +28,7 @@ module _ {K V : Type 0} (cmp : K → K → Ordering) where
       whole ≡ take i run ++ set_cell cmp c (drop i run) → whole ≡ take (i + 1) run ++ set_cell cmp c (drop (i + 1) run)
   seat_next c d run whole i e g h =
       let behind : set_cell cmp c (drop i run) ≡ d ∷ set_cell cmp c (drop (i + 1) run) =
-          ap (set_cell cmp c) e ∙ ap (λ r. match_ordering r (c ∷ d ∷ drop (i + 1) run) (c ∷ drop (i + 1) run) (d ∷ set_cell cmp c (drop (i + 1) run))) g in
+      ap (set_cell cmp c) e ∙ ap (λ r. match_ordering r (c ∷ d ∷ drop (i + 1) run) (c ∷ drop (i + 1) run) (d ∷ set_cell cmp c (drop (i + 1) run))) g in
       let front : take (i + 1) run ≡ take i run ++ (d ∷ []) = ap (λ m. take m run) (add-one i) ∙ take_one_more i run d (drop (i + 1) run) e in
       h ∙ ap (λ z. take i run ++ z) behind ∙ sym (append_assoc (take i run) (d ∷ []) (set_cell cmp c (drop (i + 1) run))) ∙ ap (λ z. z ++ set_cell cmp c (drop (i + 1) run)) (sym front)
 
@@ -48,7 +48,7 @@ module _ {K V : Type 0} (cmp : K → K → Ordering) where
   set_over xs at v x h e g f =
       let tail : List (Cell K V) = drop (at + 1) (as_run xs) in
       let over : set_cell cmp (as_cell v) (drop at (as_run xs)) ≡ as_cell v ∷ tail =
-          ap (set_cell cmp (as_cell v)) e ∙ ap (λ r. match_ordering r (as_cell v ∷ as_cell x ∷ tail) (as_cell v ∷ tail) (as_cell x ∷ set_cell cmp (as_cell v) tail)) g in
+      ap (set_cell cmp (as_cell v)) e ∙ ap (λ r. match_ordering r (as_cell v ∷ as_cell x ∷ tail) (as_cell v ∷ tail) (as_cell x ∷ set_cell cmp (as_cell v) tail)) g in
       run_set xs at v h ∙ ap (λ m. take at (as_run xs) ++ (as_cell v ∷ drop m (as_run xs))) (sym (add-one at)) ∙ ap (λ z. take at (as_run xs) ++ z) (sym over) ∙ sym f
 
   insert_here : (xs : List (PlainCell K V)) (at : ℕ) (v : PlainCell K V) → ((d : PlainCell K V) → slice_get xs at ≡ Some d → place_cmp cmp (as_cell v) (as_cell d) ≡ Less) →

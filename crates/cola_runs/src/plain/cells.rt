@@ -21,8 +21,16 @@ pub enum PlainItem<V> {
 /// an index of the next run.
 #[derive(Clone, Copy, PartialEq)]
 pub enum PlainCell<K, V> {
-    Entry { key: K, item: PlainItem<V>, young: bool, link: u64 },
-    Look { key: K, link: u64 },
+    Entry {
+        key: K,
+        item: PlainItem<V>,
+        young: bool,
+        link: u64,
+    },
+    Look {
+        key: K,
+        link: u64,
+    },
 }
 
 /// Which items a build takes, and how it marks them.
@@ -67,11 +75,16 @@ pub fn looks_ahead<K, V>(cell: &PlainCell<K, V>) -> bool
 pub fn compare<K: Ord + Copy, V>(cell: &PlainCell<K, V>, other: &PlainCell<K, V>) -> Ordering
     ensures { result ≡ place_cmp K.cmp (as_cell cell.now) (as_cell other.now) }
 {
-    key(cell).cmp(&key(other)).then(looks_ahead(cell).cmp(&looks_ahead(other)))
+    key(cell)
+        .cmp(&key(other))
+        .then(looks_ahead(cell).cmp(&looks_ahead(other)))
 }
 
 /// Puts the cell, if there is one, behind those that were emitted.
-pub fn emit_cell<K: Copy, V: Copy>(done: &mut Vec<PlainCell<K, V>>, cell: Option<PlainCell<K, V>>) -> Result<(), AllocError>
+pub fn emit_cell<K: Copy, V: Copy>(
+    done: &mut Vec<PlainCell<K, V>>,
+    cell: Option<PlainCell<K, V>>,
+) -> Result<(), AllocError>
     ensures emitted { OnOk result (as_run done.new.items ≡ as_run done.old.items ++ option_to_list (option_map as_cell cell)) }
     ensures kept { OnErr result (done.new.items ≡ done.old.items) }
 {

@@ -1,14 +1,13 @@
 //! The five rules of a merge on plain cells, and one step.
 
-ghost use Rattle.std.specs.Prelude.{◌≡◌, ◌*◌, ◌<◌, ◌^◌, OnOk, OnErr, Some, slice_get};
+ghost use Rattle.std.specs.Prelude.{◌≡◌, ◌*◌, ◌<◌, ◌^◌, OnOk, OnErr, None, Some, slice_get};
 ghost use Rattle.std.specs.Option.{option_map};
-ghost use Rattle.cola_runs.specs.Steps.{emitted, item_or_look, least, rule, skips_own, skips_incoming, step};
+ghost use Rattle.cola_runs.specs.Steps.{Take, emitted, item_or_look, least, rule, skips_own, skips_incoming, step};
 ghost use Rattle.cola_runs.specs.Plain.{as_cell, as_run, as_part, as_head, as_action, as_build, own_after, incoming_after, sampled_after};
 
+use crate::plain::cells::{PlainCell, PlainItem, PlainPart, emit_cell, key, looks_ahead};
 use std::alloc::AllocError;
 use std::cmp::Ordering;
-
-use crate::plain::cells::{PlainCell, PlainItem, PlainPart, emit_cell, key, looks_ahead};
 
 /// The head of one of the three sources of a build.
 #[derive(Clone, Copy)]
@@ -21,7 +20,10 @@ pub enum PlainHead {
 /// What one step does: it consumes a head and emits a cell, if there is one; or nothing, where no head is left.
 #[derive(Clone, Copy)]
 pub enum PlainAction<K, V> {
-    Take { head: PlainHead, cell: Option<PlainCell<K, V>> },
+    Take {
+        head: PlainHead,
+        cell: Option<PlainCell<K, V>>,
+    },
     Ended,
 }
 
@@ -35,7 +37,12 @@ pub struct PlainBuild<K, V> {
 }
 
 /// The cell that is emitted for an item at the head: none for a tombstone that is left out.
-fn emit<K: Copy, V: Copy>(part: &PlainPart, link: u64, head: PlainHead, cell: &PlainCell<K, V>) -> Option<PlainCell<K, V>>
+fn emit<K: Copy, V: Copy>(
+    part: &PlainPart,
+    link: u64,
+    head: PlainHead,
+    cell: &PlainCell<K, V>,
+) -> Option<PlainCell<K, V>>
     ensures { option_map as_cell result ≡ emitted (as_part part.now) link (as_head head) (as_cell cell.now) }
 {
     let young = match head {
@@ -43,10 +50,25 @@ fn emit<K: Copy, V: Copy>(part: &PlainPart, link: u64, head: PlainHead, cell: &P
         PlainHead::Own | PlainHead::Sample => false,
     };
     match cell {
-        PlainCell::Entry { item: PlainItem::Tombstone, .. } if part.drops_tombstones => None,
-        PlainCell::Entry { key, item, .. } => Some(PlainCell::Entry { key: *key, item: *item, young, link }),
+        PlainCell::Entry {
+            item: PlainItem::Tombstone,
+            ..
+        } if part.drops_tombstones => None,
+        PlainCell::Entry { key, item, .. } => Some(PlainCell::Entry {
+            key: *key,
+            item: *item,
+            young,
+            link,
+        }),
         PlainCell::Look { .. } => None,
     }
+}
+
+/// Consumes a head and emits nothing.
+fn pass<K, V>(head: PlainHead) -> PlainAction<K, V>
+    ensures { as_action result ≡ Take (as_head head) None }
+{
+    PlainAction::Take { head, cell: None }
 }
 
 /// The item at a head against the head of the sample: the item goes first where its key is at most the sample's key.
@@ -61,9 +83,15 @@ fn emit_item_or_look<K: Ord + Copy, V: Copy>(
 {
     match sample {
         Some(next) if key(cell).cmp(&next).is_gt() => {
-            PlainAction::Take { head: PlainHead::Sample, cell: Some(PlainCell::Look { key: next, link }) }
+            PlainAction::Take {
+                head: PlainHead::Sample,
+                cell: Some(PlainCell::Look { key: next, link }),
+            }
         }
-        _ => PlainAction::Take { head, cell: emit(part, link, head, cell) },
+        _ => PlainAction::Take {
+            head,
+            cell: emit(part, link, head, cell),
+        },
     }
 }
 
@@ -91,13 +119,16 @@ fn emit_least<K: Ord + Copy, V: Copy>(
     match (own, incoming) {
         (None, None) => match sample {
             None => PlainAction::Ended,
-            Some(next) => PlainAction::Take { head: PlainHead::Sample, cell: Some(PlainCell::Look { key: next, link }) },
+            Some(next) => PlainAction::Take {
+                head: PlainHead::Sample,
+                cell: Some(PlainCell::Look { key: next, link }),
+            },
         },
         (Some(cell), None) => emit_item_or_look(part, link, PlainHead::Own, cell, sample),
         (None, Some(cell)) => emit_item_or_look(part, link, PlainHead::Incoming, cell, sample),
         (Some(cell), Some(newer)) => match key(cell).cmp(&key(newer)) {
             Ordering::Less => emit_item_or_look(part, link, PlainHead::Own, cell, sample),
-            Ordering::Equal => PlainAction::Take { head: PlainHead::Own, cell: None },
+            Ordering::Equal => pass(PlainHead::Own),
             Ordering::Greater => emit_item_or_look(part, link, PlainHead::Incoming, newer, sample),
         },
     }
@@ -114,11 +145,11 @@ pub fn first_rule<K: Ord + Copy, V: Copy>(
     ensures { as_action result ≡ rule K.cmp (as_part part.now) link (option_map as_cell own.now) (option_map as_cell incoming.now) sample }
 {
     match own {
-        Some(cell) if passes_own(part, cell) => return PlainAction::Take { head: PlainHead::Own, cell: None },
+        Some(cell) if passes_own(part, cell) => return pass(PlainHead::Own),
         _ => {}
     }
     match incoming {
-        Some(cell) if looks_ahead(cell) => return PlainAction::Take { head: PlainHead::Incoming, cell: None },
+        Some(cell) if looks_ahead(cell) => return pass(PlainHead::Incoming),
         _ => {}
     }
     emit_least(part, link, own, incoming, sample)
@@ -161,7 +192,13 @@ pub fn take_step<K: Ord + Copy, V: Copy>(
     ensures kept { OnErr result (as_build build.new ≡ as_build build.old) }
 {
     let link = 8 * build.sampled as u64;
-    let action = first_rule(part, link, &item_at(own, build.own), &item_at(incoming, build.incoming), item_at(keys, build.sampled));
+    let action = first_rule(
+        part,
+        link,
+        &item_at(own, build.own),
+        &item_at(incoming, build.incoming),
+        item_at(keys, build.sampled),
+    );
     match action {
         PlainAction::Ended => Ok(()),
         PlainAction::Take { head, cell } => {

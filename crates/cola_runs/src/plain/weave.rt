@@ -9,9 +9,8 @@ ghost use Rattle.cola_runs.specs.Weave.{taken, stays, look_at, relinked, set_cel
 ghost use Rattle.cola_runs.specs.Plain.{as_cell, as_run, as_part, linked_to};
 ghost use Rattle.cola_runs.specs.declared.plain.cells.PlainCell.{PlainCell};
 
-use std::alloc::{AllocError, Global};
-
 use crate::plain::cells::{PlainCell, PlainItem, PlainPart, compare, emit_cell, key, looks_ahead};
+use std::alloc::{AllocError, Global};
 
 /// How many cells, from the first on, stand before this one.
 fn seat<K: Ord + Copy, V>(cells: &[PlainCell<K, V>], cell: &PlainCell<K, V>) -> usize
@@ -28,7 +27,10 @@ fn seat<K: Ord + Copy, V>(cells: &[PlainCell<K, V>], cell: &PlainCell<K, V>) -> 
 }
 
 /// Sets the cell in its place, and in place of the cell that stood there.
-fn set<K: Ord + Copy, V: Copy>(cells: &mut Vec<PlainCell<K, V>>, cell: &PlainCell<K, V>) -> Result<(), AllocError>
+fn set<K: Ord + Copy, V: Copy>(
+    cells: &mut Vec<PlainCell<K, V>>,
+    cell: &PlainCell<K, V>,
+) -> Result<(), AllocError>
     ensures { OnOk result (as_run cells.new.items ≡ set_cell K.cmp (as_cell cell.now) (as_run cells.old.items)) }
 {
     let at = seat(cells.as_slice(), cell);
@@ -41,7 +43,10 @@ fn set<K: Ord + Copy, V: Copy>(cells: &mut Vec<PlainCell<K, V>>, cell: &PlainCel
 }
 
 /// Sets each cell of a list in its place, from the last on.
-fn set_all<K: Ord + Copy, V: Copy>(cells: &mut Vec<PlainCell<K, V>>, more: &[PlainCell<K, V>]) -> Result<(), AllocError>
+fn set_all<K: Ord + Copy, V: Copy>(
+    cells: &mut Vec<PlainCell<K, V>>,
+    more: &[PlainCell<K, V>],
+) -> Result<(), AllocError>
     ensures { OnOk result (as_run cells.new.items ≡ set_cells K.cmp (as_run more.now) (as_run cells.old.items)) }
 {
     let mut left = more.len();
@@ -53,17 +58,36 @@ fn set_all<K: Ord + Copy, V: Copy>(cells: &mut Vec<PlainCell<K, V>>, more: &[Pla
 }
 
 /// The item of a cell with this flag and the link 0, where it is wanted.
-fn wanted_item<K: Copy, V: Copy>(cell: &PlainCell<K, V>, only_young: bool, young: bool) -> Option<PlainCell<K, V>>
+fn wanted_item<K: Copy, V: Copy>(
+    cell: &PlainCell<K, V>,
+    only_young: bool,
+    young: bool,
+) -> Option<PlainCell<K, V>>
     ensures { option_to_list (option_map as_cell result) ≡ taken (λ y. cond only_young y true) young (as_cell cell.now ∷ []) }
 {
     match cell {
-        PlainCell::Entry { key, item, young: was, .. } if !only_young || *was => Some(PlainCell::Entry { key: *key, item: *item, young, link: 0 }),
+        PlainCell::Entry {
+            key,
+            item,
+            young: was,
+            ..
+        } if !only_young || *was => Some(PlainCell::Entry {
+            key: *key,
+            item: *item,
+            young,
+            link: 0,
+        }),
         _ => None,
     }
 }
 
 /// The items that are wanted, with this flag and the link 0: the young ones alone, or all.
-fn take_items<K: Copy, V: Copy>(alloc: Global, cells: &[PlainCell<K, V>], only_young: bool, young: bool) -> Result<Vec<PlainCell<K, V>>, AllocError>
+fn take_items<K: Copy, V: Copy>(
+    alloc: Global,
+    cells: &[PlainCell<K, V>],
+    only_young: bool,
+    young: bool,
+) -> Result<Vec<PlainCell<K, V>>, AllocError>
     ensures { IfOk result (λ v. as_run v.items ≡ taken (λ y. cond only_young y true) young (as_run cells.now)) }
 {
     let mut items = Vec::new(alloc);
@@ -78,13 +102,20 @@ fn kept_cell<K: Copy, V: Copy>(cell: &PlainCell<K, V>, part: &PlainPart) -> Opti
     ensures { option_to_list (option_map as_cell result) ≡ filter (stays (as_part part.now)) (as_cell cell.now ∷ []) }
 {
     match cell {
-        PlainCell::Entry { item: PlainItem::Tombstone, .. } if part.drops_tombstones => None,
+        PlainCell::Entry {
+            item: PlainItem::Tombstone,
+            ..
+        } if part.drops_tombstones => None,
         _ => Some(*cell),
     }
 }
 
 /// The cells that the part keeps.
-fn keep_cells<K: Copy, V: Copy>(alloc: Global, cells: &[PlainCell<K, V>], part: &PlainPart) -> Result<Vec<PlainCell<K, V>>, AllocError>
+fn keep_cells<K: Copy, V: Copy>(
+    alloc: Global,
+    cells: &[PlainCell<K, V>],
+    part: &PlainPart,
+) -> Result<Vec<PlainCell<K, V>>, AllocError>
     ensures { IfOk result (λ v. as_run v.items ≡ filter (stays (as_part part.now)) (as_run cells.now)) }
 {
     let mut kept = Vec::new(alloc);
@@ -95,7 +126,10 @@ fn keep_cells<K: Copy, V: Copy>(alloc: Global, cells: &[PlainCell<K, V>], part: 
 }
 
 /// A lookahead cell of each key, with the link 0.
-fn lookahead_cells<K: Copy, V: Copy>(alloc: Global, keys: &[K]) -> Result<Vec<PlainCell<K, V>>, AllocError>
+fn lookahead_cells<K: Copy, V: Copy>(
+    alloc: Global,
+    keys: &[K],
+) -> Result<Vec<PlainCell<K, V>>, AllocError>
     ensures { IfOk result (λ v. as_run v.items ≡ map look_at keys.now) }
 {
     let mut cells = Vec::new(alloc);
@@ -110,14 +144,27 @@ fn with_link<K: Copy, V: Copy>(cell: &PlainCell<K, V>, link: u64) -> PlainCell<K
     ensures { as_cell result ≡ linked_to link (as_cell cell.now) }
 {
     match cell {
-        PlainCell::Entry { key, item, young, .. } => PlainCell::Entry { key: *key, item: *item, young: *young, link },
+        PlainCell::Entry {
+            key,
+            item,
+            young,
+            ..
+        } => PlainCell::Entry {
+            key: *key,
+            item: *item,
+            young: *young,
+            link,
+        },
         PlainCell::Look { key, .. } => PlainCell::Look { key: *key, link },
     }
 }
 
 /// The cells with the links of a run: 8 times the number of lookahead cells before each. There are fewer than `2 ^ 32` of
 /// them.
-fn link_cells<K: Copy, V: Copy>(alloc: Global, cells: &[PlainCell<K, V>]) -> Result<Vec<PlainCell<K, V>>, AllocError>
+fn link_cells<K: Copy, V: Copy>(
+    alloc: Global,
+    cells: &[PlainCell<K, V>],
+) -> Result<Vec<PlainCell<K, V>>, AllocError>
     requires { length cells.now < 2 ^ 32 }
     ensures { IfOk result (λ v. as_run v.items ≡ relinked 0 (as_run cells.now)) }
 {

@@ -1,4 +1,4 @@
-use Rattle.std.proofs.Common.{◌≡◌, ◌+◌, refl, drop, arith}
+use Rattle.std.proofs.Common.{◌+◌, refl, drop, arith}
 use Rattle.std.specs.Option.{option_map, option_to_list}
 use Rattle.std.specs.List.{filter}
 use Rattle.cola_runs.specs.Weave.{stays}

@@ -1,4 +1,4 @@
-use Rattle.std.proofs.Common.{◌≡◌, ◌+◌, ◌∙◌, sym, ap, refl, drop, arith}
+use Rattle.std.proofs.Common.{◌+◌, ◌∙◌, sym, ap, refl, drop, arith}
 use Rattle.cola_runs.specs.Weave.{relinked}
 use Rattle.cola_runs.specs.Plain.{as_cell, as_run}
 use Rattle.cola_runs.proofs.PlainLemmas.{run_from, run_end}
@@ -12,10 +12,17 @@ loop-cell-preserved g c =
     let here = run_from c.args.cells.now c.loop-cell.cell-index c.cell-item.result c.loop-cell-test.true c.cell-item.is in
     let pushed = ap as_run c.in_ok-push.ensures.items ∙ run_append c.loop-cell.linked.items c.with_link.result in
     elim c.if-looks_ahead.branch [
-      then-looks_ahead w ↦ (linked_next c.loop-cell.looks c.if-looks_ahead.looks (as_cell c.cell-item.result) (as_cell c.with_link.result) behind _ _ _ _ here c.with_link.ensures pushed
-          (relinked_look c.loop-cell.looks c.if-looks_ahead.looks (as_cell c.cell-item.result) behind (sym c.looks_ahead.ensures ∙ w.if-looks_ahead.true) w.looks-is) c.loop-cell.invariant.0, omega arith)
-    | else-looks_ahead w ↦ (linked_next c.loop-cell.looks c.if-looks_ahead.looks (as_cell c.cell-item.result) (as_cell c.with_link.result) behind _ _ _ _ here c.with_link.ensures pushed
-          (relinked_item c.loop-cell.looks c.if-looks_ahead.looks (as_cell c.cell-item.result) behind (sym c.looks_ahead.ensures ∙ w.if-looks_ahead.false) w.looks-is) c.loop-cell.invariant.0, omega arith) ]
+      | then-looks_ahead w ↦ (
+        linked_next c.loop-cell.looks c.if-looks_ahead.looks (as_cell c.cell-item.result) (as_cell c.with_link.result) behind _ _ _ _ here c.with_link.ensures pushed
+            (relinked_look c.loop-cell.looks c.if-looks_ahead.looks (as_cell c.cell-item.result) behind (sym c.looks_ahead.ensures ∙ w.if-looks_ahead.true) w.looks-is) c.loop-cell.invariant.0,
+        omega arith,
+      )
+      | else-looks_ahead w ↦ (
+        linked_next c.loop-cell.looks c.if-looks_ahead.looks (as_cell c.cell-item.result) (as_cell c.with_link.result) behind _ _ _ _ here c.with_link.ensures pushed
+            (relinked_item c.loop-cell.looks c.if-looks_ahead.looks (as_cell c.cell-item.result) behind (sym c.looks_ahead.ensures ∙ w.if-looks_ahead.false) w.looks-is) c.loop-cell.invariant.0,
+        omega arith,
+      )
+    ]
 
 pub returns : goal.returns
 returns g c =

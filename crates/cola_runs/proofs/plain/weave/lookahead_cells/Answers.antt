@@ -1,7 +1,7 @@
-use Rattle.std.proofs.Common.{◌≡◌, ◌+◌, ◌∷◌, [], ◌∙◌, ap, refl, drop, map, arith}
+use Rattle.std.proofs.Common.{◌+◌, ◌∷◌, [], ◌∙◌, ap, refl, drop, map, arith}
 use Rattle.cola_runs.specs.Cells.{Look}
 use Rattle.cola_runs.specs.Weave.{look_at}
-use Rattle.cola_runs.specs.Plain.{as_cell, as_run}
+use Rattle.cola_runs.specs.Plain.{as_run}
 use Rattle.cola_runs.proofs.Stepping.{drop_all}
 use Rattle.cola_runs.proofs.PlainWeave.{made_next, made_all, list_from, run_append}
 use Rattle.cola_runs.proofs.plain.weave.lookahead_cells.Goals as goal

@@ -1,4 +1,4 @@
-use Rattle.std.proofs.Common.{◌≡◌, ◌+◌, refl, true, cond, drop, arith}
+use Rattle.std.proofs.Common.{◌+◌, refl, true, cond, drop, arith}
 use Rattle.std.specs.Option.{option_map, option_to_list}
 use Rattle.cola_runs.specs.Weave.{taken}
 use Rattle.cola_runs.specs.Plain.{as_cell, as_run}
