@@ -10,3 +10,5 @@ pub mod Builds
 pub mod Samples
 pub mod Searches
 mod Worked
+pub mod PlainLemmas
+pub mod PlainWeave
