@@ -16,7 +16,7 @@ use Rattle.cola_spec.specs.Map.{Map, empty_map}
 use Rattle.cola_spec.specs.Lines.{Line}
 use Rattle.cola_spec.specs.Machine.{State, Open}
 use Rattle.cola_line.specs.Replied.{Wrote}
-use Rattle.cola_command.specs.Memory.{state_of, HoldsLine, input_limit, replies, replies_to, state_after, AreFirstLines, WroteFront, Ends, Whole, SourceFailed, SinkFailed, Spent}
+use Rattle.cola_command.specs.Memory.{state_of, NoMemory, HoldsLine, input_limit, replies, replies_to, state_after, AreFirstLines, WroteFront, Ends, Whole, SourceFailed, SinkFailed, Spent}
 use Rattle.cola_command.proofs.PlainLemmas.{replies-append, state_after-append}
 
 take_beyond : (a b : List ℕ) (n : ℕ) → take (length a + n) (a ++ b) ≡ a ++ take n b
@@ -155,3 +155,19 @@ later f f' f'' kept rose = omega arith
 
 pub never : false ≡ true → ⊥
 never e = cc
+
+-- Completeness
+
+taken_of : (taken bytes : List ℕ) (left' : Option (List ℕ)) → Taken taken (Some bytes) left' → length taken ≤ length bytes
+taken_of taken bytes None moved = absurd moved
+taken_of taken bytes (Some rest) moved =
+    let whole : length bytes ≡ length (taken ++ rest) = ap length moved in
+    omega (arith, length-append taken rest)
+
+-- with no fault and fewer bytes than may be taken, a session ends well, or finds no memory
+pub completes : (keys status : ℕ) (bytes : List ℕ) (left' written written' : Option (List ℕ)) (f f' g g' : ℕ) → Ends keys status (Some bytes) left' written written' f f' g g' → length bytes < input_limit → (Rose f f' → ⊥) → (Rose g g' → ⊥) → (status ≡ 0) ⊎ (status ≡ 1)
+completes keys status bytes left' written written' f f' g g' (Whole is taken moved at wrote) few source sink = inl is
+completes keys status bytes left' written written' f f' g g' (NoMemory is left wrote) few source sink = inr is
+completes keys status bytes left' written written' f f' g g' (SourceFailed is rose taken moved wrote) few source sink = absurd (source rose)
+completes keys status bytes left' written written' f f' g g' (SinkFailed is rose taken before last moved first wrote) few source sink = absurd (sink rose)
+completes keys status bytes left' written written' f f' g g' (Spent is taken all moved wrote) few source sink = absurd (omega (arith, taken_of taken bytes left' moved))

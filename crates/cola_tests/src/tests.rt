@@ -1,0 +1,122 @@
+//! What no clause says: the replies of worked sessions.
+ghost use Rattle.std.specs.Prelude.{None};
+
+use super::made_lines;
+use cola_command::run;
+use cola_io::{MemorySink, MemorySource, Source, SourceFault};
+use cola_plain::session::mem_session;
+use std::alloc::{AllocError, Global};
+use std::process::Abort;
+use std::test::Fail;
+
+/// Gives at most `piece` bytes at a time.
+#[derive(Drop)]
+struct Pieces {
+    bytes: Vec<u8>,
+    at: usize,
+    piece: usize,
+}
+
+impl Source for Pieces {
+    ghost left = { λ _. None };
+
+    ghost faults = { λ _. 0 };
+
+    fn read(&mut self, into: &mut [u8]) -> Result<usize, SourceFault> {
+        let at = self.at.min(self.bytes.len());
+        let count = into.len().min(self.piece).min(self.bytes.len() - at);
+        into[..count].copy_from_slice(&self.bytes[at..at + count]);
+        self.at = at + count;
+        Ok(count)
+    }
+}
+
+fn memory_source(alloc: Global, text: &[u8], failing: &[u64]) -> Result<MemorySource, AllocError> {
+    Ok(MemorySource {
+        bytes: Vec::from_slice(alloc, text)?,
+        at: 0,
+        calls: 0,
+        failing: Vec::from_slice(alloc, failing)?,
+    })
+}
+
+fn words(alloc: Global, mode: &str, keys: &str) -> Result<Vec<String>, AllocError> {
+    let mut words = Vec::new(alloc);
+    words.push(String::from_str(alloc, mode)?)?;
+    words.push(String::from_str(alloc, keys)?)?;
+    Ok(words)
+}
+
+/// The output and the status of a session over a table for so many keys.
+fn session(alloc: Global, keys: &str, text: &[u8], source_fails: &[u64], sink_fails: &[u64]) -> Result<(Vec<u8>, u8), AllocError> {
+    let words = words(alloc, "mem", keys)?;
+    let mut source = memory_source(alloc, text, source_fails)?;
+    let mut sink = MemorySink::new(alloc, 8192, Vec::from_slice(alloc, sink_fails)?)?;
+    let status = run(alloc, words.as_slice(), &mut source, &mut sink);
+    Ok((Vec::from_slice(alloc, sink.bytes())?, status))
+}
+
+/// A session whose source and sink do not fail gives the output, and ends well.
+fn expect(rt: &impl Abort, alloc: Global, keys: &str, text: &[u8], output: &[u8]) -> Result<(), AllocError> {
+    let (written, status) = session(alloc, keys, text, &[], &[])?;
+    assert!(rt; written.as_slice() == output);
+    assert!(rt; status == 0);
+    Ok(())
+}
+
+#[test]
+fn worked_sessions(rt: HostRuntime) -> Result<(), Fail> {
+    let alloc = rt.alloc();
+    let rows: [(&str, &str, &str); 9] = [
+        ("4", "put a 1\nget a\nget b\nput a 2\nget a\n", "new\nval 1\nnone\nold 1\nval 2\n"),
+        ("1", "put a 1\nput b 2\nput a 3\n", "new\nfull\nold 1\n"),
+        ("1", "put a 1\nput b 2\nput a 3\ndel a\nput b 2\nget a\n", "new\nfull\nold 1\ngone 3\nnew\nnone\n"),
+        ("4", "", ""),
+        ("4", "get a\r", "none\n"),
+        ("32", "range a a\nrange b a\nscan a 0\n", "end 0\nend 0\nend 0\n"),
+        ("32", "close\nget a\nclose\nopen\nopen\n", "closed\nshut\nalready\nopen 0\nalready\n"),
+        ("32", "put a \nget a\nput a\nget a \nGET a\n\n\r\ncount\n", "new\nval \nbad\nbad\nbad\ncount 1\n"),
+        ("32", "put b 2\nput a 1\nput c 3\nrange a c\nscan b 5\ndel b\nscan a 1\n", "new\nnew\nnew\nrow a 1\nrow b 2\nend 2\nrow b 2\nrow c 3\nend 2\ngone 2\nrow a 1\nend 1\n"),
+    ];
+    for (keys, text, output) in rows {
+        expect(&rt, alloc, keys, text.as_bytes(), output.as_bytes())?;
+    }
+    Ok(())
+}
+
+#[test]
+fn faults_in_mid_stream(rt: HostRuntime) -> Result<(), Fail> {
+    let alloc = rt.alloc();
+    let (written, status) = session(alloc, "4", b"put a 1\n".as_slice(), &[2], &[])?;
+    assert!(rt; written.as_slice() == b"new\n".as_slice());
+    assert!(rt; status == 3);
+    let (written, status) = session(alloc, "4", b"put a 1\n".as_slice(), &[], &[1])?;
+    assert!(rt; written.is_empty());
+    assert!(rt; status == 4);
+    for keys in ["0", "65537", "4x", "+4", ""] {
+        let (written, status) = session(alloc, keys, b"put a 1\n".as_slice(), &[], &[])?;
+        assert!(rt; written.is_empty());
+        assert!(rt; status == 2);
+    }
+    Ok(())
+}
+
+#[test]
+fn made_sessions(rt: HostRuntime) -> Result<(), Fail> {
+    let alloc = rt.alloc();
+    let text = made_lines(alloc, 300, 7)?;
+    let plain = mem_session(alloc, 8, text.as_slice())?;
+    expect(&rt, alloc, "8", text.as_slice(), plain.as_slice())?;
+    for piece in [1, 7, 512] {
+        let mut source = Pieces {
+            bytes: text.clone()?,
+            at: 0,
+            piece,
+        };
+        let mut sink = MemorySink::new(alloc, 8192, Vec::new(alloc))?;
+        let status = run(alloc, words(alloc, "mem", "8")?.as_slice(), &mut source, &mut sink);
+        assert!(rt; status == 0);
+        assert!(rt; sink.bytes() == plain.as_slice());
+    }
+    Ok(())
+}
