@@ -3,10 +3,9 @@
 
 use cola_command::run;
 use cola_io::{StdSink, StdSource};
-use std::env;
-use std::io;
 use std::process::ExitCode;
 use std::rt::Env;
+use std::{env, io};
 
 /// The words after the program's name; none where they cannot be taken.
 fn take_words<R: Env + AllocGlobal>(rt: &R) -> Option<Vec<String>> {

@@ -50,9 +50,10 @@ pub plain_answer : {A E : Type 0} (shape : Shape) (m m' : Map) (command : Comman
 plain_answer shape m m' command result w w' steps steps' turn answered from =
     let plain = plain_step shape m turn (Open from.next) (kind_of turn.answer) from.step answered.cause in
     let reply_is : turn.answer ≡ plain_reply shape (Open m) (Some command) = plain.0 ∙ ap (plain_reply shape (Open m)) answered.asked in
-    let text_is : turn_text false turn ≡ turn_text false (plain_turn shape (Open m) (Some command)) = costless turn.answer turn.ticks ∙ ap (reply_text false 0) reply_is in
-    (subst (λ t. Wrote t result w w') text_is answered.wrote,
-      ap Open (sym from.holds) ∙ plain.1 ∙ ap (plain_after shape (Open m)) answered.asked)
+    let text_is : turn_text false turn ≡ turn_text false (plain_turn shape (Open m) (Some command)) = costless turn.answer turn.ticks ∙ ap (reply_text false 0) reply_is in (
+      subst (λ t. Wrote t result w w') text_is answered.wrote,
+      ap Open (sym from.holds) ∙ plain.1 ∙ ap (plain_after shape (Open m)) answered.asked,
+    )
 
 -- Turns one after another
 

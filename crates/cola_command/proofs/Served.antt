@@ -43,12 +43,12 @@ module _ (keys : ℕ) (left left' left'' written written' written'' : Option (Li
   pub served_line : (line : Line) → line ∷ [] ≡ line_told answer new.line → Appended (replies_to keys state (line ∷ [])) written' written'' → state' ≡ state_after keys state (line ∷ [])
       → Served keys left left'' written written'' new state' (taken ++ took) (told ++ line ∷ [])
   served_line line is wrote stands = record {
-      took = Taken-then taken took left left' left'' so_far.took moved;
-      read = subst (λ t. HasRead input_limit (taken ++ took) (told ++ t) new) (sym is) (HasRead-then input_limit taken took told answer old new so_far.read step);
-      wrote = subst (λ t. Appended t written written'') (sym (replies-append keys (Open empty_map) told (line ∷ []) ∙ ap (λ s. replies keys told ++ replies_to keys s (line ∷ [])) (sym so_far.stands)))
-          (Appended-then (replies keys told) (replies_to keys state (line ∷ [])) written written' written'' so_far.wrote wrote);
-      stands = stands ∙ ap (λ s. state_after keys s (line ∷ [])) so_far.stands ∙ sym (state_after-append keys (Open empty_map) told (line ∷ []));
-    }
+    took = Taken-then taken took left left' left'' so_far.took moved;
+    read = subst (λ t. HasRead input_limit (taken ++ took) (told ++ t) new) (sym is) (HasRead-then input_limit taken took told answer old new so_far.read step);
+    wrote = subst (λ t. Appended t written written'') (sym (replies-append keys (Open empty_map) told (line ∷ []) ∙ ap (λ s. replies keys told ++ replies_to keys s (line ∷ [])) (sym so_far.stands)))
+        (Appended-then (replies keys told) (replies_to keys state (line ∷ [])) written written' written'' so_far.wrote wrote);
+    stands = stands ∙ ap (λ s. state_after keys s (line ∷ [])) so_far.stands ∙ sym (state_after-append keys (Open empty_map) told (line ∷ []));
+  }
 
   taken_all : Taken (taken ++ took) left left''
   taken_all = Taken-then taken took left left' left'' so_far.took moved
@@ -81,14 +81,14 @@ pub ends_whole : (keys : ℕ) (left left' left'' written written' : Option (List
     → IsAtEnd left'' → Ends keys 0 left left'' written written' f f' g g'
 ends_whole keys left left' left'' written written' old new state taken took told f f' g g' so_far moved step at_end =
     Whole refl (taken ++ took) (Taken-then taken took left left' left'' so_far.took moved) at_end
-        (subst (λ t. Appended (replies keys t) written written') (told-last input_limit taken took told next.End old new so_far.read step).0 so_far.wrote)
+    (subst (λ t. Appended (replies keys t) written written') (told-last input_limit taken took told next.End old new so_far.read step).0 so_far.wrote)
 
 -- a fault of the source
 pub ends_by_source : (keys : ℕ) (left left' left'' written written' : Option (List ℕ)) (old new : Reading) (state : State) (taken took : List ℕ) (told : List Line) (f f' f'' g g' : ℕ) → Served keys left left' written written' old state taken told → Taken took left' left'' → NextLine old took next.Fault new
     → f ≤ f' → Rose f' f'' → Ends keys 3 left left'' written written' f f'' g g'
 ends_by_source keys left left' left'' written written' old new state taken took told f f' f'' g g' so_far moved step kept rose =
     SourceFailed refl (omega arith) (taken ++ took) (Taken-then taken took left left' left'' so_far.took moved)
-        (subst (λ t. Appended (replies keys t) written written') (told-last input_limit taken took told next.Fault old new so_far.read step) so_far.wrote)
+    (subst (λ t. Appended (replies keys t) written written') (told-last input_limit taken took told next.Fault old new so_far.read step) so_far.wrote)
 
 -- all bytes that may be taken were taken
 pub ends_spent : (keys : ℕ) (left left' left'' written written' : Option (List ℕ)) (old new : Reading) (state : State) (taken took : List ℕ) (told : List Line) (f f' g g' : ℕ) → Served keys left left' written written' old state taken told → Taken took left' left'' → NextLine old took next.Budget new
@@ -96,7 +96,7 @@ pub ends_spent : (keys : ℕ) (left left' left'' written written' : Option (List
 ends_spent keys left left' left'' written written' old new state taken took told f f' g g' so_far moved step =
     let last = told-last input_limit taken took told next.Budget old new so_far.read step in
     Spent refl (taken ++ took) last.1 (Taken-then taken took left left' left'' so_far.took moved)
-        (subst (λ t. Appended (replies keys t) written written') last.0 so_far.wrote)
+    (subst (λ t. Appended (replies keys t) written written') last.0 so_far.wrote)
 
 -- The reader
 

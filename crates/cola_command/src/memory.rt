@@ -36,7 +36,12 @@ impl MemorySession {
 
     /// Carries out a command, and writes its reply. At a fault of the sink the command is carried out
     /// all the same, and some front of the reply was written.
-    fn command<K: Sink, L: Ledger>(&mut self, command: &Command, sink: &mut K, steps: &mut Steps<L>) -> Result<(), SinkFault>
+    fn command<K: Sink, L: Ledger>(
+        &mut self,
+        command: &Command,
+        sink: &mut K,
+        steps: &mut Steps<L>,
+    ) -> Result<(), SinkFault>
         requires { CommandFits One command.now }
         ensures wrote { Wrote (turn_text false (plain_turn (shape_of One self.old.table.limit) (state_of self.old.is_open self.old.table.map) (Some (spoken command.now)))) result (K.written sink.old) (K.written sink.new) }
         ensures after { state_of self.new.is_open self.new.table.map ≡ plain_after (shape_of One self.old.table.limit) (state_of self.old.is_open self.old.table.map) (Some (spoken command.now)) }
@@ -65,7 +70,12 @@ impl MemorySession {
     /// some front of the reply was written.
     ///
     /// An `Err` comes only where the sink's count of faults rose.
-    pub fn line<K: Sink, L: Ledger>(&mut self, text: Option<&[u8]>, sink: &mut K, steps: &mut Steps<L>) -> Result<(), SinkFault>
+    pub fn line<K: Sink, L: Ledger>(
+        &mut self,
+        text: Option<&[u8]>,
+        sink: &mut K,
+        steps: &mut Steps<L>,
+    ) -> Result<(), SinkFault>
         ensures wrote { Wrote (replies_to self.old.table.limit (state_of self.old.is_open self.old.table.map) (line_read (option_copied text.entry) ∷ [])) result (K.written sink.old) (K.written sink.new) }
         ensures after { state_of self.new.is_open self.new.table.map ≡ state_after self.old.table.limit (state_of self.old.is_open self.old.table.map) (line_read (option_copied text.entry) ∷ []) }
         ensures limit { self.new.table.limit ≡ self.old.table.limit }

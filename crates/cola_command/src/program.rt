@@ -29,7 +29,12 @@ fn text_of(reader: &LineReader, next: Next) -> Option<&[u8]>
 }
 
 /// Answers every line of the source, and gives the status.
-fn serve_lines<S: Source, K: Sink, L: Ledger>(session: &mut MemorySession, source: &mut S, sink: &mut K, steps: &mut Steps<L>) -> u8
+fn serve_lines<S: Source, K: Sink, L: Ledger>(
+    session: &mut MemorySession,
+    source: &mut S,
+    sink: &mut K,
+    steps: &mut Steps<L>,
+) -> u8
     requires open { session.old.is_open ≡ true }
     requires empty { session.old.table.map ≡ empty_map }
     ensures ends { Ends session.old.table.limit result (S.left source.old) (S.left source.new) (K.written sink.old) (K.written sink.new) (S.faults source.old) (S.faults source.new) (K.faults sink.old) (K.faults sink.new) }
@@ -59,7 +64,13 @@ fn serve_lines<S: Source, K: Sink, L: Ledger>(session: &mut MemorySession, sourc
 /// ends with 0 where the source was read to its end, with 1 where there is no memory for the table,
 /// with 3 or 4 where the source or the sink failed, and with 9 where 2^40 bytes were taken. All other
 /// words end with 2, and nothing is touched. After the table is made no memory is taken.
-pub fn serve<S: Source, K: Sink, L: Ledger>(alloc: Global, words: &[String], source: &mut S, sink: &mut K, steps: &mut Steps<L>) -> u8
+pub fn serve<S: Source, K: Sink, L: Ledger>(
+    alloc: Global,
+    words: &[String],
+    source: &mut S,
+    sink: &mut K,
+    steps: &mut Steps<L>,
+) -> u8
     ensures words { IfNone (memory_keys (map string_bytes words.now)) ((result ≡ 2) × (source.new ≡ source.old) × (sink.new ≡ sink.old)) }
     ensures memory { IfSome (memory_keys (map string_bytes words.now)) (λ keys. Ends keys result (S.left source.old) (S.left source.new) (K.written sink.old) (K.written sink.new) (S.faults source.old) (S.faults source.new) (K.faults sink.old) (K.faults sink.new)) }
     ensures source_kept { S.faults source.old ≤ S.faults source.new }
@@ -78,7 +89,13 @@ pub fn serve<S: Source, K: Sink, L: Ledger>(alloc: Global, words: &[String], sou
 }
 
 /// The same, with steps that begin on a ledger of their own.
-fn serve_from<S: Source, K: Sink, L: Ledger>(blank: Blank, alloc: Global, words: &[String], source: &mut S, sink: &mut K) -> u8
+fn serve_from<S: Source, K: Sink, L: Ledger>(
+    blank: Blank,
+    alloc: Global,
+    words: &[String],
+    source: &mut S,
+    sink: &mut K,
+) -> u8
     requires name { blank.name ≡ L.name }
     requires parts { blank.parts ≡ L.parts }
     requires some { 0 < L.parts }

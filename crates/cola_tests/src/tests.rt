@@ -48,7 +48,13 @@ fn words(alloc: Global, mode: &str, keys: &str) -> Result<Vec<String>, AllocErro
 }
 
 /// The output and the status of a session over a table for so many keys.
-fn session(alloc: Global, keys: &str, text: &[u8], source_fails: &[u64], sink_fails: &[u64]) -> Result<(Vec<u8>, u8), AllocError> {
+fn session(
+    alloc: Global,
+    keys: &str,
+    text: &[u8],
+    source_fails: &[u64],
+    sink_fails: &[u64],
+) -> Result<(Vec<u8>, u8), AllocError> {
     let words = words(alloc, "mem", keys)?;
     let mut source = memory_source(alloc, text, source_fails)?;
     let mut sink = MemorySink::new(alloc, 8192, Vec::from_slice(alloc, sink_fails)?)?;
@@ -57,7 +63,13 @@ fn session(alloc: Global, keys: &str, text: &[u8], source_fails: &[u64], sink_fa
 }
 
 /// A session whose source and sink do not fail gives the output, and ends well.
-fn expect(rt: &impl Abort, alloc: Global, keys: &str, text: &[u8], output: &[u8]) -> Result<(), AllocError> {
+fn expect(
+    rt: &impl Abort,
+    alloc: Global,
+    keys: &str,
+    text: &[u8],
+    output: &[u8],
+) -> Result<(), AllocError> {
     let (written, status) = session(alloc, keys, text, &[], &[])?;
     assert!(rt; written.as_slice() == output);
     assert!(rt; status == 0);
@@ -68,15 +80,39 @@ fn expect(rt: &impl Abort, alloc: Global, keys: &str, text: &[u8], output: &[u8]
 fn worked_sessions(rt: HostRuntime) -> Result<(), Fail> {
     let alloc = rt.alloc();
     let rows: [(&str, &str, &str); 9] = [
-        ("4", "put a 1\nget a\nget b\nput a 2\nget a\n", "new\nval 1\nnone\nold 1\nval 2\n"),
+        (
+            "4",
+            "put a 1\nget a\nget b\nput a 2\nget a\n",
+            "new\nval 1\nnone\nold 1\nval 2\n",
+        ),
         ("1", "put a 1\nput b 2\nput a 3\n", "new\nfull\nold 1\n"),
-        ("1", "put a 1\nput b 2\nput a 3\ndel a\nput b 2\nget a\n", "new\nfull\nold 1\ngone 3\nnew\nnone\n"),
+        (
+            "1",
+            "put a 1\nput b 2\nput a 3\ndel a\nput b 2\nget a\n",
+            "new\nfull\nold 1\ngone 3\nnew\nnone\n",
+        ),
         ("4", "", ""),
         ("4", "get a\r", "none\n"),
-        ("32", "range a a\nrange b a\nscan a 0\n", "end 0\nend 0\nend 0\n"),
-        ("32", "close\nget a\nclose\nopen\nopen\n", "closed\nshut\nalready\nopen 0\nalready\n"),
-        ("32", "put a \nget a\nput a\nget a \nGET a\n\n\r\ncount\n", "new\nval \nbad\nbad\nbad\ncount 1\n"),
-        ("32", "put b 2\nput a 1\nput c 3\nrange a c\nscan b 5\ndel b\nscan a 1\n", "new\nnew\nnew\nrow a 1\nrow b 2\nend 2\nrow b 2\nrow c 3\nend 2\ngone 2\nrow a 1\nend 1\n"),
+        (
+            "32",
+            "range a a\nrange b a\nscan a 0\n",
+            "end 0\nend 0\nend 0\n",
+        ),
+        (
+            "32",
+            "close\nget a\nclose\nopen\nopen\n",
+            "closed\nshut\nalready\nopen 0\nalready\n",
+        ),
+        (
+            "32",
+            "put a \nget a\nput a\nget a \nGET a\n\n\r\ncount\n",
+            "new\nval \nbad\nbad\nbad\ncount 1\n",
+        ),
+        (
+            "32",
+            "put b 2\nput a 1\nput c 3\nrange a c\nscan b 5\ndel b\nscan a 1\n",
+            "new\nnew\nnew\nrow a 1\nrow b 2\nend 2\nrow b 2\nrow c 3\nend 2\ngone 2\nrow a 1\nend 1\n",
+        ),
     ];
     for (keys, text, output) in rows {
         expect(&rt, alloc, keys, text.as_bytes(), output.as_bytes())?;
@@ -114,7 +150,12 @@ fn made_sessions(rt: HostRuntime) -> Result<(), Fail> {
             piece,
         };
         let mut sink = MemorySink::new(alloc, 8192, Vec::new(alloc))?;
-        let status = run(alloc, words(alloc, "mem", "8")?.as_slice(), &mut source, &mut sink);
+        let status = run(
+            alloc,
+            words(alloc, "mem", "8")?.as_slice(),
+            &mut source,
+            &mut sink,
+        );
         assert!(rt; status == 0);
         assert!(rt; sink.bytes() == plain.as_slice());
     }

@@ -13,7 +13,7 @@ returns-in-Some-parse_line-clause-wrote g c =
     let keys = c.args.self.now.table.limit in
     let asks = asks_command (shape_of One keys) c.in-Some.text.now (Some (spoken c.in-Some-parse_line.command)) (sym c.if-is_empty.ensures) (c.in-Some-parse_line.ensures.means keys) in
     rw c.in-Some.is (subst (λ t. Wrote t c.command.result (g.K.Sink.written c.args.sink.now) (g.K.Sink.written c.command.new.sink))
-        (replies_one keys (state_of c.args.self.now.is_open c.args.self.now.table.map) (Text c.in-Some.text.now ∷ []) (Some (spoken c.in-Some-parse_line.command)) asks) c.command.ensures.wrote)
+    (replies_one keys (state_of c.args.self.now.is_open c.args.self.now.table.map) (Text c.in-Some.text.now ∷ []) (Some (spoken c.in-Some-parse_line.command)) asks) c.command.ensures.wrote)
 
 pub returns-in-Some-parse_line-clause-after : goal.returns-in-Some-parse_line-clause-after
 returns-in-Some-parse_line-clause-after g c =
@@ -26,7 +26,7 @@ returns-in-None-clause-wrote g c =
     let keys = c.args.self.now.table.limit in
     let asks = asks_command (shape_of One keys) c.in-Some.text.now None (sym c.if-is_empty.ensures) (c.in-None.ensures.means keys) in
     rw c.in-Some.is (subst (λ t. Wrote t c.write_reply-in-None.result (g.K.Sink.written c.args.sink.now) (g.K.Sink.written c.write_reply-in-None.new.sink))
-        (replies_one keys (state_of c.args.self.now.is_open c.args.self.now.table.map) (Text c.in-Some.text.now ∷ []) None asks) c.write_reply-in-None.ensures.wrote)
+    (replies_one keys (state_of c.args.self.now.is_open c.args.self.now.table.map) (Text c.in-Some.text.now ∷ []) None asks) c.write_reply-in-None.ensures.wrote)
 
 pub returns-in-None-clause-after : goal.returns-in-None-clause-after
 returns-in-None-clause-after g c =
