@@ -79,7 +79,7 @@ fn expect(
 #[test]
 fn worked_sessions(rt: HostRuntime) -> Result<(), Fail> {
     let alloc = rt.alloc();
-    let rows: [(&str, &str, &str); 9] = [
+    let rows: [(&str, &str, &str); 10] = [
         (
             "4",
             "put a 1\nget a\nget b\nput a 2\nget a\n",
@@ -112,6 +112,11 @@ fn worked_sessions(rt: HostRuntime) -> Result<(), Fail> {
             "32",
             "put b 2\nput a 1\nput c 3\nrange a c\nscan b 5\ndel b\nscan a 1\n",
             "new\nnew\nnew\nrow a 1\nrow b 2\nend 2\nrow b 2\nrow c 3\nend 2\ngone 2\nrow a 1\nend 1\n",
+        ),
+        (
+            "4",
+            "put abcdefghijklmnopqrstuvwx 01234567890123456789012345678901\nput abcdefghijklmnopqrstuvwxy 1\nput a 012345678901234567890123456789012\nput a\nstamp a\nputif a 0 1\nput a 1\n",
+            "new\nbad\nbad\nbad\nbad\nbad\nnew\n",
         ),
     ];
     for (keys, text, output) in rows {
@@ -159,5 +164,59 @@ fn made_sessions(rt: HostRuntime) -> Result<(), Fail> {
         assert!(rt; status == 0);
         assert!(rt; sink.bytes() == plain.as_slice());
     }
+    Ok(())
+}
+
+/// Adds a line `VERB kNN REST` for each of 32 keys.
+fn push_lines(text: &mut Vec<u8>, verb: &[u8], has_value: bool) -> Result<(), AllocError> {
+    for key in 0..32u8 {
+        text.extend_from_slice(verb)?;
+        text.push(b'0' + key / 10)?;
+        text.push(b'0' + key % 10)?;
+        if has_value {
+            text.extend_from_slice(b" v".as_slice())?;
+        }
+        text.push(b'\n')?;
+    }
+    Ok(())
+}
+
+/// Adds a line so many times.
+fn push_times(text: &mut Vec<u8>, line: &[u8], times: u32) -> Result<(), AllocError> {
+    for _ in 0..times {
+        text.extend_from_slice(line)?;
+    }
+    Ok(())
+}
+
+#[test]
+fn many_lines(rt: HostRuntime) -> Result<(), Fail> {
+    let alloc = rt.alloc();
+    let mut text = Vec::new(alloc);
+    let mut output = Vec::new(alloc);
+    push_lines(&mut text, b"put k".as_slice(), true)?;
+    push_lines(&mut text, b"del k".as_slice(), false)?;
+    push_lines(&mut text, b"put k".as_slice(), true)?;
+    text.extend_from_slice(b"count\n".as_slice())?;
+    push_times(&mut output, b"new\n".as_slice(), 32)?;
+    push_times(&mut output, b"gone v\n".as_slice(), 32)?;
+    push_times(&mut output, b"new\n".as_slice(), 32)?;
+    output.extend_from_slice(b"count 32\n".as_slice())?;
+    expect(&rt, alloc, "32", text.as_slice(), output.as_slice())?;
+    let mut text = Vec::new(alloc);
+    let mut output = Vec::from_slice(alloc, b"new\n".as_slice())?;
+    push_times(&mut text, b"put a v\n".as_slice(), 1000)?;
+    push_times(&mut output, b"old v\n".as_slice(), 999)?;
+    expect(&rt, alloc, "32", text.as_slice(), output.as_slice())?;
+    let mut text = Vec::new(alloc);
+    push_times(&mut text, b"x".as_slice(), 161)?;
+    text.extend_from_slice(b"\ncount\n".as_slice())?;
+    expect(
+        &rt,
+        alloc,
+        "32",
+        text.as_slice(),
+        b"bad\ncount 0\n".as_slice(),
+    )?;
     Ok(())
 }
