@@ -1,5 +1,5 @@
 -- The map of sorted entries: what it answers, and what an edit of the entries makes of it.
-use Rattle.std.proofs.Common.{◌≡◌, ℕ, suc, ◌<◌, ◌≤◌, Bool, true, false, cond, not, IsTrue, T, List, [], ◌∷◌, length, get_or, set, take, drop, Option, Some, None, refl, ap, sym, subst, ◌∙◌, arith}
+use Rattle.std.proofs.Common.{◌≡◌, ℕ, suc, All, ◌<◌, ◌≤◌, Bool, true, false, cond, not, IsTrue, T, List, [], ◌∷◌, length, get_or, set, take, drop, Option, Some, None, refl, ap, sym, subst, ◌∙◌, arith}
 use Rattle.std.proofs.lemmas.Bool.{and_from, le-leb, lt-leb}
 use Rattle.std.specs.Ordering.{is_eq, eq_by_cmp, ordering_reverse}
 use Rattle.std.specs.declared.cmp.Ordering.{Ordering}
@@ -200,3 +200,7 @@ module _ (limit : ℕ) (list : List Entry) (flat : AreFlat limit list) where
 
   pub after_none : (key : List ℕ) (at : ℕ) → LacksKey list key at → map_of list ≡ after_delete (map_of list) key
   after_none key at lacks = ap (λ (m : FinMap key_cmp Stored). record { entries = m; last = 0 }) (sym (remove_absent list flat.rising key lacks.absent))
+
+  -- each stamp is 0
+  pub no_stamps : All (λ entry. entry.1.stamp ≡ 0) list
+  no_stamps k d lt = let given : (get_or list k d).1.stamp ≤ 0 = (flat.fitting k d lt).given in omega arith

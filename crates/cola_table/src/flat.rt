@@ -1,6 +1,6 @@
 //! The table in memory: a sorted vector, reserved at the start.
 ghost use Rattle.std.specs.FinMap.{is_sorted, find};
-ghost use Rattle.std.specs.Prelude.{◌≡◌, ◌+◌, ◌-◌, ◌^◌, ◌≤◌, ◌<◌, ℕ, length, IsTrue, List, Option, IfOk, IfErr, OnOk, OnErr, option_copied, option_map, OnSome};
+ghost use Rattle.std.specs.Prelude.{◌≡◌, ◌+◌, ◌-◌, ◌^◌, ◌≤◌, ◌<◌, ℕ, length, IsTrue, List, Option, IfOk, IfErr, OnOk, OnErr, option_copied, option_map, All, OnSome};
 ghost use Rattle.cola_cell.specs.declared.format.Format.TheVariants.{One, Two};
 ghost use Rattle.cola_cell.specs.Format.{KeyFits, ValueFits};
 ghost use Rattle.cola_spec.specs.Map.{Map, IsMap, Stored, count, key_cmp, empty_map, is_before};
@@ -103,6 +103,18 @@ fn find(entries: &Entries, key: &Key) -> Option<Value>
     }
 }
 
+// The stamp of a key: each is 0.
+fn stamp_of(entries: &Entries, key: &Key) -> Option<u64>
+    requires rising { IsTrue (is_sorted key_cmp entries.now.list) }
+    requires unstamped { All (λ entry. entry.1.stamp ≡ 0) entries.now.list }
+    ensures { result ≡ option_map (λ s. s.stamp) (find key_cmp key.now entries.now.list) }
+{
+    match search(entries, key) {
+        Ok(_) => Some(0),
+        Err(_) => None,
+    }
+}
+
 impl Table for FlatTable {
     ghost use Rattle.std.specs.Prelude.{◌≡◌, ◌+◌, ◌-◌, ◌^◌, ◌≤◌, ◌<◌, ℕ, List, Option, IfOk, IfErr, OnOk, OnErr, option_copied, OnSome};
     ghost use Rattle.cola_cell.specs.declared.format.Format.TheVariants.{One, Two};
@@ -163,12 +175,19 @@ impl Table for FlatTable {
 
     fn put_if<L: Ledger>(
         &mut self,
-        _key: &Key,
-        _seen: u64,
-        _value: &Value,
-        _steps: &mut Steps<L>,
+        key: &Key,
+        seen: u64,
+        value: &Value,
+        steps: &mut Steps<L>,
     ) -> Result<(PutIf, u32), PutFault> {
-        unreachable!()
+        let stamp = stamp_of(&self.entries, key).unwrap_or(0);
+        if stamp != seen {
+            return Ok((PutIf::Other(stamp), 0));
+        }
+        match self.put(key, value, steps) {
+            Ok((put, count)) => Ok((PutIf::from(put), count)),
+            Err(refusal) => Err(refusal),
+        }
     }
 
     fn delete<L: Ledger>(
@@ -192,10 +211,10 @@ impl Table for FlatTable {
 
     fn stamp<L: Ledger>(
         &mut self,
-        _key: &Key,
+        key: &Key,
         _steps: &mut Steps<L>,
     ) -> Result<(Option<u64>, u32), ReadFault> {
-        unreachable!()
+        Ok((stamp_of(&self.entries, key), 0))
     }
 
     fn range<L: Ledger>(

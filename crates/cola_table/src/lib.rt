@@ -32,6 +32,20 @@ pub enum PutIf {
     Other(u64),
 }
 
+impl From<Put> for PutIf {
+    ghost use Rattle.std.specs.Prelude.{◌≡◌};
+    ghost use Rattle.cola_table.specs.Answers.{put_answer, put_if_answer};
+
+    ghost from_gives = { λ put result. put_if_answer result ≡ put_answer put };
+
+    fn from(put: Put) -> PutIf {
+        match put {
+            Put::New => PutIf::New,
+            Put::Old(value) => PutIf::Old(value),
+        }
+    }
+}
+
 /// Why a put was refused. Nothing that the table holds changed.
 #[derive(Clone, Copy, Debug, PartialEq, Eq, Drop)]
 pub enum PutFault {

@@ -1,6 +1,5 @@
 //! The ordered map with a key limit, as a trait.
 ghost use Rattle.std.specs.Prelude.{◌≡◌, ◌+◌, ◌^◌, ◌≤◌, ◌<◌, ℕ, List, Option, IfOk, IfErr, OnOk, OnErr, option_map, option_copied, IsTrue, MatchResult, IfSome, OnSome};
-ghost use Rattle.cola_cell.specs.declared.format.Format.TheVariants.{Two};
 ghost use Rattle.cola_cell.specs.Format.{KeyFits, ValueFits};
 ghost use Rattle.cola_spec.specs.Map.{Map, IsMap, count};
 ghost use Rattle.cola_spec.specs.Bounds.{put_bound, get_bound, range_bound};
@@ -71,7 +70,7 @@ pub trait Table {
         ensures walks { OnErr result (KeepsWalks (stands self.old) (stands self.new) (ahead self.old) (ahead self.new)) };
 
     /// A put that is made only where the key has the stamp seen, 0 where it is absent. That is tried
-    /// before the causes of a put.
+    /// before the causes of a put. In format One each stamp is 0.
     fn put_if<L: Ledger>(
         &mut self,
         key: &Key,
@@ -79,7 +78,6 @@ pub trait Table {
         value: &Value,
         steps: &mut Steps<L>,
     ) -> Result<(PutIf, u32), PutFault>
-        requires stamped { (terms self.old).format ≡ Two }
         requires key_fits { KeyFits (terms self.old).format key.now }
         requires value_fits { ValueFits (terms self.old).format value.now }
         ensures answer { (m : Map) → holds self.old m → PutIfAnswers (shape (terms self.old)) m key.now seen value.now (holds self.new) result }
@@ -112,13 +110,12 @@ pub trait Table {
         ensures cause { IfErr result (λ refusal. read_cause refusal (faults self.old) (faults self.new)) }
         ensures walks { KeepsWalks (stands self.old) (stands self.new) (ahead self.old) (ahead self.new) };
 
-    /// The stamp of the key: the number of the put that gave its value.
+    /// The stamp of the key: the number of the put that gave its value, and 0 in format One.
     fn stamp<L: Ledger>(
         &mut self,
         key: &Key,
         steps: &mut Steps<L>,
     ) -> Result<(Option<u64>, u32), ReadFault>
-        requires { (terms self.old).format ≡ Two }
         ensures answer { (m : Map) → holds self.old m → StampAnswers m key.now (holds self.new) result }
         ensures call { Call (terms self.old) (terms self.new) (faults self.old) (faults self.new) steps.old steps.new (get_bound (terms self.old).depth) }
         ensures counted { IfOk result (λ answer. steps.new ≡ steps.old + answer.1) }

@@ -1,10 +1,9 @@
-//! What no clause says: that calls succeed, and sessions whose answers were worked out by hand.
+//! What no clause says: that calls succeed, and a session whose answers were worked out by hand.
 ghost use Rattle.std.specs.Prelude.{◌≡◌, ◌<◌};
 
-use crate::{FlatTable, Put, PutFault, Table};
-use cola_cell::{Key, ReadFault, StepFault, Value};
+use crate::{FlatTable, Put, PutFault, PutIf, Table};
+use cola_cell::{Key, Value};
 use cola_outside::Steps;
-use std::alloc::Global;
 use std::marker::Brand;
 use std::process::Abort;
 use std::sync::ledger::{Blank, Ledger};
@@ -18,48 +17,144 @@ fn value(text: &str) -> Result<Value, Fail> {
     Ok(Value::of(text.as_bytes()).ok_or("no value")?)
 }
 
-// A put of texts, through the bound.
 fn put<T: Table, L: Ledger>(
     rt: &impl Abort,
     table: &mut T,
-    text: &str,
-    given: &str,
+    (text, given): (&str, &str),
+    want: Result<Put, PutFault>,
     steps: &mut Steps<L>,
-) -> Result<Result<(Put, u32), PutFault>, Fail> {
+) -> Result<(), Fail> {
     let key = key(text)?;
     let value = value(given)?;
     let format = table.format();
     assert!(rt; key.fits(format) && value.fits(format));
-    Ok(table.put(&key, &value, steps))
+    let found = table.put(&key, &value, steps).map(|answer| answer.0);
+    assert_eq!(rt; found, want, "put {text}");
+    Ok(())
 }
 
-// The pairs of a range, up to eight, as one text.
+fn put_if<T: Table, L: Ledger>(
+    rt: &impl Abort,
+    table: &mut T,
+    (text, seen, given): (&str, u64, &str),
+    want: PutIf,
+    steps: &mut Steps<L>,
+) -> Result<(), Fail> {
+    let key = key(text)?;
+    let value = value(given)?;
+    let format = table.format();
+    assert!(rt; key.fits(format) && value.fits(format));
+    let (found, _) = table.put_if(&key, seen, &value, steps)?;
+    assert_eq!(rt; found, want, "put {text} where the stamp is {seen}");
+    let (stamp, _) = table.stamp(&key, steps)?;
+    assert_eq!(rt; stamp, Some(0), "the stamp of {text}");
+    Ok(())
+}
+
+fn get<T: Table, L: Ledger>(
+    rt: &impl Abort,
+    table: &mut T,
+    text: &str,
+    want: Option<&str>,
+    steps: &mut Steps<L>,
+) -> Result<(), Fail> {
+    let (found, _) = table.get(&key(text)?, steps)?;
+    assert_eq!(rt; found, wanted(want)?, "get {text}");
+    Ok(())
+}
+
+fn delete<T: Table, L: Ledger>(
+    rt: &impl Abort,
+    table: &mut T,
+    text: &str,
+    want: Option<&str>,
+    steps: &mut Steps<L>,
+) -> Result<(), Fail> {
+    let (found, _) = table.delete(&key(text)?, steps)?;
+    assert_eq!(rt; found, wanted(want)?, "delete {text}");
+    Ok(())
+}
+
+fn wanted(want: Option<&str>) -> Result<Option<Value>, Fail> {
+    match want {
+        Some(text) => Ok(Some(value(text)?)),
+        None => Ok(None),
+    }
+}
+
 fn range<T: Table, L: Ledger>(
     rt: &impl Abort,
-    alloc: Global,
     table: &mut T,
     low: &str,
-    high: Option<&Key>,
+    high: Option<Key>,
+    want: &[(&str, &str)],
     steps: &mut Steps<L>,
-) -> Result<String, Fail> {
-    let mut walk = table.range(&key(low)?, high, steps)?;
-    let mut text = String::new(alloc);
-    for _ in 0..8 {
-        let Some((key, value)) = table.next(&mut walk, steps)? else {
-            return Ok(text);
-        };
-        for bytes in [key.bytes(), value.bytes()] {
-            text.push_str(std::str::from_utf8(bytes).ok().ok_or("no text")?)?;
-        }
+) -> Result<(), Fail> {
+    let mut walk = table.range(&key(low)?, high.as_ref(), steps)?;
+    for (text, given) in want {
+        let pair = (key(text)?, value(given)?);
+        let found = table.next(&mut walk, steps)?;
+        assert_eq!(rt; found, Some(pair), "at {text}");
     }
-    Ok(text)
+    let end = table.next(&mut walk, steps)?;
+    assert_eq!(rt; end, None);
+    Ok(())
 }
 
-// A first session, on any empty table for at least two keys.
+// On any empty table with the limit 2.
 fn answers<T: Table, L: Ledger>(
     rt: &impl Abort,
-    alloc: Global,
     table: &mut T,
+    steps: &mut Steps<L>,
+) -> Result<(), Fail> {
+    put(rt, table, ("a", "1"), Ok(Put::New), steps)?;
+    get(rt, table, "a", Some("1"), steps)?;
+    get(rt, table, "b", None, steps)?;
+    put(rt, table, ("a", "2"), Ok(Put::Old(value("1")?)), steps)?;
+    get(rt, table, "a", Some("2"), steps)?;
+    put(rt, table, ("ab", "3"), Ok(Put::New), steps)?;
+    put(rt, table, ("b", "4"), Err(PutFault::Full), steps)?;
+    put(rt, table, ("ab", "4"), Ok(Put::Old(value("3")?)), steps)?;
+    range(rt, table, "a", None, &[("a", "2"), ("ab", "4")], steps)?;
+    range(rt, table, "a", Some(key("ab")?), &[("a", "2")], steps)?;
+    range(rt, table, "aa", Some(key("b")?), &[("ab", "4")], steps)?;
+    delete(rt, table, "a", Some("2"), steps)?;
+    delete(rt, table, "a", None, steps)?;
+    put_if(rt, table, ("ab", 1, "5"), PutIf::Other(0), steps)?;
+    put_if(rt, table, ("ab", 0, "5"), PutIf::Old(value("4")?), steps)?;
+    assert_eq!(rt; table.count(), 1);
+    Ok(())
+}
+
+// Puts and deletes of 32 keys, in a mixed order, and puts again.
+fn fills<T: Table, L: Ledger>(
+    rt: &impl Abort,
+    table: &mut T,
+    steps: &mut Steps<L>,
+) -> Result<(), Fail> {
+    for (round, delete) in [false, true, false].into_iter().enumerate() {
+        for place in 0u8..32 {
+            let key = Key::of(&[place * 7 % 32]).ok_or("no key")?;
+            if delete {
+                let (found, _) = table.delete(&key, steps)?;
+                assert!(rt; found.is_some(), "round {round} at {place}");
+            } else {
+                let value = value("v")?;
+                let format = table.format();
+                assert!(rt; key.fits(format) && value.fits(format));
+                let (put, _) = table.put(&key, &value, steps)?;
+                assert_eq!(rt; put, Put::New, "round {round} at {place}");
+            }
+        }
+    }
+    assert_eq!(rt; table.count(), 32);
+    Ok(())
+}
+
+fn both<L: Ledger>(
+    rt: &impl Abort,
+    first: &mut FlatTable,
+    second: &mut FlatTable,
     blank: Blank,
 ) -> Result<(), Fail>
     requires name { blank.name ≡ L.name }
@@ -67,24 +162,13 @@ fn answers<T: Table, L: Ledger>(
     requires some { 0 < L.parts }
 {
     let mut steps = Steps::<L>::begin(blank);
-    let steps = &mut steps;
-    assert_eq!(rt; put(rt, table, "a", "1", steps)?, Ok((Put::New, 0)));
-    assert_eq!(rt; table.get(&key("a")?, steps), Ok((Some(value("1")?), 0)));
-    assert_eq!(rt; table.get(&key("b")?, steps), Ok((None, 0)));
-    assert_eq!(rt; put(rt, table, "a", "2", steps)?, Ok((Put::Old(value("1")?), 0)));
-    assert_eq!(rt; table.get(&key("a")?, steps), Ok((Some(value("2")?), 0)));
-    assert_eq!(rt; put(rt, table, "ab", "3", steps)?, Ok((Put::New, 0)));
-    assert_eq!(rt; range(rt, alloc, table, "a", None, steps)?.as_str(), "a2ab3");
-    assert_eq!(rt; range(rt, alloc, table, "a", Some(&key("ab")?), steps)?.as_str(), "a2");
-    assert_eq!(rt; range(rt, alloc, table, "aa", Some(&key("b")?), steps)?.as_str(), "ab3");
-    assert_eq!(rt; table.delete(&key("a")?, steps), Ok((Some(value("2")?), 0)));
-    assert_eq!(rt; table.delete(&key("a")?, steps), Ok((None, 0)));
-    assert_eq!(rt; table.count(), 1);
-    Ok(())
+    answers(rt, first, &mut steps)?;
+    fills(rt, second, &mut steps)
 }
 
 #[test]
-fn answers_a_first_session(rt: HostRuntime) -> Result<(), Fail> {
-    let mut table = FlatTable::new(rt.alloc(), 4)?;
-    answers::<FlatTable, Brand>(&rt, rt.alloc(), &mut table, Blank::new(1))
+fn answers_as_a_map(rt: HostRuntime) -> Result<(), Fail> {
+    let mut first = FlatTable::new(rt.alloc(), 2)?;
+    let mut second = FlatTable::new(rt.alloc(), 32)?;
+    both::<Brand>(&rt, &mut first, &mut second, Blank::new(1))
 }
