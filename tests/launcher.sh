@@ -82,6 +82,7 @@ cat >"$room/bin/rt" <<'PLAYED'
 #!/bin/sh
 echo "$*" >>"$BUILDS"
 echo 'rt: proving'
+[ -e "$REFUSES" ] || sleep 0.2
 [ -e "$REFUSES" ] && { echo 'rt: not proved' >&2; exit 1; }
 mkdir -p out
 {
@@ -140,6 +141,7 @@ check 'what rt built of older texts is built again' builds 6
 rm "$copy/crates/cola/out/cola"
 for it in 1 2 3; do "$copy/cola" "$it" </dev/null >"$room/out$it" 2>/dev/null & done
 wait
+check 'of three launches at once one builds' builds 7
 check 'of three launches at once each runs the program' \
     test "$(head -n 1 -q "$room"/out[123])" = $'<1>\n<2>\n<3>'
 
