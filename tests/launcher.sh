@@ -1,0 +1,167 @@
+#!/usr/bin/env bash
+# The checks of the launcher. The first part runs the program itself through ./cola, and builds it
+# where rt ci has not; the second runs a copy of the launcher over a toolchain that is played by a
+# script, so that builds, changes, refusals, words and statuses are seen within seconds.
+# The last line is 'N passed, M failed', and the status is 0 only where none failed.
+set -u
+root=$(cd "$(dirname "$0")/.." && pwd -P) || exit 1
+room=$(mktemp -d) || exit 1
+trap 'rm -rf "$room"' EXIT
+passed=0 failed=0
+
+# check WHAT COMMAND..: counts whether the command ends with 0.
+check() {
+    local what=$1
+    shift
+    if "$@"; then
+        passed=$((passed + 1))
+    else
+        failed=$((failed + 1))
+        printf 'FAILED: %s\n' "$what"
+    fi
+}
+
+# run COMMAND..: leaves the status in $status, and what it wrote in $room/out and $room/err.
+run() {
+    "$@" >"$room/out" 2>"$room/err"
+    status=$?
+}
+
+ended() { [ "$status" -eq "$1" ] || { printf 'it ended with status %s\n' "$status"; false; }; }
+wrote() { cmp "$room/out" "$1"; }
+wrote_text() { printf '%s' "$1" | cmp "$room/out" -; }
+complained() { [ "$(wc -l <"$room/err")" -eq 1 ] && grep -q "$1" "$room/err"; }
+is_silent() { [ ! -s "$room/err" ]; }
+
+# A folder with the commands that the launcher calls, and without rt.
+without_rt=$room/without_rt
+mkdir "$without_rt"
+for it in awk cat dirname env find flock mv readlink sha256sum sh sort touch true; do
+    found=$(command -v "$it") && ln -s "$(readlink -f "$found")" "$without_rt/$it"
+done
+
+# The program itself.
+"$root/cola" mem 4 </dev/null >/dev/null || exit 1 # (says what it does where it still has to build)
+cd "$room" || exit 1
+run "$root/cola" mem 4 <"$root/examples/first.txt"
+check 'the first run ends with 0' ended 0
+check 'the first run writes its replies' wrote "$root/examples/first.out"
+check 'a built program runs with no word of the launcher' is_silent
+run "$root/cola" </dev/null
+check 'no words end with 2' ended 2
+check 'no words write nothing' wrote_text ''
+run "$root/cola" mem 0 </dev/null
+check 'mem 0 ends with 2' ended 2
+run "$root/cola" 'mem 4' </dev/null
+check 'a word with a space in it stays one word' ended 2
+run "$root/cola" mem 4 '' </dev/null
+check 'an empty word stays a word' ended 2
+run "$root/cola" mem 4 <"$root"
+check 'an input that cannot be read ends with 3' ended 3
+if [ -w /dev/full ]; then
+    "$root/cola" mem 4 <"$root/examples/first.txt" >/dev/full 2>"$room/err"
+    status=$?
+    check 'an output that cannot be written ends with 4' ended 4
+fi
+ln -s "$root/cola" "$room/link"
+run "$room/link" mem 4 <"$root/examples/first.txt"
+check 'a link to the launcher runs the program' wrote "$root/examples/first.out"
+PATH=$without_rt run "$root/cola" mem 4 <"$root/examples/first.txt"
+check 'with no rt on PATH it ends with 100' ended 100
+check 'with no rt on PATH it says so in one line' complained PATH
+check 'with no rt on PATH it writes nothing' wrote_text ''
+
+# A copy over a toolchain that is played by a script: its rt notes each build, and builds a program
+# that shows its words, its folder and its input, and ends with the status that its first word names.
+copy="$room/a copy"
+mkdir -p "$copy/crates/cola/src" "$copy/crates/low/src" "$copy/crates/apart/src" "$room/bin"
+cp "$root/cola" "$copy/cola"
+printf '%s\n' '# crates' 'low:' 'cola: low std_like' 'apart: low' >"$copy/crates.txt"
+touch "$copy/crates/cola/src/main.rt" "$copy/crates/low/src/lib.rt" "$copy/crates/apart/src/lib.rt"
+cat >"$room/bin/rt" <<'PLAYED'
+#!/bin/sh
+echo "$*" >>"$BUILDS"
+echo 'rt: proving'
+[ -e "$REFUSES" ] || sleep 0.2
+[ -e "$REFUSES" ] && { echo 'rt: not proved' >&2; exit 1; }
+mkdir -p out
+{
+    echo '#!/bin/sh'
+    echo 'for it in "$@"; do printf "<%s>\n" "$it"; done; pwd; cat; exit "${1:-0}"'
+} >out/new
+chmod +x out/new
+mv out/new out/cola
+PLAYED
+chmod +x "$room/bin/rt"
+export BUILDS=$room/builds REFUSES=$room/refuses
+: >"$BUILDS"
+PATH=$room/bin:$PATH
+builds() { [ "$(wc -l <"$BUILDS")" -eq "$1" ] || { printf 'it built %s times\n' "$(wc -l <"$BUILDS")"; false; }; }
+
+mkdir "$room/elsewhere"
+cd "$room/elsewhere" || exit 1
+run "$copy/cola" 0 'two words' '' '*' $'a\nb' -- "\$x" <<<'some input'
+check 'the first use builds' builds 1
+check 'words, working folder and input are passed as they are' \
+    wrote_text $'<0>\n<two words>\n<>\n<*>\n<a\nb>\n<-->\n<$x>\n'"$PWD"$'\nsome input\n'
+check 'a build says how long it usually takes' grep -q '^cola: .*minutes' "$room/err"
+check 'what rt says of a build is on standard error' grep -q '^rt: proving' "$room/err"
+for wanted in 0 1 2 3 4 9 18 255; do
+    run "$copy/cola" "$wanted" </dev/null
+    check "status $wanted is kept" ended "$wanted"
+done
+check 'a built program is not built again' builds 1
+check 'a built program runs with no word of the launcher' is_silent
+touch "$copy/crates/cola/src/main.rt"
+run "$copy/cola" 0 </dev/null
+check 'a touched file with the same text is not built again' builds 1
+echo '// new' >>"$copy/crates/low/src/lib.rt"
+run "$copy/cola" 0 </dev/null
+check 'a changed text below the program is built' builds 2
+echo '// new' >>"$copy/crates/apart/src/lib.rt"
+run "$copy/cola" 0 </dev/null
+check 'a changed text beside the program is not built' builds 2
+mkdir "$copy/crates/low/specs"
+touch "$copy/crates/low/specs/Lib.antt"
+run "$copy/cola" 0 </dev/null
+check 'a new file is built' builds 3
+rm -r "$copy/crates/low/specs"
+run "$copy/cola" 0 </dev/null
+check 'a removed file is built' builds 4
+echo '# other' >>"$copy/crates/cola/out/cola"
+run "$copy/cola" 0 </dev/null
+check 'another program in its place is built anew' builds 5
+rm "$copy/crates/cola/out/cola.launcher"
+run "$copy/cola" 0 </dev/null
+check 'what rt built without the launcher is taken' builds 5
+rm "$copy/crates/cola/out/cola.launcher"
+touch -d '1 minute' "$copy/crates/low/src/lib.rt"
+run "$copy/cola" 0 </dev/null
+check 'what rt built of older texts is built again' builds 6
+rm "$copy/crates/cola/out/cola"
+for it in 1 2 3; do "$copy/cola" "$it" </dev/null >"$room/out$it" 2>/dev/null & done
+wait
+check 'of three launches at once one builds' builds 7
+check 'of three launches at once each runs the program' \
+    test "$(head -n 1 -q "$room"/out[123])" = $'<1>\n<2>\n<3>'
+
+echo '// newer' >>"$copy/crates/low/src/lib.rt"
+touch "$REFUSES"
+run "$copy/cola" 0 </dev/null
+check 'a refused build ends with 101' ended 101
+check 'a refused build runs nothing' wrote_text ''
+check 'a refused build shows what rt said' grep -q '^rt: not proved' "$room/err"
+check 'a refused build says so' grep -q '^cola: the program was not built' "$room/err"
+run "$copy/cola" 0 </dev/null
+check 'a refused build is tried again' ended 101
+rm "$REFUSES"
+run "$copy/cola" 7 </dev/null
+check 'after a refusal a build runs the program' ended 7
+
+rm -r "$copy/crates/cola/out"
+PATH=$without_rt run "$copy/cola" 0 </dev/null
+check 'with no rt and nothing built it ends with 100' ended 100
+check 'with no rt and nothing built it says so in one line' complained PATH
+
+echo "$passed passed, $failed failed"
+[ "$failed" -eq 0 ]
