@@ -1,5 +1,5 @@
 -- Where no fault can come, a turn is the plain one.
-use Rattle.std.proofs.Common.{◌≡◌, ℕ, ◌+◌, ◌≤◌, ◌^◌, ◌-◌, min, Bool, true, false, List, [], ◌∷◌, ◌++◌, Option, Some, None, Result, refl, sym, ap, ◌∙◌, subst, arith, length, nat_eq}
+use Rattle.std.proofs.Common.{◌≡◌, ℕ, false, List, [], ◌∷◌, ◌++◌, Option, Some, Result, refl, sym, ap, ◌∙◌, subst, arith, length, nat_eq}
 use Rattle.std.specs.List.{flat_map}
 use Rattle.std.proofs.lemmas.Grind.{flat_map-append}
 use Rattle.std.proofs.lemmas.List.{append-nil}
@@ -10,7 +10,7 @@ use Rattle.cola_spec.specs.Reply.{Reply, reply_text}
 use Rattle.cola_spec.specs.Reply as reply
 use Rattle.cola_spec.specs.Machine.{State, Open, Turn, Kind, PlainStep, FaultedStep, ShortStep, StepOf, kind_of, plain_reply, plain_after, plain_turn, plain_turns, plain_last, turn_text, turns_text}
 use Rattle.cola_cell.specs.declared.format.Format.TheVariants.{One}
-use Rattle.cola_spec.specs.Lines.{Line, Text, TooLong}
+use Rattle.cola_spec.specs.Lines.{Line, Text}
 use Rattle.cola_spec.specs.Command.{command_of, line_requests}
 use Rattle.cola_table.specs.Terms.{shape_of}
 use Rattle.cola_command.specs.Memory.{asked, state_after, replies_to}

@@ -1,31 +1,23 @@
 -- A session that answers line by line: what it has taken, told and written so far, and how it ends.
-use Rattle.std.proofs.Common.{◌≡◌, ◌⊎◌, inl, inr, ℕ, suc, zero, ◌+◌, ◌≤◌, ◌<◌, ◌^◌, Bool, true, false, List, [], ◌∷◌, ◌++◌, length, take, Option, Some, None, Result, Ok, Err, refl, sym, ap, ◌∙◌, subst, length-append, append_assoc, arith}
+use Rattle.std.proofs.Common.{◌≡◌, ◌⊎◌, inl, inr, ℕ, ◌+◌, ◌≤◌, ◌<◌, Bool, true, false, List, [], ◌∷◌, ◌++◌, length, take, Option, Some, None, refl, sym, ap, ◌∙◌, subst, length-append, arith}
 use Rattle.std.specs.Io.KnownBytes.{IsAtEnd}
 use Rattle.std.specs.Option.{is_some}
 use Rattle.std.proofs.lemmas.List.{append-nil}
 use Rattle.cola_outside.specs.Faults.{Rose}
 use Rattle.cola_io.specs.Streams.{Taken, Appended}
 use Rattle.cola_io.specs.Reading.{Reading, fresh}
-use Rattle.cola_io.specs.NextLine.{NextLine, FirstLine, is_settled}
+use Rattle.cola_io.specs.NextLine.{NextLine, FirstLine}
 use Rattle.cola_io.specs.declared.next.Next.{Next}
 use Rattle.cola_io.specs.declared.next.Next.TheVariants as next
-use Rattle.cola_io.specs.Law.{HasRead, line_told, all_lines, all_ended_lines}
+use Rattle.cola_io.specs.Law.{HasRead, line_told, all_ended_lines}
 use Rattle.cola_io.proofs.StreamLemmas.{Taken-none, Taken-then, Appended-none, Appended-then}
 use Rattle.cola_io.proofs.LineLaws.{HasRead-fresh, HasRead-then, told-last}
 use Rattle.cola_spec.specs.Map.{Map, empty_map}
 use Rattle.cola_spec.specs.Lines.{Line}
 use Rattle.cola_spec.specs.Machine.{State, Open}
-use Rattle.cola_line.specs.Replied.{Wrote}
-use Rattle.cola_command.specs.Memory.{state_of, NoMemory, HoldsLine, input_limit, replies, replies_to, state_after, AreFirstLines, WroteFront, Ends, Whole, SourceFailed, SinkFailed, Spent}
+use Rattle.cola_line.proofs.Listing.{take_beyond}
+use Rattle.cola_command.specs.Memory.{state_of, NoMemory, HoldsLine, input_limit, replies, replies_to, state_after, AreFirstLines, Ends, Whole, SourceFailed, SinkFailed, Spent}
 use Rattle.cola_command.proofs.PlainLemmas.{replies-append, state_after-append}
-
-take_beyond : (a b : List ℕ) (n : ℕ) → take (length a + n) (a ++ b) ≡ a ++ take n b
-take_beyond [] b n =
-    let e : length {A = ℕ} [] + n ≡ n = omega arith in
-    ap (λ k. take k b) e
-take_beyond (x ∷ a) b n =
-    let e : length (x ∷ a) + n ≡ suc (length a + n) = omega arith in
-    ap (λ k. take k (x ∷ (a ++ b))) e ∙ ap (λ t. x ∷ t) (take_beyond a b n)
 
 -- so far
 pub record Served (keys : ℕ) (left left' written written' : Option (List ℕ)) (reader : Reading) (state : State) (taken : List ℕ) (told : List Line) : Type 0 where

@@ -1,5 +1,5 @@
 -- A session over a table in memory.
-use Rattle.std.specs.Prelude.{ℕ, ◌≡◌, ◌≤◌, ◌^◌, ◌⊎◌, Bool, true, false, List, [], ◌∷◌, ◌++◌, length, map, take, Option, Some, None, IsSome, ⊤}
+use Rattle.std.specs.Prelude.{ℕ, ◌≡◌, ◌≤◌, ◌^◌, ◌⊎◌, Bool, true, false, List, [], ◌∷◌, ◌++◌, length, take, Option, Some, None, IsSome, ⊤}
 use Rattle.std.specs.List.{flat_map}
 use Rattle.std.specs.Io.KnownBytes.{IsAtEnd}
 use Rattle.cola_cell.specs.declared.format.Format.TheVariants.{One}
@@ -8,12 +8,11 @@ use Rattle.cola_io.specs.Streams.{Taken, Appended}
 use Rattle.cola_io.specs.declared.next.Next.{Next}
 use Rattle.cola_io.specs.declared.next.Next.TheVariants as next
 use Rattle.cola_io.specs.Law.{all_lines, all_ended_lines}
-use Rattle.cola_spec.specs.Map.{Shape, Map, empty_map}
+use Rattle.cola_spec.specs.Map.{Map, empty_map}
 use Rattle.cola_spec.specs.Lines.{Line, Text, TooLong}
 use Rattle.cola_spec.specs.Command.{Command, line_requests}
 use Rattle.cola_spec.specs.Machine.{State, Open, Closed, plain_turns, plain_last, turns_text}
 use Rattle.cola_table.specs.Terms.{shape_of}
-use Rattle.cola_table.specs.Flat.{Flat}
 
 -- the most bytes of input
 abbrev pub input_limit : ℕ

@@ -1,5 +1,4 @@
 pub mod Splits
-pub mod Digits
 pub mod Choices
 pub mod Turns
 pub mod Listing

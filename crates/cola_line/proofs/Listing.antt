@@ -6,6 +6,7 @@ use Rattle.std.proofs.lemmas.List.{take_all, append-nil}
 use Rattle.std.proofs.Math.Seq.{take-append_seam}
 use Rattle.std.proofs.lemmas.Grind.{flat_map-append}
 use Rattle.cola_io.specs.Streams.{Appended}
+use Rattle.cola_io.proofs.StreamLemmas.{Appended-then}
 use Rattle.cola_spec.specs.Reply.{Failure, Fault, Rows, Cut, Failed, row_text, rows_text, line, failure_text, reply_text}
 use Rattle.cola_cell.specs.declared.fault.ReadFault.{ReadFault}
 use Rattle.cola_cell.specs.declared.fault.ReadFault.TheVariants as read
@@ -14,26 +15,18 @@ use Rattle.cola_spec.specs.Machine.{kind_of}
 use Rattle.cola_line.specs.Replied.{Wrote, KindHasCause, read_failure}
 use Rattle.cola_line.specs.Listed.{Listed, RowsFor, first_of, wants}
 
--- one after another
+-- a front of two texts
 
-pub appended_more : (a b : List ℕ) (x y z : Option (List ℕ)) → Appended a x y → Appended b y z → Appended (a ++ b) x z
-appended_more a b None None None p q = p
-appended_more a b None None (Some z) p q = absurd q
-appended_more a b None (Some y) z p q = absurd p
-appended_more a b (Some x) None z p q = absurd p
-appended_more a b (Some x) (Some y) None p q = absurd q
-appended_more a b (Some x) (Some y) (Some z) p q = q ∙ ap (λ s. s ++ b) p ∙ append_assoc x a b
-
-take_beyond : {A : Type 0} (a b : List A) (n : ℕ) → take (length a + n) (a ++ b) ≡ a ++ take n b
+pub take_beyond : {A : Type 0} (a b : List A) (n : ℕ) → take (length a + n) (a ++ b) ≡ a ++ take n b
 take_beyond [] b n = ap (λ k. take k b) (omega arith)
 take_beyond (x ∷ a) b n =
     let e : length (x ∷ a) + n ≡ suc (length a + n) = omega arith in
     ap (λ k. take k (x ∷ (a ++ b))) e ∙ ap (λ t. x ∷ t) (take_beyond a b n)
 
 pub wrote_after : {A E : Type 0} (a b : List ℕ) (result : Result A E) (x y z : Option (List ℕ)) → Appended a x y → Wrote b result y z → Wrote (a ++ b) result x z
-wrote_after a b (Ok v) x y z first next = appended_more a b x y z first next
+wrote_after a b (Ok v) x y z first next = Appended-then a b x y z first next
 wrote_after a b (Err e) x y z first next =
-    (length a + next.0, subst (λ t. Appended t x z) (sym (take_beyond a b next.0)) (appended_more a (take next.0 b) x y z first next.1))
+    (length a + next.0, subst (λ t. Appended t x z) (sym (take_beyond a b next.0)) (Appended-then a (take next.0 b) x y z first next.1))
 
 zero_of : (n : ℕ) → min 0 n ≡ 0
 zero_of n = omega arith
@@ -73,7 +66,7 @@ rows_push done pair = flat_map-append row_text done (pair ∷ []) ∙ ap (λ t. 
 
 pub one_more_row : (w w' w'' : Option (List ℕ)) (rows : ℕ) (done : List (List ℕ × List ℕ)) (pair : List ℕ × List ℕ) → Listing w w' rows done → Appended (row_text pair) w' w'' → Listing w w'' (rows + 1) (done ++ pair ∷ [])
 one_more_row w w' w'' rows done pair so_far row = record {
-  text = subst (λ t. Appended t w w'') (sym (rows_push done pair)) (appended_more (rows_text done) (row_text pair) w w' w'' so_far.text row);
+  text = subst (λ t. Appended t w w'') (sym (rows_push done pair)) (Appended-then (rows_text done) (row_text pair) w w' w'' so_far.text row);
   number = omega (arith, so_far.number, length-append done (pair ∷ []));
 }
 

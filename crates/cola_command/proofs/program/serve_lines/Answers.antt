@@ -1,10 +1,7 @@
-use Rattle.std.proofs.Common.{◌≡◌, ◌∙◌, ◌+◌, ◌≤◌, ◌++◌, ◌∷◌, [], ℕ, List, true, Ok, Err, refl, sym, ap, subst, arith, option_copied, take}
-use Rattle.std.specs.Io.KnownBytes.{IsAtEnd}
+use Rattle.std.proofs.Common.{◌≡◌, ◌∙◌, ◌++◌, ◌∷◌, [], ℕ, refl, sym, ap, subst, arith, option_copied, take}
 use Rattle.cola_io.specs.declared.next.Next.TheVariants as next
 use Rattle.cola_io.specs.Streams.{Appended}
 use Rattle.cola_io.specs.Reading.{fresh}
-use Rattle.cola_spec.specs.Map.{empty_map}
-use Rattle.cola_spec.specs.Machine.{Open}
 use Rattle.cola_command.specs.Memory.{state_of, line_read, replies_to, state_after, input_limit}
 use Rattle.cola_command.proofs.Served.{Served, served_none, served_line, ends_whole, ends_by_source, ends_spent, ends_by_sink, holds_line, fewer_left, still_at_end, begun, later, never}
 use Rattle.cola_command.proofs.program.serve_lines.Goals as goal

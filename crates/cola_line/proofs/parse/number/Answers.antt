@@ -1,5 +1,5 @@
 use Rattle.std.proofs.Common.{arith, sym}
-use Rattle.cola_line.proofs.Digits.{room_for_digit, next_digit}
+use Rattle.cola_spec.proofs.Digits.{room_for_digit, next_digit}
 use Rattle.cola_line.proofs.parse.number.Goals as goal
 
 pub overflow_mul-value : goal.overflow_mul-value

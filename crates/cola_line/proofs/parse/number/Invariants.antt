@@ -1,5 +1,5 @@
 use Rattle.std.proofs.Common.{◌≤◌, length}
-use Rattle.cola_line.proofs.Digits.{IsNext}
+use Rattle.cola_spec.proofs.Digits.{IsNext}
 use Rattle.cola_line.proofs.parse.number.Given as goal
 
 abbrev pub invariant-loop-digit : goal.invariant-loop-digit

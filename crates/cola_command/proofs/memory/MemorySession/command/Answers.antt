@@ -1,4 +1,4 @@
-use Rattle.std.proofs.Common.{◌∙◌, ap, refl, sym}
+use Rattle.std.proofs.Common.{ap, refl}
 use Rattle.cola_cell.specs.declared.format.Format.TheVariants.{One}
 use Rattle.cola_table.specs.Terms.{shape_of}
 use Rattle.cola_line.specs.Spoken.{spoken}

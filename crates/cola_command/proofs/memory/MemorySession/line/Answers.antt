@@ -1,4 +1,4 @@
-use Rattle.std.proofs.Common.{◌∙◌, ap, refl, sym, subst, ◌∷◌, [], ℕ, List, Some, None}
+use Rattle.std.proofs.Common.{◌∙◌, sym, subst, ◌∷◌, [], Some, None}
 use Rattle.cola_cell.specs.declared.format.Format.TheVariants.{One}
 use Rattle.cola_spec.specs.Lines.{Text}
 use Rattle.cola_table.specs.Terms.{shape_of}
