@@ -12,6 +12,8 @@ mod format;
 mod key;
 mod law;
 mod short;
+mod sink;
+mod source;
 mod spelling;
 mod value;
 
@@ -20,6 +22,8 @@ pub use fault::{PushFault, ReadFault, StepFault};
 pub use format::Format;
 pub use key::Key;
 pub use law::{cell_is_one, decoding_gives_back, spelling_is_one};
+pub use sink::{CellSink, Shadow};
+pub use source::CellSource;
 pub use spelling::{decode, decode_wide, encode, encode_wide};
 pub use value::Value;
 
