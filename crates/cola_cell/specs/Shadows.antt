@@ -1,5 +1,5 @@
 -- What the calls on shadows do to the cells, and what they spend.
-use Rattle.std.specs.Prelude.{◌≡◌, ℕ, ◌+◌, ◌%◌, ◌/◌, ◌≤◌, ◌<◌, ◌==◌, Bool, true, false, ⊤, Option, None, Some, Result, Ok, Err, is_ok, IsTrue}
+use Rattle.std.specs.Prelude.{◌≡◌, ◌≢◌, ◌⊎◌, ℕ, ◌+◌, ◌%◌, ◌/◌, ◌≤◌, ◌<◌, ◌==◌, Bool, true, false, ⊤, Option, None, Some, Result, Ok, Err, is_ok, IsTrue}
 use Rattle.cola_outside.specs.Faults.{Rose}
 use Rattle.cola_cell.specs.declared.cell.Cell.{Cell}
 use Rattle.cola_cell.specs.declared.fault.PushFault.{PushFault}

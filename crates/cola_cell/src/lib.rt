@@ -8,9 +8,11 @@
 
 mod cell;
 mod fault;
+mod flat_cells;
 mod format;
 mod key;
 mod law;
+pub mod object_laws;
 mod short;
 mod sink;
 mod source;
@@ -19,6 +21,7 @@ mod value;
 
 pub use cell::{Cell, Item, Reader, Run};
 pub use fault::{PushFault, ReadFault, StepFault};
+pub use flat_cells::FlatCells;
 pub use format::Format;
 pub use key::Key;
 pub use law::{cell_is_one, decoding_gives_back, spelling_is_one};
