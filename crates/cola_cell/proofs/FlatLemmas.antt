@@ -1,21 +1,20 @@
 -- That cells in memory meet the traits of cells.
-use Rattle.std.proofs.Common.{◌≡◌, ◌≢◌, ◌⊎◌, inl, inr, ℕ, zero, suc, ◌+◌, ◌-◌, ◌*◌, ◌%◌, ◌^◌, ◌<◌, ◌≤◌, ◌==◌, nat_lt, ◌&&◌, Bool, true, false, if◌then◌else◌, Option, None, Some, IfSome, Result, Ok, Err, OnOk, List, length, get_or, set, slice_index_or, slice_set, refl, ap, sym, subst, ◌∙◌, arith}
+use Rattle.std.proofs.Common.{◌≡◌, inl, ℕ, ◌+◌, ◌%◌, ◌<◌, ◌≤◌, ◌==◌, nat_lt, ◌&&◌, Bool, true, false, if◌then◌else◌, Option, None, Some, IfSome, Result, Ok, Err, OnOk, List, length, get_or, set, refl, ap, sym, subst, ◌∙◌, arith}
 use Rattle.std.proofs.lemmas.Bool.{false≢true, ltb-true, lt-ltb, eqb-true, eqb-false}
 use Rattle.std.proofs.lemmas.List.{get_or-set_same, get_or-set_other, get_or_default}
 use Rattle.cola_outside.specs.Faults.{Rose}
-use Rattle.cola_cell.specs.declared.format.Format.TheVariants.{One}
 use Rattle.cola_cell.specs.declared.cell.Cell.{Cell}
 use Rattle.cola_cell.specs.declared.fault.ReadFault.{ReadFault}
-use Rattle.cola_cell.specs.declared.fault.ReadFault.TheVariants.{Device, BadCell}
+use Rattle.cola_cell.specs.declared.fault.ReadFault.TheVariants.{Device}
 use Rattle.cola_cell.specs.declared.fault.PushFault.{PushFault}
 use Rattle.cola_cell.specs.declared.fault.PushFault.TheVariants as push
 use Rattle.cola_cell.specs.declared.sink.Shadow.{Shadow}
 use Rattle.cola_cell.specs.Format.{CellFits}
 use Rattle.cola_cell.specs.Places.{slot_size, number_of, IsPlace, block_of}
-use Rattle.cola_cell.specs.Held.{Held, Spot, Bad, Told, Tells, LawCell, as_cell, is_untold, with_cell, IsElsewhere, span}
-use Rattle.cola_cell.specs.Spent.{Buffer, Spent, Ticks, Reads, ReadAnswers, IsGiven, IsBad}
-use Rattle.cola_cell.specs.Shadows.{emptied, StaysAround, Restarts, Pushes, PushAnswers, PushSpends, push_ticks, Writes, Finishes, FinishSpends}
-use Rattle.cola_cell.specs.Flat.{Flat, IsFlat, shadow_at, spot_of, is_place, spots_of, held_of, spent_of, one_more, next_fails, after_access, found, read_answer, with_cell_at, with_shadow, longer, is_full, push_answer, after_push, after_finish}
+use Rattle.cola_cell.specs.Held.{Held, Bad, Told, Tells, LawCell, as_cell, is_untold, with_cell, IsElsewhere}
+use Rattle.cola_cell.specs.Spent.{Buffer, Ticks, Reads, ReadAnswers}
+use Rattle.cola_cell.specs.Shadows.{emptied, StaysAround, Restarts, Pushes, PushSpends, Writes, Finishes, FinishSpends}
+use Rattle.cola_cell.specs.Flat.{Flat, IsFlat, shadow_at, spot_of, is_place, spots_of, held_of, spent_of, one_more, next_fails, after_access, found, read_answer, with_shadow, longer, is_full, push_answer, after_push, after_finish}
 use Rattle.cola_cell.proofs.PlaceNumbers.{numbers_differ, number_within}
 
 -- a place is one for the test too
@@ -47,8 +46,8 @@ pub spots_other : (levels : ℕ) (cells : List (Option Cell)) (l s i : ℕ) (c :
     spots_of levels (set cells (number_of l s i) c) m t j ≡ spots_of levels cells m t j
 spots_other levels cells l s i c hs hi m t j d =
     same_choice (is_place levels m t j) (spot_of (get_or (set cells (number_of l s i) c) (number_of m t j) None)) (spot_of (get_or cells (number_of m t j) None)) Bad
-      (λ e. let p : IsPlace levels m t j = is_one levels m t j e in
-        ap spot_of (get_or-set_other cells (number_of l s i) (number_of m t j) c None (numbers_differ l s i m t j hs hi p.slot_in p.index_in d)))
+    (λ e. let p : IsPlace levels m t j = is_one levels m t j e in
+    ap spot_of (get_or-set_other cells (number_of l s i) (number_of m t j) c None (numbers_differ l s i m t j hs hi p.slot_in p.index_in d)))
 
 -- a cell in memory is told
 told_spot : (c : Option Cell) → is_untold (spot_of c) ≡ false
@@ -195,11 +194,13 @@ accepted_push flat level cell f h e =
         shadows_stay = λ l d. get_or-set_other flat.shadows level l (record { slot = shadow.slot; len = shadow.len + 1; saved = (shadow.len + 1) % 8 == 0 }) (emptied 1) d;
         telling_is = λ l s i. spots_told flat.levels (set flat.cells (number_of level shadow.slot shadow.len) (Some cell)) l s i ∙ sym (spots_told flat.levels flat.cells l s i);
       };
-      answer = (room,
+      answer = (
+        room,
         spot_is flat.levels (set flat.cells (number_of level shadow.slot shadow.len) (Some cell)) level shadow.slot shadow.len place
-        ∙ ap spot_of (get_or-set_same flat.cells (number_of level shadow.slot shadow.len) (Some cell) None many)
-        ∙ with_told (get_or flat.cells (number_of level shadow.slot shadow.len) None) (as_cell cell)
-        ∙ ap (λ x. with_cell x (as_cell cell)) (sym (spot_is flat.levels flat.cells level shadow.slot shadow.len place)));
+            ∙ ap spot_of (get_or-set_same flat.cells (number_of level shadow.slot shadow.len) (Some cell) None many)
+            ∙ with_told (get_or flat.cells (number_of level shadow.slot shadow.len) None) (as_cell cell)
+            ∙ ap (λ x. with_cell x (as_cell cell)) (sym (spot_is flat.levels flat.cells level shadow.slot shadow.len place)),
+      );
       shadow_is = shadow_put flat.shadows level (record { slot = shadow.slot; len = shadow.len + 1; saved = (shadow.len + 1) % 8 == 0 }) low;
       others_stay = λ l s i d. spots_other flat.levels flat.cells level shadow.slot shadow.len (Some cell) (f.slots_within level) room l s i d;
     }
@@ -207,8 +208,8 @@ accepted_push flat level cell f h e =
 -- a push by its two tests
 push_by : (flat : Flat) (level : ℕ) (cell : Cell) (full fails : Bool) → IsFlat flat → level < flat.levels → is_full flat level ≡ full → next_fails flat ≡ fails →
     Pushes {A = Unit {0}} (held_of flat) (held_of (if full then flat else if fails then with_shadow (after_access flat) level (record (shadow_at flat.shadows level) { saved = false }) else longer (after_access flat) level (shadow_at flat.shadows level) cell))
-      (spent_of flat) (spent_of (if full then flat else if fails then with_shadow (after_access flat) level (record (shadow_at flat.shadows level) { saved = false }) else longer (after_access flat) level (shadow_at flat.shadows level) cell))
-      level cell (if full then Err (push.Overfull level) else if fails then Err push.Device else Ok tt)
+    (spent_of flat) (spent_of (if full then flat else if fails then with_shadow (after_access flat) level (record (shadow_at flat.shadows level) { saved = false }) else longer (after_access flat) level (shadow_at flat.shadows level) cell))
+    level cell (if full then Err (push.Overfull level) else if fails then Err push.Device else Ok tt)
 push_by flat level cell true fails f h e d = full_push flat level cell e
 push_by flat level cell false true f h e d = refused_push flat level cell f (low_level flat level f h) e d
 push_by flat level cell false false f h e d = accepted_push flat level cell f h e
@@ -221,7 +222,7 @@ pushes_flat flat level cell f h = push_by flat level cell (is_full flat level) (
 -- what a push spends by its two tests
 spends_by : (flat : Flat) (level : ℕ) (cell : Cell) (full fails : Bool) →
     PushSpends {A = Unit {0}} (held_of flat) (spent_of flat) (spent_of (if full then flat else if fails then with_shadow (after_access flat) level (record (shadow_at flat.shadows level) { saved = false }) else longer (after_access flat) level (shadow_at flat.shadows level) cell))
-      level (if full then Err (push.Overfull level) else if fails then Err push.Device else Ok tt)
+    level (if full then Err (push.Overfull level) else if fails then Err push.Device else Ok tt)
 spends_by flat level cell true fails = record {
   writes = writes_none flat flat 0 level (shadow_at flat.shadows level).slot (shadow_at flat.shadows level).len (omega arith) (omega arith);
   only_full = λ _. record { written_is = refl; lasts_stay = λ _. refl };
@@ -257,23 +258,23 @@ pub read_meets : (flat new : Flat) (buffer : Buffer) (l s i : ℕ) (result : Res
     Reads (held_of flat) (spent_of flat) (spent_of new) buffer l s i result
 read_meets flat new buffer l s i result f p e d =
     subst (λ r. Reads (held_of flat) (spent_of flat) (spent_of new) buffer l s i r) (sym e)
-      (subst (λ n. Reads (held_of flat) (spent_of flat) (spent_of n) buffer l s i (read_answer flat l s i)) (sym d) (reads_flat flat buffer l s i f p))
+    (subst (λ n. Reads (held_of flat) (spent_of flat) (spent_of n) buffer l s i (read_answer flat l s i)) (sym d) (reads_flat flat buffer l s i f p))
 
 -- a push meets the trait by its own clauses
 pub push_meets : (flat new : Flat) (level : ℕ) (cell : Cell) (result : Result Unit PushFault) → IsFlat flat → level < flat.levels → result ≡ push_answer flat level → new ≡ after_push flat level cell →
     Pushes {A = Unit {0}} (held_of flat) (held_of new) (spent_of flat) (spent_of new) level cell result × PushSpends {A = Unit {0}} (held_of flat) (spent_of flat) (spent_of new) level result
 push_meets flat new level cell result f h e d =
     subst (λ r. Pushes {A = Unit {0}} (held_of flat) (held_of new) (spent_of flat) (spent_of new) level cell r × PushSpends {A = Unit {0}} (held_of flat) (spent_of flat) (spent_of new) level r) (sym e)
-      (subst (λ n. Pushes {A = Unit {0}} (held_of flat) (held_of n) (spent_of flat) (spent_of n) level cell (push_answer flat level) × PushSpends {A = Unit {0}} (held_of flat) (spent_of flat) (spent_of n) level (push_answer flat level)) (sym d)
-        (pushes_flat flat level cell f h, push_spends flat level cell))
+    (subst (λ n. Pushes {A = Unit {0}} (held_of flat) (held_of n) (spent_of flat) (spent_of n) level cell (push_answer flat level) × PushSpends {A = Unit {0}} (held_of flat) (spent_of flat) (spent_of n) level (push_answer flat level)) (sym d)
+    (pushes_flat flat level cell f h, push_spends flat level cell))
 
 -- a finish meets the trait by its own clauses
 pub finish_meets : (flat new : Flat) (level : ℕ) (result : Result Unit PushFault) → IsFlat flat → level < flat.levels → result ≡ Ok tt → new ≡ after_finish flat level →
     Finishes {A = Unit {0}} (held_of flat) (held_of new) (spent_of flat) (spent_of new) level result × FinishSpends (held_of flat) (spent_of flat) (spent_of new) level
 finish_meets flat new level result f h e d =
     subst (λ r. Finishes {A = Unit {0}} (held_of flat) (held_of new) (spent_of flat) (spent_of new) level r × FinishSpends (held_of flat) (spent_of flat) (spent_of new) level) (sym e)
-      (subst (λ n. Finishes {A = Unit {0}} (held_of flat) (held_of n) (spent_of flat) (spent_of n) level (Ok tt) × FinishSpends (held_of flat) (spent_of flat) (spent_of n) level) (sym d)
-        (finishes_flat flat level (low_level flat level f h), finish_spends flat level))
+    (subst (λ n. Finishes {A = Unit {0}} (held_of flat) (held_of n) (spent_of flat) (spent_of n) level (Ok tt) × FinishSpends (held_of flat) (spent_of flat) (spent_of n) level) (sym d)
+    (finishes_flat flat level (low_level flat level f h), finish_spends flat level))
 
 -- a restart meets the trait by its own clauses
 pub restart_meets : (flat new : Flat) (level slot : ℕ) → IsFlat flat → level < flat.levels → new ≡ with_shadow flat level (emptied slot) →

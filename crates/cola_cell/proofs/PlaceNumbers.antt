@@ -1,8 +1,7 @@
 -- The numbers of cells: where those of a level lie, and that different places have different numbers.
-use Rattle.std.proofs.Common.{◌≡◌, ◌≢◌, ◌⊎◌, inl, inr, ℕ, zero, suc, ◌+◌, ◌*◌, ◌^◌, ◌<◌, ◌≤◌, refl, ap, sym, subst, ◌∙◌, arith}
+use Rattle.std.proofs.Common.{◌≡◌, ◌≢◌, ◌⊎◌, inl, inr, ℕ, zero, suc, ◌+◌, ◌*◌, ◌^◌, ◌<◌, ◌≤◌, refl, ap, sym, subst, arith}
 use Rattle.std.proofs.Math.Pow.{pow_mono}
 use Rattle.std.proofs.lemmas.Grind.{pow_more}
-use Rattle.std.proofs.lemmas.Nat.{pow_pos}
 use Rattle.cola_cell.specs.Places.{slot_size, number_of, IsPlace}
 use Rattle.cola_cell.specs.Held.{IsElsewhere}
 
@@ -84,3 +83,11 @@ number_within levels level slot index p =
     let e : slot_size (suc levels) ≡ 2 * slot_size levels = slot_size-next levels in
     let f : levels + 3 ≡ suc levels + 2 = omega arith in
     rw f (omega (arith, a, n, h, e))
+
+-- which is where the first slot of that level would begin
+pub number_below_next : (levels level slot index : ℕ) → IsPlace levels level slot index → number_of level slot index < number_of levels 0 0
+number_below_next levels level slot index p =
+    let a : number_of level slot index < 4 * slot_size level = below slot (slot_size level) index p.slot_in p.index_in in
+    let n : slot_size (suc level) ≡ 2 * slot_size level = slot_size-next level in
+    let h : slot_size (suc level) ≤ slot_size levels = slot_size-mono (suc level) levels (omega (arith, p.level_in)) in
+    omega (arith, a, n, h)

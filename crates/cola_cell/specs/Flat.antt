@@ -1,5 +1,5 @@
 -- Cells in memory: what contracts see of them, and what each call does.
-use Rattle.std.specs.Prelude.{◌≡◌, ℕ, ◌+◌, ◌-◌, ◌*◌, ◌%◌, ◌^◌, ◌≤◌, ◌<◌, ◌==◌, nat_lt, ◌&&◌, min, max, Bool, true, false, if◌then◌else◌, List, length, replicate, Option, None, Some, IfSome, Result, Ok, Err, ok_or, slice_index_or, slice_set}
+use Rattle.std.specs.Prelude.{◌≡◌, ℕ, ◌+◌, ◌-◌, ◌%◌, ◌^◌, ◌≤◌, ◌<◌, ◌==◌, nat_lt, ◌&&◌, min, max, Bool, true, false, if◌then◌else◌, List, length, replicate, Option, None, Some, IfSome, Result, Ok, Err, ok_or, slice_index_or, slice_set}
 use Rattle.std.specs.List.{list_any}
 use Rattle.cola_cell.specs.declared.format.Format.TheVariants.{One}
 use Rattle.cola_cell.specs.declared.cell.Cell.{Cell}

@@ -1,5 +1,5 @@
 -- The places of cells, and the blocks in which they lie.
-use Rattle.std.specs.Prelude.{◌≡◌, ℕ, ◌+◌, ◌*◌, ◌/◌, ◌^◌, ◌<◌}
+use Rattle.std.specs.Prelude.{ℕ, ◌+◌, ◌*◌, ◌/◌, ◌^◌, ◌<◌}
 
 -- the cells of a slot of a level
 abbrev pub slot_size : ℕ → ℕ

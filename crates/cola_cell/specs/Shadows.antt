@@ -1,12 +1,12 @@
 -- What the calls on shadows do to the cells, and what they spend.
-use Rattle.std.specs.Prelude.{◌≡◌, ◌≢◌, ◌⊎◌, ℕ, ◌+◌, ◌%◌, ◌/◌, ◌≤◌, ◌<◌, ◌==◌, Bool, true, false, ⊤, Option, None, Some, Result, Ok, Err, is_ok, IsTrue}
+use Rattle.std.specs.Prelude.{◌≡◌, ◌≢◌, ◌⊎◌, ℕ, ◌+◌, ◌%◌, ◌≤◌, ◌<◌, ◌==◌, true, false, ⊤, Option, None, Some, Result, Ok, Err, is_ok, IsTrue}
 use Rattle.cola_outside.specs.Faults.{Rose}
 use Rattle.cola_cell.specs.declared.cell.Cell.{Cell}
 use Rattle.cola_cell.specs.declared.fault.PushFault.{PushFault}
 use Rattle.cola_cell.specs.declared.fault.PushFault.TheVariants.{Device, Overfull}
 use Rattle.cola_cell.specs.declared.sink.Shadow.{Shadow}
 use Rattle.cola_cell.specs.Places.{slot_size, Block, block_of}
-use Rattle.cola_cell.specs.Held.{Held, Spot, is_untold, with_cell, as_cell, span, IsElsewhere}
+use Rattle.cola_cell.specs.Held.{Held, is_untold, with_cell, as_cell, span, IsElsewhere}
 use Rattle.cola_cell.specs.Spent.{Buffer, Spent, Ticks}
 
 -- an empty shadow in this slot: there is nothing that could be lost

@@ -1,5 +1,5 @@
 -- What calls on cells spend, and what a read answers and spends.
-use Rattle.std.specs.Prelude.{◌≡◌, ◌≢◌, ◌⊎◌, ℕ, ◌+◌, ◌%◌, ◌^◌, ◌≤◌, ◌<◌, Option, None, Some, Result, Ok, Err, OnOk}
+use Rattle.std.specs.Prelude.{◌≡◌, ◌≢◌, ◌⊎◌, ℕ, ◌+◌, ◌%◌, ◌^◌, ◌≤◌, ◌<◌, Option, Some, Result, Ok, Err, OnOk}
 use Rattle.cola_outside.specs.Faults.{Rose}
 use Rattle.cola_cell.specs.declared.cell.Cell.{Cell}
 use Rattle.cola_cell.specs.declared.cell.Reader.{Reader}
@@ -7,7 +7,7 @@ use Rattle.cola_cell.specs.declared.fault.ReadFault.{ReadFault}
 use Rattle.cola_cell.specs.declared.fault.ReadFault.TheVariants.{Device, BadCell}
 use Rattle.cola_cell.specs.Format.{CellFits}
 use Rattle.cola_cell.specs.Places.{slot_size, number_of, Block, block_of}
-use Rattle.cola_cell.specs.Held.{Held, Spots, Bad, Told, Tells, as_cell, span}
+use Rattle.cola_cell.specs.Held.{Held, Bad, Told, Tells, as_cell, span}
 
 -- which place for the last block that was read: that of searches and cursors, or that of a reader and the level that it reads
 pub data Buffer : Type 0 where

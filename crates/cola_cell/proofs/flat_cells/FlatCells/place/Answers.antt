@@ -1,7 +1,6 @@
-use Rattle.std.proofs.Common.{ℕ, ◌≡◌, ◌<◌, List, length, Option, subst, ap, arith}
-use Rattle.cola_cell.specs.declared.cell.Cell.{Cell}
+use Rattle.std.proofs.Common.{◌≡◌, ◌<◌, length, subst, ap, arith}
 use Rattle.cola_cell.specs.Places.{number_of}
-use Rattle.cola_cell.specs.Flat.{Flat, IsFlat}
+use Rattle.cola_cell.specs.Flat.{IsFlat}
 use Rattle.cola_cell.proofs.FlatLemmas.{number_in}
 use Rattle.cola_cell.proofs.flat_cells.FlatCells.place.Goals as goal
 

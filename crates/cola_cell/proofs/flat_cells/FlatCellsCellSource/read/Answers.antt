@@ -1,7 +1,5 @@
-use Rattle.std.proofs.Common.{ℕ, ◌≡◌, ◌<◌, false, List, length, Option, get_or, subst, ap, sym, ◌∙◌, arith}
-use Rattle.cola_cell.specs.declared.cell.Cell.{Cell}
-use Rattle.cola_cell.specs.Places.{number_of, IsPlace}
-use Rattle.cola_cell.specs.Flat.{Flat, IsFlat, read_answer, next_fails}
+use Rattle.std.proofs.Common.{◌≡◌, ◌<◌, length, get_or, subst, ap, sym, ◌∙◌, arith}
+use Rattle.cola_cell.specs.Places.{number_of}
 use Rattle.cola_cell.proofs.FlatLemmas.{number_in, place_of_six, read_found}
 use Rattle.cola_cell.proofs.flat_cells.FlatCellsCellSource.read.Goals as goal
 
