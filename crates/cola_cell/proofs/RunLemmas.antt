@@ -6,9 +6,11 @@ use Rattle.cola_cell.specs.declared.cell.Cell.{Cell}
 use Rattle.cola_cell.specs.declared.cell.Run.{Run}
 use Rattle.cola_cell.specs.declared.fault.ReadFault.TheVariants.{BadCell}
 use Rattle.cola_cell.specs.declared.fault.PushFault.{PushFault}
-use Rattle.cola_cell.specs.Held.{Held, HasPlace, Spot, Untold, Bad, Told, Tells, LawCell, as_cell, is_untold, with_cell, IsTelling}
+use Rattle.cola_cell.specs.declared.fault.PushFault.TheVariants as push
+use Rattle.cola_cell.specs.declared.sink.Shadow.{Shadow}
+use Rattle.cola_cell.specs.Held.{Held, span, HasPlace, Spot, Untold, Bad, Told, Tells, LawCell, as_cell, is_untold, with_cell, IsTelling}
 use Rattle.cola_cell.specs.Spent.{Buffer, Spent, Reads}
-use Rattle.cola_cell.specs.Shadows.{StaysAround, IsKept, Restarts, Pushes, Finishes}
+use Rattle.cola_cell.specs.Shadows.{StaysAround, IsKept, Restarts, Pushes, Finishes, after_push}
 use Rattle.cola_cell.specs.Listed.{Stands, IsRun}
 
 -- a cell, where one is needed
@@ -142,3 +144,13 @@ pub pushed_is_read : {A : Type 0} (old new : Held) (before now : Spent) (level :
     is_untold (old.spots level (old.shadows level).slot (old.shadows level).len) ≡ false → Reads new earlier later buffer level (old.shadows level).slot (old.shadows level).len (Ok found) → as_cell found ≡ as_cell cell
 pushed_is_read old new before now level cell a earlier later buffer found p t r =
     sym (given_is_told (new.spots level (old.shadows level).slot (old.shadows level).len) (as_cell cell) (as_cell found) (pushed_is_told old new before now level cell a p t) r.answer.told)
+
+-- a shadow after a push stands where it stood
+after_push_slot : {A : Type 0} (span : ℕ) (shadow : Shadow) (result : Result A PushFault) → (after_push span shadow result).slot ≡ shadow.slot
+after_push_slot span shadow (Ok a) = refl
+after_push_slot span shadow (Err push.Device) = refl
+after_push_slot span shadow (Err (push.Overfull level)) = refl
+
+-- a push leaves the shadow in its slot
+pub slot_stays : {A : Type 0} {old new : Held} {before now : Spent} {level : ℕ} {cell : Cell} {result : Result A PushFault} → Pushes old new before now level cell result → (new.shadows level).slot ≡ (old.shadows level).slot
+slot_stays {A} {old} {new} {before} {now} {level} {cell} {result} p = ap (λ shadow. shadow.slot) p.shadow_is ∙ after_push_slot (span old) (old.shadows level) result

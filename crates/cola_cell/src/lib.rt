@@ -13,6 +13,8 @@ mod format;
 mod key;
 mod law;
 pub mod object_laws;
+#[cfg(test)]
+mod object_tests;
 mod short;
 mod sink;
 mod source;
