@@ -1,10 +1,11 @@
 -- How costs of reading calls add up.
-use Rattle.std.proofs.Common.{◌≡◌, ℕ, ◌+◌, ◌≤◌, Result, refl, ◌∙◌, arith}
+use Rattle.std.proofs.Common.{◌≡◌, ℕ, ◌+◌, ◌≤◌, Result, Err, refl, ◌∙◌, arith}
 use Rattle.cola_cell.specs.declared.cell.Cell.{Cell}
 use Rattle.cola_cell.specs.declared.fault.ReadFault.{ReadFault}
-use Rattle.cola_cell.specs.Held.{Held}
+use Rattle.cola_cell.specs.declared.fault.ReadFault.TheVariants.{Device, BadCell}
+use Rattle.cola_cell.specs.Held.{Held, HasPlace}
 use Rattle.cola_cell.specs.Spent.{Buffer, Spent, Reads}
-use Rattle.cola_cell.specs.Costs.{Costs}
+use Rattle.cola_cell.specs.Costs.{Costs, ReadCause}
 
 -- nothing was called
 pub costs_none : (spent : Spent) (steps : ℕ) → Costs spent spent steps steps 0 0
@@ -59,3 +60,14 @@ costs_within h m n = record {
 pub costs_read_then : {held : Held} {old mid new : Spent} {buffer : Buffer} {level slot index : ℕ} {result : Result Cell ReadFault} {before between after ticks turns : ℕ} →
     Costs old mid before between ticks turns → Reads held mid new buffer level slot index result → after ≡ between + 1 → Costs old new before after (ticks + 1) (turns + 1)
 costs_read_then h r e = costs_then h (costs_read r e)
+
+-- a refused read has its cause
+pub cause_of_read : {held : Held} {old new : Spent} {buffer : Buffer} {level slot index : ℕ} (fault : ReadFault) →
+    HasPlace held level slot index → Reads held old new buffer level slot index (Err fault) → ReadCause held old.faults new.faults fault
+cause_of_read Device p r = r.answer
+cause_of_read {level = level} {slot = slot} {index = index} (BadCell number) p r = record { level = level; slot = slot; index = index; place = p; bad = r.answer }
+
+-- a cause after other calls is one of them all
+pub cause_later : (held : Held) (before between now : ℕ) (fault : ReadFault) → before ≤ between → ReadCause held between now fault → ReadCause held before now fault
+cause_later held before between now Device h c = omega (arith, h, c)
+cause_later held before between now (BadCell number) h c = c

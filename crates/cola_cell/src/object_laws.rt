@@ -9,11 +9,11 @@ ghost use Rattle.cola_cell.specs.declared.fault.ReadFault.{ReadFault};
 ghost use Rattle.cola_cell.specs.declared.fault.ReadFault.TheVariants.{BadCell};
 ghost use Rattle.cola_cell.specs.declared.fault.PushFault.{PushFault};
 ghost use Rattle.cola_cell.specs.Places.{number_of, slot_size, IsPlace};
-ghost use Rattle.cola_cell.specs.Held.{Held, LawCell, as_cell, is_untold, IsTelling, IsElsewhere};
+ghost use Rattle.cola_cell.specs.Held.{Held, HasPlace, LawCell, as_cell, is_untold, IsTelling, IsElsewhere};
 ghost use Rattle.cola_cell.specs.Spent.{Spent, Buffer, Reads};
 ghost use Rattle.cola_cell.specs.Shadows.{StaysAround, IsKept, Restarts, Pushes, Finishes};
 ghost use Rattle.cola_cell.specs.Listed.{IsRun};
-ghost use Rattle.cola_cell.specs.Costs.{Costs};
+ghost use Rattle.cola_cell.specs.Costs.{Costs, ReadCause};
 
 /// What was pushed is read again: a later read of the place at which the shadow ended, while the cells stay,
 /// gives the cell that was pushed. This needs that the object tells that place.
@@ -74,11 +74,15 @@ pub fn telling_stays()
     ensures { (old new : Held) (level : ℕ) → StaysAround old new level → IsTelling old → IsTelling new }
 {}
 
-/// What calls that only read spend adds up.
+/// What calls that only read spend adds up, and the cause of a refused one is a cause of them all.
 pub fn costs_add_up()
     ensures none { (spent : Spent) (steps : ℕ) → Costs spent spent steps steps 0 0 }
     ensures read { (held : Held) (old new : Spent) (buffer : Buffer) (level slot index before after : ℕ) (result : Result Cell ReadFault) →
         Reads held old new buffer level slot index result → after ≡ before + 1 → Costs old new before after 1 1 }
+    ensures refused { (held : Held) (old new : Spent) (buffer : Buffer) (level slot index : ℕ) (fault : ReadFault) →
+        HasPlace held level slot index → Reads held old new buffer level slot index (Err fault) → ReadCause held old.faults new.faults fault }
+    ensures later { (held : Held) (before between now : ℕ) (fault : ReadFault) →
+        before ≤ between → ReadCause held between now fault → ReadCause held before now fault }
     ensures both { (first second third : Spent) (before between after ticks turns more others : ℕ) →
         Costs first second before between ticks turns → Costs second third between after more others → Costs first third before after (ticks + more) (turns + others) }
 {}
