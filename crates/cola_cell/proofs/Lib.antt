@@ -7,3 +7,7 @@ pub mod Unique
 pub mod Words
 mod Worked
 pub mod Writing
+pub mod PlaceNumbers
+pub mod FlatLemmas
+pub mod CostsLemmas
+pub mod RunLemmas

@@ -3,3 +3,10 @@ pub mod Cell
 pub mod Fault
 pub mod Format
 pub mod Spelling
+pub mod Places
+pub mod Held
+pub mod Spent
+pub mod Shadows
+pub mod Listed
+pub mod Costs
+pub mod Flat

@@ -8,18 +8,27 @@
 
 mod cell;
 mod fault;
+mod flat_cells;
 mod format;
 mod key;
 mod law;
+pub mod object_laws;
+#[cfg(test)]
+mod object_tests;
 mod short;
+mod sink;
+mod source;
 mod spelling;
 mod value;
 
 pub use cell::{Cell, Item, Reader, Run};
 pub use fault::{PushFault, ReadFault, StepFault};
+pub use flat_cells::FlatCells;
 pub use format::Format;
 pub use key::Key;
 pub use law::{cell_is_one, decoding_gives_back, spelling_is_one};
+pub use sink::{CellSink, Shadow};
+pub use source::CellSource;
 pub use spelling::{decode, decode_wide, encode, encode_wide};
 pub use value::Value;
 

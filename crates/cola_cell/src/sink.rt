@@ -1,0 +1,63 @@
+//! Objects of cells that runs are built in.
+ghost use Rattle.std.specs.Prelude.{◌≡◌, ◌+◌, ◌≤◌, ◌<◌};
+ghost use Rattle.cola_cell.specs.Format.{CellFits};
+ghost use Rattle.cola_cell.specs.Places.{slot_size};
+ghost use Rattle.cola_cell.specs.Shadows.{Restarts, Pushes, PushSpends, push_ticks, Finishes, FinishSpends};
+
+use crate::cell::Cell;
+use crate::fault::PushFault;
+use crate::source::CellSource;
+use cola_outside::Steps;
+use std::sync::ledger::Ledger;
+
+/// How the shadow of a level stands: its slot, its length in cells, and whether each of its cells is on the
+/// device.
+#[derive(Clone, Copy, Debug, PartialEq, Eq, Drop)]
+pub struct Shadow {
+    pub slot: u8,
+    pub len: u32,
+    pub saved: bool,
+}
+
+/// An object of cells in which each level has a shadow: the run that is being built in one of its slots.
+/// What is pushed is read again, and a push changes no other cell of any run.
+pub trait CellSink: CellSource {
+    /// Empties the level's shadow and places it in this slot. The cells of the shadow that it gives up stay
+    /// where they are all on the device, or where a slot of the level is smaller than a block.
+    fn restart(&mut self, level: u8, slot: u8)
+        requires level_in { level < (Self.held self.old).fixed.levels }
+        requires slot_in { slot < 2 }
+        ensures restarts { Restarts (Self.held self.old) (Self.held self.new) level slot }
+        ensures spends_nothing { Self.spent self.new ≡ Self.spent self.old };
+
+    /// Appends a cell to the level's shadow, which stands in this slot. It is refused as overfull exactly
+    /// where the shadow fills its slot, before any tick; and where the device failed, which leaves the
+    /// shadow's cells as they were.
+    fn push<L: Ledger>(
+        &mut self,
+        level: u8,
+        slot: u8,
+        cell: &Cell,
+        steps: &mut Steps<L>,
+    ) -> Result<(), PushFault>
+        requires level_in { level < (Self.held self.old).fixed.levels }
+        requires in_slot { slot ≡ ((Self.held self.old).shadows level).slot }
+        requires fits { CellFits (Self.held self.old).fixed.format cell.now }
+        ensures ticks { steps.new ≡ steps.old + push_ticks result }
+        ensures pushes { Pushes (Self.held self.old) (Self.held self.new) (Self.spent self.old) (Self.spent self.new) level cell.now result }
+        ensures spends { PushSpends (Self.held self.old) (Self.spent self.old) (Self.spent self.new) level result };
+
+    /// Writes to the device what is not yet there of the level's shadow. It is refused only where the device
+    /// failed, and changes no cell of the shadow.
+    fn finish(&mut self, level: u8) -> Result<(), PushFault>
+        requires { level < (Self.held self.old).fixed.levels }
+        ensures finishes { Finishes (Self.held self.old) (Self.held self.new) (Self.spent self.old) (Self.spent self.new) level result }
+        ensures spends { FinishSpends (Self.held self.old) (Self.spent self.old) (Self.spent self.new) level };
+
+    /// The length of the level's shadow, in cells.
+    fn shadow_len(&self, level: u8) -> u32
+        requires { level < (Self.held self.now).fixed.levels }
+        ensures value { result ≡ ((Self.held self.now).shadows level).len }
+        ensures within { result ≤ slot_size level }
+        ensures slot { ((Self.held self.now).shadows level).slot < 2 };
+}

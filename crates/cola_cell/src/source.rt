@@ -1,0 +1,58 @@
+//! Objects of cells that are read.
+ghost use Rattle.std.specs.Prelude.{◌≡◌, ◌+◌, ◌%◌, ◌^◌, ◌≤◌};
+ghost use Rattle.cola_cell.specs.Held.{Held, HasPlace};
+ghost use Rattle.cola_cell.specs.Spent.{Spent, Search, By, Reads};
+
+use crate::cell::{Cell, Reader};
+use crate::fault::ReadFault;
+use cola_outside::Steps;
+use std::sync::ledger::Ledger;
+
+/// An object of cells: levels from 0 on, of two slots each, where a slot of level `j` has `2^(j+2)` cells.
+/// There are at most 23 levels. What is said of cells holds where the object tells them.
+///
+/// A call that takes `steps` makes one tick where it accesses a cell. The object counts its own ticks too,
+/// and how many blocks it turned to and wrote. A block is so many neighbouring cells of a slot, eight or a
+/// power of two times as many; the object has one place for the block that searches and cursors read last,
+/// and one for each reader and level.
+pub trait CellSource {
+    /// The cells that it holds, and how the shadow of each level stands.
+    ghost held: { Self → Held };
+
+    /// Its counts of faults, ticks and blocks, and the blocks that were read last.
+    ghost spent: { Self → Spent };
+
+    /// The cell at a place, for a search or a cursor. It is refused where the device failed, or where the
+    /// bytes of that cell spell none. The index is counted in cells of the slot.
+    fn read<L: Ledger>(
+        &mut self,
+        level: u8,
+        slot: u8,
+        index: u32,
+        steps: &mut Steps<L>,
+    ) -> Result<Cell, ReadFault>
+        requires { HasPlace (held self.old) level slot index }
+        ensures cells_stay { held self.new ≡ held self.old }
+        ensures one_tick { steps.new ≡ steps.old + 1 }
+        ensures reads { Reads (held self.old) (spent self.old) (spent self.new) Search level slot index result };
+
+    /// The cell at a place, for a source of a merge: as `read`, by the place that this reader has for the
+    /// level's last block.
+    fn read_for<L: Ledger>(
+        &mut self,
+        reader: Reader,
+        level: u8,
+        slot: u8,
+        index: u32,
+        steps: &mut Steps<L>,
+    ) -> Result<Cell, ReadFault>
+        requires { HasPlace (held self.old) level slot index }
+        ensures cells_stay { held self.new ≡ held self.old }
+        ensures one_tick { steps.new ≡ steps.old + 1 }
+        ensures reads { Reads (held self.old) (spent self.old) (spent self.new) (By reader level) level slot index result };
+
+    /// How many ticks it has made, modulo `2^64`.
+    fn ticked(&self) -> u64
+        ensures value { result ≡ (spent self.now).ticked % 2 ^ 64 }
+        ensures levels { (held self.now).fixed.levels ≤ 23 };
+}
