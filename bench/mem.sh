@@ -5,11 +5,12 @@
 #
 # A workload is LINES lines, each a put or a get, as a coin falls, of a key drawn from 1,000 or from
 # 60,000. Both programs read the same file and write to a file, and their outputs are compared. Each
-# runs ROUNDS times, in turn, and the quickest run counts. The plain program reads and writes 64 KiB
-# at a time; beside it the same program is timed as it writes every reply at once, as cola does.
+# runs ROUNDS times, in turn, and the run with the least processor time counts. The plain program reads
+# and writes 64 KiB at a time; beside it the same program is timed as it writes every reply at once, as
+# cola does.
 #
-# It wants the built program (./cola builds it), rustc, awk and GNU time or python3. Its numbers mean
-# something on an idle machine alone.
+# It wants the built program (./cola builds it), rustc, awk and GNU time or python3. The seconds that
+# passed mean something on an idle machine alone; the processor's depend less on what else runs.
 set -euo pipefail
 root=$(cd "$(dirname "$0")/.." && pwd -P)
 lines=${1:-1000000} rounds=${2:-3}
@@ -35,8 +36,8 @@ workload() {
         }'
 }
 
-# timed OUT COMMAND..: prints the seconds that passed, the processor seconds of the program and of the
-# system, and the most memory in KiB.
+# timed OUT COMMAND..: prints the seconds that passed, the processor's in the program and in the system,
+# and the most memory in KiB.
 timed() {
     local out=$1
     shift
@@ -74,17 +75,18 @@ compare() {
         "$lines" "$keys" "$limit" "$(wc -c <"$room/cola.out")"
     printf '%-28s %8s %8s %8s %12s\n' '' 'seconds' 'user' 'system' 'peak KiB'
     for it in cola plain each; do
-        sort -n "$room/$it.runs" | head -n 1 >"$room/$it.best"
+        awk '{ print $2 + $3, $0 }' "$room/$it.runs" | sort -n | head -n 1 | cut -d ' ' -f 2- >"$room/$it.best"
     done
     printf '%-28s %8s %8s %8s %12s\n' 'cola' $(<"$room/cola.best") \
         'BTreeMap, 64 KiB a write' $(<"$room/plain.best") \
         'BTreeMap, a write a reply' $(<"$room/each.best")
     paste -d ' ' "$room/cola.best" "$room/plain.best" "$room/each.best" | awk '
         function over(a, b) { return b > 0 ? sprintf("%.1f", a / b) : "-" }
-        {
-            print "cola / BTreeMap, 64 KiB a write: " over($1, $5) " in time, " over($2, $6) " in user time, " over($4, $8) " in memory"
-            print "cola / BTreeMap, a write a reply: " over($1, $9) " in time, " over($2, $10) " in user time, " over($4, $12) " in memory"
-        }'
+        function ratios(name, at) {
+            printf "cola / %s: %s in processor time, %s in user time, %s in seconds, %s in memory\n", name,
+                over($2 + $3, $(at + 1) + $(at + 2)), over($2, $(at + 1)), over($1, $at), over($4, $(at + 3))
+        }
+        { ratios("BTreeMap, 64 KiB a write", 5); ratios("BTreeMap, a write a reply", 9) }'
 }
 
 uname -sr
