@@ -1,4 +1,4 @@
-ghost use Rattle.std.specs.Prelude.{◌≡◌, ◌≢◌, false, None, refl, is_err};
+ghost use Rattle.std.specs.Prelude.{◌≡◌, ◌≢◌, false, Some, None, refl, is_err};
 ghost use Rattle.cola_device.specs.Counts.{count_fault, count_read, count_write};
 ghost use Rattle.cola_filedev.specs.Opening.{unopened, refused, unused, Asked};
 
@@ -20,9 +20,9 @@ impl<'a, R: Files> Model for FileDevice<'a, R> {
 
     ghost Value = { Shown };
 
-    ghost use Rattle.cola_filedev.specs.Handle.{opening_of};
+    ghost use Rattle.cola_filedev.specs.Handle.{opening_of, wanted_of};
 
-    ghost view = { λ d. record { opening = opening_of d.handle; counts = d.counts } };
+    ghost view = { λ d. record { opening = opening_of d.handle; wanted = wanted_of d.handle; counts = d.counts } };
 }
 
 impl<'a, R: Files> FileDevice<'a, R> {
@@ -30,7 +30,7 @@ impl<'a, R: Files> FileDevice<'a, R> {
     /// `read`, `write` or `settle`: that call opens the file for reading and writing, and makes it where
     /// it is not there and `make` is true.
     pub fn new(rt: &'a R, path: &'a str, make: bool) -> FileDevice<'a, R>
-        ensures { result ≡ unused unopened }
+        ensures { result ≡ unused unopened (Some (path.now, make)) }
     {
         FileDevice {
             rt,
@@ -41,7 +41,7 @@ impl<'a, R: Files> FileDevice<'a, R> {
 
     /// A device with no file: each of those calls is a fault.
     pub fn none(rt: &'a R) -> FileDevice<'a, R>
-        ensures { result ≡ unused refused }
+        ensures { result ≡ unused refused None }
     {
         FileDevice {
             rt,
