@@ -2,3 +2,4 @@ pub mod Splits
 pub mod Choices
 pub mod Turns
 pub mod Listing
+pub mod Walking

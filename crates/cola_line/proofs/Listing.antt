@@ -12,7 +12,8 @@ use Rattle.cola_cell.specs.declared.fault.ReadFault.{ReadFault}
 use Rattle.cola_cell.specs.declared.fault.ReadFault.TheVariants as read
 use Rattle.cola_table.specs.Answers.{OnlyDeviceRead, NextAnswers, read_cause}
 use Rattle.cola_spec.specs.Machine.{kind_of}
-use Rattle.cola_line.specs.Replied.{Wrote, KindHasCause, read_failure}
+use Rattle.cola_table.specs.Replies.{read_failure}
+use Rattle.cola_line.specs.Replied.{Wrote, KindHasCause}
 use Rattle.cola_line.specs.Listed.{Listed, RowsFor, first_of, wants}
 
 -- a front of two texts

@@ -13,7 +13,8 @@ use Rattle.cola_spec.specs.Reply as reply
 use Rattle.cola_spec.specs.Machine.{kind_of}
 use Rattle.cola_table.specs.Answers.{PutRefused, OnlyDevice, OnlyDeviceRead}
 use Rattle.cola_line.specs.Listed.{Listed, RowsFor}
-use Rattle.cola_line.specs.Replied.{Answered, Wrote, KindHasCause, StepsFrom, turn_of, put_refused, step_failure, read_failure}
+use Rattle.cola_table.specs.Replies.{turn_of, put_refused, step_failure, read_failure}
+use Rattle.cola_line.specs.Replied.{Answered, Wrote, KindHasCause, StepsFrom}
 
 module _ (shape : Shape) (m : Map) (Holds : Map → Type 0) where
   -- an accepted or refused put, by what it answered

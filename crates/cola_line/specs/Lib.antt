@@ -2,3 +2,4 @@ pub mod Spoken
 pub mod Words
 pub mod Replied
 pub mod Listed
+pub mod Given

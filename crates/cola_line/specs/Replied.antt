@@ -7,12 +7,6 @@ use Rattle.cola_spec.specs.Map as map
 use Rattle.cola_spec.specs.Command as spec
 use Rattle.cola_spec.specs.Reply as reply
 use Rattle.cola_spec.specs.Machine.{Kind, PlainStep, FaultedStep, ShortStep, Turn, Step, Open, kind_of, turn_text}
-use Rattle.cola_cell.specs.declared.fault.ReadFault.{ReadFault}
-use Rattle.cola_cell.specs.declared.fault.ReadFault.TheVariants as read
-use Rattle.cola_cell.specs.declared.fault.StepFault.{StepFault}
-use Rattle.cola_cell.specs.declared.fault.StepFault.TheVariants as step
-use Rattle.cola_table.specs.declared.PutFault.{PutFault}
-use Rattle.cola_table.specs.declared.PutFault.TheVariants as put_fault
 use Rattle.cola_line.specs.declared.reply.Outcome.{Outcome}
 use Rattle.cola_line.specs.declared.reply.Outcome.TheVariants as outcome
 use Rattle.cola_line.specs.declared.reply.Failure.{Failure}
@@ -65,10 +59,6 @@ KindHasCause PlainStep before now = ⊤
 KindHasCause FaultedStep before now = Rose before now
 KindHasCause ShortStep before now = ⊤
 
--- a command with its reply and the cell accesses made for it
-abbrev pub turn_of : spec.Command → reply.Reply → ℕ → Turn
-turn_of command answer ticks = record { request = Some command; answer = answer; ticks = ticks }
-
 -- the turn answers the command: the text of its reply was written, its faults have their cause, and its cell accesses are those that were made
 pub record Answered {A E : Type 0} (command : spec.Command) (cost : Bool) (result : Result A E) (written written' : Option (List ℕ)) (faults faults' steps steps' : ℕ) (turn : Turn) : Type 0 where
   pub asked : turn.request ≡ Some command
@@ -81,24 +71,3 @@ pub record StepsFrom (shape : Shape) (m : Map) (Holds : Map → Type 0) (turn : 
   pub next : Map
   pub holds : Holds next
   pub step : Step shape (Open m) turn (Open next)
-
--- Refusals as replies
-
--- what a refused put is answered
-abbrev pub put_refused : PutFault → reply.Reply
-put_refused put_fault.Full = reply.Put map.Full
-put_refused put_fault.Worn = reply.Put map.Worn
-put_refused put_fault.Device = reply.Failed reply.Fault
-put_refused (put_fault.BadCell cell) = reply.Failed (reply.Damaged cell)
-put_refused (put_fault.Overfull level) = reply.Failed (reply.Overfull level)
-
--- why a delete was refused
-abbrev pub step_failure : StepFault → reply.Failure
-step_failure step.Device = reply.Fault
-step_failure (step.BadCell cell) = reply.Damaged cell
-step_failure (step.Overfull level) = reply.Overfull level
-
--- why a reading was refused
-abbrev pub read_failure : ReadFault → reply.Failure
-read_failure read.Device = reply.Fault
-read_failure (read.BadCell cell) = reply.Damaged cell

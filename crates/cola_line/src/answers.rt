@@ -6,8 +6,10 @@ ghost use Rattle.cola_spec.specs.Reply.{reply_text};
 ghost use Rattle.cola_spec.specs.Machine.{Turn, kind_of};
 ghost use Rattle.cola_spec.specs.Bounds.{command_bound};
 ghost use Rattle.cola_table.specs.Terms.{Call, shape};
+ghost use Rattle.cola_table.specs.Replies.{turn_of};
 ghost use Rattle.cola_line.specs.Spoken.{spoken, CommandFits, IsOfTable, IsOfOneLine};
-ghost use Rattle.cola_line.specs.Replied.{reply_of, turn_of, Answered, StepsFrom, KindHasCause};
+ghost use Rattle.cola_line.specs.Replied.{reply_of, Answered, StepsFrom, KindHasCause};
+ghost use Rattle.cola_line.specs.Given.{Given};
 
 use crate::ask::{delete, get, put, put_if, stamp};
 use crate::command::Command;
@@ -22,6 +24,7 @@ use std::sync::ledger::Ledger;
 fn ask<T: Table, L: Ledger>(table: &mut T, command: &Command, steps: &mut Steps<L>) -> (Reply, u32)
     requires one_line { IsOfOneLine command.now }
     requires fits { CommandFits (T.terms table.old).format command.now }
+    ensures given { T.answers table.old (turn_of (spoken command.now) (reply_of result.0) (steps.new - steps.old)) table.new }
     ensures sound { (m : Map) → T.holds table.old m → StepsFrom (shape (T.terms table.old)) m (T.holds table.new) (turn_of (spoken command.now) (reply_of result.0) (steps.new - steps.old)) }
     ensures call { Call (T.terms table.old) (T.terms table.new) (T.faults table.old) (T.faults table.new) steps.old steps.new (command_bound (T.terms table.old).depth (spoken command.now)) }
     ensures cause { KindHasCause (kind_of (reply_of result.0)) (T.faults table.old) (T.faults table.new) }
@@ -39,7 +42,8 @@ fn ask<T: Table, L: Ledger>(table: &mut T, command: &Command, steps: &mut Steps<
 }
 
 /// Writes the reply to a command that a table answers: one line, or the rows of a range or a scan and
-/// the line that ends them. Where costs are asked for, the ticks of a call stand behind its reply.
+/// the line that ends them. Where costs are asked for, the ticks of a call stand behind its reply. What is
+/// written is what the table gave, whether it holds a map or not.
 ///
 /// At a fault of the sink some front of the reply was written; what the table did stays done. An
 /// `Err` comes only where the sink's count of faults rose.
@@ -52,7 +56,7 @@ pub fn answer<T: Table, K: Sink, L: Ledger>(
 ) -> Result<(), SinkFault>
     requires of_table { IsOfTable command.now }
     requires fits { CommandFits (T.terms table.old).format command.now }
-    ensures any { (turn : Turn) × Answered (spoken command.now) cost result (K.written sink.old) (K.written sink.new) (T.faults table.old) (T.faults table.new) steps.old steps.new turn }
+    ensures any { (turn : Turn) × (Answered (spoken command.now) cost result (K.written sink.old) (K.written sink.new) (T.faults table.old) (T.faults table.new) steps.old steps.new turn × Given T.answers T.begins T.goes (spoken command.now) result table.old turn table.new) }
     ensures sound { (m : Map) → T.holds table.old m → (turn : Turn) × (Answered (spoken command.now) cost result (K.written sink.old) (K.written sink.new) (T.faults table.old) (T.faults table.new) steps.old steps.new turn × StepsFrom (shape (T.terms table.old)) m (T.holds table.new) turn) }
     ensures call { Call (T.terms table.old) (T.terms table.new) (T.faults table.old) (T.faults table.new) steps.old steps.new (command_bound (T.terms table.old).depth (spoken command.now)) }
     ensures cause { HasCause result (K.faults sink.old) (K.faults sink.new) }

@@ -8,6 +8,7 @@ ghost use Rattle.cola_spec.specs.Bounds.{range_bound};
 ghost use Rattle.cola_table.specs.Terms.{Call, shape};
 ghost use Rattle.cola_line.specs.Replied.{Wrote};
 ghost use Rattle.cola_line.specs.Listed.{Listed, RowsFor, first_of, wants};
+ghost use Rattle.cola_line.specs.Given.{RowsGiven};
 
 use crate::ask::failed_read;
 use crate::reply::{Reply, Text, push_bytes, push_number, write_reply};
@@ -68,7 +69,7 @@ pub fn write_rows<T: Table, K: Sink, L: Ledger>(
     sink: &mut K,
     steps: &mut Steps<L>,
 ) -> Result<(), SinkFault>
-    ensures any { (answer : Answer) × Listed result (K.written sink.old) (K.written sink.new) (T.faults table.old) (T.faults table.new) answer }
+    ensures any { (answer : Answer) × (Listed result (K.written sink.old) (K.written sink.new) (T.faults table.old) (T.faults table.new) answer × RowsGiven T.begins T.goes low.now (option_copied high.entry) most result table.old answer table.new) }
     ensures sound { (m : Map) → T.holds table.old m → T.holds table.new m × ((answer : Answer) × (Listed result (K.written sink.old) (K.written sink.new) (T.faults table.old) (T.faults table.new) answer × RowsFor (first_of most (pairs_between m low.now (option_copied high.entry))) answer)) }
     ensures call { Call (T.terms table.old) (T.terms table.new) (T.faults table.old) (T.faults table.new) steps.old steps.new (range_bound (T.terms table.old).depth) }
     ensures cause { HasCause result (K.faults sink.old) (K.faults sink.new) }

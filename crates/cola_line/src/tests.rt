@@ -1,10 +1,13 @@
 //! What no clause says: that calls succeed, answers that were worked out by hand, and the replies of
 //! a table that is not sound.
-ghost use Rattle.std.specs.Prelude.{◌≡◌, ◌<◌};
+ghost use Rattle.std.specs.Prelude.{◌≡◌, ◌<◌, ◌++◌, OnOk, codes, decimal};
+ghost use Rattle.cola_io.specs.Streams.{Appended};
+ghost use Rattle.cola_spec.specs.Reply.{line};
+ghost use Rattle.cola_line.specs.declared.tests.Says.TheVariants as says;
 
 use crate::{Command, Failure, Outcome, Refusal, Reply, answer, parse_line, write_reply};
 use cola_cell::{Format, Key, ReadFault, StepFault, Value};
-use cola_io::{MemorySink, SinkFault};
+use cola_io::{MemorySink, Sink, SinkFault};
 use cola_outside::{Steps, one_more};
 use cola_table::{FlatTable, Put, PutFault, PutIf, Table};
 use std::alloc::Global;
@@ -137,11 +140,15 @@ struct Fixed {
 struct Nothing;
 
 impl Fixed {
-    ghost use Rattle.std.specs.Prelude.{◌≡◌, ◌≤◌, IfErr};
+    ghost use Rattle.std.specs.Prelude.{◌≡◌, ◌≤◌, ℕ, IfErr, Err};
+    ghost use Rattle.cola_cell.specs.declared.fault.ReadFault.TheVariants as read;
+    ghost use Rattle.cola_table.specs.declared.PutFault.TheVariants as put_fault;
+    ghost use Rattle.cola_line.specs.declared.tests.Says.TheVariants as says;
     ghost use Rattle.cola_table.specs.Answers.{put_cause, step_cause, read_cause};
 
     /// Why a put is refused.
     fn refuses_put(&mut self) -> PutFault
+        ensures bad { (cell : ℕ) → self.old.says ≡ says.BadCell cell → result ≡ put_fault.BadCell cell }
         ensures cause { put_cause result self.old.faults self.new.faults }
         ensures kept { self.old.faults ≤ self.new.faults }
     {
@@ -157,6 +164,8 @@ impl Fixed {
 
     /// Whether a reading is refused.
     fn refuses_read(&mut self) -> Result<(), ReadFault>
+        ensures bad { (cell : ℕ) → self.old.says ≡ says.BadCell cell → result ≡ Err (read.BadCell cell) }
+        ensures stays { self.new.says ≡ self.old.says }
         ensures cause { IfErr result (λ refusal. read_cause refusal self.old.faults self.new.faults) }
         ensures kept { self.old.faults ≤ self.new.faults }
     {
@@ -170,7 +179,12 @@ impl Fixed {
 }
 
 impl Table for Fixed {
+    ghost use Rattle.std.specs.Prelude.{◌≡◌, ◌⊎◌, ℕ, Some, None, Err};
     ghost use Rattle.cola_cell.specs.declared.format.Format.TheVariants.{Two};
+    ghost use Rattle.cola_cell.specs.declared.fault.ReadFault.TheVariants as read;
+    ghost use Rattle.cola_spec.specs.Command.{Count};
+    ghost use Rattle.cola_spec.specs.Reply.{Failed, Damaged};
+    ghost use Rattle.cola_line.specs.declared.tests.Says.TheVariants as says;
 
     type Walk = Nothing;
 
@@ -179,6 +193,14 @@ impl Table for Fixed {
     ghost faults = { λ t. t.faults };
 
     ghost holds = { λ _ _. ⊥ };
+
+    // One that says a cell is bad says it to all but a count.
+    ghost answers = { λ t turn _. (cell : ℕ) → t.says ≡ says.BadCell cell → (turn.request ≡ Some Count) ⊎ (turn.answer ≡ Failed (Damaged cell)) };
+
+    // It says it to a range, and begins a scan.
+    ghost begins = { λ t _ high result after. (cell : ℕ) → t.says ≡ says.BadCell cell → (after.says ≡ t.says) × ((high ≡ None) ⊎ (result ≡ Err (read.BadCell cell))) };
+
+    ghost goes = { λ t _ result _ _. (cell : ℕ) → t.says ≡ says.BadCell cell → result ≡ Err (read.BadCell cell) };
 
     ghost stands = { λ _ _. Unit {0} };
 
@@ -223,11 +245,15 @@ impl Table for Fixed {
         key: &Key,
         steps: &mut Steps<L>,
     ) -> Result<(Option<Value>, u32), StepFault> {
-        if let Says::Overfull(level) = self.says {
-            return Err(StepFault::Overfull(level));
+        match self.says {
+            Says::Overfull(level) => Err(StepFault::Overfull(level)),
+            Says::BadCell(cell) => Err(StepFault::BadCell(cell)),
+            Says::Device => {
+                self.faults = one_more(self.faults);
+                Err(StepFault::Device)
+            }
+            _ => Ok((None, 0)),
         }
-        self.refuses_read()?;
-        Ok((None, 0))
     }
 
     fn get<L: Ledger>(
@@ -268,6 +294,20 @@ impl Table for Fixed {
         self.refuses_read()?;
         Ok(None)
     }
+}
+
+/// What is written for a get from a table whose cell is bad: that it is, and nothing else.
+fn get_from_damaged<K: Sink, L: Ledger>(
+    table: &mut Fixed,
+    key: &Key,
+    cell: u64,
+    sink: &mut K,
+    steps: &mut Steps<L>,
+) -> Result<(), SinkFault>
+    requires { table.old.says ≡ says.BadCell cell }
+    ensures { OnOk result (Appended (line (codes "damaged " ++ decimal cell)) (K.written sink.old) (K.written sink.new)) }
+{
+    answer(table, &Command::Get(*key), true, sink, steps)
 }
 
 fn replies<T: Table, L: Ledger>(
@@ -335,6 +375,14 @@ fn failing<L: Ledger>(rt: &impl Abort, alloc: Global, blank: Blank) -> Result<()
         let mut table = Fixed { says, faults: 0 };
         replies(rt, alloc, &mut table, &ONE_OF_EACH, want, &mut steps)?;
     }
+    let mut table = Fixed {
+        says: Says::BadCell(87),
+        faults: 0,
+    };
+    let mut sink = MemorySink::new(alloc, 64, Vec::new(alloc))?;
+    let wrote = get_from_damaged(&mut table, &key("a")?, 87, &mut sink, &mut steps);
+    assert_eq!(rt; wrote, Ok(()));
+    assert_eq!(rt; sink.bytes(), b"damaged 87\n".as_slice());
     Ok(())
 }
 

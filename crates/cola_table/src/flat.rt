@@ -134,6 +134,13 @@ impl Table for FlatTable {
 
     ghost holds = { λ t m. m ≡ t.map };
 
+    // It holds a map at any time, and each answer is the map's.
+    ghost answers = { λ _ _ _. Unit {0} };
+
+    ghost begins = { λ _ _ _ _ _. Unit {0} };
+
+    ghost goes = { λ _ _ _ _ _. Unit {0} };
+
     ghost stands = { Stands };
 
     ghost ahead = { Ahead };

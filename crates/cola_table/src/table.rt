@@ -1,9 +1,14 @@
 //! The ordered map with a key limit, as a trait.
-ghost use Rattle.std.specs.Prelude.{◌≡◌, ◌+◌, ◌^◌, ◌≤◌, ◌<◌, ℕ, List, Option, IfOk, IfErr, OnOk, OnErr, option_map, option_copied, IsTrue, MatchResult, IfSome, OnSome};
+ghost use Rattle.std.specs.Prelude.{◌≡◌, ◌+◌, ◌-◌, ◌^◌, ◌≤◌, ◌<◌, ℕ, List, Option, Result, IfOk, IfErr, OnOk, OnErr, option_map, option_copied, IsTrue, MatchResult, IfSome, OnSome};
+ghost use Rattle.cola_cell.specs.declared.fault.ReadFault.{ReadFault};
 ghost use Rattle.cola_cell.specs.Format.{KeyFits, ValueFits};
 ghost use Rattle.cola_spec.specs.Map.{Map, IsMap, count};
+ghost use Rattle.cola_spec.specs.Command as spec;
+ghost use Rattle.cola_spec.specs.Reply.{Counted};
+ghost use Rattle.cola_spec.specs.Machine.{Turn};
 ghost use Rattle.cola_spec.specs.Bounds.{put_bound, get_bound, range_bound};
 ghost use Rattle.cola_table.specs.Terms.{Terms, Call, shape};
+ghost use Rattle.cola_table.specs.Replies.{turn_of, put_reply, put_if_reply, delete_reply, get_reply, stamp_reply};
 ghost use Rattle.cola_table.specs.Answers.{PutAnswers, PutIfAnswers, DeleteAnswers, GetAnswers, StampAnswers, RangeAnswers, NextAnswers, put_cause, step_cause, read_cause, KeepsWalks, UnlessPut, UnlessDeleted};
 
 use crate::{Put, PutFault, PutIf};
@@ -15,7 +20,9 @@ use std::sync::ledger::Ledger;
 ///
 /// What a table promises of its answers it promises where it is sound, that is where it holds a map:
 /// then it keeps holding one, and every answer but a device's fault is the map's. What it promises of
-/// bounds, causes and walks holds of every table.
+/// bounds, causes and walks holds of every table. What a table answers where it holds none is its own
+/// to say: each call says that this was the answer, so that its caller can show that it passed on that
+/// one and no other.
 ///
 /// A step is one cell access. The number that a call answers beside its result is how many steps it
 /// made.
@@ -31,6 +38,15 @@ pub trait Table {
 
     /// The table is sound, for this map.
     ghost holds: { Self → Map → Type 0 };
+
+    /// The table is asked this, gives this reply in so many steps, and is that table afterwards.
+    ghost answers: { Self → Turn → Self → Type 0 };
+
+    /// A range with these ends gives this walk, or is refused so, and leaves that table.
+    ghost begins: { Self → List ℕ → Option (List ℕ) → Result Self.Walk ReadFault → Self → Type 0 };
+
+    /// The walk gives this pair or none, or is refused so, and that table and that walk are left.
+    ghost goes: { Self → Self.Walk → Result (Option (List ℕ × List ℕ)) ReadFault → Self → Self.Walk → Type 0 };
 
     /// The walk may go on: every call but an accepted write leaves it standing.
     ghost stands: { Self → Self.Walk → Type 0 };
@@ -51,7 +67,8 @@ pub trait Table {
     /// The number of keys.
     fn count(&self) -> u64
         ensures counted { (m : Map) → holds self.now m → result ≡ count m }
-        ensures is_map { (m : Map) → holds self.now m → IsMap (shape (terms self.now)) m };
+        ensures is_map { (m : Map) → holds self.now m → IsMap (shape (terms self.now)) m }
+        ensures given { answers self.now (turn_of spec.Count (Counted result) 0) self.now };
 
     /// Gives the key a value. Full exactly where a new key meets the limit, and then worn where no
     /// stamp is left to give.
@@ -64,6 +81,7 @@ pub trait Table {
         requires key_fits { KeyFits (terms self.old).format key.now }
         requires value_fits { ValueFits (terms self.old).format value.now }
         ensures answer { (m : Map) → holds self.old m → PutAnswers (shape (terms self.old)) m key.now value.now (holds self.new) result }
+        ensures given { answers self.old (turn_of (spec.Put key.now value.now) (put_reply result) (steps.new - steps.old)) self.new }
         ensures call { Call (terms self.old) (terms self.new) (faults self.old) (faults self.new) steps.old steps.new (put_bound (terms self.old).depth) }
         ensures counted { IfOk result (λ answer. steps.new ≡ steps.old + answer.1) }
         ensures cause { IfErr result (λ refusal. put_cause refusal (faults self.old) (faults self.new)) }
@@ -81,6 +99,7 @@ pub trait Table {
         requires key_fits { KeyFits (terms self.old).format key.now }
         requires value_fits { ValueFits (terms self.old).format value.now }
         ensures answer { (m : Map) → holds self.old m → PutIfAnswers (shape (terms self.old)) m key.now seen value.now (holds self.new) result }
+        ensures given { answers self.old (turn_of (spec.PutIf key.now seen value.now) (put_if_reply result) (steps.new - steps.old)) self.new }
         ensures call { Call (terms self.old) (terms self.new) (faults self.old) (faults self.new) steps.old steps.new (put_bound (terms self.old).depth) }
         ensures counted { IfOk result (λ answer. steps.new ≡ steps.old + answer.1) }
         ensures cause { IfErr result (λ refusal. put_cause refusal (faults self.old) (faults self.new)) }
@@ -93,6 +112,7 @@ pub trait Table {
         steps: &mut Steps<L>,
     ) -> Result<(Option<Value>, u32), StepFault>
         ensures answer { (m : Map) → holds self.old m → DeleteAnswers m key.now (holds self.new) result }
+        ensures given { answers self.old (turn_of (spec.Del key.now) (delete_reply result) (steps.new - steps.old)) self.new }
         ensures call { Call (terms self.old) (terms self.new) (faults self.old) (faults self.new) steps.old steps.new (put_bound (terms self.old).depth) }
         ensures counted { IfOk result (λ answer. steps.new ≡ steps.old + answer.1) }
         ensures cause { IfErr result (λ refusal. step_cause refusal (faults self.old) (faults self.new)) }
@@ -105,6 +125,7 @@ pub trait Table {
         steps: &mut Steps<L>,
     ) -> Result<(Option<Value>, u32), ReadFault>
         ensures answer { (m : Map) → holds self.old m → GetAnswers m key.now (holds self.new) result }
+        ensures given { answers self.old (turn_of (spec.Get key.now) (get_reply result) (steps.new - steps.old)) self.new }
         ensures call { Call (terms self.old) (terms self.new) (faults self.old) (faults self.new) steps.old steps.new (get_bound (terms self.old).depth) }
         ensures counted { IfOk result (λ answer. steps.new ≡ steps.old + answer.1) }
         ensures cause { IfErr result (λ refusal. read_cause refusal (faults self.old) (faults self.new)) }
@@ -117,6 +138,7 @@ pub trait Table {
         steps: &mut Steps<L>,
     ) -> Result<(Option<u64>, u32), ReadFault>
         ensures answer { (m : Map) → holds self.old m → StampAnswers m key.now (holds self.new) result }
+        ensures given { answers self.old (turn_of (spec.Stamp key.now) (stamp_reply result) (steps.new - steps.old)) self.new }
         ensures call { Call (terms self.old) (terms self.new) (faults self.old) (faults self.new) steps.old steps.new (get_bound (terms self.old).depth) }
         ensures counted { IfOk result (λ answer. steps.new ≡ steps.old + answer.1) }
         ensures cause { IfErr result (λ refusal. read_cause refusal (faults self.old) (faults self.new)) }
@@ -131,6 +153,7 @@ pub trait Table {
         steps: &mut Steps<L>,
     ) -> Result<Self::Walk, ReadFault>
         ensures answer { (m : Map) → holds self.old m → RangeAnswers m low.now (option_copied high.entry) (holds self.new) (ahead self.new) result }
+        ensures given { begins self.old low.now (option_copied high.entry) result self.new }
         ensures stands { IfOk result (λ walk. stands self.new walk) }
         ensures most { IfOk result (λ walk. most walk < 2 ^ 64) }
         ensures call { Call (terms self.old) (terms self.new) (faults self.old) (faults self.new) steps.old steps.new (range_bound (terms self.old).depth) }
@@ -146,6 +169,7 @@ pub trait Table {
     ) -> Result<Option<(Key, Value)>, ReadFault>
         requires { stands self.old walk.old }
         ensures answer { (m : Map) (pairs : List (List ℕ × List ℕ)) → holds self.old m → ahead self.old walk.old pairs → holds self.new m × NextAnswers (ahead self.new walk.new) pairs result }
+        ensures given { goes self.old walk.old result self.new walk.new }
         ensures stands { stands self.new walk.new }
         ensures call { Call (terms self.old) (terms self.new) (faults self.old) (faults self.new) steps.old steps.new (left walk.old) }
         ensures left { OnOk result (steps.new + left walk.new ≤ steps.old + left walk.old) }

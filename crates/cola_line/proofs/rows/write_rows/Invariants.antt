@@ -1,6 +1,7 @@
 use Rattle.std.proofs.Common.{◌≡◌, ◌+◌, ◌^◌, ◌<◌, ◌≤◌, ◌++◌, ℕ, List, option_copied}
 use Rattle.cola_spec.specs.Map.{Map, pairs_between}
 use Rattle.cola_spec.specs.Bounds.{range_bound}
+use Rattle.cola_line.specs.Given.{Walked}
 use Rattle.cola_line.proofs.Listing.{Listing, IsWithin}
 use Rattle.cola_line.proofs.rows.write_rows.Given as goal
 
@@ -14,7 +15,8 @@ invariant-rows g l = record {
   sink_faults : g.K.Sink.faults l.fn.sink ≤ g.K.Sink.faults l.sink;
   steps : l.fn.steps ≤ l.steps;
   left : l.steps + g.T.Table.left l.walk ≤ l.fn.steps + range_bound (g.T.Table.terms l.fn.table).depth;
-  any : (done : List (List ℕ × List ℕ)) × Listing (g.K.Sink.written l.fn.sink) (g.K.Sink.written l.sink) l.rows done;
+  any : (done : List (List ℕ × List ℕ)) ×
+      (Listing (g.K.Sink.written l.fn.sink) (g.K.Sink.written l.sink) l.rows done × Walked g.T.Table.begins g.T.Table.goes l.low (option_copied l.high) l.fn.table done l.table l.walk);
   sound : (m : Map) → g.T.Table.holds l.fn.table m →
       g.T.Table.holds l.table m ×
       ((done : List (List ℕ × List ℕ)) × ((ahead : List (List ℕ × List ℕ)) ×
