@@ -139,7 +139,7 @@ impl Session {
         match asked(alloc, shape, raw)? {
             Some(request) => {
                 let reply = self.answer(alloc, shape, request)?;
-                reply_text(alloc, &reply)
+                reply_text(alloc, &reply, false, 0)
             }
             None => Ok(Vec::new(alloc)),
         }

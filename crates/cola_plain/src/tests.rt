@@ -56,7 +56,7 @@ fn answered(
     command: Command,
 ) -> Result<Vec<u8>, AllocError> {
     let reply: Reply = session.answer(rt.alloc(), shape, Some(command))?;
-    reply_text(rt.alloc(), &reply)
+    reply_text(rt.alloc(), &reply, false, 0)
 }
 
 #[test]
