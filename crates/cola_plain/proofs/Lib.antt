@@ -1,3 +1,5 @@
 mod LineLemmas
 mod MapLemmas
 mod SessionLemmas
+mod BoundLemmas
+mod TurnLemmas

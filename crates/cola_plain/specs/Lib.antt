@@ -4,3 +4,4 @@ pub mod Words
 pub mod Map
 pub mod Reply
 pub mod Session
+pub mod Turns

@@ -1,6 +1,7 @@
 //! A session over a small map in memory, slow and simple: what the store is compared with.
 #![tactic(auto)]
 
+pub mod bounds;
 pub mod command;
 pub mod lines;
 pub mod map;
@@ -9,3 +10,4 @@ pub mod session;
 pub mod shape;
 #[cfg(test)]
 mod tests;
+pub mod turn;
