@@ -1,5 +1,5 @@
 -- Turns that are counted one after another.
-use Rattle.std.proofs.Common.{ℕ, suc, ◌≡◌, ◌≤◌, ◌<◌, ◌+◌, ◌-◌, ◌^◌, min, refl, sym, ◌∙◌, ap, List, [], ◌∷◌, length, get_or, drop, arith, add-one, drop-cons}
+use Rattle.std.proofs.Common.{ℕ, suc, ◌≡◌, ◌≤◌, ◌<◌, ◌+◌, ◌-◌, ◌^◌, sym, ◌∙◌, ap, List, ◌∷◌, length, get_or, drop, arith, add-one, drop-cons}
 use Rattle.std.proofs.lemmas.List.{drop_all}
 use Rattle.cola_spec.specs.Machine.{Kind, PlainStep, FaultedStep, ShortStep, faulted_one, faulted_steps, kind_of, ticks_of}
 use Rattle.cola_plain.specs.declared.turn.Turn.{Turn}

@@ -5,3 +5,4 @@ pub mod Map
 pub mod Reply
 pub mod Session
 pub mod Turns
+pub mod Faults
