@@ -3,3 +3,4 @@ mod MapLemmas
 mod SessionLemmas
 mod BoundLemmas
 mod TurnLemmas
+mod FaultLaws

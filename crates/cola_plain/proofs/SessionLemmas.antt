@@ -1,5 +1,5 @@
 -- Runs over one list of requests after another.
-use Rattle.std.proofs.Common.{ℕ, ◌≡◌, false, refl, sym, ◌∙◌, ap, subst, Some, IfOk, Result, Ok, Err, List, [], ◌∷◌, ◌++◌, length, get_or, take, Option, append_assoc, ◌<◌, ◌+◌}
+use Rattle.std.proofs.Common.{ℕ, ◌≡◌, false, refl, sym, ◌∙◌, ap, subst, Some, option_map, IfOk, Result, Ok, Err, List, [], ◌∷◌, ◌++◌, length, get_or, take, Option, append_assoc, ◌<◌, ◌+◌}
 use Rattle.std.proofs.lemmas.List.{get_or_default, take_more, map-append}
 use Rattle.std.proofs.lemmas.List.Concat.{flat_map-append}
 use Rattle.std.specs.Borrow.{Bor}
@@ -14,6 +14,7 @@ use Rattle.cola_plain.specs.declared.session.Session.{Session}
 use Rattle.cola_plain.specs.declared.session.Stage.{Stage}
 use Rattle.cola_plain.specs.declared.session.Stage.TheVariants as stage
 use Rattle.cola_plain.specs.Command.{command_with, request_with}
+use Rattle.cola_plain.specs.Faults.{command_faulted_after, command_faulted_reply, command_short_reply, faulted_after, faulted_reply, short_reply}
 use Rattle.cola_plain.specs.Map.{Stands}
 use Rattle.cola_plain.specs.Reply.{reply_with}
 use Rattle.cola_plain.specs.Session.{SessionStands, state_at}
@@ -100,3 +101,21 @@ answered_at shape before at next request command answer state is stage stands h 
     subst (λ r. (reply_with answer ≡ plain_reply shape state (request_with r)) × SessionStands (record { map = before.map; stage = next }) (plain_after shape state (request_with r))) (sym is)
     (by_stage (λ s. (reply_with answer ≡ plain_reply shape s (Some (command_with command))) × SessionStands (record { map = before.map; stage = next }) (plain_after shape s (Some (command_with command)))) before at state stage stands
     (λ m standing. (h m standing, stands_at (record { map = before.map; stage = next }) m (command_after shape (state_at at m) (command_with command)) standing (g m))))
+
+-- the answer of a faulted step by the stage is the one by the state
+pub faulted_at : (before : Session) (at next : Stage) (rows byte : ℕ) (request : Option plain.Command) (command : plain.Command) (answer : Option Reply) (state : State) → request ≡ Some command → before.stage ≡ at → SessionStands before state
+    → ((m : Map) → Stands before.map m → option_map reply_with answer ≡ command_faulted_reply rows (state_at at m) (command_with command))
+    → ((m : Map) → Stands before.map m → state_at next m ≡ command_faulted_after byte (state_at at m) (command_with command))
+    → (option_map reply_with answer ≡ faulted_reply rows state (request_with request)) × SessionStands (record { map = before.map; stage = next }) (faulted_after byte state (request_with request))
+faulted_at before at next rows byte request command answer state is stage stands h g =
+    subst (λ r. (option_map reply_with answer ≡ faulted_reply rows state (request_with r)) × SessionStands (record { map = before.map; stage = next }) (faulted_after byte state (request_with r))) (sym is)
+    (by_stage (λ s. (option_map reply_with answer ≡ faulted_reply rows s (Some (command_with command))) × SessionStands (record { map = before.map; stage = next }) (faulted_after byte s (Some (command_with command)))) before at state stage stands
+    (λ m standing. (h m standing, stands_at (record { map = before.map; stage = next }) m (command_faulted_after byte (state_at at m) (command_with command)) standing (g m standing))))
+
+-- and so is that of a step that finds no memory
+pub short_at : (before : Session) (at : Stage) (request : Option plain.Command) (command : plain.Command) (answer : Option Reply) (state : State) → request ≡ Some command → before.stage ≡ at → SessionStands before state
+    → ((m : Map) → option_map reply_with answer ≡ command_short_reply (state_at at m) (command_with command))
+    → option_map reply_with answer ≡ short_reply state (request_with request)
+short_at before at request command answer state is stage stands h =
+    subst (λ r. option_map reply_with answer ≡ short_reply state (request_with r)) (sym is)
+    (by_stage (λ s. option_map reply_with answer ≡ short_reply s (Some (command_with command))) before at state stage stands (λ m standing. h m))

@@ -3,6 +3,7 @@
 
 pub mod bounds;
 pub mod command;
+pub mod laws;
 pub mod lines;
 pub mod map;
 pub mod reply;
