@@ -7,10 +7,10 @@ use Rattle.cola_spec.specs.Reply.{Reply, Cut, Fault, Memory, Failed, Refused}
 use Rattle.cola_spec.specs.Machine.{State, Open, Closing, Closed, Faulted, ShortOfMemory}
 use Rattle.cola_plain.specs.Faults.{faulted_after, faulted_reply, short_reply}
 
-some_is : {A : Type 0} (x y : A) → Some x ≡ Some y → y ≡ x
+pub some_is : {A : Type 0} (x y : A) → Some x ≡ Some y → y ≡ x
 some_is x y e = sym (ap (λ o. unwrap_or o x) e)
 
-none_is_some : {A : Type 0} (y : A) → None ≡ Some y → ⊥
+pub none_is_some : {A : Type 0} (y : A) → None ≡ Some y → ⊥
 none_is_some y e = let never : false ≡ true = ap is_some e in cc
 
 -- the step of some choice

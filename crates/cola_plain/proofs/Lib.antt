@@ -4,3 +4,4 @@ mod SessionLemmas
 mod BoundLemmas
 mod TurnLemmas
 mod FaultLaws
+mod ScriptLemmas

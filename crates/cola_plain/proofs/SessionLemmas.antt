@@ -23,7 +23,7 @@ append_none : (xs : List (Option Command)) → xs ++ [] ≡ xs
 append_none [] = refl
 append_none (x ∷ xs) = ap (λ rest. x ∷ rest) (append_none xs)
 
-asked_more : (shape : Shape) (raws : List (List ℕ)) (raw : List ℕ) → requests shape (raws ++ raw ∷ []) ≡ requests shape raws ++ line_requests shape (line_of raw)
+pub asked_more : (shape : Shape) (raws : List (List ℕ)) (raw : List ℕ) → requests shape (raws ++ raw ∷ []) ≡ requests shape raws ++ line_requests shape (line_of raw)
 asked_more shape [] raw = append_none (line_requests shape (line_of raw))
 asked_more shape (first ∷ raws) raw =
     ap (λ rest. line_requests shape (line_of first) ++ rest) (asked_more shape raws raw)
@@ -37,7 +37,7 @@ last_of_both : (shape : Shape) (state : State) (xs ys : List (Option Command)) �
 last_of_both shape state [] ys = refl
 last_of_both shape state (x ∷ xs) ys = last_of_both shape (plain_after shape state x) xs ys
 
-one_more : (lines : List (Bor (List ℕ))) (i : ℕ) (raw : Bor (List ℕ)) → i < length lines → raw ≡ get_or lines i raw → texts (take (i + 1) lines) ≡ texts (take i lines) ++ raw.now ∷ []
+pub one_more : (lines : List (Bor (List ℕ))) (i : ℕ) (raw : Bor (List ℕ)) → i < length lines → raw ≡ get_or lines i raw → texts (take (i + 1) lines) ≡ texts (take i lines) ++ raw.now ∷ []
 one_more lines i raw within is = ap texts (take_more lines i raw within ∙ ap (λ x. take i lines ++ x ∷ []) (sym is)) ∙ map-append (λ (x : Bor (List ℕ)). x.now) (take i lines) (raw ∷ [])
 
 -- the text of the replies to one more line

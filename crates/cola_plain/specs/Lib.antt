@@ -6,3 +6,4 @@ pub mod Reply
 pub mod Session
 pub mod Turns
 pub mod Faults
+pub mod Scripts

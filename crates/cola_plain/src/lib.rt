@@ -7,6 +7,7 @@ pub mod laws;
 pub mod lines;
 pub mod map;
 pub mod reply;
+pub mod script;
 pub mod session;
 pub mod shape;
 #[cfg(test)]

@@ -35,7 +35,7 @@ pub struct Session {
 }
 
 /// What a line asks: nothing where it is empty, else one request, which is a command or none.
-fn asked<'a>(
+pub(crate) fn asked<'a>(
     alloc: Global,
     shape: &Shape,
     raw: &'a [u8],

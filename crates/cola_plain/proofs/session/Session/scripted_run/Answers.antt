@@ -1,0 +1,16 @@
+use Rattle.std.proofs.Common.{arith}
+use Rattle.cola_plain.specs.Command.{shape_of}
+use Rattle.cola_plain.proofs.ScriptLemmas.{going_begins, going_ends, going_on}
+use Rattle.cola_plain.proofs.session.Session.scripted_run.Goals as goal
+
+pub loop-place-init : goal.loop-place-init
+loop-place-init c state stands = going_begins c.args.script.now (shape_of c.args.shape.now) state c.args.requests.now c.args.self.now c.new-turns.result.items c.new-turns.ensures.items stands
+
+pub loop-place-preserved : goal.loop-place-preserved
+loop-place-preserved c state stands =
+    going_on c.args.script.now (shape_of c.args.shape.now) state c.args.requests.now c.loop-place.turns.items c.loop-place.place c.loop-place.self c.scripted_turn.new.self _ c.in_ok-turn.turn c.move_at.result c.push.new.self.items
+    (omega arith) c.move_at.ensures c.in_ok-push.ensures.items (c.loop-place.invariant state stands) c.in_ok-turn.ensures
+
+pub returns : goal.returns
+returns c state stands =
+    going_ends c.args.script.now (shape_of c.args.shape.now) state c.args.requests.now c.loop-place.turns.items c.loop-place.place c.loop-place.self (omega arith) (c.loop-place.invariant state stands)
