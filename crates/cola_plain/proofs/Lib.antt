@@ -5,3 +5,4 @@ mod BoundLemmas
 mod TurnLemmas
 mod FaultLaws
 mod ScriptLemmas
+mod StepLaws

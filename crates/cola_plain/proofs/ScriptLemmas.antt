@@ -42,7 +42,7 @@ asked_so_far shape lines i d before here within so_far is =
 
 -- A step that cannot go as chosen
 
-not_chosen_keeps : (choice : Choice) (shape : Shape) (state : State) (request : Option Command) → None ≡ chosen_reply choice shape state request → chosen_after choice shape state request ≡ state
+pub not_chosen_keeps : (choice : Choice) (shape : Shape) (state : State) (request : Option Command) → None ≡ chosen_reply choice shape state request → chosen_after choice shape state request ≡ state
 not_chosen_keeps Plain shape state request none = absurd (none_is_some (plain_reply shape state request) none)
 not_chosen_keeps (Faulted rows byte) shape state request none = no_fault_keeps rows byte state request (sym none)
 not_chosen_keeps ShortOfMemory shape state request none = refl

@@ -1,10 +1,13 @@
 //! Runs of a session by a script: how each step goes.
 
-ghost use Rattle.std.specs.Prelude.{◌≡◌, ℕ, drop, map, IfOk};
+ghost use Rattle.std.specs.Prelude.{◌≡◌, ℕ, drop, map, All, IfOk};
+ghost use Rattle.cola_spec.specs.Map.{empty_map};
 ghost use Rattle.cola_spec.specs.Lines.{line_of, raw_lines};
 ghost use Rattle.cola_spec.specs.Command.{requests};
 ghost use Rattle.cola_plain.specs.Command.{request_with, shape_of};
-ghost use Rattle.cola_plain.specs.Scripts.{next_move};
+ghost use Rattle.cola_spec.specs.Machine.{Open, Run};
+ghost use Rattle.cola_plain.specs.Scripts.{IsChoice, next_move, scripted_last, scripted_turns};
+ghost use Rattle.cola_plain.specs.Turns.{turns_with};
 
 use crate::command::Command;
 use crate::lines::raw_lines;
@@ -64,13 +67,13 @@ pub fn requests<'a>(
 }
 
 impl Session {
-    ghost use Rattle.std.specs.Prelude.{◌≡◌, ℕ, map, IfOk, option_map};
-    ghost use Rattle.cola_spec.specs.Machine.{State};
+    ghost use Rattle.std.specs.Prelude.{◌≡◌, ℕ, map, All, IfOk, option_map};
+    ghost use Rattle.cola_spec.specs.Machine.{State, Run};
     ghost use Rattle.cola_plain.specs.Command.{request_with, shape_of};
     ghost use Rattle.cola_plain.specs.Reply.{reply_with};
     ghost use Rattle.cola_plain.specs.Session.{SessionStands};
     ghost use Rattle.cola_plain.specs.Turns.{turn_with, turns_with};
-    ghost use Rattle.cola_plain.specs.Scripts.{chosen_after, chosen_reply, scripted_after, scripted_last, scripted_reply, scripted_turn, scripted_turns};
+    ghost use Rattle.cola_plain.specs.Scripts.{IsChoice, chosen_after, chosen_reply, scripted_after, scripted_last, scripted_reply, scripted_turn, scripted_turns};
 
     /// The reply to a request whose step goes as chosen. `None`, and the state is kept, exactly where it
     /// cannot go so. An error comes only for want of memory, and the session is then of no use.
@@ -135,7 +138,8 @@ impl Session {
         requests: &[Option<Command<'a>>],
         script: &[Move],
     ) -> Result<Vec<Turn<'a>>, AllocError>
-        ensures { (state : State) → SessionStands self.old state → IfOk result (λ turns. (turns_with turns.items ≡ scripted_turns script.now (shape_of shape.now) state (map request_with requests.now)) × SessionStands self.new (scripted_last script.now (shape_of shape.now) state (map request_with requests.now))) }
+        ensures turns { (state : State) → SessionStands self.old state → IfOk result (λ turns. (turns_with turns.items ≡ scripted_turns script.now (shape_of shape.now) state (map request_with requests.now)) × SessionStands self.new (scripted_last script.now (shape_of shape.now) state (map request_with requests.now))) }
+        ensures run { (state : State) → SessionStands self.old state → All (λ move. IsChoice move.choice) script.now → IfOk result (λ turns. Run (shape_of shape.now) state (turns_with turns.items) (scripted_last script.now (shape_of shape.now) state (map request_with requests.now))) }
     {
         let mut turns = Vec::new(alloc);
         for (place, request) in requests.iter().enumerate() {
@@ -144,4 +148,19 @@ impl Session {
         }
         Ok(turns)
     }
+}
+
+/// The turns of a session over a map that begins empty, to the lines of a list of bytes, which go as a
+/// script says. An error comes only for want of memory.
+pub fn scripted_session<'a>(
+    alloc: Global,
+    shape: &Shape,
+    bytes: &'a [u8],
+    script: &[Move],
+) -> Result<Vec<Turn<'a>>, AllocError>
+    ensures turns { IfOk result (λ turns. turns_with turns.items ≡ scripted_turns script.now (shape_of shape.now) (Open empty_map) (requests (shape_of shape.now) (raw_lines bytes.now))) }
+    ensures run { All (λ move. IsChoice move.choice) script.now → IfOk result (λ turns. Run (shape_of shape.now) (Open empty_map) (turns_with turns.items) (scripted_last script.now (shape_of shape.now) (Open empty_map) (requests (shape_of shape.now) (raw_lines bytes.now)))) }
+{
+    let asked = requests(alloc, shape, bytes)?;
+    Session::new(alloc).scripted_run(alloc, shape, &asked, script)
 }
