@@ -1,6 +1,4 @@
-use crate::bounds::{
-    ceiling_log, command_bound, get_bound, levels_of, put_bound, range_bound, request_bound,
-};
+use crate::bounds::{ceiling_log, levels_of, request_bound};
 use crate::command::Command;
 use crate::map::PutOutcome;
 use crate::reply::{Failure, Refusal, Reply, reply_text};
@@ -196,27 +194,38 @@ fn scripts_are_followed(rt: HostRuntime) {
     assert_eq!(rt; ticks_of(&turns), 17);
 }
 
+// Keys, the least power of two that is not below them, the levels of a store for them, and the bounds on a
+// put, a get and a range.
+const BOUNDS: [(u64, u64, u64, u64, u64, u64); 7] = [
+    (1, 0, 4, 160, 32, 100),
+    (32, 5, 4, 160, 32, 100),
+    (33, 6, 5, 200, 40, 173),
+    (1_000, 10, 9, 360, 72, 2_129),
+    (65_536, 16, 15, 600, 120, 131_207),
+    (1_000_000, 20, 19, 760, 152, 2_097_323),
+    (u32::MAX as u64, 32, 31, 1_240, 248, 8_589_934_871),
+];
+
 #[test]
 fn bounds_are_those_of_worked_numbers(rt: HostRuntime) {
-    let rows: [(u64, u64, u64); 6] = [
-        (1, 0, 4),
-        (32, 5, 4),
-        (33, 6, 5),
-        (1_000, 10, 9),
-        (65_536, 16, 15),
-        (1_000_000, 20, 19),
-    ];
-    for (keys, power, levels) in rows {
+    for (keys, power, levels, put, get, range) in BOUNDS {
         assert_eq!(rt; ceiling_log(keys), power);
         assert_eq!(rt; levels_of(keys), levels);
+        let rows: [(Option<Command>, u64); 10] = [
+            (None, 0),
+            (Some(Command::Put(b"a", b"1")), put),
+            (Some(Command::PutIf(b"a", 2, b"1")), put),
+            (Some(Command::Del(b"a")), put),
+            (Some(Command::Get(b"a")), get),
+            (Some(Command::Stamp(b"a")), get),
+            (Some(Command::Range(b"a", b"b")), range),
+            (Some(Command::Scan(b"a", 2)), range),
+            (Some(Command::Count), 0),
+            (Some(Command::Close), 0),
+        ];
+        for (request, wanted) in rows {
+            assert!(rt; levels <= 61);
+            assert_eq!(rt; request_bound(levels, &request), wanted);
+        }
     }
-    assert_eq!(rt; ceiling_log(u64::MAX), 64);
-    assert_eq!(rt; put_bound(5), 200);
-    assert_eq!(rt; get_bound(5), 40);
-    assert_eq!(rt; range_bound(5), 173);
-    assert_eq!(rt; range_bound(23), 33_554_639);
-    assert_eq!(rt; command_bound(9, &Command::Scan(b"a", 2)), 2_129);
-    assert_eq!(rt; command_bound(9, &Command::Count), 0);
-    assert_eq!(rt; request_bound(9, &Some(Command::Del(b"a"))), 360);
-    assert_eq!(rt; request_bound(9, &None), 0);
 }
