@@ -6,3 +6,4 @@ mod TurnLemmas
 mod FaultLaws
 mod ScriptLemmas
 mod StepLaws
+mod Worked

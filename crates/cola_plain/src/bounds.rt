@@ -6,7 +6,7 @@ ghost use Rattle.cola_plain.specs.Command.{command_with, request_with};
 
 use crate::command::Command;
 
-/// The least power of two that is not below a number of 1 and more.
+/// The exponent of the least power of two that is not below a number: 0 for 0 and 1, and 64 at most.
 pub fn ceiling_log(number: u64) -> u64
     ensures { result ≡ ceiling_log number }
 {
@@ -20,7 +20,7 @@ pub fn ceiling_log(number: u64) -> u64
     64
 }
 
-/// The levels of a store for so many keys.
+/// The levels of a store for so many keys: 4 at least, and 63 at most.
 pub fn levels_of(keys: u64) -> u64
     ensures { result ≡ levels_of keys }
 {
@@ -56,7 +56,8 @@ fn power_of_two(power: u64) -> u64
     reached
 }
 
-/// The most cell accesses of a whole range, in a store of so many levels.
+/// The most cell accesses of a whole range, in a store of so many levels. Of more than 61 levels 64 bits
+/// do not hold it.
 pub fn range_bound(levels: u64) -> u64
     requires { levels ≤ 61 }
     ensures { result ≡ range_bound levels }
@@ -64,7 +65,7 @@ pub fn range_bound(levels: u64) -> u64
     9 * levels + power_of_two(levels + 2)
 }
 
-/// The most cell accesses of a command, in a store of so many levels.
+/// The most cell accesses of a command, in a store of so many levels, 61 at most.
 pub fn command_bound(levels: u64, command: &Command) -> u64
     requires { levels ≤ 61 }
     ensures { result ≡ command_bound levels (command_with command.now) }
@@ -83,7 +84,7 @@ pub fn command_bound(levels: u64, command: &Command) -> u64
     }
 }
 
-/// The most cell accesses of a request, which may be no command, in a store of so many levels.
+/// The most cell accesses of a request, which may be no command, in a store of so many levels, 61 at most.
 pub fn request_bound(levels: u64, request: &Option<Command>) -> u64
     requires { levels ≤ 61 }
     ensures { result ≡ request_bound levels (request_with request.now) }
