@@ -4,3 +4,6 @@ pub mod Words
 pub mod Map
 pub mod Reply
 pub mod Session
+pub mod Turns
+pub mod Faults
+pub mod Scripts

@@ -1,11 +1,15 @@
 //! A session over a small map in memory, slow and simple: what the store is compared with.
 #![tactic(auto)]
 
+pub mod bounds;
 pub mod command;
+pub mod laws;
 pub mod lines;
 pub mod map;
 pub mod reply;
+pub mod script;
 pub mod session;
 pub mod shape;
 #[cfg(test)]
 mod tests;
+pub mod turn;

@@ -1,7 +1,11 @@
+use crate::bounds::{ceiling_log, levels_of, request_bound};
 use crate::command::Command;
-use crate::reply::{Reply, reply_text};
+use crate::map::PutOutcome;
+use crate::reply::{Failure, Refusal, Reply, reply_text};
+use crate::script::{Choice, Move, scripted_session};
 use crate::session::{Session, mem_session};
 use crate::shape::Shape;
+use crate::turn::{faulted_steps, ticks_of, turns_text};
 use std::alloc::AllocError;
 
 // What is asked of a map of so many keys, and what it answers.
@@ -56,7 +60,7 @@ fn answered(
     command: Command,
 ) -> Result<Vec<u8>, AllocError> {
     let reply: Reply = session.answer(rt.alloc(), shape, Some(command))?;
-    reply_text(rt.alloc(), &reply)
+    reply_text(rt.alloc(), &reply, false, 0)
 }
 
 #[test]
@@ -80,5 +84,148 @@ fn stamps_are_seen(rt: HostRuntime) {
     for (command, wanted) in rows {
         let text = answered(&rt, &mut session, &shape, command).expect(&rt, "memory");
         assert_eq!(rt; text.as_slice(), wanted);
+    }
+}
+
+// Replies with 17 cell accesses behind them, and their texts with the cost.
+#[test]
+fn replies_tell_their_costs(rt: HostRuntime) {
+    let replies: [(Reply, &[u8]); 11] = [
+        (Reply::Put(PutOutcome::New), b"new # 17\n"),
+        (Reply::Put(PutOutcome::Full), b"full\n"),
+        (Reply::Put(PutOutcome::Worn), b"worn\n"),
+        (Reply::Put(PutOutcome::Other(5)), b"other 5 # 17\n"),
+        (Reply::Deleted(None), b"none # 17\n"),
+        (Reply::Stamped(Some(6)), b"at 6 # 17\n"),
+        (Reply::Rows(Vec::new(rt.alloc())), b"end 0\n"),
+        (Reply::Counted(3), b"count 3\n"),
+        (Reply::Failed(Failure::Damaged(7)), b"damaged 7\n"),
+        (Reply::Failed(Failure::Overfull(2)), b"overfull 2\n"),
+        (Reply::Refused(Refusal::NotStore), b"notstore\n"),
+    ];
+    for (reply, wanted) in replies {
+        let text = reply_text(rt.alloc(), &reply, true, 17).expect(&rt, "memory");
+        assert_eq!(rt; text.as_slice(), wanted);
+    }
+}
+
+// What the lines of a session ask, and how each step is to go.
+const ASKED: &[u8] =
+    b"put a 1\nput b 2\nput c 3\nrange a d\nget b\nclose\nget a\nclose\nopen\nopen\nopen\ncount\nclose\nopen\nopen\n";
+
+const SCRIPT: [Move; 15] = [
+    Move {
+        choice: Choice::Plain,
+        ticks: 3,
+    },
+    Move {
+        choice: Choice::Faulted(0, 0),
+        ticks: 2,
+    },
+    Move {
+        choice: Choice::Plain,
+        ticks: 4,
+    },
+    Move {
+        choice: Choice::Faulted(1, 0),
+        ticks: 5,
+    },
+    Move {
+        choice: Choice::Plain,
+        ticks: 3,
+    },
+    Move {
+        choice: Choice::Faulted(0, 7),
+        ticks: 0,
+    },
+    Move {
+        choice: Choice::Faulted(0, 7),
+        ticks: 0,
+    },
+    Move {
+        choice: Choice::Plain,
+        ticks: 0,
+    },
+    Move {
+        choice: Choice::ShortOfMemory,
+        ticks: 0,
+    },
+    Move {
+        choice: Choice::Faulted(0, 0),
+        ticks: 0,
+    },
+    Move {
+        choice: Choice::Plain,
+        ticks: 0,
+    },
+    Move {
+        choice: Choice::Faulted(0, 0),
+        ticks: 0,
+    },
+    Move {
+        choice: Choice::Plain,
+        ticks: 0,
+    },
+    Move {
+        choice: Choice::Faulted(0, 1),
+        ticks: 0,
+    },
+    Move {
+        choice: Choice::Plain,
+        ticks: 0,
+    },
+];
+
+const ANSWERED: &[u8] =
+    b"new # 3\nfault\nnew # 4\nrow a 1\nfault\nnone # 3\nfault\nshut\nclosed\nmemory\nfault\nopen 2\ncount 2\nclosed\nfault\nnotclosed\n";
+
+#[test]
+fn scripts_are_followed(rt: HostRuntime) {
+    let shape = Shape {
+        limit: 4,
+        key_limit: 24,
+        value_limit: 32,
+        stamped: false,
+    };
+    let turns = scripted_session(rt.alloc(), &shape, ASKED, &SCRIPT).expect(&rt, "memory");
+    let text = turns_text(rt.alloc(), &turns, true).expect(&rt, "memory");
+    assert_eq!(rt; text.as_slice(), ANSWERED);
+    assert_eq!(rt; faulted_steps(&turns), 5);
+    assert_eq!(rt; ticks_of(&turns), 17);
+}
+
+// Keys, the least power of two that is not below them, the levels of a store for them, and the bounds on a
+// put, a get and a range.
+const BOUNDS: [(u64, u64, u64, u64, u64, u64); 7] = [
+    (1, 0, 4, 160, 32, 100),
+    (32, 5, 4, 160, 32, 100),
+    (33, 6, 5, 200, 40, 173),
+    (1_000, 10, 9, 360, 72, 2_129),
+    (65_536, 16, 15, 600, 120, 131_207),
+    (1_000_000, 20, 19, 760, 152, 2_097_323),
+    (u32::MAX as u64, 32, 31, 1_240, 248, 8_589_934_871),
+];
+
+#[test]
+fn bounds_are_those_of_worked_numbers(rt: HostRuntime) {
+    for (keys, power, levels, put, get, range) in BOUNDS {
+        assert_eq!(rt; ceiling_log(keys), power);
+        assert_eq!(rt; levels_of(keys), levels);
+        let rows: [(Option<Command>, u64); 10] = [
+            (None, 0),
+            (Some(Command::Put(b"a", b"1")), put),
+            (Some(Command::PutIf(b"a", 2, b"1")), put),
+            (Some(Command::Del(b"a")), put),
+            (Some(Command::Get(b"a")), get),
+            (Some(Command::Stamp(b"a")), get),
+            (Some(Command::Range(b"a", b"b")), range),
+            (Some(Command::Scan(b"a", 2)), range),
+            (Some(Command::Count), 0),
+            (Some(Command::Close), 0),
+        ];
+        for (request, wanted) in rows {
+            assert!(rt; levels <= 61);
+            assert_eq!(rt; request_bound(levels, &request), wanted);
+        }
     }
 }

@@ -1,0 +1,26 @@
+use Rattle.std.proofs.Common.{arith, map, subst, sym}
+use Rattle.cola_spec.specs.Machine.{Run}
+use Rattle.cola_plain.specs.Command.{request_with, shape_of}
+use Rattle.cola_plain.specs.Scripts.{scripted_last}
+use Rattle.cola_plain.proofs.ScriptLemmas.{going_begins, going_ends, going_on}
+use Rattle.cola_plain.proofs.StepLaws.{script_is_run}
+use Rattle.cola_plain.proofs.session.Session.scripted_run.Goals as goal
+
+pub loop-place-init : goal.loop-place-init
+loop-place-init c state stands = going_begins c.args.script.now (shape_of c.args.shape.now) state c.args.requests.now c.args.self.now c.new-turns.result.items c.new-turns.ensures.items stands
+
+pub loop-place-preserved : goal.loop-place-preserved
+loop-place-preserved c state stands =
+    going_on c.args.script.now (shape_of c.args.shape.now) state c.args.requests.now c.loop-place.turns.items c.loop-place.place c.loop-place.self c.scripted_turn.new.self _ c.in_ok-turn.turn c.move_at.result c.push.new.self.items
+    (omega arith) c.move_at.ensures c.in_ok-push.ensures.items (c.loop-place.invariant state stands) c.in_ok-turn.ensures
+
+pub returns-clause-turns : goal.returns-clause-turns
+returns-clause-turns c state stands =
+    going_ends c.args.script.now (shape_of c.args.shape.now) state c.args.requests.now c.loop-place.turns.items c.loop-place.place c.loop-place.self (omega arith) (c.loop-place.invariant state stands)
+
+pub returns-clause-run : goal.returns-clause-run
+returns-clause-run c state stands all =
+    let ended = going_ends c.args.script.now (shape_of c.args.shape.now) state c.args.requests.now c.loop-place.turns.items c.loop-place.place c.loop-place.self (omega arith) (c.loop-place.invariant state stands) in
+    let asked = map request_with c.args.requests.now in
+    subst (λ turns. Run (shape_of c.args.shape.now) state turns (scripted_last c.args.script.now (shape_of c.args.shape.now) state asked)) (sym ended.0)
+    (script_is_run c.args.script.now (shape_of c.args.shape.now) state asked all)
