@@ -2,6 +2,7 @@
 #![tactic(auto)]
 
 pub mod bounds;
+pub mod causes;
 pub mod command;
 pub mod laws;
 pub mod lines;

@@ -1,4 +1,5 @@
 use crate::bounds::{ceiling_log, levels_of, request_bound};
+use crate::causes::{has_cause, rose_by};
 use crate::command::Command;
 use crate::map::PutOutcome;
 use crate::reply::{Failure, Refusal, Reply, reply_text};
@@ -228,4 +229,25 @@ fn bounds_are_those_of_worked_numbers(rt: HostRuntime) {
             assert_eq!(rt; request_bound(levels, &request), wanted);
         }
     }
+}
+
+// So many events, a count before and after, and whether as many were counted.
+const COUNTS: [(u64, u64, u64, bool); 7] = [
+    (0, 5, 5, true),
+    (1, 5, 5, false),
+    (1, 5, 6, true),
+    (3, 5, 7, false),
+    (3, 5, 8, true),
+    (1, u64::MAX - 1, u64::MAX - 1, false),
+    (2, u64::MAX, u64::MAX, true),
+];
+
+#[test]
+fn causes_are_those_of_worked_counts(rt: HostRuntime) {
+    for (times, before, now, wanted) in COUNTS {
+        assert_eq!(rt; rose_by(times, before, now), wanted);
+    }
+    assert!(rt; has_cause(&Ok(()), 5, 5));
+    assert!(rt; !has_cause(&Err(()), 5, 5));
+    assert!(rt; has_cause(&Err(()), 5, 6));
 }
