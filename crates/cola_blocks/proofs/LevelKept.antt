@@ -17,19 +17,18 @@ written_whole true from h = length-replicate (length from) SPOILED ∙ h
 written_whole false from h = h
 
 -- a copy agrees with its block after another was written
-pub agrees_written : (bytes new copy : List ℕ) (k : ℕ) (held : Option ℕ) → k < 16 → 8192 ≤ length bytes → length new ≡ 512 → Agrees bytes copy held → Agrees (splice bytes (512 * k) new) copy (forgotten k held)
-agrees_written bytes new copy k held block holds whole a =
+pub agrees_written : (bytes new copy : List ℕ) (k : ℕ) (held : Option ℕ) → 512 * k + 512 ≤ length bytes → length new ≡ 512 → Agrees bytes copy held → Agrees (splice bytes (512 * k) new) copy (forgotten k held)
+agrees_written bytes new copy k held holds whole a =
     forgets_by k held (Agrees (splice bytes (512 * k) new) copy) tt
-    (λ n d e. let h : Agrees bytes copy (Some n) = subst (Agrees bytes copy) e a in h ∙ sym (block_stays bytes new k block holds whole n d))
+    (λ n d e. let h : Agrees bytes copy (Some n) = subst (Agrees bytes copy) e a in h ∙ sym (block_stays bytes new k holds whole n d))
 
 -- the copies after a block was written
-pub copies_written : (bytes new : List ℕ) (copies : List (List ℕ)) (held : List (Option ℕ)) (k : ℕ) → k < 16 → 8192 ≤ length bytes → length new ≡ 512 →
+pub copies_written : (bytes new copies : List ℕ) (held : List (Option ℕ)) (k : ℕ) → 512 * k + 512 ≤ length bytes → length new ≡ 512 →
     AreCopies bytes copies held → AreCopies (splice bytes (512 * k) new) copies (map (forgotten k) held)
-copies_written bytes new copies held k block holds whole a = record {
+copies_written bytes new copies held k holds whole a = record {
   many = a.many;
-  long = a.long;
-  agree = λ buffer. subst (Agrees (splice bytes (512 * k) new) (get_or copies buffer [])) (sym (map_forgotten k held buffer))
-      (agrees_written bytes new (get_or copies buffer []) k (get_or held buffer None) block holds whole (a.agree buffer));
+  agree = λ buffer within. subst (Agrees (splice bytes (512 * k) new) (block_part copies buffer)) (sym (map_forgotten k held buffer))
+      (agrees_written bytes new (block_part copies buffer) k (get_or held buffer None) holds whole (a.agree buffer within));
 }
 
 -- the blocks that are held are still those of the level
@@ -66,15 +65,18 @@ err_fails true fault e = refl
 err_fails false fault e = absurd (cc)
 
 -- a level after a block was written
-module _ (old device : Memory) (tail : List ℕ) (lasts held : List (Option ℕ)) (copies : List (List ℕ)) (k : ℕ) (shadow : Shadow)
+module _ (old device : Memory) (tail : List ℕ) (lasts held : List (Option ℕ)) (copies : List ℕ) (k : ℕ) (shadow : Shadow)
     (block : IsBlock k) (holds : 8192 ≤ length old.bytes) (whole : length tail ≡ 512)
     (is_device : device ≡ after_write (512 * k) tail old) (is_held : held ≡ map (forgotten k) lasts) where
+  inside : 512 * k + 512 ≤ length old.bytes
+  inside = let b : k < 16 = block.below in omega (arith, b, holds)
+
   pub level_written : length lasts ≡ 4 → shadow.slot < 2 → shadow.len ≤ 32 → ((buffer : ℕ) → IfSome (get_or lasts buffer None) IsBlock) →
       (shadow.saved ≡ true → IsSaved (record { device = device; shadow = shadow; tail = tail; held = held })) → (shadow.saved ≡ false → shadow.len % 8 ≢ 0) →
       IsLevel (record { device = device; shadow = shadow; tail = tail; held = held })
   level_written many slot len blocks saved unsaved = record {
     device_holds = subst (λ (d : Memory). 8192 ≤ length d.bytes) (sym is_device)
-        (written_many old.bytes (if next_fails old then replicate (length tail) SPOILED else tail) k block.below holds (written_whole (next_fails old) tail whole));
+        (subst (λ (n : ℕ). 8192 ≤ n) (sym (written_many old.bytes (if next_fails old then replicate (length tail) SPOILED else tail) k inside (written_whole (next_fails old) tail whole))) holds);
     tail_many = whole;
     held_many = ap (λ (h : List (Option ℕ)). length h) is_held ∙ length-map lasts (forgotten k) ∙ many;
     slot_within = slot;
@@ -88,7 +90,7 @@ module _ (old device : Memory) (tail : List ℕ) (lasts held : List (Option ℕ)
   copies_kept a =
       subst (λ (d : Memory). AreCopies d.bytes copies held) (sym is_device)
       (subst (λ (h : List (Option ℕ)). AreCopies (after_write (512 * k) tail old).bytes copies h) (sym is_held)
-      (copies_written old.bytes (if next_fails old then replicate (length tail) SPOILED else tail) copies lasts k block.below holds (written_whole (next_fails old) tail whole) a))
+      (copies_written old.bytes (if next_fails old then replicate (length tail) SPOILED else tail) copies lasts k inside (written_whole (next_fails old) tail whole) a))
 
   -- where the device did not fail, the tail stands in the shadow's block
   pub tail_saved : next_fails old ≡ false → k ≡ block_number shadow.slot shadow.len → IsSaved (record { device = device; shadow = shadow; tail = tail; held = held })
@@ -99,7 +101,7 @@ module _ (old device : Memory) (tail : List ℕ) (lasts held : List (Option ℕ)
         let at : n % 8 ≡ place = omega (arith, h) in
         let bytes : device.bytes ≡ splice old.bytes (512 * k) tail =
         ap (λ (d : Memory). d.bytes) is_device ∙ ap (λ (b : Bool). splice old.bytes (512 * k) (if b then replicate (length tail) SPOILED else tail)) no_fault in
-        ap (λ (xs : List ℕ). part xs (64 * n) 64) bytes ∙ cell_is_new old.bytes tail k block.below holds whole n there ∙ ap (λ (i : ℕ). cell_part tail i) at;
+        ap (λ (xs : List ℕ). part xs (64 * n) 64) bytes ∙ cell_is_new old.bytes tail k inside whole n there ∙ ap (λ (i : ℕ). cell_part tail i) at;
   }
 
 -- a shadow that is a cell longer is saved where it ends with a block

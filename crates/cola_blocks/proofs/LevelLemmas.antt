@@ -45,24 +45,24 @@ order (suc a) zero = Above (omega arith)
 order (suc a) (suc b) = elim (order a b) [ Below h ↦ Below (omega (arith, h)) | Same h ↦ Same (ap suc h) | Above h ↦ Above (omega (arith, h)) ]
 
 -- bytes in which a block was written
-module _ (bytes new : List ℕ) (k : ℕ) (block : k < 16) (holds : 8192 ≤ length bytes) (whole : length new ≡ 512) where
+module _ (bytes new : List ℕ) (k : ℕ) (holds : 512 * k + 512 ≤ length bytes) (whole : length new ≡ 512) where
   -- are as many
-  pub written_many : 8192 ≤ length (splice bytes (512 * k) new)
-  written_many = omega (arith, length-splice bytes (512 * k) new (omega (arith, block, holds, whole)), holds)
+  pub written_many : length (splice bytes (512 * k) new) ≡ length bytes
+  written_many = length-splice bytes (512 * k) new (omega (arith, holds, whole))
 
   block_by : (n : ℕ) → Order n k → n ≢ k → block_part (splice bytes (512 * k) new) n ≡ block_part bytes n
-  block_by n (Below h) d = part-splice_below bytes (512 * k) new (512 * n) 512 (omega (arith, block, holds)) (omega (arith, h))
+  block_by n (Below h) d = part-splice_below bytes (512 * k) new (512 * n) 512 (omega (arith, holds)) (omega (arith, h))
   block_by n (Same h) d = absurd (d h)
-  block_by n (Above h) d = part-splice_above bytes (512 * k) new (512 * n) 512 (omega (arith, block, holds)) (omega (arith, h, whole))
+  block_by n (Above h) d = part-splice_above bytes (512 * k) new (512 * n) 512 (omega (arith, holds)) (omega (arith, h, whole))
 
   -- any other block stays
   pub block_stays : (n : ℕ) → n ≢ k → block_part (splice bytes (512 * k) new) n ≡ block_part bytes n
   block_stays n d = block_by n (order n k) d
 
   cell_by : (n : ℕ) → Order (n / 8) k → n / 8 ≢ k → part (splice bytes (512 * k) new) (64 * n) 64 ≡ part bytes (64 * n) 64
-  cell_by n (Below h) d = part-splice_below bytes (512 * k) new (64 * n) 64 (omega (arith, block, holds)) (omega (arith, h))
+  cell_by n (Below h) d = part-splice_below bytes (512 * k) new (64 * n) 64 (omega (arith, holds)) (omega (arith, h))
   cell_by n (Same h) d = absurd (d h)
-  cell_by n (Above h) d = part-splice_above bytes (512 * k) new (64 * n) 64 (omega (arith, block, holds)) (omega (arith, h, whole))
+  cell_by n (Above h) d = part-splice_above bytes (512 * k) new (64 * n) 64 (omega (arith, holds)) (omega (arith, h, whole))
 
   -- any cell of another block stays
   pub cell_stays : (n : ℕ) → n / 8 ≢ k → part (splice bytes (512 * k) new) (64 * n) 64 ≡ part bytes (64 * n) 64
@@ -73,7 +73,7 @@ module _ (bytes new : List ℕ) (k : ℕ) (block : k < 16) (holds : 8192 ≤ len
   cell_is_new n e =
       let h : 64 * n ≡ 512 * k + 64 * (n % 8) = omega (arith, e) in
       ap (λ (at : ℕ). part (splice bytes (512 * k) new) at 64) h
-      ∙ part-splice_inside bytes (512 * k) new (64 * (n % 8)) 64 (omega (arith, block, holds)) (omega (arith, whole))
+      ∙ part-splice_inside bytes (512 * k) new (64 * (n % 8)) 64 (omega (arith, holds)) (omega (arith, whole))
 
 -- a cell of a block that was read
 pub cell_of_block : (bytes : List ℕ) (n : ℕ) → cell_part (block_part bytes (n / 8)) (n % 8) ≡ part bytes (64 * n) 64

@@ -78,11 +78,10 @@ pub record IsLevel (level : Level) : Type 0 where
 abbrev pub Agrees : List ℕ → List ℕ → Option ℕ → Type 0
 Agrees bytes copy held = IfSome held (λ number. copy ≡ block_part bytes number)
 
--- a copy for each buffer, which has the bytes of the block that the buffer holds
-pub record AreCopies (bytes : List ℕ) (copies : List (List ℕ)) (held : List (Option ℕ)) : Type 0 where
-  pub many : length copies ≡ 4
-  pub long : (buffer : ℕ) → buffer < 4 → length (slice_index_or copies buffer []) ≡ 512
-  pub agree : (buffer : ℕ) → Agrees bytes (slice_index_or copies buffer []) (slice_index_or held buffer None)
+-- a copy for each of four buffers, which has the bytes of the block that the buffer holds
+pub record AreCopies (bytes copies : List ℕ) (held : List (Option ℕ)) : Type 0 where
+  pub many : length copies ≡ 2048
+  pub agree : (buffer : ℕ) → buffer < 4 → Agrees bytes (block_part copies buffer) (slice_index_or held buffer None)
 
 -- a block of zeros
 unfoldable pub zero_block : List ℕ

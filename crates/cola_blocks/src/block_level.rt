@@ -1,6 +1,6 @@
 //! The one level of cells in blocks: its slots on the device, its shadow's tail, and a block for each buffer.
 
-ghost use Rattle.std.specs.Prelude.{◌≡◌, ◌+◌, ◌*◌, ◌%◌, ◌≤◌, ◌<◌, Err, Ok, is_err, length, map, OnErr, if◌then◌else◌};
+ghost use Rattle.std.specs.Prelude.{◌≡◌, ◌+◌, ◌*◌, ◌%◌, ◌≤◌, ◌<◌, Err, Ok, is_err, length, map, OnErr, if◌then◌else◌, None, slice_index_or, slice_set};
 ghost use Rattle.cola_cell.specs.declared.format.Format.TheVariants.{One};
 ghost use Rattle.cola_cell.specs.Format.{CellFits};
 ghost use Rattle.cola_device.specs.Bytes.{splice};
@@ -8,7 +8,7 @@ ghost use Rattle.cola_device.specs.Memory.{next_fails, after_write};
 ghost use Rattle.cola_cell.specs.declared.fault.ReadFault.TheVariants.{Device};
 ghost use Rattle.cola_cell.specs.declared.fault.PushFault.TheVariants as push;
 ghost use Rattle.cola_blocks.specs.Decoded.{decoded, spelling};
-ghost use Rattle.cola_blocks.specs.Level.{IsLevel, IsBlock, block_number, cell_part, is_in_tail, Agrees, turn_fails, device_turned, held_turned, forgotten, longer, new_level, level_answer, after_level_read, level_push_answer, after_level_push, level_finish_answer, after_level_finish, after_level_restart};
+ghost use Rattle.cola_blocks.specs.Level.{IsLevel, IsBlock, block_number, cell_part, is_in_tail, AreCopies, turn_fails, device_turned, held_turned, forgotten, longer, new_level, level_answer, after_level_read, level_push_answer, after_level_push, level_finish_answer, after_level_finish, after_level_restart};
 
 use cola_cell::{Cell, Item, PushFault, ReadFault, Shadow, decode, encode};
 use cola_device::{Device, MemoryDevice};
@@ -21,7 +21,7 @@ pub(crate) struct BlockLevel {
     device: MemoryDevice,
     shadow: Shadow,
     tail: [u8; 512],
-    copies: [[u8; 512]; 4],
+    copies: [u8; 2048],
     held: [Option<u8>; 4],
 }
 
@@ -93,30 +93,33 @@ fn forget(held: &mut [Option<u8>], block: u8)
     }
 }
 
-/// Turns a buffer to the block, where it does not hold it already. Before a read nothing is held.
+/// Turns a buffer to the block, where it does not hold it already. Before a read it holds none.
 fn turn_to(
     device: &mut MemoryDevice,
-    held: &mut Option<u8>,
-    copy: &mut [u8],
+    held: &mut [Option<u8>],
+    copies: &mut [u8],
+    buffer: usize,
     block: u8,
 ) -> Result<(), ReadFault>
+    requires buffer_in { buffer < 4 }
     requires block_in { IsBlock block }
     requires device_holds { 8192 ≤ length device.old.bytes }
-    requires copy_many { length copy.old ≡ 512 }
-    requires agrees { Agrees device.old.bytes copy.old held.old }
-    ensures fails { is_err result ≡ turn_fails device.old held.old block }
+    requires held_many { length held.old ≡ 4 }
+    requires copies { AreCopies device.old.bytes copies.old held.old }
+    ensures fails { is_err result ≡ turn_fails device.old (slice_index_or held.old buffer None) block }
     ensures fault { OnErr result (result ≡ Err Device) }
-    ensures device { device.new ≡ device_turned device.old held.old block }
-    ensures held { held.new ≡ held_turned device.old held.old block }
-    ensures agrees { Agrees device.new.bytes copy.new held.new }
+    ensures device { device.new ≡ device_turned device.old (slice_index_or held.old buffer None) block }
+    ensures held { held.new ≡ slice_set held.old buffer (held_turned device.old (slice_index_or held.old buffer None) block) }
+    ensures copies { AreCopies device.new.bytes copies.new held.new }
 {
-    if *held == Some(block) {
+    if held[buffer] == Some(block) {
         return Ok(());
     }
-    *held = None;
-    match device.read(512 * block as u64, copy) {
+    held[buffer] = None;
+    let at = 512 * buffer;
+    match device.read(512 * block as u64, &mut copies[at..at + 512]) {
         Ok(()) => {
-            *held = Some(block);
+            held[buffer] = Some(block);
             Ok(())
         }
         Err(_) => Err(ReadFault::Device),
@@ -172,7 +175,7 @@ impl BlockLevel {
                 saved: true,
             },
             tail: [0; 512],
-            copies: [[0; 512]; 4],
+            copies: [0; 2048],
             held: [None; 4],
         }
     }
@@ -224,14 +227,18 @@ impl BlockLevel {
             return cell_in(&self.tail, place).ok_or(ReadFault::BadCell(number));
         }
         let block = number_of_block(slot, index);
-        let mut held = self.held[buffer];
-        let copy = &mut self.copies[buffer];
-        let turned = turn_to(&mut self.device, &mut held, copy, block);
-        self.held[buffer] = held;
-        if let Err(fault) = turned {
-            return Err(fault);
+        match turn_to(
+            &mut self.device,
+            &mut self.held,
+            &mut self.copies,
+            buffer,
+            block,
+        ) {
+            Ok(()) => {}
+            Err(fault) => return Err(fault),
         }
-        cell_in(&self.copies[buffer], place).ok_or(ReadFault::BadCell(number))
+        let at = 512 * buffer;
+        cell_in(&self.copies[at..at + 512], place).ok_or(ReadFault::BadCell(number))
     }
 
     /// Appends a cell to the shadow.
