@@ -1,3 +1,4 @@
 pub mod DecodedLemmas
 pub mod LevelLemmas
 pub mod LevelKept
+pub mod LevelSpots

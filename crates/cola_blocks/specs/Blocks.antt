@@ -13,7 +13,7 @@ use Rattle.cola_cell.specs.Held.{Made, Held, Spot, Spots, Bad}
 use Rattle.cola_cell.specs.Spent.{Buffer, Search, By, Spent}
 use Rattle.cola_cell.specs.Shadows.{emptied}
 use Rattle.cola_cell.specs.Flat as flat
-use Rattle.cola_cell.specs.Flat.{Flat, shadow_at}
+use Rattle.cola_cell.specs.Flat.{Flat, IsFlat, shadow_at}
 use Rattle.cola_device.specs.Memory.{Memory}
 use Rattle.cola_blocks.specs.Decoded.{spelling, spot_of_bytes}
 use Rattle.cola_blocks.specs.Level.{Level, IsLevel, cell_bytes, held_by, new_level, level_answer, after_level_read, after_level_push, after_level_finish, level_push_answer, level_finish_answer, after_level_restart}
@@ -30,6 +30,12 @@ pub record IsBlocks (blocks : Blocks) : Type 0 where
   pub levels_are : blocks.front.levels ≡ 3
   pub none_fails : blocks.front.failing ≡ []
   pub ticked_within : blocks.ticked < 2 ^ 64
+
+-- what each of them may be, and its parts
+pub record IsSound (blocks : Blocks) : Type 0 where
+  pub own : IsBlocks blocks
+  pub front : IsFlat blocks.front
+  pub level : IsLevel blocks.level
 
 -- no cell is set in memory, each shadow is empty and stands in slot 1, and no call was made
 abbrev pub new_blocks : Memory → Blocks

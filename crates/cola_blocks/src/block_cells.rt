@@ -1,6 +1,11 @@
 //! Cells of which the lowest level lies in blocks on a device.
 ghost use Rattle.std.specs.Prelude.{◌≡◌, ◌+◌, ◌≤◌, ◌<◌, IfOk, length};
-ghost use Rattle.cola_blocks.specs.Blocks.{held_of, spent_of};
+ghost use Rattle.cola_cell.specs.declared.format.Format.TheVariants.{One};
+ghost use Rattle.cola_cell.specs.Format.{CellFits};
+ghost use Rattle.cola_cell.specs.Places.{IsPlace};
+ghost use Rattle.cola_cell.specs.Shadows.{push_ticks};
+ghost use Rattle.cola_blocks.specs.Level.{IsLevel};
+ghost use Rattle.cola_blocks.specs.Blocks.{IsSound, new_blocks, held_of, spent_of, reader_buffer, shadow_of, read_answer, after_read, push_answer, after_push, finish_answer, after_finish, after_restart};
 
 use crate::block_level::BlockLevel;
 use cola_cell::{
@@ -25,6 +30,7 @@ pub struct BlockCells {
 
 /// Which buffer of the level in blocks a reader has. Buffer 0 is that of searches.
 fn buffer_of(reader: Reader) -> usize
+    ensures { result ≡ reader_buffer reader }
 {
     match reader {
         Reader::Own => 1,
@@ -57,6 +63,8 @@ impl BlockCells {
     /// Cells on this device, where each shadow is empty and stands in slot 1. An error comes only for want of
     /// memory.
     pub fn new(alloc: Global, device: MemoryDevice) -> Result<BlockCells, AllocError>
+        requires { 8192 ≤ length device.bytes }
+        ensures { IfOk result (λ cells. cells ≡ new_blocks device) }
     {
         let front = FlatCells::new(alloc, 3, Vec::new(alloc))?;
         Ok(BlockCells {
@@ -70,15 +78,26 @@ impl BlockCells {
 
     /// The device.
     pub fn device(&self) -> &MemoryDevice
+        ensures { result.now ≡ self.now.level.device }
     {
         self.level.device()
     }
 
     /// The device, as it is kept.
     pub fn into_device(self) -> MemoryDevice
+        ensures { result ≡ self.level.device }
     {
         let BlockCells { level, .. } = self;
         level.into_device()
+    }
+
+    // Does nothing: it says what the parts of these cells may be.
+    #[inline(always)]
+    fn know(&self)
+        ensures { IsSound self.now }
+    {
+        let _ = self.front.ticked();
+        let _ = self.level.shadow();
     }
 
     /// The cell at a place, by way of a buffer of level 3.
@@ -90,7 +109,14 @@ impl BlockCells {
         index: u32,
         steps: &mut Steps<L>,
     ) -> Result<Cell, ReadFault>
+        requires buffer_in { buffer < 4 }
+        requires place { IsPlace 4 level slot index }
+        ensures answer { result ≡ read_answer self.old buffer level slot index }
+        ensures after { self.new ≡ after_read self.old buffer level slot index }
+        ensures one_tick { steps.new ≡ steps.old + 1 }
+        ensures sound { IsSound self.old }
     {
+        self.know();
         self.ticked = self.ticked.wrapping_add(1);
         if level == 3 {
             steps.tick();
@@ -112,6 +138,11 @@ impl CellSource for BlockCells {
         index: u32,
         steps: &mut Steps<L>,
     ) -> Result<Cell, ReadFault>
+        requires { IsPlace 4 level slot index }
+        ensures answer { result ≡ read_answer self.old 0 level slot index }
+        ensures after { self.new ≡ after_read self.old 0 level slot index }
+        ensures one_tick { steps.new ≡ steps.old + 1 }
+        ensures sound { IsSound self.old }
     {
         self.read_by(0, level, slot, index, steps)
     }
@@ -124,19 +155,32 @@ impl CellSource for BlockCells {
         index: u32,
         steps: &mut Steps<L>,
     ) -> Result<Cell, ReadFault>
+        requires { IsPlace 4 level slot index }
+        ensures answer { result ≡ read_answer self.old (reader_buffer reader) level slot index }
+        ensures after { self.new ≡ after_read self.old (reader_buffer reader) level slot index }
+        ensures one_tick { steps.new ≡ steps.old + 1 }
+        ensures sound { IsSound self.old }
     {
         self.read_by(buffer_of(reader), level, slot, index, steps)
     }
 
     fn ticked(&self) -> u64
+        ensures value { result ≡ self.now.ticked }
+        ensures sound { IsSound self.now }
     {
+        self.know();
         self.ticked
     }
 }
 
 impl CellSink for BlockCells {
     fn restart(&mut self, level: u8, slot: u8)
+        requires level_in { level < 4 }
+        requires slot_in { slot < 2 }
+        ensures after { self.new ≡ after_restart self.old level slot }
+        ensures sound { IsSound self.old }
     {
+        self.know();
         if level == 3 {
             self.level.restart(slot);
         } else {
@@ -151,7 +195,15 @@ impl CellSink for BlockCells {
         cell: &Cell,
         steps: &mut Steps<L>,
     ) -> Result<(), PushFault>
+        requires level_in { level < 4 }
+        requires in_slot { slot ≡ (shadow_of self.old level).slot }
+        requires fits { CellFits One cell.now }
+        ensures answer { result ≡ push_answer self.old level }
+        ensures after { self.new ≡ after_push self.old level cell.now }
+        ensures ticks { steps.new ≡ steps.old + push_ticks result }
+        ensures sound { IsSound self.old }
     {
+        self.know();
         if level == 3 {
             if self.level.shadow().len == 32 {
                 return Err(PushFault::Overfull(level));
@@ -170,7 +222,12 @@ impl CellSink for BlockCells {
     }
 
     fn finish(&mut self, level: u8) -> Result<(), PushFault>
+        requires { level < 4 }
+        ensures answer { result ≡ finish_answer self.old level }
+        ensures after { self.new ≡ after_finish self.old level }
+        ensures sound { IsSound self.old }
     {
+        self.know();
         if level == 3 {
             return self.level.finish();
         }
@@ -178,7 +235,11 @@ impl CellSink for BlockCells {
     }
 
     fn shadow_len(&self, level: u8) -> u32
+        requires { level < 4 }
+        ensures value { result ≡ (shadow_of self.now level).len }
+        ensures sound { IsSound self.now }
     {
+        self.know();
         if level == 3 {
             return self.level.shadow().len;
         }
