@@ -1,5 +1,5 @@
 -- The bytes of the cells of a level before and after each call.
-use Rattle.std.proofs.Common.{◌≡◌, ◌≢◌, ◌⊎◌, inl, inr, ℕ, ◌+◌, ◌-◌, ◌*◌, ◌/◌, ◌%◌, ◌<◌, ◌≤◌, ◌==◌, nat_lt, ◌&&◌, not, Bool, true, false, if◌then◌else◌, List, length, map, replicate, Option, None, Some, refl, sym, ap, subst, ◌∙◌, arith}
+use Rattle.std.proofs.Common.{eq-eqb, ◌≡◌, ◌≢◌, ◌⊎◌, inl, inr, ℕ, ◌+◌, ◌-◌, ◌*◌, ◌/◌, ◌%◌, ◌<◌, ◌≤◌, ◌==◌, nat_lt, ◌&&◌, not, Bool, true, false, if◌then◌else◌, List, length, map, replicate, Option, None, Some, refl, sym, ap, subst, ◌∙◌, arith}
 use Rattle.std.proofs.lemmas.Bool.{eqb-true, eqb-false, false≢true, ltb-true, lt-ltb}
 use Rattle.cola_cell.specs.declared.sink.Shadow.{Shadow}
 use Rattle.cola_cell.specs.Shadows.{emptied}
@@ -27,7 +27,7 @@ both false b e = absurd (false≢true e)
 
 -- equal numbers pass the test, and others fail it
 pub eq_true : (a b : ℕ) → a ≡ b → (a == b) ≡ true
-eq_true a b e = ?
+eq_true a b e = eq-eqb a b e
 
 pub eq_false : (a b : ℕ) → a ≢ b → (a == b) ≡ false
 eq_false a b d = by_test (a == b) refl
@@ -102,3 +102,121 @@ spot_there level slot index s i =
 pub other_block : (slot len s i : ℕ) → slot < 2 → len < 32 → s < 2 → i < 32 → (s ≢ slot) ⊎ (i / 8 ≢ len / 8) → cell_number s i / 8 ≢ block_number slot len
 other_block slot len s i hs hl h k (inl d) = λ e. d (omega (arith, e, hs, hl, h, k))
 other_block slot len s i hs hl h k (inr d) = λ e. d (omega (arith, e, hs, hl, h, k))
+
+-- a restart of a shadow whose cells stay: none in the tail, or all of it is saved
+pub restart_bytes : (level : Level) (slot s i : ℕ) → (IsInTail level.shadow s i → IsSaved level) → cell_bytes (after_level_restart level slot) s i ≡ cell_bytes level s i
+restart_bytes level slot s i saved =
+    let out : cell_bytes (after_level_restart level slot) s i ≡ part level.device.bytes (64 * cell_number s i) 64 =
+    bytes_out (after_level_restart level slot) s i (λ p. let h : i < 0 = p.within in omega (arith, h)) in
+    bytes_stay level (after_level_restart level slot) s i
+    (λ p.
+        let e : s ≡ level.shadow.slot = p.slot_is in
+        let b : i / 8 ≡ level.shadow.len / 8 = p.block_is in
+        let w : i < level.shadow.len = p.within in
+        let at : cell_number s i ≡ cell_number level.shadow.slot (8 * (level.shadow.len / 8) + i % 8) = omega (arith, e, b) in
+        out ∙ ap (λ (n : ℕ). part level.device.bytes (64 * n) 64) at ∙ (saved p).same (i % 8) (omega (arith, b, w)))
+    (λ d. out)
+
+-- bytes of the tail before the cell that was put
+pub tail_before : (tail bytes : List ℕ) (place at : ℕ) → length tail ≡ 512 → place < at → at < 8 → cell_part (splice tail (64 * at) bytes) place ≡ cell_part tail place
+tail_before tail bytes place at whole h k = part-splice_below tail (64 * at) bytes (64 * place) 64 (omega (arith, whole, k)) (omega (arith, h))
+
+-- and of that cell
+pub tail_at : (tail bytes : List ℕ) (at : ℕ) → length tail ≡ 512 → at < 8 → length bytes ≡ 64 → cell_part (splice tail (64 * at) bytes) at ≡ bytes
+tail_at tail bytes at whole k long = ap (λ (n : ℕ). part (splice tail (64 * at) bytes) (64 * at) n) (sym long) ∙ part-splice tail (64 * at) bytes (omega (arith, whole, k))
+
+-- a push that fills no block
+module _ (level : Level) (bytes : List ℕ) (sound : IsLevel level) (ends : level.shadow.len % 8 ≢ 7) where
+  pub more_bytes : (s i : ℕ) → (s ≢ level.shadow.slot) ⊎ (i ≢ level.shadow.len) → cell_bytes (with_cell_counted (with_cell_put level bytes)) s i ≡ cell_bytes level s i
+  more_bytes s i d =
+      let new : Level = with_cell_counted (with_cell_put level bytes) in
+      let whole : length level.tail ≡ 512 = sound.tail_many in
+      bytes_stay level new s i
+      (λ p.
+          let e : s ≡ level.shadow.slot = p.slot_is in
+          let b : i / 8 ≡ level.shadow.len / 8 = p.block_is in
+          let w : i < level.shadow.len = p.within in
+          let q : IsInTail new.shadow s i = record { slot_is = e; block_is = omega (arith, b, ends); within = omega (arith, w) } in
+          bytes_in new s i q ∙ tail_before level.tail bytes (i % 8) (level.shadow.len % 8) whole (omega (arith, b, w)) (omega arith))
+      (λ o. bytes_out new s i (λ q.
+          let e : s ≡ level.shadow.slot = q.slot_is in
+          let b : i / 8 ≡ (level.shadow.len + 1) / 8 = q.block_is in
+          let w : i < level.shadow.len + 1 = q.within in
+          elim d [ inl h ↦ h e | inr h ↦ o (record { slot_is = e; block_is = omega (arith, b, ends); within = omega (arith, w, h) }) ]))
+
+  pub more_end : length bytes ≡ 64 → cell_bytes (with_cell_counted (with_cell_put level bytes)) level.shadow.slot level.shadow.len ≡ bytes
+  more_end long =
+      bytes_in (with_cell_counted (with_cell_put level bytes)) level.shadow.slot level.shadow.len (record { slot_is = refl; block_is = omega (arith, ends); within = omega arith })
+      ∙ tail_at level.tail bytes (level.shadow.len % 8) sound.tail_many (omega arith) long
+
+-- a write of the block in which the shadow ends, of these bytes
+module _ (level new : Level) (sound : IsLevel level) (room : level.shadow.len < 32) (from : List ℕ) (whole : length from ≡ 512)
+    (is_bytes : new.device.bytes ≡ splice level.device.bytes (512 * block_number level.shadow.slot level.shadow.len) from) where
+  holds : 512 * block_number level.shadow.slot level.shadow.len + 512 ≤ length level.device.bytes
+  holds = let s : level.shadow.slot < 2 = sound.slot_within in let h : 8192 ≤ length level.device.bytes = sound.device_holds in omega (arith, s, h, room)
+
+  -- leaves the cells of other blocks
+  pub written_other : (s i : ℕ) → s < 2 → i < 32 → (s ≢ level.shadow.slot) ⊎ (i / 8 ≢ level.shadow.len / 8) → part new.device.bytes (64 * cell_number s i) 64 ≡ part level.device.bytes (64 * cell_number s i) 64
+  written_other s i hs hi d =
+      ap (λ (b : List ℕ). part b (64 * cell_number s i) 64) is_bytes
+      ∙ cell_stays level.device.bytes from (block_number level.shadow.slot level.shadow.len) holds whole (cell_number s i)
+        (other_block level.shadow.slot level.shadow.len s i sound.slot_within room hs hi d)
+
+  -- and puts those of this one
+  pub written_there : (i : ℕ) → i / 8 ≡ level.shadow.len / 8 → part new.device.bytes (64 * cell_number level.shadow.slot i) 64 ≡ cell_part from (i % 8)
+  written_there i e =
+      ap (λ (b : List ℕ). part b (64 * cell_number level.shadow.slot i) 64) is_bytes
+      ∙ cell_is_new level.device.bytes from (block_number level.shadow.slot level.shadow.len) holds whole (cell_number level.shadow.slot i)
+        (block_of_cell level.shadow.slot i ∙ ap (λ (b : ℕ). (2 + level.shadow.slot) * 4 + b) e)
+      ∙ ap (λ (at : ℕ). cell_part from at) (place_of_cell level.shadow.slot i)
+
+  apart_by : (s i : ℕ) → Order s level.shadow.slot → (IsInTail level.shadow s i → ⊥) → (s ≡ level.shadow.slot → i / 8 ≡ level.shadow.len / 8 → i < level.shadow.len) → (s ≢ level.shadow.slot) ⊎ (i / 8 ≢ level.shadow.len / 8)
+  apart_by s i (Below h) o w = inl (λ e. omega (arith, h, e))
+  apart_by s i (Above h) o w = inl (λ e. omega (arith, h, e))
+  apart_by s i (Same e) o w = inr (λ b. o (record { slot_is = e; block_is = b; within = w e b }))
+
+  -- where the shadow ends as before, with as much in the tail, only cells of its slot behind it change
+  pub written_bytes : new.shadow.slot ≡ level.shadow.slot → new.shadow.len ≡ level.shadow.len →
+      ((place : ℕ) → place < level.shadow.len % 8 → cell_part new.tail place ≡ cell_part level.tail place) →
+      (s i : ℕ) → s < 2 → i < 32 → (s ≡ level.shadow.slot → i / 8 ≡ level.shadow.len / 8 → i < level.shadow.len) → cell_bytes new s i ≡ cell_bytes level s i
+  written_bytes slot len tail s i hs hi w =
+      bytes_stay level new s i
+      (λ p.
+          let e : s ≡ level.shadow.slot = p.slot_is in
+          let b : i / 8 ≡ level.shadow.len / 8 = p.block_is in
+          let v : i < level.shadow.len = p.within in
+          bytes_in new s i (record { slot_is = e ∙ sym slot; block_is = b ∙ ap (λ (n : ℕ). n / 8) (sym len); within = omega (arith, v, len) }) ∙ tail (i % 8) (omega (arith, b, v)))
+      (λ o.
+          bytes_out new s i (λ q.
+              let e : s ≡ new.shadow.slot = q.slot_is in
+              let b : i / 8 ≡ new.shadow.len / 8 = q.block_is in
+              let v : i < new.shadow.len = q.within in
+              o (record { slot_is = e ∙ slot; block_is = b ∙ ap (λ (n : ℕ). n / 8) len; within = omega (arith, v, len) }))
+          ∙ written_other s i hs hi (apart_by s i (order s level.shadow.slot) o w))
+
+  -- where the shadow ends behind the block, so that nothing is in the tail, all cells but the one that was put stay
+  pub full_bytes : new.shadow.len ≡ level.shadow.len + 1 → level.shadow.len % 8 ≡ 7 →
+      ((place : ℕ) → place < 7 → cell_part from place ≡ cell_part level.tail place) →
+      (s i : ℕ) → s < 2 → i < 32 → (s ≢ level.shadow.slot) ⊎ (i ≢ level.shadow.len) → cell_bytes new s i ≡ cell_bytes level s i
+  full_bytes len full tail s i hs hi d =
+      let none : IsInTail new.shadow s i → ⊥ =
+      λ q.
+          let b : i / 8 ≡ new.shadow.len / 8 = q.block_is in
+          let v : i < new.shadow.len = q.within in
+          omega (arith, b, v, len, full) in
+      bytes_stay level new s i
+      (λ p.
+          let e : s ≡ level.shadow.slot = p.slot_is in
+          let b : i / 8 ≡ level.shadow.len / 8 = p.block_is in
+          let v : i < level.shadow.len = p.within in
+          bytes_out new s i none
+          ∙ ap (λ (t : ℕ). part new.device.bytes (64 * cell_number t i) 64) e
+          ∙ written_there i b ∙ tail (i % 8) (omega (arith, b, v, full)))
+      (λ o.
+          bytes_out new s i none
+          ∙ written_other s i hs hi (apart_by s i (order s level.shadow.slot) o (λ e b. elim d [ inl h ↦ absurd (h e) | inr h ↦ omega (arith, h, b, full) ])))
+
+  pub full_end : new.shadow.len ≡ level.shadow.len + 1 → level.shadow.len % 8 ≡ 7 → cell_bytes new level.shadow.slot level.shadow.len ≡ cell_part from 7
+  full_end len full =
+      bytes_out new level.shadow.slot level.shadow.len (λ q. let b : level.shadow.len / 8 ≡ new.shadow.len / 8 = q.block_is in omega (arith, b, len, full))
+      ∙ written_there level.shadow.len refl ∙ ap (λ (at : ℕ). cell_part from at) full
