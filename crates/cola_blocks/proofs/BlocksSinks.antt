@@ -1,0 +1,182 @@
+-- That pushes, finishes and restarts of cells of which level 3 lies in blocks meet the trait.
+use Rattle.std.proofs.Common.{◌≡◌, ◌≢◌, ◌⊎◌, inl, inr, ℕ, ◌+◌, ◌-◌, ◌*◌, ◌/◌, ◌%◌, ◌^◌, ◌<◌, ◌≤◌, ◌==◌, nat_lt, ◌&&◌, not, min, max, Bool, true, false, if◌then◌else◌, IsTrue, List, [], length, map, get_or, set, replicate, Option, None, Some, IfSome, Result, Ok, Err, refl, sym, ap, subst, ◌∙◌, arith}
+use Rattle.std.proofs.lemmas.Bool.{eqb-true, eqb-false, false≢true}
+use Rattle.std.proofs.lemmas.List.{get_or-set_same, get_or-set_other}
+use Rattle.cola_outside.specs.Faults.{Rose}
+use Rattle.cola_cell.specs.declared.format.Format.TheVariants.{One}
+use Rattle.cola_cell.specs.declared.cell.Cell.{Cell}
+use Rattle.cola_cell.specs.declared.fault.PushFault.{PushFault}
+use Rattle.cola_cell.specs.declared.fault.PushFault.TheVariants as push
+use Rattle.cola_cell.specs.declared.sink.Shadow.{Shadow}
+use Rattle.cola_cell.specs.Format.{CellFits}
+use Rattle.cola_cell.specs.Places.{slot_size, number_of, IsPlace, Block, block_of}
+use Rattle.cola_cell.specs.Held.{Held, Spot, Bad, Told, Tells, LawCell, as_cell, is_untold, with_cell, IsElsewhere, span}
+use Rattle.cola_cell.specs.Spent.{Buffer, Search, By, Spent, Ticks}
+use Rattle.cola_cell.specs.Shadows.{emptied, IsKept, StaysAround, Restarts, Pushes, PushAnswers, PushSpends, push_ticks, Forgets, WritesNothing, Writes, Finishes, FinishAnswers, FinishSpends}
+use Rattle.cola_cell.specs.Flat as flat
+use Rattle.cola_cell.specs.Flat.{Flat, IsFlat, shadow_at, spot_of}
+use Rattle.cola_cell.proofs.FlatLemmas.{spots_told, shadow_put}
+use Rattle.cola_device.specs.declared.counts.Counts.{Counts}
+use Rattle.cola_device.specs.declared.memory.TheConstants.{SPOILED}
+use Rattle.cola_device.specs.Bytes.{part, splice}
+use Rattle.cola_device.specs.Counts.{one_more, count_fault, count_write}
+use Rattle.cola_device.specs.Memory.{Memory, next_fails, after_write}
+use Rattle.cola_blocks.specs.Decoded.{decoded, spelling, spot_of_bytes}
+use Rattle.cola_blocks.specs.Level.{Level, IsLevel, IsSaved, IsBlock, block_number, cell_number, cell_part, is_in_tail, cell_bytes, is_block, held_by, forgotten, fills, longer, with_cell_put, with_cell_counted, with_tail_written, after_tail_write, level_push_answer, after_level_push, level_finish_answer, after_level_finish, after_level_restart}
+use Rattle.cola_blocks.specs.Blocks.{Blocks, IsBlocks, IsSound, level_spots, spots_of, shadow_of, held_of, as_block, reader_buffer, last_of, spent_of, is_full}
+use Rattle.cola_blocks.specs.Blocks as cells
+use Rattle.cola_blocks.proofs.DecodedLemmas.{decoded_is}
+use Rattle.cola_blocks.proofs.LevelLemmas.{Order, Below, Same, Above, order, map_forgotten, forgets_by}
+use Rattle.cola_blocks.proofs.LevelKept.{choose_else, shadow_block_in, ends_within, written_whole}
+use Rattle.cola_blocks.proofs.LevelSpots.{choose_then, eq_true, eq_false, spot_there, spots_stay, restart_bytes, tail_before, tail_at, more_bytes, more_end, written_bytes, full_bytes, full_end, IsInTail}
+use Rattle.cola_blocks.proofs.BlocksReads.{block_is, none_fails, low_or_three}
+
+-- a cell in memory or on the device is told
+told_spot : (c : Option Cell) → is_untold (spot_of c) ≡ false
+told_spot None = refl
+told_spot (Some c) = refl
+
+told_choice : (b : Bool) (c : Option Cell) → is_untold (if b then spot_of c else Bad) ≡ false
+told_choice true c = told_spot c
+told_choice false c = refl
+
+told_by : (blocks : Blocks) (l s i : ℕ) (t : Bool) → is_untold (if t then level_spots blocks.level s i else flat.spots_of 3 blocks.front.cells l s i) ≡ false
+told_by blocks l s i true = told_choice (nat_lt s 2 && nat_lt i 32) (decoded (cell_bytes blocks.level s i))
+told_by blocks l s i false = spots_told 3 blocks.front.cells l s i
+
+-- every place is told
+pub all_told : (blocks : Blocks) (l s i : ℕ) → is_untold (spots_of blocks l s i) ≡ false
+all_told blocks l s i = told_by blocks l s i (l == 3)
+
+-- what is told of the places of other levels stays with the cells in memory
+pub front_spots : (old new : Blocks) (l s i : ℕ) → l ≢ 3 → new.front.cells ≡ old.front.cells → spots_of new l s i ≡ spots_of old l s i
+front_spots old new l s i d e =
+    choose_else (l == 3) (level_spots new.level s i) (flat.spots_of 3 new.front.cells l s i) (eq_false l 3 d)
+    ∙ ap (λ (cs : List (Option Cell)). flat.spots_of 3 cs l s i) e
+    ∙ sym (choose_else (l == 3) (level_spots old.level s i) (flat.spots_of 3 old.front.cells l s i) (eq_false l 3 d))
+
+-- what is told of all places, by level
+pub spots_by : (old new : Blocks) (l s i : ℕ) → new.front.cells ≡ old.front.cells → (l ≡ 3 → level_spots new.level s i ≡ level_spots old.level s i) → spots_of new l s i ≡ spots_of old l s i
+spots_by old new l s i e same = by_order (order l 3)
+  where
+    at_three : l ≡ 3 → spots_of new l s i ≡ spots_of old l s i
+    at_three h =
+        choose_then (l == 3) (level_spots new.level s i) (flat.spots_of 3 new.front.cells l s i) (eq_true l 3 h) ∙ same h
+        ∙ sym (choose_then (l == 3) (level_spots old.level s i) (flat.spots_of 3 old.front.cells l s i) (eq_true l 3 h))
+    by_order : Order l 3 → spots_of new l s i ≡ spots_of old l s i
+    by_order (Below h) = front_spots old new l s i (λ k. omega (arith, h, k)) e
+    by_order (Same h) = at_three h
+    by_order (Above h) = front_spots old new l s i (λ k. omega (arith, h, k)) e
+
+-- the shadow of another level stays with those in memory
+pub front_shadow : (old new : Blocks) (l : ℕ) → l ≢ 3 → shadow_at new.front.shadows l ≡ shadow_at old.front.shadows l → shadow_of new l ≡ shadow_of old l
+front_shadow old new l d e =
+    choose_else (l == 3) new.level.shadow (shadow_at new.front.shadows l) (eq_false l 3 d) ∙ e
+    ∙ sym (choose_else (l == 3) old.level.shadow (shadow_at old.front.shadows l) (eq_false l 3 d))
+
+-- a change of level 3 alone
+pub around_three : (old new : Blocks) → new.made ≡ old.made → new.front.shadows ≡ old.front.shadows → StaysAround (held_of old) (held_of new) 3
+around_three old new made shadows = record {
+  fixed_is = ap (λ m. record { levels = 4; doublings = 0; format = One; made = m }) made;
+  shadows_stay = λ l d. front_shadow old new l d (ap (λ (xs : List Shadow). shadow_at xs l) shadows);
+  telling_is = λ l s i. all_told new l s i ∙ sym (all_told old l s i);
+}
+
+-- a restart of level 3
+pub restarts_level : (blocks : Blocks) (slot : ℕ) → IsLevel blocks.level → Restarts (held_of blocks) (held_of (record blocks { level = after_level_restart blocks.level slot })) 3 slot
+restarts_level blocks slot sound =
+    let new : Blocks = record blocks { level = after_level_restart blocks.level slot } in
+    record {
+      around = around_three blocks new refl refl;
+      shadow_is = refl;
+      others_stay = λ l s i d. spots_by blocks new l s i refl
+          (λ e. spots_stay blocks.level (after_level_restart blocks.level slot) s i
+          (λ _ _. restart_bytes blocks.level slot s i (λ p.
+              let k : s ≡ blocks.level.shadow.slot = p.slot_is in
+              let w : i < blocks.level.shadow.len = p.within in
+              elim d [ inl h ↦ absurd (h e) | inr h ↦ elim h [ inl g ↦ absurd (g k) | inr g ↦ absurd (omega (arith, g, w)) ] ])));
+      kept_stay = λ kept l s i. spots_by blocks new l s i refl
+          (λ e. spots_stay blocks.level (after_level_restart blocks.level slot) s i
+          (λ _ _. restart_bytes blocks.level slot s i (λ p. elim kept.is [ inl h ↦ sound.saved h | inr h ↦ absurd (omega (arith, h)) ])));
+    }
+
+-- what a buffer has after this block was written
+forgets_one : (slot index : ℕ) (held : Option ℕ) → slot < 2 → index < 32 → Forgets (block_of 8 3 slot index) (as_block held) (as_block (forgotten (block_number slot index) held))
+forgets_one slot index None s i = inl refl
+forgets_one slot index (Some n) s i = by_test (n == block_number slot index) refl
+  where
+    by_test : (t : Bool) → (n == block_number slot index) ≡ t → Forgets (block_of 8 3 slot index) (as_block (Some n)) (as_block (if t then None else Some n))
+    by_test true e = inr (ap (λ (x : ℕ). as_block (Some x)) (eqb-true n (block_number slot index) e) ∙ block_is slot index s i, refl)
+    by_test false e = inl refl
+
+-- what all buffers have then
+pub lasts_forget : (old new : Level) (slot index : ℕ) → slot < 2 → index < 32 → new.held ≡ map (forgotten (block_number slot index)) old.held →
+    (buffer : Buffer) → Forgets (block_of 8 3 slot index) (last_of old buffer) (last_of new buffer)
+lasts_forget old new slot index s i e Search = at 0
+  where
+    at : (b : ℕ) → Forgets (block_of 8 3 slot index) (as_block (held_by old b)) (as_block (held_by new b))
+    at b =
+        let h : held_by new b ≡ forgotten (block_number slot index) (held_by old b) = ap (λ (xs : List (Option ℕ)). get_or xs b None) e ∙ map_forgotten (block_number slot index) old.held b in
+        subst (λ (x : Option ℕ). Forgets (block_of 8 3 slot index) (as_block (held_by old b)) (as_block x)) (sym h) (forgets_one slot index (held_by old b) s i)
+lasts_forget old new slot index s i e (By reader l) = by_test (l == 3)
+  where
+    at : (b : ℕ) → Forgets (block_of 8 3 slot index) (as_block (held_by old b)) (as_block (held_by new b))
+    at b =
+        let h : held_by new b ≡ forgotten (block_number slot index) (held_by old b) = ap (λ (xs : List (Option ℕ)). get_or xs b None) e ∙ map_forgotten (block_number slot index) old.held b in
+        subst (λ (x : Option ℕ). Forgets (block_of 8 3 slot index) (as_block (held_by old b)) (as_block x)) (sym h) (forgets_one slot index (held_by old b) s i)
+    by_test : (t : Bool) → Forgets (block_of 8 3 slot index) (if t then as_block (held_by old (reader_buffer reader)) else None) (if t then as_block (held_by new (reader_buffer reader)) else None)
+    by_test true = at (reader_buffer reader)
+    by_test false = inl refl
+
+-- what a write does to the counts of a device
+pub record Counted (old new : Counts) : Type 0 where
+  pub faults_stay : old.faults ≤ new.faults
+  pub reads_are : new.reads ≡ old.reads
+  pub writes_stay : old.writes ≤ new.writes
+  pub writes_rise : new.writes ≤ old.writes + 1
+
+counted_by : (failed : Bool) (counts : Counts) → Counted counts (count_write (count_fault failed counts))
+counted_by true counts = record { faults_stay = omega arith; reads_are = refl; writes_stay = omega arith; writes_rise = omega arith }
+counted_by false counts = record { faults_stay = omega arith; reads_are = refl; writes_stay = omega arith; writes_rise = omega arith }
+
+rose_by : (failed : Bool) (counts : Counts) → failed ≡ true → Rose counts.faults (count_write (count_fault failed counts)).faults
+rose_by true counts e = omega arith
+rose_by false counts e = absurd (false≢true e)
+
+-- a write of the block in which the shadow ends
+module _ (old new : Blocks) (ticks : ℕ) (from : List ℕ) (slot_in : old.level.shadow.slot < 2) (room : old.level.shadow.len < 32)
+    (is_device : new.level.device ≡ after_write (512 * block_number old.level.shadow.slot old.level.shadow.len) from old.level.device)
+    (is_held : new.level.held ≡ map (forgotten (block_number old.level.shadow.slot old.level.shadow.len)) old.level.held) (is_ticked : Ticks old.ticked new.ticked ticks) where
+  pub writes_block : Writes (spent_of old) (spent_of new) ticks (block_of 8 3 old.level.shadow.slot old.level.shadow.len)
+  writes_block =
+      let c : Counted old.level.device.counts new.level.device.counts =
+      subst (λ (d : Memory). Counted old.level.device.counts d.counts) (sym is_device) (counted_by (next_fails old.level.device) old.level.device.counts) in
+      record {
+        faults_stay = c.faults_stay;
+        ticks_made = is_ticked;
+        turned_is = c.reads_are;
+        written_stays = c.writes_stay;
+        written_rises = c.writes_rise;
+        lasts_forget = lasts_forget old.level new.level old.level.shadow.slot old.level.shadow.len slot_in room is_held;
+      }
+
+  pub write_rose : next_fails old.level.device ≡ true → Rose old.level.device.counts.faults new.level.device.counts.faults
+  write_rose e = subst (λ (d : Memory). Rose old.level.device.counts.faults d.counts.faults) (sym is_device) (rose_by (next_fails old.level.device) old.level.device.counts e)
+
+-- a call that writes nothing
+pub writes_none : (old new : Blocks) (ticks : ℕ) (block : Block) → Ticks old.ticked new.ticked ticks → new.level.device ≡ old.level.device → new.level.held ≡ old.level.held → Writes (spent_of old) (spent_of new) ticks block
+writes_none old new ticks block t d h =
+    let e : last_of new.level ≡ last_of old.level = ap (λ (xs : List (Option ℕ)). last_of (record old.level { held = xs })) h in
+    record {
+      faults_stay = omega (arith, ap (λ (m : Memory). m.counts.faults) d);
+      ticks_made = t;
+      turned_is = ap (λ (m : Memory). m.counts.reads) d;
+      written_stays = omega (arith, ap (λ (m : Memory). m.counts.writes) d);
+      written_rises = omega (arith, ap (λ (m : Memory). m.counts.writes) d);
+      lasts_forget = λ buffer. inl (ap (λ (f : Buffer → Option Block). f buffer) e);
+    }
+
+pub nothing_written : (old new : Blocks) → new.level.device ≡ old.level.device → new.level.held ≡ old.level.held → WritesNothing (spent_of old) (spent_of new)
+nothing_written old new d h =
+    let e : last_of new.level ≡ last_of old.level = ap (λ (xs : List (Option ℕ)). last_of (record old.level { held = xs })) h in
+    record { written_is = ap (λ (m : Memory). m.counts.writes) d; lasts_stay = λ buffer. ap (λ (f : Buffer → Option Block). f buffer) e }
