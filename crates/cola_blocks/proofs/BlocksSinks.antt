@@ -1,5 +1,5 @@
 -- That pushes, finishes and restarts of cells of which level 3 lies in blocks meet the trait.
-use Rattle.std.proofs.Common.{◌≡◌, ◌≢◌, ◌⊎◌, inl, inr, ℕ, ◌+◌, ◌-◌, ◌*◌, ◌/◌, ◌%◌, ◌^◌, ◌<◌, ◌≤◌, ◌==◌, nat_lt, ◌&&◌, not, min, max, Bool, true, false, if◌then◌else◌, IsTrue, List, [], length, map, get_or, set, replicate, Option, None, Some, IfSome, Result, Ok, Err, refl, sym, ap, subst, ◌∙◌, arith}
+use Rattle.std.proofs.Common.{◌≡◌, ◌≢◌, ◌⊎◌, inl, inr, ℕ, ◌+◌, ◌-◌, ◌*◌, ◌/◌, ◌%◌, ◌^◌, ◌<◌, ◌≤◌, ◌==◌, nat_lt, ◌&&◌, not, min, max, Bool, true, false, if◌then◌else◌, IsTrue, List, [], length, map, get_or, set, replicate, Option, None, Some, IfSome, Result, Ok, Err, is_ok, refl, sym, ap, subst, ◌∙◌, arith}
 use Rattle.std.proofs.lemmas.Bool.{eqb-true, eqb-false, false≢true}
 use Rattle.std.proofs.lemmas.List.{get_or-set_same, get_or-set_other}
 use Rattle.cola_outside.specs.Faults.{Rose}
@@ -10,7 +10,7 @@ use Rattle.cola_cell.specs.declared.fault.PushFault.TheVariants as push
 use Rattle.cola_cell.specs.declared.sink.Shadow.{Shadow}
 use Rattle.cola_cell.specs.Format.{CellFits}
 use Rattle.cola_cell.specs.Places.{slot_size, number_of, IsPlace, Block, block_of}
-use Rattle.cola_cell.specs.Held.{Held, Spot, Bad, Told, Tells, LawCell, as_cell, is_untold, with_cell, IsElsewhere, span}
+use Rattle.cola_cell.specs.Held.{Held, Spot, Untold, Bad, Told, Tells, LawCell, as_cell, is_untold, with_cell, IsElsewhere, span}
 use Rattle.cola_cell.specs.Spent.{Buffer, Search, By, Spent, Ticks}
 use Rattle.cola_cell.specs.Shadows.{emptied, IsKept, StaysAround, Restarts, Pushes, PushAnswers, PushSpends, push_ticks, Forgets, WritesNothing, Writes, Finishes, FinishAnswers, FinishSpends}
 use Rattle.cola_cell.specs.Flat as flat
@@ -21,6 +21,7 @@ use Rattle.cola_device.specs.declared.memory.TheConstants.{SPOILED}
 use Rattle.cola_device.specs.Bytes.{part, splice}
 use Rattle.cola_device.specs.Counts.{one_more, count_fault, count_write}
 use Rattle.cola_device.specs.Memory.{Memory, next_fails, after_write}
+use Rattle.cola_device.proofs.BytesLemmas.{length-splice}
 use Rattle.cola_blocks.specs.Decoded.{decoded, spelling, spot_of_bytes}
 use Rattle.cola_blocks.specs.Level.{Level, IsLevel, IsSaved, IsBlock, block_number, cell_number, cell_part, is_in_tail, cell_bytes, is_block, held_by, forgotten, fills, longer, with_cell_put, with_cell_counted, with_tail_written, after_tail_write, level_push_answer, after_level_push, level_finish_answer, after_level_finish, after_level_restart}
 use Rattle.cola_blocks.specs.Blocks.{Blocks, IsBlocks, IsSound, level_spots, spots_of, shadow_of, held_of, as_block, reader_buffer, last_of, spent_of, is_full}
@@ -180,3 +181,190 @@ pub nothing_written : (old new : Blocks) → new.level.device ≡ old.level.devi
 nothing_written old new d h =
     let e : last_of new.level ≡ last_of old.level = ap (λ (xs : List (Option ℕ)). last_of (record old.level { held = xs })) h in
     record { written_is = ap (λ (m : Memory). m.counts.writes) d; lasts_stay = λ buffer. ap (λ (f : Buffer → Option Block). f buffer) e }
+
+-- a cell that is put in a place that is told
+with_told : (x : Spot) (c : LawCell) → is_untold x ≡ false → Told c ≡ with_cell x c
+with_told Untold c e = absurd (false≢true (sym e))
+with_told Bad c e = refl
+with_told (Told b) c e = refl
+
+-- the three ways of a push in the level where there is room
+push_ways : (level : Level) (bytes : List ℕ) (P : Level → Result Unit PushFault → Type 0) →
+    (fills level ≡ false → P (with_cell_counted (with_cell_put level bytes)) (Ok tt)) →
+    (fills level ≡ true → next_fails level.device ≡ true → P (after_tail_write (with_cell_put level bytes)) (Err push.Device)) →
+    (fills level ≡ true → next_fails level.device ≡ false → P (with_cell_counted (after_tail_write (with_cell_put level bytes))) (Ok tt)) →
+    P (after_level_push level bytes) (level_push_answer level)
+push_ways level bytes P more refused full = by_test (fills level) (next_fails level.device) refl refl
+  where
+    by_test : (t f : Bool) → fills level ≡ t → next_fails level.device ≡ f →
+        P (if t then (if f then after_tail_write (with_cell_put level bytes) else with_cell_counted (after_tail_write (with_cell_put level bytes))) else with_cell_counted (with_cell_put level bytes))
+        (if t && f then Err push.Device else Ok tt)
+    by_test false f e d = more e
+    by_test true true e d = refused e d
+    by_test true false e d = full e d
+
+-- an answer of a push and what it spends
+pub record PushMeets (old new : Blocks) (l : ℕ) (cell : Cell) (result : Result Unit PushFault) : Type 0 where
+  pub pushes : Pushes {A = Unit {0}} (held_of old) (held_of new) (spent_of old) (spent_of new) l cell result
+  pub spends : PushSpends {A = Unit {0}} (held_of old) (spent_of old) (spent_of new) l result
+
+-- a push to level 3 where there is room, of a cell with these bytes
+module _ (blocks : Blocks) (cell : Cell) (bytes : List ℕ) (sound : IsLevel blocks.level) (room : blocks.level.shadow.len < 32) (is_cell : decoded bytes ≡ Some cell) (long : length bytes ≡ 64) where
+  put_whole : length (splice blocks.level.tail (64 * (blocks.level.shadow.len % 8)) bytes) ≡ 512
+  put_whole = let h : length blocks.level.tail ≡ 512 = sound.tail_many in length-splice blocks.level.tail (64 * (blocks.level.shadow.len % 8)) bytes (omega (arith, h, long)) ∙ h
+
+  -- the place at the shadow's end
+  end_told : (level : Level) → cell_bytes level blocks.level.shadow.slot blocks.level.shadow.len ≡ bytes →
+      level_spots level blocks.level.shadow.slot blocks.level.shadow.len ≡ with_cell (level_spots blocks.level blocks.level.shadow.slot blocks.level.shadow.len) (as_cell cell)
+  end_told level e =
+      spot_there level blocks.level.shadow.slot blocks.level.shadow.len sound.slot_within room
+      ∙ ap (λ (b : List ℕ). spot_of_bytes b) e ∙ ap (λ (c : Option Cell). spot_of c) is_cell
+      ∙ with_told (level_spots blocks.level blocks.level.shadow.slot blocks.level.shadow.len) (as_cell cell) (all_told blocks 3 blocks.level.shadow.slot blocks.level.shadow.len)
+
+  -- the other places
+  others_by : (level : Level) → ((s i : ℕ) → s < 2 → i < 32 → (s ≢ blocks.level.shadow.slot) ⊎ (i ≢ blocks.level.shadow.len) → cell_bytes level s i ≡ cell_bytes blocks.level s i) →
+      (l s i : ℕ) → IsElsewhere 3 blocks.level.shadow.slot blocks.level.shadow.len l s i → spots_of (record blocks { level = level; ticked = (blocks.ticked + 1) % 2 ^ 64 }) l s i ≡ spots_of blocks l s i
+  others_by level same l s i d =
+      spots_by blocks (record blocks { level = level; ticked = (blocks.ticked + 1) % 2 ^ 64 }) l s i refl
+      (λ e. spots_stay blocks.level level s i (λ hs hi. same s i hs hi (elim d [ inl h ↦ absurd (h e) | inr h ↦ h ])))
+
+  push_more : fills blocks.level ≡ false → PushMeets blocks (record blocks { level = with_cell_counted (with_cell_put blocks.level bytes); ticked = (blocks.ticked + 1) % 2 ^ 64 }) 3 cell (Ok tt)
+  push_more e =
+      let level : Level = with_cell_counted (with_cell_put blocks.level bytes) in
+      let new : Blocks = record blocks { level = level; ticked = (blocks.ticked + 1) % 2 ^ 64 } in
+      let ends : blocks.level.shadow.len % 8 ≢ 7 = eqb-false (blocks.level.shadow.len % 8) 7 e in
+      record {
+        pushes = record {
+          around = around_three blocks new refl refl;
+          answer = (room, end_told level (more_end blocks.level bytes sound ends long));
+          shadow_is = refl;
+          others_stay = others_by level (λ s i hs hi d. more_bytes blocks.level bytes sound ends s i d);
+        };
+        spends = record {
+          writes = writes_none blocks new 1 (block_of 8 3 blocks.level.shadow.slot blocks.level.shadow.len) (omega arith) refl refl;
+          only_full = λ _. nothing_written blocks new refl refl;
+        };
+      }
+
+  push_refused : fills blocks.level ≡ true → next_fails blocks.level.device ≡ true →
+      PushMeets blocks (record blocks { level = after_tail_write (with_cell_put blocks.level bytes); ticked = (blocks.ticked + 1) % 2 ^ 64 }) 3 cell (Err push.Device)
+  push_refused e f =
+      let level : Level = after_tail_write (with_cell_put blocks.level bytes) in
+      let new : Blocks = record blocks { level = level; ticked = (blocks.ticked + 1) % 2 ^ 64 } in
+      let tail : List ℕ = splice blocks.level.tail (64 * (blocks.level.shadow.len % 8)) bytes in
+      let from : List ℕ = if next_fails blocks.level.device then replicate (length tail) SPOILED else tail in
+      let ends : blocks.level.shadow.len % 8 ≡ 7 = eqb-true (blocks.level.shadow.len % 8) 7 e in
+      record {
+        pushes = record {
+          around = around_three blocks new refl refl;
+          answer = (room, write_rose blocks new 1 tail sound.slot_within room refl refl (omega arith) f);
+          shadow_is = refl;
+          others_stay = others_by level (λ s i hs hi d.
+              written_bytes blocks.level level sound room from (written_whole (next_fails blocks.level.device) tail put_whole) refl refl refl
+              (λ place h. tail_before blocks.level.tail bytes place (blocks.level.shadow.len % 8) sound.tail_many h (omega (arith, ends)))
+              s i hs hi (λ k b. elim d [ inl h ↦ absurd (h k) | inr h ↦ omega (arith, h, b, ends) ]));
+        };
+        spends = record {
+          writes = writes_block blocks new 1 tail sound.slot_within room refl refl (omega arith);
+          only_full = λ h. absurd (h (omega (arith, ends)));
+        };
+      }
+
+  push_full : fills blocks.level ≡ true → next_fails blocks.level.device ≡ false →
+      PushMeets blocks (record blocks { level = with_cell_counted (after_tail_write (with_cell_put blocks.level bytes)); ticked = (blocks.ticked + 1) % 2 ^ 64 }) 3 cell (Ok tt)
+  push_full e f =
+      let level : Level = with_cell_counted (after_tail_write (with_cell_put blocks.level bytes)) in
+      let new : Blocks = record blocks { level = level; ticked = (blocks.ticked + 1) % 2 ^ 64 } in
+      let tail : List ℕ = splice blocks.level.tail (64 * (blocks.level.shadow.len % 8)) bytes in
+      let ends : blocks.level.shadow.len % 8 ≡ 7 = eqb-true (blocks.level.shadow.len % 8) 7 e in
+      let is : level.device.bytes ≡ splice blocks.level.device.bytes (512 * block_number blocks.level.shadow.slot blocks.level.shadow.len) tail =
+      ap (λ (t : Bool). splice blocks.level.device.bytes (512 * block_number blocks.level.shadow.slot blocks.level.shadow.len) (if t then replicate (length tail) SPOILED else tail)) f in
+      let seventh : cell_part tail 7 ≡ bytes =
+      ap (λ (n : ℕ). cell_part (splice blocks.level.tail (64 * n) bytes) 7) ends ∙ tail_at blocks.level.tail bytes 7 sound.tail_many (omega arith) long in
+      let before : (place : ℕ) → place < 7 → cell_part tail place ≡ cell_part blocks.level.tail place =
+      λ place h. tail_before blocks.level.tail bytes place (blocks.level.shadow.len % 8) sound.tail_many (omega (arith, h, ends)) (omega (arith, ends)) in
+      record {
+        pushes = record {
+          around = around_three blocks new refl refl;
+          answer = (room, end_told level (full_end blocks.level level sound room tail put_whole is refl ends ∙ seventh));
+          shadow_is = refl;
+          others_stay = others_by level (λ s i hs hi d. full_bytes blocks.level level sound room tail put_whole is refl ends before s i hs hi d);
+        };
+        spends = record {
+          writes = writes_block blocks new 1 tail sound.slot_within room refl refl (omega arith);
+          only_full = λ h. absurd (h (omega (arith, ends)));
+        };
+      }
+
+  pub push_level : PushMeets blocks (record blocks { level = after_level_push blocks.level bytes; ticked = (blocks.ticked + 1) % 2 ^ 64 }) 3 cell (level_push_answer blocks.level)
+  push_level =
+      push_ways blocks.level bytes (λ level result. PushMeets blocks (record blocks { level = level; ticked = (blocks.ticked + 1) % 2 ^ 64 }) 3 cell result) push_more push_refused push_full
+
+-- a push that is refused as overfull
+pub push_overfull : (blocks : Blocks) (l : ℕ) (cell : Cell) → (shadow_of blocks l).len ≡ slot_size l → PushMeets blocks blocks l cell (Err (push.Overfull l))
+push_overfull blocks l cell e = record {
+  pushes = record {
+    around = record { fixed_is = refl; shadows_stay = λ _ _. refl; telling_is = λ _ _ _. refl };
+    answer = (e, refl, refl, refl);
+    shadow_is = refl;
+    others_stay = λ _ _ _ _. refl;
+  };
+  spends = record {
+    writes = writes_none blocks blocks 0 (block_of 8 l (shadow_of blocks l).slot (shadow_of blocks l).len) (omega arith) refl refl;
+    only_full = λ _. nothing_written blocks blocks refl refl;
+  };
+}
+
+-- a finish and what it spends
+pub record FinishMeets (old new : Blocks) (l : ℕ) (result : Result Unit PushFault) : Type 0 where
+  pub finishes : Finishes {A = Unit {0}} (held_of old) (held_of new) (spent_of old) (spent_of new) l result
+  pub spends : FinishSpends (held_of old) (spent_of old) (spent_of new) l
+
+-- a finish of level 3
+module _ (blocks : Blocks) (sound : IsLevel blocks.level) where
+  finish_saved : blocks.level.shadow.saved ≡ true → FinishMeets blocks blocks 3 (Ok tt)
+  finish_saved e = record {
+    finishes = record {
+      around = record { fixed_is = refl; shadows_stay = λ _ _. refl; telling_is = λ _ _ _. refl };
+      answer = tt;
+      shadow_is = ap (λ (b : Bool). record { slot = blocks.level.shadow.slot; len = blocks.level.shadow.len; saved = b }) e;
+      others_stay = λ _ _ _ _. refl;
+    };
+    spends = record {
+      writes = writes_none blocks blocks 0 (block_of 8 3 blocks.level.shadow.slot blocks.level.shadow.len) (omega arith) refl refl;
+      only_needed = λ _. nothing_written blocks blocks refl refl;
+    };
+  }
+
+  finish_written : (failed : Bool) (result : Result Unit PushFault) → blocks.level.shadow.saved ≡ false →
+      FinishAnswers {A = Unit {0}} (held_of blocks) blocks.level.device.counts.faults (after_tail_write blocks.level).device.counts.faults 3 result → is_ok result ≡ not failed →
+      FinishMeets blocks (record blocks { level = record (after_tail_write blocks.level) { shadow = record blocks.level.shadow { saved = not failed } } }) 3 result
+  finish_written failed result e answer is =
+      let level : Level = record (after_tail_write blocks.level) { shadow = record blocks.level.shadow { saved = not failed } } in
+      let new : Blocks = record blocks { level = level } in
+      let tail : List ℕ = blocks.level.tail in
+      let from : List ℕ = if next_fails blocks.level.device then replicate (length tail) SPOILED else tail in
+      let room : blocks.level.shadow.len < 32 = ends_within blocks.level.shadow.len sound.len_within (sound.unsaved e) in
+      record {
+        finishes = record {
+          around = around_three blocks new refl refl;
+          answer = answer;
+          shadow_is = ap (λ (b : Bool). record { slot = blocks.level.shadow.slot; len = blocks.level.shadow.len; saved = b }) (sym is);
+          others_stay = λ l s i d. spots_by blocks new l s i refl (λ k. spots_stay blocks.level level s i (λ hs hi.
+              written_bytes blocks.level level sound room from (written_whole (next_fails blocks.level.device) tail sound.tail_many) refl refl refl (λ place h. refl)
+              s i hs hi (λ g b. elim d [ inl h ↦ absurd (h k) | inr h ↦ elim h [ inl f ↦ absurd (f g) | inr f ↦ f ] ])));
+        };
+        spends = record {
+          writes = writes_block blocks new 0 tail sound.slot_within room refl refl (omega arith);
+          only_needed = λ kept. elim kept.is [ inl h ↦ absurd (false≢true (sym e ∙ h)) | inr h ↦ absurd (omega (arith, h)) ];
+        };
+      }
+
+  pub finish_level : FinishMeets blocks (record blocks { level = after_level_finish blocks.level }) 3 (level_finish_answer blocks.level)
+  finish_level = by_test blocks.level.shadow.saved (next_fails blocks.level.device) refl refl
+    where
+      by_test : (t f : Bool) → blocks.level.shadow.saved ≡ t → next_fails blocks.level.device ≡ f →
+          FinishMeets blocks (record blocks { level = (if t then blocks.level else record (after_tail_write blocks.level) { shadow = record blocks.level.shadow { saved = not f } }) }) 3 (if not t && f then Err push.Device else Ok tt)
+      by_test true f e d = finish_saved e
+      by_test false true e d = finish_written true (Err push.Device) e (rose_by (next_fails blocks.level.device) blocks.level.device.counts d, e) refl
+      by_test false false e d = finish_written false (Ok tt) e tt refl
