@@ -13,9 +13,10 @@ use Rattle.cola_cell.specs.Places.{slot_size, number_of, IsPlace, Block, block_o
 use Rattle.cola_cell.specs.Held.{Held, Spot, Untold, Bad, Told, Tells, LawCell, as_cell, is_untold, with_cell, IsElsewhere, span}
 use Rattle.cola_cell.specs.Spent.{Buffer, Search, By, Spent, Ticks}
 use Rattle.cola_cell.specs.Shadows.{emptied, IsKept, StaysAround, Restarts, Pushes, PushAnswers, PushSpends, push_ticks, Forgets, WritesNothing, Writes, Finishes, FinishAnswers, FinishSpends}
+use Rattle.cola_cell.specs.Spelling.{IsSpelling}
 use Rattle.cola_cell.specs.Flat as flat
 use Rattle.cola_cell.specs.Flat.{Flat, IsFlat, shadow_at, spot_of}
-use Rattle.cola_cell.proofs.FlatLemmas.{spots_told, shadow_put}
+use Rattle.cola_cell.proofs.FlatLemmas.{spots_told, shadow_put, pushes_flat}
 use Rattle.cola_device.specs.declared.counts.Counts.{Counts}
 use Rattle.cola_device.specs.declared.memory.TheConstants.{SPOILED}
 use Rattle.cola_device.specs.Bytes.{part, splice}
@@ -368,3 +369,207 @@ module _ (blocks : Blocks) (sound : IsLevel blocks.level) where
       by_test true f e d = finish_saved e
       by_test false true e d = finish_written true (Err push.Device) e (rose_by (next_fails blocks.level.device) blocks.level.device.counts d, e) refl
       by_test false false e d = finish_written false (Ok tt) e tt refl
+
+-- a level in memory: its shadow, and what is told of it
+shadow_low : (blocks : Blocks) (l : ℕ) → l < 3 → shadow_of blocks l ≡ shadow_at blocks.front.shadows l
+shadow_low blocks l h = choose_else (l == 3) blocks.level.shadow (shadow_at blocks.front.shadows l) (eq_false l 3 (λ e. omega (arith, h, e)))
+
+spots_low : (blocks : Blocks) (l s i : ℕ) → l < 3 → spots_of blocks l s i ≡ flat.spots_of 3 blocks.front.cells l s i
+spots_low blocks l s i h = choose_else (l == 3) (level_spots blocks.level s i) (flat.spots_of 3 blocks.front.cells l s i) (eq_false l 3 (λ e. omega (arith, h, e)))
+
+-- a level in memory has a shadow
+low_in : (front : Flat) (l : ℕ) → IsFlat front → l < 3 → l < length front.shadows
+low_in front l sound h = let many : length front.shadows ≡ 6 = sound.shadows_many in omega (arith, many, h)
+
+-- a change of a level in memory alone
+around_low : (old new : Blocks) (l : ℕ) → l < 3 → new.made ≡ old.made → new.level.shadow ≡ old.level.shadow → ((m : ℕ) → m ≢ l → shadow_at new.front.shadows m ≡ shadow_at old.front.shadows m) →
+    StaysAround (held_of old) (held_of new) l
+around_low old new l h made level shadows = record {
+  fixed_is = ap (λ m. record { levels = 4; doublings = 0; format = One; made = m }) made;
+  shadows_stay = λ m d. by_order m (order m 3) d;
+  telling_is = λ m s i. all_told new m s i ∙ sym (all_told old m s i);
+}
+  where
+    by_order : (m : ℕ) → Order m 3 → m ≢ l → shadow_of new m ≡ shadow_of old m
+    by_order m (Below e) d = front_shadow old new m (λ k. omega (arith, e, k)) (shadows m d)
+    by_order m (Above e) d = front_shadow old new m (λ k. omega (arith, e, k)) (shadows m d)
+    by_order m (Same e) d =
+        choose_then (m == 3) new.level.shadow (shadow_at new.front.shadows m) (eq_true m 3 e) ∙ level
+        ∙ sym (choose_then (m == 3) old.level.shadow (shadow_at old.front.shadows m) (eq_true m 3 e))
+
+-- a restart of a level in memory
+restarts_low : (blocks : Blocks) (l slot : ℕ) → IsFlat blocks.front → l < 3 → Restarts (held_of blocks) (held_of (record blocks { front = flat.with_shadow blocks.front l (emptied slot) })) l slot
+restarts_low blocks l slot sound h =
+    let new : Blocks = record blocks { front = flat.with_shadow blocks.front l (emptied slot) } in
+    record {
+      around = around_low blocks new l h refl refl (λ m d. get_or-set_other blocks.front.shadows l m (emptied slot) (emptied 1) d);
+      shadow_is = shadow_low new l h ∙ shadow_put blocks.front.shadows l (emptied slot) (low_in blocks.front l sound h);
+      others_stay = λ m s i _. spots_by blocks new m s i refl (λ _. refl);
+      kept_stay = λ _ m s i. spots_by blocks new m s i refl (λ _. refl);
+    }
+
+-- a finish of a level in memory
+finishes_low : (blocks : Blocks) (l : ℕ) → IsFlat blocks.front → l < 3 → FinishMeets blocks (record blocks { front = flat.after_finish blocks.front l }) l (Ok tt)
+finishes_low blocks l sound h =
+    let new : Blocks = record blocks { front = flat.after_finish blocks.front l } in
+    let shadow : Shadow = record (shadow_at blocks.front.shadows l) { saved = true } in
+    record {
+      finishes = record {
+        around = around_low blocks new l h refl refl (λ m d. get_or-set_other blocks.front.shadows l m shadow (emptied 1) d);
+        answer = tt;
+        shadow_is = shadow_low new l h ∙ shadow_put blocks.front.shadows l shadow (low_in blocks.front l sound h) ∙ ap (λ (x : Shadow). record x { saved = true }) (sym (shadow_low blocks l h));
+        others_stay = λ m s i _. spots_by blocks new m s i refl (λ _. refl);
+      };
+      spends = record {
+        writes = writes_none blocks new 0 (block_of 8 l (shadow_of blocks l).slot (shadow_of blocks l).len) (omega arith) refl refl;
+        only_needed = λ _. nothing_written blocks new refl refl;
+      };
+    }
+
+-- a push to a level in memory that is accepted
+pushes_low : (blocks : Blocks) (front : Flat) (l : ℕ) (cell : Cell) → IsFlat blocks.front → blocks.front.levels ≡ 3 → l < 3 →
+    Pushes {A = Unit {0}} (flat.held_of blocks.front) (flat.held_of front) (flat.spent_of blocks.front) (flat.spent_of front) l cell (Ok tt) →
+    PushMeets blocks (record blocks { front = front; ticked = (blocks.ticked + 1) % 2 ^ 64 }) l cell (Ok tt)
+pushes_low blocks front l cell sound levels h p =
+    let new : Blocks = record blocks { front = front; ticked = (blocks.ticked + 1) % 2 ^ 64 } in
+    let shadow : Shadow = shadow_at blocks.front.shadows l in
+    let here : shadow_of blocks l ≡ shadow = shadow_low blocks l h in
+    let now : front.levels ≡ 3 = ap (λ f. f.levels) p.around.fixed_is ∙ levels in
+    let told : (m s i : ℕ) → flat.spots_of front.levels front.cells m s i ≡ flat.spots_of blocks.front.levels blocks.front.cells m s i →
+        flat.spots_of 3 front.cells m s i ≡ flat.spots_of 3 blocks.front.cells m s i =
+    λ m s i e. ap (λ (n : ℕ). flat.spots_of n front.cells m s i) (sym now) ∙ e ∙ ap (λ (n : ℕ). flat.spots_of n blocks.front.cells m s i) levels in
+    let room : shadow.len < slot_size l = p.answer.0 in
+    let put : flat.spots_of 3 front.cells l shadow.slot shadow.len ≡ with_cell (flat.spots_of 3 blocks.front.cells l shadow.slot shadow.len) (as_cell cell) =
+    ap (λ (n : ℕ). flat.spots_of n front.cells l shadow.slot shadow.len) (sym now) ∙ p.answer.1
+    ∙ ap (λ (n : ℕ). with_cell (flat.spots_of n blocks.front.cells l shadow.slot shadow.len) (as_cell cell)) levels in
+    let put_here : spots_of new l shadow.slot shadow.len ≡ with_cell (spots_of blocks l shadow.slot shadow.len) (as_cell cell) =
+    spots_low new l shadow.slot shadow.len h ∙ put ∙ ap (λ (x : Spot). with_cell x (as_cell cell)) (sym (spots_low blocks l shadow.slot shadow.len h)) in
+    record {
+      pushes = record {
+        around = around_low blocks new l h refl refl (λ m d. p.around.shadows_stay m d);
+        answer = (
+          subst (λ (x : Shadow). x.len < slot_size l) (sym here) room,
+          subst (λ (x : Shadow). spots_of new l x.slot x.len ≡ with_cell (spots_of blocks l x.slot x.len) (as_cell cell)) (sym here) put_here,
+        );
+        shadow_is = shadow_low new l h ∙ p.shadow_is ∙ ap (λ (x : Shadow). longer x) (sym here);
+        others_stay = λ m s i d. by_order m s i (order m 3) (subst (λ (x : Shadow). IsElsewhere l x.slot x.len m s i) here d) told;
+      };
+      spends = record {
+        writes = writes_none blocks new 1 (block_of 8 l (shadow_of blocks l).slot (shadow_of blocks l).len) (omega arith) refl refl;
+        only_full = λ _. nothing_written blocks new refl refl;
+      };
+    }
+  where
+    other : (m s i : ℕ) → m ≢ 3 → IsElsewhere l (shadow_at blocks.front.shadows l).slot (shadow_at blocks.front.shadows l).len m s i →
+        ((m s i : ℕ) → flat.spots_of front.levels front.cells m s i ≡ flat.spots_of blocks.front.levels blocks.front.cells m s i → flat.spots_of 3 front.cells m s i ≡ flat.spots_of 3 blocks.front.cells m s i) →
+        spots_of (record blocks { front = front; ticked = (blocks.ticked + 1) % 2 ^ 64 }) m s i ≡ spots_of blocks m s i
+    other m s i n d told =
+        choose_else (m == 3) (level_spots blocks.level s i) (flat.spots_of 3 front.cells m s i) (eq_false m 3 n)
+        ∙ told m s i (p.others_stay m s i d)
+        ∙ sym (choose_else (m == 3) (level_spots blocks.level s i) (flat.spots_of 3 blocks.front.cells m s i) (eq_false m 3 n))
+    by_order : (m s i : ℕ) → Order m 3 → IsElsewhere l (shadow_at blocks.front.shadows l).slot (shadow_at blocks.front.shadows l).len m s i →
+        ((m s i : ℕ) → flat.spots_of front.levels front.cells m s i ≡ flat.spots_of blocks.front.levels blocks.front.cells m s i → flat.spots_of 3 front.cells m s i ≡ flat.spots_of 3 blocks.front.cells m s i) →
+        spots_of (record blocks { front = front; ticked = (blocks.ticked + 1) % 2 ^ 64 }) m s i ≡ spots_of blocks m s i
+    by_order m s i (Below e) d told = other m s i (λ k. omega (arith, e, k)) d told
+    by_order m s i (Above e) d told = other m s i (λ k. omega (arith, e, k)) d told
+    by_order m s i (Same e) d told =
+        choose_then (m == 3) (level_spots blocks.level s i) (flat.spots_of 3 front.cells m s i) (eq_true m 3 e)
+        ∙ sym (choose_then (m == 3) (level_spots blocks.level s i) (flat.spots_of 3 blocks.front.cells m s i) (eq_true m 3 e))
+
+-- a push to a level in memory
+push_low : (blocks : Blocks) (l : ℕ) (cell : Cell) → IsSound blocks → l < 3 →
+    PushMeets blocks (if flat.is_full blocks.front l then blocks else record blocks { front = flat.after_push blocks.front l cell; ticked = (blocks.ticked + 1) % 2 ^ 64 }) l cell (flat.push_answer blocks.front l)
+push_low blocks l cell sound h =
+    by_test (flat.is_full blocks.front l) (flat.next_fails blocks.front) refl (none_fails blocks.front sound.own.none_fails)
+    (pushes_flat blocks.front l cell sound.front (let e : blocks.front.levels ≡ 3 = sound.own.levels_are in omega (arith, e, h)))
+  where
+    by_test : (t f : Bool) → flat.is_full blocks.front l ≡ t → f ≡ false →
+        Pushes {A = Unit {0}} (flat.held_of blocks.front) (flat.held_of (flat.after_push blocks.front l cell)) (flat.spent_of blocks.front) (flat.spent_of (flat.after_push blocks.front l cell)) l cell
+        (if t then Err (push.Overfull l) else if f then Err push.Device else Ok tt) →
+        PushMeets blocks (if t then blocks else record blocks { front = flat.after_push blocks.front l cell; ticked = (blocks.ticked + 1) % 2 ^ 64 }) l cell (if t then Err (push.Overfull l) else if f then Err push.Device else Ok tt)
+    by_test true f e d p =
+        push_overfull blocks l cell (ap (λ (x : Shadow). x.len) (shadow_low blocks l h) ∙ eqb-true (shadow_at blocks.front.shadows l).len (slot_size l) e)
+    by_test false true e d p = absurd (false≢true (sym d))
+    by_test false false e d p = pushes_low blocks (flat.after_push blocks.front l cell) l cell sound.front sound.own.levels_are h p
+
+-- a push to level 3
+push_three : (blocks : Blocks) (cell : Cell) → IsSound blocks → IsSpelling One cell (spelling One cell) →
+    PushMeets blocks (if is_full blocks.level then blocks else record blocks { level = after_level_push blocks.level (spelling One cell); ticked = (blocks.ticked + 1) % 2 ^ 64 }) 3 cell
+    (if is_full blocks.level then Err (push.Overfull 3) else level_push_answer blocks.level)
+push_three blocks cell sound spelled = by_test (is_full blocks.level) refl
+  where
+    within : blocks.level.shadow.len ≤ 32 → blocks.level.shadow.len ≢ 32 → blocks.level.shadow.len < 32
+    within h d = omega (arith, h, d)
+    by_test : (t : Bool) → is_full blocks.level ≡ t →
+        PushMeets blocks (if t then blocks else record blocks { level = after_level_push blocks.level (spelling One cell); ticked = (blocks.ticked + 1) % 2 ^ 64 }) 3 cell
+        (if t then Err (push.Overfull 3) else level_push_answer blocks.level)
+    by_test true e = push_overfull blocks 3 cell (eqb-true blocks.level.shadow.len 32 e)
+    by_test false e =
+        push_level blocks cell (spelling One cell) sound.level (within sound.level.len_within (eqb-false blocks.level.shadow.len 32 e)) (decoded_is cell (spelling One cell) spelled) spelled.size
+
+-- a push meets the trait
+pub pushes_blocks : (blocks : Blocks) (l : ℕ) (cell : Cell) → IsSound blocks → l < 4 → IsSpelling One cell (spelling One cell) →
+    PushMeets blocks (cells.after_push blocks l cell) l cell (cells.push_answer blocks l)
+pushes_blocks blocks l cell sound h spelled = elim (low_or_three l h) [ inl e ↦ at_three l e | inr k ↦ at_low k ]
+  where
+    at_three : (m : ℕ) → m ≡ 3 → PushMeets blocks (cells.after_push blocks m cell) m cell (cells.push_answer blocks m)
+    at_three m e = subst (λ (x : ℕ). PushMeets blocks (cells.after_push blocks x cell) x cell (cells.push_answer blocks x)) (sym e) (push_three blocks cell sound spelled)
+    at_low : l < 3 → PushMeets blocks (cells.after_push blocks l cell) l cell (cells.push_answer blocks l)
+    at_low k =
+        let e : (l == 3) ≡ false = eq_false l 3 (λ e. omega (arith, k, e)) in
+        let three : Blocks = if is_full blocks.level then blocks else record blocks { level = after_level_push blocks.level (spelling One cell); ticked = (blocks.ticked + 1) % 2 ^ 64 } in
+        let low : Blocks = if flat.is_full blocks.front l then blocks else record blocks { front = flat.after_push blocks.front l cell; ticked = (blocks.ticked + 1) % 2 ^ 64 } in
+        subst (λ (x : Blocks). PushMeets blocks x l cell (cells.push_answer blocks l)) (sym (choose_else (l == 3) three low e))
+        (subst (λ (r : Result Unit PushFault). PushMeets blocks low l cell r)
+        (sym (choose_else (l == 3) (if is_full blocks.level then Err (push.Overfull l) else level_push_answer blocks.level) (flat.push_answer blocks.front l) e))
+        (push_low blocks l cell sound k))
+
+-- by a method's own clauses
+pub push_meets : (blocks new : Blocks) (l : ℕ) (cell : Cell) (result : Result Unit PushFault) → IsSound blocks → l < 4 → IsSpelling One cell (spelling One cell) →
+    result ≡ cells.push_answer blocks l → new ≡ cells.after_push blocks l cell → PushMeets blocks new l cell result
+push_meets blocks new l cell result sound h spelled e d =
+    subst (λ (r : Result Unit PushFault). PushMeets blocks new l cell r) (sym e)
+    (subst (λ (x : Blocks). PushMeets blocks x l cell (cells.push_answer blocks l)) (sym d) (pushes_blocks blocks l cell sound h spelled))
+
+-- a finish meets the trait
+pub finish_meets : (blocks new : Blocks) (l : ℕ) (result : Result Unit PushFault) → IsSound blocks → l < 4 → result ≡ cells.finish_answer blocks l → new ≡ cells.after_finish blocks l → FinishMeets blocks new l result
+finish_meets blocks new l result sound h e d =
+    subst (λ (r : Result Unit PushFault). FinishMeets blocks new l r) (sym e)
+    (subst (λ (x : Blocks). FinishMeets blocks x l (cells.finish_answer blocks l)) (sym d) (elim (low_or_three l h) [ inl k ↦ at_three l k | inr k ↦ at_low k ]))
+  where
+    at_three : (m : ℕ) → m ≡ 3 → FinishMeets blocks (cells.after_finish blocks m) m (cells.finish_answer blocks m)
+    at_three m k = subst (λ (x : ℕ). FinishMeets blocks (cells.after_finish blocks x) x (cells.finish_answer blocks x)) (sym k) (finish_level blocks sound.level)
+    at_low : l < 3 → FinishMeets blocks (cells.after_finish blocks l) l (cells.finish_answer blocks l)
+    at_low k =
+        let f : (l == 3) ≡ false = eq_false l 3 (λ e. omega (arith, k, e)) in
+        let low : Blocks = record blocks { front = flat.after_finish blocks.front l } in
+        subst (λ (x : Blocks). FinishMeets blocks x l (cells.finish_answer blocks l)) (sym (choose_else (l == 3) (record blocks { level = after_level_finish blocks.level }) low f))
+        (subst (λ (r : Result Unit PushFault). FinishMeets blocks low l r) (sym (choose_else (l == 3) (level_finish_answer blocks.level) (Ok tt) f)) (finishes_low blocks l sound.front k))
+
+-- a restart and what it spends
+pub record RestartMeets (old new : Blocks) (l slot : ℕ) : Type 0 where
+  pub restarts : Restarts (held_of old) (held_of new) l slot
+  pub spends_nothing : spent_of new ≡ spent_of old
+
+-- a restart meets the trait
+pub restart_meets : (blocks new : Blocks) (l slot : ℕ) → IsSound blocks → l < 4 → new ≡ cells.after_restart blocks l slot → RestartMeets blocks new l slot
+restart_meets blocks new l slot sound h d =
+    subst (λ (x : Blocks). RestartMeets blocks x l slot) (sym d) (elim (low_or_three l h) [ inl k ↦ at_three l k | inr k ↦ at_low k ])
+  where
+    at_three : (m : ℕ) → m ≡ 3 → RestartMeets blocks (cells.after_restart blocks m slot) m slot
+    at_three m k = subst (λ (x : ℕ). RestartMeets blocks (cells.after_restart blocks x slot) x slot) (sym k) (record { restarts = restarts_level blocks slot sound.level; spends_nothing = refl })
+    at_low : l < 3 → RestartMeets blocks (cells.after_restart blocks l slot) l slot
+    at_low k =
+        let f : (l == 3) ≡ false = eq_false l 3 (λ e. omega (arith, k, e)) in
+        let low : Blocks = record blocks { front = flat.with_shadow blocks.front l (emptied slot) } in
+        subst (λ (x : Blocks). RestartMeets blocks x l slot) (sym (choose_else (l == 3) (record blocks { level = after_level_restart blocks.level slot }) low f))
+        (record { restarts = restarts_low blocks l slot sound.front k; spends_nothing = refl })
+
+-- how the shadow of each level stands
+pub shadow_meets : (blocks : Blocks) (l : ℕ) → IsSound blocks → l < 4 → ((shadow_of blocks l).len ≤ slot_size l) × ((shadow_of blocks l).slot < 2)
+shadow_meets blocks l sound h = elim (low_or_three l h) [ inl k ↦ at_three l k | inr k ↦ at_low k ]
+  where
+    at_three : (m : ℕ) → m ≡ 3 → ((shadow_of blocks m).len ≤ slot_size m) × ((shadow_of blocks m).slot < 2)
+    at_three m k = subst (λ (x : ℕ). ((shadow_of blocks x).len ≤ slot_size x) × ((shadow_of blocks x).slot < 2)) (sym k) (sound.level.len_within, sound.level.slot_within)
+    at_low : l < 3 → ((shadow_of blocks l).len ≤ slot_size l) × ((shadow_of blocks l).slot < 2)
+    at_low k = subst (λ (x : Shadow). (x.len ≤ slot_size l) × (x.slot < 2)) (sym (shadow_low blocks l k)) (sound.front.lengths_within l, sound.front.slots_within l)

@@ -4,7 +4,8 @@ ghost use Rattle.cola_cell.specs.declared.format.Format.TheVariants.{One};
 ghost use Rattle.cola_cell.specs.Format.{CellFits};
 ghost use Rattle.cola_cell.specs.Places.{IsPlace};
 ghost use Rattle.cola_cell.specs.Shadows.{push_ticks};
-ghost use Rattle.cola_blocks.specs.Level.{IsLevel};
+ghost use Rattle.cola_cell.specs.Spelling.{IsSpelling};
+ghost use Rattle.cola_blocks.specs.Decoded.{spelling};
 ghost use Rattle.cola_blocks.specs.Blocks.{IsSound, new_blocks, held_of, spent_of, reader_buffer, shadow_of, read_answer, after_read, push_answer, after_push, finish_answer, after_finish, after_restart};
 
 use crate::block_level::BlockLevel;
@@ -26,6 +27,16 @@ pub struct BlockCells {
     made_reads: u64,
     made_faults: u64,
     ticked: u64,
+}
+
+// Does nothing: it says that a cell that fits has a spelling.
+#[inline(always)]
+fn know_spelling(cell: &Cell)
+    requires { CellFits One cell.now }
+    ensures { IsSpelling One cell.now (spelling One cell.now) }
+{
+    let _ = cell.key().bytes();
+    let _ = cell.link();
 }
 
 /// Which buffer of the level in blocks a reader has. Buffer 0 is that of searches.
@@ -202,8 +213,10 @@ impl CellSink for BlockCells {
         ensures after { self.new ≡ after_push self.old level cell.now }
         ensures ticks { steps.new ≡ steps.old + push_ticks result }
         ensures sound { IsSound self.old }
+        ensures spelled { IsSpelling One cell.now (spelling One cell.now) }
     {
         self.know();
+        know_spelling(cell);
         if level == 3 {
             if self.level.shadow().len == 32 {
                 return Err(PushFault::Overfull(level));

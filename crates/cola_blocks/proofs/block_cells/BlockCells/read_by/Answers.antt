@@ -3,7 +3,6 @@ use Rattle.cola_cell.specs.Flat as flat
 use Rattle.cola_blocks.specs.Level.{level_answer}
 use Rattle.cola_blocks.specs.Blocks.{Blocks}
 use Rattle.cola_blocks.proofs.LevelSpots.{choose_then, eq_true}
-use Rattle.cola_blocks.proofs.BlocksSinks.{restarts_level}
 use Rattle.cola_blocks.proofs.block_cells.BlockCells.read_by.Goals as goal
 
 pub returns-then-level-eq3-clause-answer : goal.returns-then-level-eq3-clause-answer
