@@ -1,0 +1,2 @@
+//! Cells in blocks on a device.
+#![tactic(auto)]
