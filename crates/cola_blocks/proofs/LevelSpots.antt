@@ -9,7 +9,7 @@ use Rattle.cola_device.specs.Bytes.{part, splice}
 use Rattle.cola_device.specs.Memory.{Memory, next_fails, after_write}
 use Rattle.cola_device.proofs.BytesLemmas.{part-splice, part-splice_below}
 use Rattle.cola_blocks.specs.Decoded.{spot_of_bytes}
-use Rattle.cola_blocks.specs.Level.{Level, IsLevel, IsSaved, block_number, cell_number, cell_part, is_in_tail, cell_bytes, fills, with_cell_put, with_cell_counted, after_tail_write, after_level_push, after_level_finish, after_level_restart, longer}
+use Rattle.cola_blocks.specs.Level.{Level, IsLevel, IsSaved, block_number, cell_number, cell_part, is_in_tail, cell_bytes, fills, with_cell_put, with_cell_counted, after_tail_write, after_level_push, after_level_finish, after_level_restart, longer, new_level}
 use Rattle.cola_blocks.specs.Blocks.{level_spots}
 use Rattle.cola_blocks.proofs.LevelLemmas.{Order, Below, Same, Above, order, written_many, cell_stays, cell_is_new, block_of_cell, place_of_cell}
 use Rattle.cola_blocks.proofs.LevelKept.{choose_else, written_whole}
@@ -220,3 +220,13 @@ module _ (level new : Level) (sound : IsLevel level) (room : level.shadow.len < 
   full_end len full =
       bytes_out new level.shadow.slot level.shadow.len (λ q. let b : level.shadow.len / 8 ≡ new.shadow.len / 8 = q.block_is in omega (arith, b, len, full))
       ∙ written_there level.shadow.len refl ∙ ap (λ (at : ℕ). cell_part from at) full
+
+-- a level that is made on the device of one whose shadow was saved tells the same
+pub made_anew : (level : Level) (device : Memory) → device ≡ level.device → (level.shadow.saved ≡ true → IsSaved level) → level.shadow.saved ≡ true →
+    (slot index : ℕ) → level_spots (new_level device) slot index ≡ level_spots level slot index
+made_anew level device is saved e slot index =
+    ap (λ (d : Memory). level_spots (new_level d) slot index) is
+    ∙ spots_stay level (new_level level.device) slot index (λ _ _.
+        bytes_out (new_level level.device) slot index (λ p. let h : index < 0 = p.within in omega (arith, h))
+        ∙ sym (bytes_out (after_level_restart level 1) slot index (λ p. let h : index < 0 = p.within in omega (arith, h)))
+        ∙ restart_bytes level 1 slot index (λ _. saved e))

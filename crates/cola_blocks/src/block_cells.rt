@@ -1,12 +1,13 @@
 //! Cells of which the lowest level lies in blocks on a device.
-ghost use Rattle.std.specs.Prelude.{◌≡◌, ◌+◌, ◌≤◌, ◌<◌, IfOk, length};
+ghost use Rattle.std.specs.Prelude.{◌≡◌, ℕ, ◌+◌, ◌≤◌, ◌<◌, IfOk, length, true};
 ghost use Rattle.cola_cell.specs.declared.format.Format.TheVariants.{One};
 ghost use Rattle.cola_cell.specs.Format.{CellFits};
 ghost use Rattle.cola_cell.specs.Places.{IsPlace};
 ghost use Rattle.cola_cell.specs.Shadows.{push_ticks};
 ghost use Rattle.cola_cell.specs.Spelling.{IsSpelling};
 ghost use Rattle.cola_blocks.specs.Decoded.{spelling};
-ghost use Rattle.cola_blocks.specs.Blocks.{IsSound, new_blocks, held_of, spent_of, reader_buffer, shadow_of, read_answer, after_read, push_answer, after_push, finish_answer, after_finish, after_restart};
+ghost use Rattle.cola_blocks.specs.Level.{new_level};
+ghost use Rattle.cola_blocks.specs.Blocks.{IsSound, level_spots, new_blocks, held_of, spent_of, reader_buffer, shadow_of, read_answer, after_read, push_answer, after_push, finish_answer, after_finish, after_restart};
 
 use crate::block_level::BlockLevel;
 use cola_cell::{
@@ -94,10 +95,14 @@ impl BlockCells {
         self.level.device()
     }
 
-    /// The device, as it is kept.
+    /// The device, as it is kept. It tells the cells of level 3 to other cells that are made on it, where each
+    /// cell of the level's shadow was on it.
     pub fn into_device(self) -> MemoryDevice
-        ensures { result ≡ self.level.device }
+        ensures value { result ≡ self.level.device }
+        ensures holds { 8192 ≤ length result.bytes }
+        ensures tells { self.level.shadow.saved ≡ true → (slot index : ℕ) → level_spots (new_level result) slot index ≡ level_spots self.level slot index }
     {
+        self.know();
         let BlockCells { level, .. } = self;
         level.into_device()
     }
