@@ -77,10 +77,10 @@ is_this k (Some n) e = ap Some (eqb-true n k e)
 pub read_ways : (level : Level) (b slot index : ℕ) (P : Level → Result Cell ReadFault → Type 0) →
     (is_in_tail level.shadow slot index ≡ true → P level (found (cell_number slot index) (decoded (cell_bytes level slot index)))) →
     (is_block (block_number slot index) (held_by level b) ≡ true →
-        P (record level { held = set level.held b (Some (block_number slot index)) }) (found (cell_number slot index) (decoded (cell_bytes level slot index)))) →
+    P (record level { held = set level.held b (Some (block_number slot index)) }) (found (cell_number slot index) (decoded (cell_bytes level slot index)))) →
     (is_block (block_number slot index) (held_by level b) ≡ false → next_fails level.device ≡ true → P (record level { device = after_read level.device; held = set level.held b None }) (Err Device)) →
     (is_block (block_number slot index) (held_by level b) ≡ false → next_fails level.device ≡ false →
-        P (record level { device = after_read level.device; held = set level.held b (Some (block_number slot index)) }) (found (cell_number slot index) (decoded (cell_bytes level slot index)))) →
+    P (record level { device = after_read level.device; held = set level.held b (Some (block_number slot index)) }) (found (cell_number slot index) (decoded (cell_bytes level slot index)))) →
     P (after_level_read level b slot index) (level_answer level b slot index)
 read_ways level b slot index P tail copy refused turned = by_test (is_in_tail level.shadow slot index) (is_block (block_number slot index) (held_by level b)) (next_fails level.device) refl refl refl
   where
@@ -160,6 +160,7 @@ is_held slot index (Some n) s i h e =
     slot_at : Option Block → ℕ
     slot_at None = 0
     slot_at (Some b) = b.slot
+
     number_at : Option Block → ℕ
     number_at None = 0
     number_at (Some b) = b.number
@@ -211,53 +212,53 @@ module _ (blocks : Blocks) (buffer : Buffer) (b slot index : ℕ) (sound : IsLev
         others_stay = λ _ _. refl;
       })
       (λ e.
-          let stays : last_of (record blocks.level { held = set blocks.level.held b (Some k) }) buffer ≡ last_of blocks.level buffer =
-          own_set blocks.level.device (Some k) ∙ ap (λ (o : Option ℕ). as_block o) (sym (is_this k (held_by blocks.level b) e)) ∙ sym (is_for.own blocks.level) in
-          record {
-            answer = cell_found blocks.level.device.counts.faults;
-            faults_stay = omega arith;
-            one_tick = omega arith;
-            written_is = refl;
-            turned_stays = omega arith;
-            turned_rises = omega arith;
-            in_last = λ _. record { turned_is = refl; last_is = stays };
-            in_small = λ _. record { turned_is = refl; last_is = stays };
-            moves = on_ok answer (λ h. absurd (omega (arith, h)));
-            keeps = on_ok answer (λ _. inl stays);
-            others_stay = λ other d. others blocks.level.device (Some k) other d;
-          })
+      let stays : last_of (record blocks.level { held = set blocks.level.held b (Some k) }) buffer ≡ last_of blocks.level buffer =
+      own_set blocks.level.device (Some k) ∙ ap (λ (o : Option ℕ). as_block o) (sym (is_this k (held_by blocks.level b) e)) ∙ sym (is_for.own blocks.level) in
+      record {
+        answer = cell_found blocks.level.device.counts.faults;
+        faults_stay = omega arith;
+        one_tick = omega arith;
+        written_is = refl;
+        turned_stays = omega arith;
+        turned_rises = omega arith;
+        in_last = λ _. record { turned_is = refl; last_is = stays };
+        in_small = λ _. record { turned_is = refl; last_is = stays };
+        moves = on_ok answer (λ h. absurd (omega (arith, h)));
+        keeps = on_ok answer (λ _. inl stays);
+        others_stay = λ other d. others blocks.level.device (Some k) other d;
+      })
       (λ e f.
-          let c : Counted blocks.level.device.counts (after_read blocks.level.device).counts = counted blocks.level.device in
-          record {
-            answer = rose blocks.level.device f;
-            faults_stay = c.faults_stay;
-            one_tick = omega arith;
-            written_is = c.writes_are;
-            turned_stays = c.reads_stay;
-            turned_rises = c.reads_rise;
-            in_last = λ h. absurd (not_last e h);
-            in_small = λ h. absurd (small h);
-            moves = tt;
-            keeps = tt;
-            others_stay = λ other d. others (after_read blocks.level.device) None other d;
-          })
+      let c : Counted blocks.level.device.counts (after_read blocks.level.device).counts = counted blocks.level.device in
+      record {
+        answer = rose blocks.level.device f;
+        faults_stay = c.faults_stay;
+        one_tick = omega arith;
+        written_is = c.writes_are;
+        turned_stays = c.reads_stay;
+        turned_rises = c.reads_rise;
+        in_last = λ h. absurd (not_last e h);
+        in_small = λ h. absurd (small h);
+        moves = tt;
+        keeps = tt;
+        others_stay = λ other d. others (after_read blocks.level.device) None other d;
+      })
       (λ e f.
-          let c : Counted blocks.level.device.counts (after_read blocks.level.device).counts = counted blocks.level.device in
-          let moved : last_of (record blocks.level { device = after_read blocks.level.device; held = set blocks.level.held b (Some k) }) buffer ≡ Some (block_of 8 3 slot index) =
-          own_set (after_read blocks.level.device) (Some k) ∙ block_is slot index slot_in index_in in
-          record {
-            answer = cell_found (after_read blocks.level.device).counts.faults;
-            faults_stay = c.faults_stay;
-            one_tick = omega arith;
-            written_is = c.writes_are;
-            turned_stays = c.reads_stay;
-            turned_rises = c.reads_rise;
-            in_last = λ h. absurd (not_last e h);
-            in_small = λ h. absurd (small h);
-            moves = on_ok answer (λ _. moved);
-            keeps = on_ok answer (λ _. inr moved);
-            others_stay = λ other d. others (after_read blocks.level.device) (Some k) other d;
-          })
+      let c : Counted blocks.level.device.counts (after_read blocks.level.device).counts = counted blocks.level.device in
+      let moved : last_of (record blocks.level { device = after_read blocks.level.device; held = set blocks.level.held b (Some k) }) buffer ≡ Some (block_of 8 3 slot index) =
+      own_set (after_read blocks.level.device) (Some k) ∙ block_is slot index slot_in index_in in
+      record {
+        answer = cell_found (after_read blocks.level.device).counts.faults;
+        faults_stay = c.faults_stay;
+        one_tick = omega arith;
+        written_is = c.writes_are;
+        turned_stays = c.reads_stay;
+        turned_rises = c.reads_rise;
+        in_last = λ h. absurd (not_last e h);
+        in_small = λ h. absurd (small h);
+        moves = on_ok answer (λ _. moved);
+        keeps = on_ok answer (λ _. inr moved);
+        others_stay = λ other d. others (after_read blocks.level.device) (Some k) other d;
+      })
 
 -- no access in memory fails
 pub none_fails : (front : Flat) → front.failing ≡ [] → flat.next_fails front ≡ false
@@ -309,6 +310,7 @@ reads_blocks blocks buffer b l s i sound is_for place = elim (low_or_three l pla
         let h : i < 32 = subst (λ (x : ℕ). i < slot_size x) e k in
         subst (λ (x : ℕ). Reads (held_of blocks) (spent_of blocks) (spent_of (cells.after_read blocks b x s i)) buffer x s i (cells.read_answer blocks b x s i)) (sym e)
         (reads_level blocks buffer b s i sound.level (f e) p.slot_in h)
+
     at_low : l < 3 → Reads (held_of blocks) (spent_of blocks) (spent_of (cells.after_read blocks b l s i)) buffer l s i (cells.read_answer blocks b l s i)
     at_low h =
         let e : (l == 3) ≡ false = eq_false l 3 (λ e. omega (arith, h, e)) in
@@ -333,6 +335,7 @@ read_keeps blocks new b l s i d = ap (λ (x : Blocks). held_of x) d ∙ by_test 
     level_keeps =
         read_ways blocks.level b s i (λ level result. held_of (record blocks { level = level; ticked = (blocks.ticked + 1) % 2 ^ 64 }) ≡ held_of blocks)
         (λ _. refl) (λ _. refl) (λ _ _. refl) (λ _ _. refl)
+
     by_test : (t : Bool) → held_of (if t then record blocks { level = after_level_read blocks.level b s i; ticked = (blocks.ticked + 1) % 2 ^ 64 } else record blocks { front = flat.after_access blocks.front; ticked = (blocks.ticked + 1) % 2 ^ 64 }) ≡ held_of blocks
     by_test true = level_keeps
     by_test false = refl

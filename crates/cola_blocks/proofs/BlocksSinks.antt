@@ -65,6 +65,7 @@ spots_by old new l s i e same = by_order (order l 3)
     at_three h =
         choose_then (l == 3) (level_spots new.level s i) (flat.spots_of 3 new.front.cells l s i) (eq_true l 3 h) ∙ same h
         ∙ sym (choose_then (l == 3) (level_spots old.level s i) (flat.spots_of 3 old.front.cells l s i) (eq_true l 3 h))
+
     by_order : Order l 3 → spots_of new l s i ≡ spots_of old l s i
     by_order (Below h) = front_spots old new l s i (λ k. omega (arith, h, k)) e
     by_order (Same h) = at_three h
@@ -94,9 +95,9 @@ restarts_level blocks slot sound =
       others_stay = λ l s i d. spots_by blocks new l s i refl
           (λ e. spots_stay blocks.level (after_level_restart blocks.level slot) s i
           (λ _ _. restart_bytes blocks.level slot s i (λ p.
-              let k : s ≡ blocks.level.shadow.slot = p.slot_is in
-              let w : i < blocks.level.shadow.len = p.within in
-              elim d [ inl h ↦ absurd (h e) | inr h ↦ elim h [ inl g ↦ absurd (g k) | inr g ↦ absurd (omega (arith, g, w)) ] ])));
+          let k : s ≡ blocks.level.shadow.slot = p.slot_is in
+          let w : i < blocks.level.shadow.len = p.within in
+          elim d [ inl h ↦ absurd (h e) | inr h ↦ elim h [ inl g ↦ absurd (g k) | inr g ↦ absurd (omega (arith, g, w)) ] ])));
       kept_stay = λ kept l s i. spots_by blocks new l s i refl
           (λ e. spots_stay blocks.level (after_level_restart blocks.level slot) s i
           (λ _ _. restart_bytes blocks.level slot s i (λ p. elim kept.is [ inl h ↦ sound.saved h | inr h ↦ absurd (omega (arith, h)) ])));
@@ -126,6 +127,7 @@ lasts_forget old new slot index s i e (By reader l) = by_test (l == 3)
     at b =
         let h : held_by new b ≡ forgotten (block_number slot index) (held_by old b) = ap (λ (xs : List (Option ℕ)). get_or xs b None) e ∙ map_forgotten (block_number slot index) old.held b in
         subst (λ (x : Option ℕ). Forgets (block_of 8 3 slot index) (as_block (held_by old b)) (as_block x)) (sym h) (forgets_one slot index (held_by old b) s i)
+
     by_test : (t : Bool) → Forgets (block_of 8 3 slot index) (if t then as_block (held_by old (reader_buffer reader)) else None) (if t then as_block (held_by new (reader_buffer reader)) else None)
     by_test true = at (reader_buffer reader)
     by_test false = inl refl
@@ -436,7 +438,7 @@ pushes_low blocks front l cell sound levels h p =
     let here : shadow_of blocks l ≡ shadow = shadow_low blocks l h in
     let now : front.levels ≡ 3 = ap (λ f. f.levels) p.around.fixed_is ∙ levels in
     let told : (m s i : ℕ) → flat.spots_of front.levels front.cells m s i ≡ flat.spots_of blocks.front.levels blocks.front.cells m s i →
-        flat.spots_of 3 front.cells m s i ≡ flat.spots_of 3 blocks.front.cells m s i =
+    flat.spots_of 3 front.cells m s i ≡ flat.spots_of 3 blocks.front.cells m s i =
     λ m s i e. ap (λ (n : ℕ). flat.spots_of n front.cells m s i) (sym now) ∙ e ∙ ap (λ (n : ℕ). flat.spots_of n blocks.front.cells m s i) levels in
     let room : shadow.len < slot_size l = p.answer.0 in
     let put : flat.spots_of 3 front.cells l shadow.slot shadow.len ≡ with_cell (flat.spots_of 3 blocks.front.cells l shadow.slot shadow.len) (as_cell cell) =
@@ -467,6 +469,7 @@ pushes_low blocks front l cell sound levels h p =
         choose_else (m == 3) (level_spots blocks.level s i) (flat.spots_of 3 front.cells m s i) (eq_false m 3 n)
         ∙ told m s i (p.others_stay m s i d)
         ∙ sym (choose_else (m == 3) (level_spots blocks.level s i) (flat.spots_of 3 blocks.front.cells m s i) (eq_false m 3 n))
+
     by_order : (m s i : ℕ) → Order m 3 → IsElsewhere l (shadow_at blocks.front.shadows l).slot (shadow_at blocks.front.shadows l).len m s i →
         ((m s i : ℕ) → flat.spots_of front.levels front.cells m s i ≡ flat.spots_of blocks.front.levels blocks.front.cells m s i → flat.spots_of 3 front.cells m s i ≡ flat.spots_of 3 blocks.front.cells m s i) →
         spots_of (record blocks { front = front; ticked = (blocks.ticked + 1) % 2 ^ 64 }) m s i ≡ spots_of blocks m s i
@@ -500,6 +503,7 @@ push_three blocks cell sound spelled = by_test (is_full blocks.level) refl
   where
     within : blocks.level.shadow.len ≤ 32 → blocks.level.shadow.len ≢ 32 → blocks.level.shadow.len < 32
     within h d = omega (arith, h, d)
+
     by_test : (t : Bool) → is_full blocks.level ≡ t →
         PushMeets blocks (if t then blocks else record blocks { level = after_level_push blocks.level (spelling One cell); ticked = (blocks.ticked + 1) % 2 ^ 64 }) 3 cell
         (if t then Err (push.Overfull 3) else level_push_answer blocks.level)
@@ -514,6 +518,7 @@ pushes_blocks blocks l cell sound h spelled = elim (low_or_three l h) [ inl e �
   where
     at_three : (m : ℕ) → m ≡ 3 → PushMeets blocks (cells.after_push blocks m cell) m cell (cells.push_answer blocks m)
     at_three m e = subst (λ (x : ℕ). PushMeets blocks (cells.after_push blocks x cell) x cell (cells.push_answer blocks x)) (sym e) (push_three blocks cell sound spelled)
+
     at_low : l < 3 → PushMeets blocks (cells.after_push blocks l cell) l cell (cells.push_answer blocks l)
     at_low k =
         let e : (l == 3) ≡ false = eq_false l 3 (λ e. omega (arith, k, e)) in
@@ -539,6 +544,7 @@ finish_meets blocks new l result sound h e d =
   where
     at_three : (m : ℕ) → m ≡ 3 → FinishMeets blocks (cells.after_finish blocks m) m (cells.finish_answer blocks m)
     at_three m k = subst (λ (x : ℕ). FinishMeets blocks (cells.after_finish blocks x) x (cells.finish_answer blocks x)) (sym k) (finish_level blocks sound.level)
+
     at_low : l < 3 → FinishMeets blocks (cells.after_finish blocks l) l (cells.finish_answer blocks l)
     at_low k =
         let f : (l == 3) ≡ false = eq_false l 3 (λ e. omega (arith, k, e)) in
@@ -558,6 +564,7 @@ restart_meets blocks new l slot sound h d =
   where
     at_three : (m : ℕ) → m ≡ 3 → RestartMeets blocks (cells.after_restart blocks m slot) m slot
     at_three m k = subst (λ (x : ℕ). RestartMeets blocks (cells.after_restart blocks x slot) x slot) (sym k) (record { restarts = restarts_level blocks slot sound.level; spends_nothing = refl })
+
     at_low : l < 3 → RestartMeets blocks (cells.after_restart blocks l slot) l slot
     at_low k =
         let f : (l == 3) ≡ false = eq_false l 3 (λ e. omega (arith, k, e)) in
@@ -571,5 +578,6 @@ shadow_meets blocks l sound h = elim (low_or_three l h) [ inl k ↦ at_three l k
   where
     at_three : (m : ℕ) → m ≡ 3 → ((shadow_of blocks m).len ≤ slot_size m) × ((shadow_of blocks m).slot < 2)
     at_three m k = subst (λ (x : ℕ). ((shadow_of blocks x).len ≤ slot_size x) × ((shadow_of blocks x).slot < 2)) (sym k) (sound.level.len_within, sound.level.slot_within)
+
     at_low : l < 3 → ((shadow_of blocks l).len ≤ slot_size l) × ((shadow_of blocks l).slot < 2)
     at_low k = subst (λ (x : Shadow). (x.len ≤ slot_size l) × (x.slot < 2)) (sym (shadow_low blocks l k)) (sound.front.lengths_within l, sound.front.slots_within l)

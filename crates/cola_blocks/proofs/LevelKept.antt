@@ -149,10 +149,12 @@ copies_turned bytes copies new held b now within many whole agrees a =
   where
     same : 512 * b + 512 ≤ length copies → block_part (splice copies (512 * b) new) b ≡ new
     same fits = ap (λ (n : ℕ). part (splice copies (512 * b) new) (512 * b) n) (sym whole) ∙ part-splice copies (512 * b) new (omega (arith, fits))
+
     other : 512 * b + 512 ≤ length copies → (buffer : ℕ) → buffer < 4 → buffer ≢ b → Agrees bytes (block_part (splice copies (512 * b) new) buffer) (get_or (set held b now) buffer None)
     other fits buffer h d =
         subst (λ (x : Option ℕ). Agrees bytes (block_part (splice copies (512 * b) new) buffer) x) (sym (get_or-set_other held b buffer now None d))
         (subst (λ (c : List ℕ). Agrees bytes c (get_or held buffer None)) (sym (block_stays copies new b fits whole buffer d)) (a.agree buffer h))
+
     by_order : 512 * b + 512 ≤ length copies → (buffer : ℕ) → buffer < 4 → Order buffer b → Agrees bytes (block_part (splice copies (512 * b) new) buffer) (get_or (set held b now) buffer None)
     by_order fits buffer h (Below e) = other fits buffer h (λ d. omega (arith, e, d))
     by_order fits buffer h (Above e) = other fits buffer h (λ d. omega (arith, e, d))
@@ -238,4 +240,4 @@ read_of_copy level buffer slot index k copy cell result out ok is_k is_copy is_c
     ∙ sym (choose_else (is_in_tail level.shadow slot index) (cell_part level.tail (index % 8)) (part level.device.bytes (64 * n) 64) out) in
     is_result ∙ ap (λ (c : Option Cell). found n c) (is_cell ∙ ap (λ (b : List ℕ). decoded b) bytes)
     ∙ sym (choose_last (is_in_tail level.shadow slot index) (turn_fails level.device (held_by level buffer) (block_number slot index)) (Err Device) (found n (decoded (cell_bytes level slot index))) out
-        (ap (λ (b : ℕ). turn_fails level.device (held_by level buffer) b) (sym is_k) ∙ ok))
+    (ap (λ (b : ℕ). turn_fails level.device (held_by level buffer) b) (sym is_k) ∙ ok))

@@ -110,11 +110,11 @@ restart_bytes level slot s i saved =
     bytes_out (after_level_restart level slot) s i (λ p. let h : i < 0 = p.within in omega (arith, h)) in
     bytes_stay level (after_level_restart level slot) s i
     (λ p.
-        let e : s ≡ level.shadow.slot = p.slot_is in
-        let b : i / 8 ≡ level.shadow.len / 8 = p.block_is in
-        let w : i < level.shadow.len = p.within in
-        let at : cell_number s i ≡ cell_number level.shadow.slot (8 * (level.shadow.len / 8) + i % 8) = omega (arith, e, b) in
-        out ∙ ap (λ (n : ℕ). part level.device.bytes (64 * n) 64) at ∙ (saved p).same (i % 8) (omega (arith, b, w)))
+    let e : s ≡ level.shadow.slot = p.slot_is in
+    let b : i / 8 ≡ level.shadow.len / 8 = p.block_is in
+    let w : i < level.shadow.len = p.within in
+    let at : cell_number s i ≡ cell_number level.shadow.slot (8 * (level.shadow.len / 8) + i % 8) = omega (arith, e, b) in
+    out ∙ ap (λ (n : ℕ). part level.device.bytes (64 * n) 64) at ∙ (saved p).same (i % 8) (omega (arith, b, w)))
     (λ d. out)
 
 -- bytes of the tail before the cell that was put
@@ -133,16 +133,16 @@ module _ (level : Level) (bytes : List ℕ) (sound : IsLevel level) (ends : leve
       let whole : length level.tail ≡ 512 = sound.tail_many in
       bytes_stay level new s i
       (λ p.
-          let e : s ≡ level.shadow.slot = p.slot_is in
-          let b : i / 8 ≡ level.shadow.len / 8 = p.block_is in
-          let w : i < level.shadow.len = p.within in
-          let q : IsInTail new.shadow s i = record { slot_is = e; block_is = omega (arith, b, ends); within = omega (arith, w) } in
-          bytes_in new s i q ∙ tail_before level.tail bytes (i % 8) (level.shadow.len % 8) whole (omega (arith, b, w)) (omega arith))
+      let e : s ≡ level.shadow.slot = p.slot_is in
+      let b : i / 8 ≡ level.shadow.len / 8 = p.block_is in
+      let w : i < level.shadow.len = p.within in
+      let q : IsInTail new.shadow s i = record { slot_is = e; block_is = omega (arith, b, ends); within = omega (arith, w) } in
+      bytes_in new s i q ∙ tail_before level.tail bytes (i % 8) (level.shadow.len % 8) whole (omega (arith, b, w)) (omega arith))
       (λ o. bytes_out new s i (λ q.
-          let e : s ≡ level.shadow.slot = q.slot_is in
-          let b : i / 8 ≡ (level.shadow.len + 1) / 8 = q.block_is in
-          let w : i < level.shadow.len + 1 = q.within in
-          elim d [ inl h ↦ h e | inr h ↦ o (record { slot_is = e; block_is = omega (arith, b, ends); within = omega (arith, w, h) }) ]))
+      let e : s ≡ level.shadow.slot = q.slot_is in
+      let b : i / 8 ≡ (level.shadow.len + 1) / 8 = q.block_is in
+      let w : i < level.shadow.len + 1 = q.within in
+      elim d [ inl h ↦ h e | inr h ↦ o (record { slot_is = e; block_is = omega (arith, b, ends); within = omega (arith, w, h) }) ]))
 
   pub more_end : length bytes ≡ 64 → cell_bytes (with_cell_counted (with_cell_put level bytes)) level.shadow.slot level.shadow.len ≡ bytes
   more_end long =
@@ -160,14 +160,14 @@ module _ (level new : Level) (sound : IsLevel level) (room : level.shadow.len < 
   written_other s i hs hi d =
       ap (λ (b : List ℕ). part b (64 * cell_number s i) 64) is_bytes
       ∙ cell_stays level.device.bytes from (block_number level.shadow.slot level.shadow.len) holds whole (cell_number s i)
-        (other_block level.shadow.slot level.shadow.len s i sound.slot_within room hs hi d)
+      (other_block level.shadow.slot level.shadow.len s i sound.slot_within room hs hi d)
 
   -- and puts those of this one
   pub written_there : (i : ℕ) → i / 8 ≡ level.shadow.len / 8 → part new.device.bytes (64 * cell_number level.shadow.slot i) 64 ≡ cell_part from (i % 8)
   written_there i e =
       ap (λ (b : List ℕ). part b (64 * cell_number level.shadow.slot i) 64) is_bytes
       ∙ cell_is_new level.device.bytes from (block_number level.shadow.slot level.shadow.len) holds whole (cell_number level.shadow.slot i)
-        (block_of_cell level.shadow.slot i ∙ ap (λ (b : ℕ). (2 + level.shadow.slot) * 4 + b) e)
+      (block_of_cell level.shadow.slot i ∙ ap (λ (b : ℕ). (2 + level.shadow.slot) * 4 + b) e)
       ∙ ap (λ (at : ℕ). cell_part from at) (place_of_cell level.shadow.slot i)
 
   apart_by : (s i : ℕ) → Order s level.shadow.slot → (IsInTail level.shadow s i → ⊥) → (s ≡ level.shadow.slot → i / 8 ≡ level.shadow.len / 8 → i < level.shadow.len) → (s ≢ level.shadow.slot) ⊎ (i / 8 ≢ level.shadow.len / 8)
@@ -182,17 +182,17 @@ module _ (level new : Level) (sound : IsLevel level) (room : level.shadow.len < 
   written_bytes slot len tail s i hs hi w =
       bytes_stay level new s i
       (λ p.
-          let e : s ≡ level.shadow.slot = p.slot_is in
-          let b : i / 8 ≡ level.shadow.len / 8 = p.block_is in
-          let v : i < level.shadow.len = p.within in
-          bytes_in new s i (record { slot_is = e ∙ sym slot; block_is = b ∙ ap (λ (n : ℕ). n / 8) (sym len); within = omega (arith, v, len) }) ∙ tail (i % 8) (omega (arith, b, v)))
+      let e : s ≡ level.shadow.slot = p.slot_is in
+      let b : i / 8 ≡ level.shadow.len / 8 = p.block_is in
+      let v : i < level.shadow.len = p.within in
+      bytes_in new s i (record { slot_is = e ∙ sym slot; block_is = b ∙ ap (λ (n : ℕ). n / 8) (sym len); within = omega (arith, v, len) }) ∙ tail (i % 8) (omega (arith, b, v)))
       (λ o.
-          bytes_out new s i (λ q.
-              let e : s ≡ new.shadow.slot = q.slot_is in
-              let b : i / 8 ≡ new.shadow.len / 8 = q.block_is in
-              let v : i < new.shadow.len = q.within in
-              o (record { slot_is = e ∙ slot; block_is = b ∙ ap (λ (n : ℕ). n / 8) len; within = omega (arith, v, len) }))
-          ∙ written_other s i hs hi (apart_by s i (order s level.shadow.slot) o w))
+      bytes_out new s i (λ q.
+      let e : s ≡ new.shadow.slot = q.slot_is in
+      let b : i / 8 ≡ new.shadow.len / 8 = q.block_is in
+      let v : i < new.shadow.len = q.within in
+      o (record { slot_is = e ∙ slot; block_is = b ∙ ap (λ (n : ℕ). n / 8) len; within = omega (arith, v, len) }))
+      ∙ written_other s i hs hi (apart_by s i (order s level.shadow.slot) o w))
 
   -- where the shadow ends behind the block, so that nothing is in the tail, all cells but the one that was put stay
   pub full_bytes : new.shadow.len ≡ level.shadow.len + 1 → level.shadow.len % 8 ≡ 7 →
@@ -201,20 +201,20 @@ module _ (level new : Level) (sound : IsLevel level) (room : level.shadow.len < 
   full_bytes len full tail s i hs hi d =
       let none : IsInTail new.shadow s i → ⊥ =
       λ q.
-          let b : i / 8 ≡ new.shadow.len / 8 = q.block_is in
-          let v : i < new.shadow.len = q.within in
-          omega (arith, b, v, len, full) in
+      let b : i / 8 ≡ new.shadow.len / 8 = q.block_is in
+      let v : i < new.shadow.len = q.within in
+      omega (arith, b, v, len, full) in
       bytes_stay level new s i
       (λ p.
-          let e : s ≡ level.shadow.slot = p.slot_is in
-          let b : i / 8 ≡ level.shadow.len / 8 = p.block_is in
-          let v : i < level.shadow.len = p.within in
-          bytes_out new s i none
-          ∙ ap (λ (t : ℕ). part new.device.bytes (64 * cell_number t i) 64) e
-          ∙ written_there i b ∙ tail (i % 8) (omega (arith, b, v, full)))
+      let e : s ≡ level.shadow.slot = p.slot_is in
+      let b : i / 8 ≡ level.shadow.len / 8 = p.block_is in
+      let v : i < level.shadow.len = p.within in
+      bytes_out new s i none
+      ∙ ap (λ (t : ℕ). part new.device.bytes (64 * cell_number t i) 64) e
+      ∙ written_there i b ∙ tail (i % 8) (omega (arith, b, v, full)))
       (λ o.
-          bytes_out new s i none
-          ∙ written_other s i hs hi (apart_by s i (order s level.shadow.slot) o (λ e b. elim d [ inl h ↦ absurd (h e) | inr h ↦ omega (arith, h, b, full) ])))
+      bytes_out new s i none
+      ∙ written_other s i hs hi (apart_by s i (order s level.shadow.slot) o (λ e b. elim d [ inl h ↦ absurd (h e) | inr h ↦ omega (arith, h, b, full) ])))
 
   pub full_end : new.shadow.len ≡ level.shadow.len + 1 → level.shadow.len % 8 ≡ 7 → cell_bytes new level.shadow.slot level.shadow.len ≡ cell_part from 7
   full_end len full =
@@ -227,6 +227,6 @@ pub made_anew : (level : Level) (device : Memory) → device ≡ level.device �
 made_anew level device is saved e slot index =
     ap (λ (d : Memory). level_spots (new_level d) slot index) is
     ∙ spots_stay level (new_level level.device) slot index (λ _ _.
-        bytes_out (new_level level.device) slot index (λ p. let h : index < 0 = p.within in omega (arith, h))
-        ∙ sym (bytes_out (after_level_restart level 1) slot index (λ p. let h : index < 0 = p.within in omega (arith, h)))
-        ∙ restart_bytes level 1 slot index (λ _. saved e))
+    bytes_out (new_level level.device) slot index (λ p. let h : index < 0 = p.within in omega (arith, h))
+    ∙ sym (bytes_out (after_level_restart level 1) slot index (λ p. let h : index < 0 = p.within in omega (arith, h)))
+    ∙ restart_bytes level 1 slot index (λ _. saved e))

@@ -4,3 +4,4 @@ pub mod LevelKept
 pub mod LevelSpots
 pub mod BlocksReads
 pub mod BlocksSinks
+mod Worked

@@ -10,9 +10,7 @@ ghost use Rattle.cola_blocks.specs.Level.{new_level};
 ghost use Rattle.cola_blocks.specs.Blocks.{IsSound, level_spots, new_blocks, held_of, spent_of, reader_buffer, shadow_of, read_answer, after_read, push_answer, after_push, finish_answer, after_finish, after_restart};
 
 use crate::block_level::BlockLevel;
-use cola_cell::{
-    Cell, CellSink, CellSource, FlatCells, PushFault, ReadFault, Reader, Shadow,
-};
+use cola_cell::{Cell, CellSink, CellSource, FlatCells, PushFault, ReadFault, Reader, Shadow};
 use cola_device::{Device, MemoryDevice};
 use cola_outside::Steps;
 use std::alloc::{AllocError, Global};

@@ -204,7 +204,7 @@ impl BlockLevel {
     }
 
     /// Whether the cell at a place is in the tail.
-    fn holds(&self, slot: u8, index: u32) -> bool
+    fn has_in_tail(&self, slot: u8, index: u32) -> bool
         ensures { result ≡ is_in_tail self.now.shadow slot index }
     {
         let shadow = self.shadow;
@@ -223,7 +223,7 @@ impl BlockLevel {
         let _item: Option<Item> = None;
         let number = (2 + slot as u64) * 32 + index as u64;
         let place = (index % 8) as usize;
-        if self.holds(slot, index) {
+        if self.has_in_tail(slot, index) {
             return cell_in(&self.tail, place).ok_or(ReadFault::BadCell(number));
         }
         let block = number_of_block(slot, index);
@@ -282,7 +282,7 @@ impl BlockLevel {
                 self.shadow.saved = true;
                 Ok(())
             }
-            Err(fault) => Err(fault),
+            Err(refused) => Err(refused),
         }
     }
 
@@ -292,10 +292,8 @@ impl BlockLevel {
         ensures after { self.new ≡ after_level_restart self.old slot }
         ensures sound { IsLevel self.old }
     {
-        self.shadow = Shadow {
-            slot,
-            len: 0,
-            saved: true,
-        };
+        let len = 0;
+        let saved = true;
+        self.shadow = Shadow { slot, len, saved };
     }
 }

@@ -4,7 +4,9 @@
 
 mod block_cells;
 mod block_level;
+mod law;
 #[cfg(test)]
 mod tests;
 
 pub use block_cells::BlockCells;
+pub use law::decoding_is_a_function;

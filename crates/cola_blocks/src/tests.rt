@@ -119,24 +119,36 @@ fn session<W: CellSink, L: Ledger>(rt: &impl Abort, work: &mut W, blank: Blank) 
     work.restart(3, 0);
     assert_eq!(rt; fill(work, 3, 0, 0, 32, steps), Ok(()));
     assert_eq!(rt; work.shadow_len(3), 32);
-    assert_eq!(rt; fill(work, 3, 0, 32, 33, steps), Err(PushFault::Overfull(3)));
+    assert_eq!(rt;
+        fill(work, 3, 0, 32, 33, steps),
+        Err(PushFault::Overfull(3))
+    );
     assert_eq!(rt; count_found(work, 3, 0, 32, steps), Ok(32));
     work.restart(3, 1);
     assert_eq!(rt; fill(work, 3, 1, 0, 21, steps), Ok(()));
     assert_eq!(rt; count_found(work, 3, 1, 21, steps), Ok(21));
     assert_eq!(rt; count_found_for(work, Reader::Own, 3, 0, 32, steps), Ok(32));
-    assert_eq!(rt; count_found_for(work, Reader::Sample, 3, 1, 21, steps), Ok(21));
+    assert_eq!(rt;
+        count_found_for(work, Reader::Sample, 3, 1, 21, steps),
+        Ok(21)
+    );
     assert_eq!(rt; work.finish(3), Ok(()));
     work.restart(3, 0);
     assert_eq!(rt; work.shadow_len(3), 0);
-    assert_eq!(rt; count_found_for(work, Reader::Incoming, 3, 1, 21, steps), Ok(21));
+    assert_eq!(rt;
+        count_found_for(work, Reader::Incoming, 3, 1, 21, steps),
+        Ok(21)
+    );
     assert_eq!(rt; work.read(2, 1, 15, steps), Err(ReadFault::BadCell(63)));
     assert_eq!(rt; work.ticked(), 181);
     work.restart(0, 0);
     assert_eq!(rt; fill(work, 0, 0, 0, 5, steps), Err(PushFault::Overfull(0)));
     assert_eq!(rt; work.finish(0), Ok(()));
     assert_eq!(rt; work.shadow_len(0), 4);
-    assert_eq!(rt; count_found_for(work, Reader::Incoming, 0, 0, 4, steps), Ok(4));
+    assert_eq!(rt;
+        count_found_for(work, Reader::Incoming, 0, 0, 4, steps),
+        Ok(4)
+    );
     assert_eq!(rt; work.ticked(), 189);
     Ok(())
 }
@@ -153,7 +165,10 @@ fn cells_in_blocks_come_back(rt: HostRuntime) -> Result<(), Fail> {
     let mut cells = blocks_of(rt.alloc(), 0, Vec::new(rt.alloc()))?;
     session::<BlockCells, Brand>(&rt, &mut cells, Blank::new(1))?;
     let device = cells.into_device();
-    assert_eq!(rt; (device.reads(), device.writes(), device.faults()), (15, 7, 0));
+    assert_eq!(rt;
+        (device.reads(), device.writes(), device.faults()),
+        (15, 7, 0)
+    );
     Ok(())
 }
 
@@ -196,7 +211,10 @@ fn a_push_that_fills_a_block_is_refused(rt: HostRuntime) -> Result<(), Fail> {
     let mut cells = blocks_of(rt.alloc(), 0, failing)?;
     refused_push::<BlockCells, Brand>(&rt, &mut cells, Blank::new(1))?;
     let device = cells.into_device();
-    assert_eq!(rt; (device.reads(), device.writes(), device.faults()), (1, 2, 1));
+    assert_eq!(rt;
+        (device.reads(), device.writes(), device.faults()),
+        (1, 2, 1)
+    );
     Ok(())
 }
 
@@ -213,9 +231,15 @@ fn refused_read<W: CellSource, L: Ledger>(
 {
     let mut steps = Steps::<L>::begin(blank);
     let steps = &mut steps;
-    assert_eq!(rt; work.read_for(Reader::Sample, 3, 1, 31, steps), Err(ReadFault::Device));
+    assert_eq!(rt;
+        work.read_for(Reader::Sample, 3, 1, 31, steps),
+        Err(ReadFault::Device)
+    );
     assert_eq!(rt; work.ticked(), 1);
-    assert_eq!(rt; work.read_for(Reader::Sample, 3, 1, 31, steps), Err(ReadFault::BadCell(127)));
+    assert_eq!(rt;
+        work.read_for(Reader::Sample, 3, 1, 31, steps),
+        Err(ReadFault::BadCell(127))
+    );
     assert_eq!(rt; work.read(3, 0, 0, steps), Err(ReadFault::BadCell(64)));
     assert_eq!(rt; work.ticked(), 3);
     Ok(())
@@ -280,9 +304,15 @@ fn a_finish_of_a_block_is_refused(rt: HostRuntime) -> Result<(), Fail> {
     let mut cells = blocks_of(rt.alloc(), 0, failing)?;
     refused_finish::<BlockCells, Brand>(&rt, &mut cells, 1, Blank::new(1))?;
     let device = cells.device();
-    assert_eq!(rt; (device.reads(), device.writes(), device.faults()), (1, 2, 1));
+    assert_eq!(rt;
+        (device.reads(), device.writes(), device.faults()),
+        (1, 2, 1)
+    );
     let bytes = cells.into_device().into_bytes();
-    assert_eq!(rt; &bytes[4096..4106], [2, 0, 1, 0, 0, 0, 0, 0, b'k', 0].as_slice());
+    assert_eq!(rt;
+        &bytes[4096..4106],
+        [2, 0, 1, 0, 0, 0, 0, 0, b'k', 0].as_slice()
+    );
     let device = MemoryDevice::holding(bytes, Vec::new(rt.alloc()));
     let mut cells = BlockCells::new(rt.alloc(), device)?;
     finished::<BlockCells, Brand>(&rt, &mut cells, Blank::new(1))
@@ -315,13 +345,19 @@ fn forgets<W: CellSink, L: Ledger>(rt: &impl Abort, work: &mut W, blank: Blank) 
     let mut steps = Steps::<L>::begin(blank);
     let steps = &mut steps;
     assert_eq!(rt; work.read(3, 0, 0, steps), Err(ReadFault::BadCell(64)));
-    assert_eq!(rt; work.read_for(Reader::Own, 3, 1, 0, steps), Err(ReadFault::BadCell(96)));
+    assert_eq!(rt;
+        work.read_for(Reader::Own, 3, 1, 0, steps),
+        Err(ReadFault::BadCell(96))
+    );
     work.restart(3, 0);
     assert_eq!(rt; fill(work, 3, 0, 0, 3, steps), Ok(()));
     assert_eq!(rt; work.finish(3), Ok(()));
     work.restart(3, 1);
     assert_eq!(rt; count_found(work, 3, 0, 3, steps), Ok(3));
-    assert_eq!(rt; work.read_for(Reader::Own, 3, 1, 7, steps), Err(ReadFault::BadCell(103)));
+    assert_eq!(rt;
+        work.read_for(Reader::Own, 3, 1, 7, steps),
+        Err(ReadFault::BadCell(103))
+    );
     Ok(())
 }
 

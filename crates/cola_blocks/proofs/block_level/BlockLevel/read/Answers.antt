@@ -23,11 +23,11 @@ returns-clause-answer c =
     let copy : List ℕ = block_part c.turn_to.new.copies c.args.buffer in
     let same : block_part c.turn_to.new.copies c.args.buffer ≡ block_part i.device.bytes k =
     copy_is i.device c.turn_to.new.device i.held c.turn_to.new.held c.turn_to.new.copies c.args.buffer k c.requires.buffer_in c.self.invariant.0.held_many
-        c.turn_to.ensures.device c.turn_to.ensures.held (sym c.in-Ok.ensures.fails) c.turn_to.ensures.copies in
+    c.turn_to.ensures.device c.turn_to.ensures.held (sym c.in-Ok.ensures.fails) c.turn_to.ensures.copies in
     let cell : c.cell_in-2.result ≡ decoded (cell_part copy (c.args.index % 8)) =
     c.cell_in-2.ensures ∙ ap (λ (xs : List ℕ). decoded (cell_part xs (c.args.index % 8))) (between_is_part c.turn_to.new.copies (512 * c.args.buffer) 512) in
     read_of_copy c.args.self.now c.args.buffer c.args.slot c.args.index k copy c.cell_in-2.result c.ok_or-2.result
-    (sym c.holds.ensures ∙ c.if-holds.false)
+    (sym c.has_in_tail.ensures ∙ c.if-has_in_tail.false)
     (subst (λ (l : Level). turn_fails l.device (held_by l c.args.buffer) k ≡ false) c.self.view_is (sym c.in-Ok.ensures.fails))
     c.number_of_block-block.ensures
     (subst (λ (l : Level). copy ≡ block_part l.device.bytes k) c.self.view_is same)
