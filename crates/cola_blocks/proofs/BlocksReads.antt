@@ -1,5 +1,5 @@
 -- That reads of cells of which level 3 lies in blocks meet the trait.
-use Rattle.std.proofs.Common.{◌≡◌, ◌≢◌, ◌⊎◌, inl, inr, ℕ, ◌+◌, ◌-◌, ◌*◌, ◌/◌, ◌%◌, ◌^◌, ◌<◌, ◌≤◌, ◌==◌, nat_lt, ◌&&◌, not, min, max, Bool, true, false, if◌then◌else◌, List, [], length, get_or, set, Option, None, Some, IfSome, Result, Ok, Err, OnOk, refl, sym, ap, subst, ◌∙◌, arith}
+use Rattle.std.proofs.Common.{◌≡◌, ◌≢◌, ◌⊎◌, inl, inr, ℕ, ◌+◌, ◌-◌, ◌/◌, ◌%◌, ◌^◌, ◌<◌, ◌≤◌, ◌==◌, ◌&&◌, not, Bool, true, false, if◌then◌else◌, List, [], length, get_or, set, Option, None, Some, IfSome, Result, Ok, Err, OnOk, refl, sym, ap, subst, ◌∙◌, arith}
 use Rattle.std.proofs.lemmas.Bool.{eqb-true, false≢true}
 use Rattle.std.proofs.lemmas.List.{get_or-set_same, get_or-set_other}
 use Rattle.cola_outside.specs.Faults.{Rose}
@@ -8,24 +8,24 @@ use Rattle.cola_cell.specs.declared.cell.Cell.{Cell}
 use Rattle.cola_cell.specs.declared.cell.Reader.{Reader}
 use Rattle.cola_cell.specs.declared.cell.Reader.TheVariants.{Own, Incoming, Sample}
 use Rattle.cola_cell.specs.declared.fault.ReadFault.{ReadFault}
-use Rattle.cola_cell.specs.declared.fault.ReadFault.TheVariants.{Device, BadCell}
+use Rattle.cola_cell.specs.declared.fault.ReadFault.TheVariants.{Device}
 use Rattle.cola_cell.specs.Format.{CellFits}
 use Rattle.cola_cell.specs.Places.{slot_size, number_of, IsPlace, Block, block_of}
-use Rattle.cola_cell.specs.Held.{Held, Spot, Bad, Told, Tells, as_cell, is_untold}
-use Rattle.cola_cell.specs.Spent.{Buffer, Search, By, Spent, StaysAt, IsGiven, IsBad, ReadAnswers, Reads}
+use Rattle.cola_cell.specs.Held.{Held, Bad, Told, Tells, as_cell}
+use Rattle.cola_cell.specs.Spent.{Buffer, Search, By, Spent, ReadAnswers, Reads}
 use Rattle.cola_cell.specs.Flat as flat
 use Rattle.cola_cell.specs.Flat.{Flat, IsFlat, found, spot_of}
 use Rattle.cola_cell.proofs.FlatLemmas.{spot_is}
 use Rattle.cola_device.specs.declared.counts.Counts.{Counts}
-use Rattle.cola_device.specs.Counts.{one_more, count_fault, count_read}
-use Rattle.cola_device.specs.Memory.{Memory, next_fails, after_call, after_read}
-use Rattle.cola_blocks.specs.Decoded.{decoded, spot_of_bytes}
-use Rattle.cola_blocks.specs.Level.{Level, IsLevel, IsBlock, block_number, cell_number, is_in_tail, cell_bytes, is_block, held_by, turn_fails, device_turned, held_turned, turned_to, after_level_read, level_answer}
+use Rattle.cola_device.specs.Counts.{count_fault, count_read}
+use Rattle.cola_device.specs.Memory.{Memory, next_fails, after_read}
+use Rattle.cola_blocks.specs.Decoded.{decoded}
+use Rattle.cola_blocks.specs.Level.{Level, IsLevel, IsBlock, block_number, cell_number, is_in_tail, cell_bytes, is_block, held_by, after_level_read, level_answer}
 use Rattle.cola_blocks.specs.Blocks.{Blocks, IsBlocks, IsSound, level_spots, spots_of, held_of, as_block, reader_buffer, last_of, spent_of}
 use Rattle.cola_blocks.specs.Blocks as cells
 use Rattle.cola_blocks.proofs.DecodedLemmas.{decoded_fits}
 use Rattle.cola_blocks.proofs.LevelLemmas.{Order, Below, Same, Above, order}
-use Rattle.cola_blocks.proofs.LevelKept.{choose_else, shadow_block_in}
+use Rattle.cola_blocks.proofs.LevelKept.{choose_else}
 use Rattle.cola_blocks.proofs.LevelSpots.{choose_then, eq_true, eq_false, spot_there}
 
 -- what a read finds has its cause

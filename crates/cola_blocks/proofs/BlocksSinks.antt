@@ -1,36 +1,35 @@
 -- That pushes, finishes and restarts of cells of which level 3 lies in blocks meet the trait.
-use Rattle.std.proofs.Common.{◌≡◌, ◌≢◌, ◌⊎◌, inl, inr, ℕ, ◌+◌, ◌-◌, ◌*◌, ◌/◌, ◌%◌, ◌^◌, ◌<◌, ◌≤◌, ◌==◌, nat_lt, ◌&&◌, not, min, max, Bool, true, false, if◌then◌else◌, IsTrue, List, [], length, map, get_or, set, replicate, Option, None, Some, IfSome, Result, Ok, Err, is_ok, refl, sym, ap, subst, ◌∙◌, arith}
+use Rattle.std.proofs.Common.{◌≡◌, ◌≢◌, ◌⊎◌, inl, inr, ℕ, ◌+◌, ◌*◌, ◌%◌, ◌^◌, ◌<◌, ◌≤◌, ◌==◌, nat_lt, ◌&&◌, not, Bool, true, false, if◌then◌else◌, List, length, map, get_or, replicate, Option, None, Some, Result, Ok, Err, is_ok, refl, sym, ap, subst, ◌∙◌, arith}
 use Rattle.std.proofs.lemmas.Bool.{eqb-true, eqb-false, false≢true}
-use Rattle.std.proofs.lemmas.List.{get_or-set_same, get_or-set_other}
+use Rattle.std.proofs.lemmas.List.{get_or-set_other}
 use Rattle.cola_outside.specs.Faults.{Rose}
 use Rattle.cola_cell.specs.declared.format.Format.TheVariants.{One}
 use Rattle.cola_cell.specs.declared.cell.Cell.{Cell}
 use Rattle.cola_cell.specs.declared.fault.PushFault.{PushFault}
 use Rattle.cola_cell.specs.declared.fault.PushFault.TheVariants as push
 use Rattle.cola_cell.specs.declared.sink.Shadow.{Shadow}
-use Rattle.cola_cell.specs.Format.{CellFits}
-use Rattle.cola_cell.specs.Places.{slot_size, number_of, IsPlace, Block, block_of}
-use Rattle.cola_cell.specs.Held.{Held, Spot, Untold, Bad, Told, Tells, LawCell, as_cell, is_untold, with_cell, IsElsewhere, span}
-use Rattle.cola_cell.specs.Spent.{Buffer, Search, By, Spent, Ticks}
-use Rattle.cola_cell.specs.Shadows.{emptied, IsKept, StaysAround, Restarts, Pushes, PushAnswers, PushSpends, push_ticks, Forgets, WritesNothing, Writes, Finishes, FinishAnswers, FinishSpends}
+use Rattle.cola_cell.specs.Places.{slot_size, Block, block_of}
+use Rattle.cola_cell.specs.Held.{Spot, Untold, Bad, Told, LawCell, as_cell, is_untold, with_cell, IsElsewhere}
+use Rattle.cola_cell.specs.Spent.{Buffer, Search, By, Ticks}
+use Rattle.cola_cell.specs.Shadows.{emptied, StaysAround, Restarts, Pushes, PushSpends, Forgets, WritesNothing, Writes, Finishes, FinishAnswers, FinishSpends}
 use Rattle.cola_cell.specs.Spelling.{IsSpelling}
 use Rattle.cola_cell.specs.Flat as flat
 use Rattle.cola_cell.specs.Flat.{Flat, IsFlat, shadow_at, spot_of}
 use Rattle.cola_cell.proofs.FlatLemmas.{spots_told, shadow_put, pushes_flat}
 use Rattle.cola_device.specs.declared.counts.Counts.{Counts}
 use Rattle.cola_device.specs.declared.memory.TheConstants.{SPOILED}
-use Rattle.cola_device.specs.Bytes.{part, splice}
-use Rattle.cola_device.specs.Counts.{one_more, count_fault, count_write}
+use Rattle.cola_device.specs.Bytes.{splice}
+use Rattle.cola_device.specs.Counts.{count_fault, count_write}
 use Rattle.cola_device.specs.Memory.{Memory, next_fails, after_write}
 use Rattle.cola_device.proofs.BytesLemmas.{length-splice}
 use Rattle.cola_blocks.specs.Decoded.{decoded, spelling, spot_of_bytes}
-use Rattle.cola_blocks.specs.Level.{Level, IsLevel, IsSaved, IsBlock, block_number, cell_number, cell_part, is_in_tail, cell_bytes, is_block, held_by, forgotten, fills, longer, with_cell_put, with_cell_counted, with_tail_written, after_tail_write, level_push_answer, after_level_push, level_finish_answer, after_level_finish, after_level_restart}
+use Rattle.cola_blocks.specs.Level.{Level, IsLevel, block_number, cell_part, cell_bytes, held_by, forgotten, fills, longer, with_cell_put, with_cell_counted, after_tail_write, level_push_answer, after_level_push, level_finish_answer, after_level_finish, after_level_restart}
 use Rattle.cola_blocks.specs.Blocks.{Blocks, IsBlocks, IsSound, level_spots, spots_of, shadow_of, held_of, as_block, reader_buffer, last_of, spent_of, is_full}
 use Rattle.cola_blocks.specs.Blocks as cells
 use Rattle.cola_blocks.proofs.DecodedLemmas.{decoded_is}
-use Rattle.cola_blocks.proofs.LevelLemmas.{Order, Below, Same, Above, order, map_forgotten, forgets_by}
-use Rattle.cola_blocks.proofs.LevelKept.{choose_else, shadow_block_in, ends_within, written_whole}
-use Rattle.cola_blocks.proofs.LevelSpots.{choose_then, eq_true, eq_false, spot_there, spots_stay, restart_bytes, tail_before, tail_at, more_bytes, more_end, written_bytes, full_bytes, full_end, IsInTail}
+use Rattle.cola_blocks.proofs.LevelLemmas.{Order, Below, Same, Above, order, map_forgotten}
+use Rattle.cola_blocks.proofs.LevelKept.{choose_else, ends_within, written_whole}
+use Rattle.cola_blocks.proofs.LevelSpots.{choose_then, eq_true, eq_false, spot_there, spots_stay, restart_bytes, tail_before, tail_at, more_bytes, more_end, written_bytes, full_bytes, full_end}
 use Rattle.cola_blocks.proofs.BlocksReads.{block_is, none_fails, low_or_three}
 
 -- a cell in memory or on the device is told

@@ -1,20 +1,14 @@
 -- Places, blocks and bytes of a level in blocks.
-use Rattle.std.proofs.Common.{◌≡◌, ◌≢◌, ◌⊎◌, inl, inr, ℕ, zero, suc, ◌+◌, ◌-◌, ◌*◌, ◌/◌, ◌%◌, ◌<◌, ◌≤◌, ◌==◌, Bool, true, false, if◌then◌else◌, List, [], ◌∷◌, length, take, drop, get_or, set, map, replicate, ◌++◌, Option, None, Some, IfSome, Result, Ok, Err, refl, sym, ap, subst, ◌∙◌, arith}
-use Rattle.std.proofs.lemmas.Bool.{eqb-true, eqb-false, false≢true}
-use Rattle.std.proofs.lemmas.List.{get_or-set_same, get_or-set_other, get_or_past, length-set, length-map, length-replicate, set_past}
+use Rattle.std.proofs.Common.{◌≡◌, ◌≢◌, ℕ, zero, suc, ◌+◌, ◌-◌, ◌*◌, ◌/◌, ◌%◌, ◌<◌, ◌≤◌, ◌==◌, Bool, true, false, if◌then◌else◌, List, [], ◌∷◌, length, take, drop, get_or, map, ◌++◌, Option, None, Some, refl, ap, ◌∙◌, arith}
+use Rattle.std.proofs.lemmas.Bool.{eqb-false}
 use Rattle.cola_cell.specs.declared.cell.Cell.{Cell}
 use Rattle.cola_cell.specs.declared.format.Format.TheVariants.{One}
-use Rattle.cola_cell.specs.declared.fault.PushFault.{PushFault}
-use Rattle.cola_cell.specs.declared.fault.PushFault.TheVariants as push
-use Rattle.cola_cell.specs.declared.sink.Shadow.{Shadow}
 use Rattle.cola_cell.specs.Spelling.{IsSpelling}
 use Rattle.cola_cell.proofs.Unique as unique
-use Rattle.cola_device.specs.declared.memory.TheConstants.{SPOILED}
 use Rattle.cola_device.specs.Bytes.{part, splice}
-use Rattle.cola_device.specs.Memory.{Memory, next_fails, after_read, after_write}
 use Rattle.cola_device.proofs.BytesLemmas.{length-splice, part-splice_inside, part-splice_below, part-splice_above, part-part}
 use Rattle.cola_blocks.specs.Decoded.{spelling}
-use Rattle.cola_blocks.specs.Level.{Level, IsLevel, IsBlock, IsSaved, AreCopies, Agrees, block_number, cell_number, block_part, cell_part, is_block, held_by, forgotten, turn_fails, device_turned, held_turned, longer}
+use Rattle.cola_blocks.specs.Level.{block_number, cell_number, block_part, cell_part, forgotten}
 use Rattle.cola_blocks.proofs.DecodedLemmas.{spelled-so}
 use borrow.Rule.Slice.PartMut.{put_mid}
 

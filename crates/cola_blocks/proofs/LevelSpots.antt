@@ -1,18 +1,16 @@
 -- The bytes of the cells of a level before and after each call.
-use Rattle.std.proofs.Common.{eq-eqb, ◌≡◌, ◌≢◌, ◌⊎◌, inl, inr, ℕ, ◌+◌, ◌-◌, ◌*◌, ◌/◌, ◌%◌, ◌<◌, ◌≤◌, ◌==◌, nat_lt, ◌&&◌, not, Bool, true, false, if◌then◌else◌, List, length, map, replicate, Option, None, Some, refl, sym, ap, subst, ◌∙◌, arith}
-use Rattle.std.proofs.lemmas.Bool.{eqb-true, eqb-false, false≢true, ltb-true, lt-ltb}
+use Rattle.std.proofs.Common.{eq-eqb, ◌≡◌, ◌≢◌, ◌⊎◌, inl, inr, ℕ, ◌+◌, ◌*◌, ◌/◌, ◌%◌, ◌<◌, ◌≤◌, ◌==◌, nat_lt, ◌&&◌, Bool, true, false, if◌then◌else◌, List, length, refl, sym, ap, ◌∙◌, arith}
+use Rattle.std.proofs.lemmas.Bool.{eqb-true, false≢true, ltb-true, lt-ltb}
 use Rattle.cola_cell.specs.declared.sink.Shadow.{Shadow}
-use Rattle.cola_cell.specs.Shadows.{emptied}
-use Rattle.cola_cell.specs.Held.{Spot, Bad}
-use Rattle.cola_device.specs.declared.memory.TheConstants.{SPOILED}
+use Rattle.cola_cell.specs.Held.{Bad}
 use Rattle.cola_device.specs.Bytes.{part, splice}
-use Rattle.cola_device.specs.Memory.{Memory, next_fails, after_write}
+use Rattle.cola_device.specs.Memory.{Memory}
 use Rattle.cola_device.proofs.BytesLemmas.{part-splice, part-splice_below}
 use Rattle.cola_blocks.specs.Decoded.{spot_of_bytes}
-use Rattle.cola_blocks.specs.Level.{Level, IsLevel, IsSaved, block_number, cell_number, cell_part, is_in_tail, cell_bytes, fills, with_cell_put, with_cell_counted, after_tail_write, after_level_push, after_level_finish, after_level_restart, longer, new_level}
+use Rattle.cola_blocks.specs.Level.{Level, IsLevel, IsSaved, block_number, cell_number, cell_part, is_in_tail, cell_bytes, with_cell_put, with_cell_counted, after_level_restart, new_level}
 use Rattle.cola_blocks.specs.Blocks.{level_spots}
-use Rattle.cola_blocks.proofs.LevelLemmas.{Order, Below, Same, Above, order, written_many, cell_stays, cell_is_new, block_of_cell, place_of_cell}
-use Rattle.cola_blocks.proofs.LevelKept.{choose_else, written_whole}
+use Rattle.cola_blocks.proofs.LevelLemmas.{Order, Below, Same, Above, order, cell_stays, cell_is_new, block_of_cell, place_of_cell}
+use Rattle.cola_blocks.proofs.LevelKept.{choose_else}
 
 -- a choice by a test that is true
 pub choose_then : {A : Type 0} (t : Bool) (x y : A) → t ≡ true → (if t then x else y) ≡ x

@@ -1,11 +1,9 @@
 -- The definitions at small values.
-use Rattle.std.proofs.Common.{◌≡◌, true, false, [], ◌∷◌, Option, Some, None, refl}
-use Rattle.cola_cell.specs.declared.cell.Reader.TheVariants.{Own}
+use Rattle.std.proofs.Common.{◌≡◌, true, false, [], ◌∷◌, Some, None, refl}
 use Rattle.cola_cell.specs.Places.{number_of, block_of}
-use Rattle.cola_cell.specs.Spent.{Search, By}
-use Rattle.cola_device.specs.Memory.{unused, after_call}
-use Rattle.cola_blocks.specs.Level.{block_number, cell_number, is_in_tail, is_block, forgotten, turn_fails, held_turned, longer}
-use Rattle.cola_blocks.specs.Blocks.{as_block, reader_buffer}
+use Rattle.cola_device.specs.Memory.{unused}
+use Rattle.cola_blocks.specs.Level.{block_number, cell_number, is_in_tail, forgotten, turn_fails, held_turned, longer}
+use Rattle.cola_blocks.specs.Blocks.{as_block}
 
 first_block : block_number 0 0 ≡ 8
 first_block = refl

@@ -1,5 +1,5 @@
 -- Cells of which level 3 lies in blocks: what contracts see of them, and what each call does.
-use Rattle.std.specs.Prelude.{◌≡◌, ℕ, ◌+◌, ◌-◌, ◌*◌, ◌/◌, ◌%◌, ◌^◌, ◌≤◌, ◌<◌, ◌==◌, nat_lt, ◌&&◌, Bool, true, false, if◌then◌else◌, List, [], Option, None, Some, Result, Ok, Err}
+use Rattle.std.specs.Prelude.{◌≡◌, ℕ, ◌+◌, ◌-◌, ◌/◌, ◌%◌, ◌^◌, ◌<◌, ◌==◌, nat_lt, ◌&&◌, Bool, if◌then◌else◌, [], Option, None, Some, Result, Ok, Err}
 use Rattle.cola_cell.specs.declared.format.Format.TheVariants.{One}
 use Rattle.cola_cell.specs.declared.cell.Cell.{Cell}
 use Rattle.cola_cell.specs.declared.cell.Reader.{Reader}

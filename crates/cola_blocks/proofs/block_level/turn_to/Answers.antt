@@ -1,9 +1,9 @@
-use Rattle.std.proofs.Common.{◌≡◌, ◌≤◌, ◌<◌, ◌+◌, ◌-◌, ◌*◌, ℕ, Bool, true, false, List, length, take, drop, get_or, set, Option, None, Some, refl, sym, ap, subst, ◌∙◌, arith}
+use Rattle.std.proofs.Common.{◌≡◌, ◌<◌, ◌+◌, ◌-◌, ◌*◌, ℕ, List, length, take, drop, get_or, set, Option, None, Some, refl, sym, ap, subst, ◌∙◌, arith}
 use Rattle.std.proofs.lemmas.List.{set-set}
-use Rattle.cola_device.specs.Bytes.{part, splice}
+use Rattle.cola_device.specs.Bytes.{part}
 use Rattle.cola_device.specs.Memory.{Memory, next_fails}
 use Rattle.cola_device.proofs.BytesLemmas.{length-part}
-use Rattle.cola_blocks.specs.Level.{AreCopies, Agrees, block_part, is_block, held_turned}
+use Rattle.cola_blocks.specs.Level.{AreCopies, Agrees, is_block}
 use Rattle.cola_blocks.proofs.LevelLemmas.{between_is_part, put_is_splice}
 use Rattle.cola_blocks.proofs.LevelKept.{turned_ok, copies_turned}
 use borrow.Rule.Slice.PartMut.{put_mid}

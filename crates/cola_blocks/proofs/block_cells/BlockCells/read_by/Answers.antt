@@ -1,4 +1,4 @@
-use Rattle.std.proofs.Common.{◌≡◌, ◌==◌, ap, sym, ◌∙◌}
+use Rattle.std.proofs.Common.{◌==◌, ap, sym, ◌∙◌}
 use Rattle.cola_cell.specs.Flat as flat
 use Rattle.cola_blocks.specs.Level.{level_answer}
 use Rattle.cola_blocks.specs.Blocks.{Blocks}

@@ -1,7 +1,7 @@
-use Rattle.std.proofs.Common.{◌≡◌, ◌≢◌, ◌<◌, ◌%◌, ℕ, true, false, refl, sym, ap, subst, ◌∙◌, arith}
+use Rattle.std.proofs.Common.{◌≡◌, ◌≢◌, ◌%◌, true, false, sym, subst, ◌∙◌}
 use Rattle.std.proofs.lemmas.Bool.{false≢true}
 use Rattle.cola_device.specs.Memory.{next_fails}
-use Rattle.cola_blocks.specs.Level.{IsLevel, IsBlock}
+use Rattle.cola_blocks.specs.Level.{IsBlock}
 use Rattle.cola_blocks.proofs.LevelKept.{ends_within, shadow_block_in, level_written, copies_kept, tail_saved, ok_not_fails}
 use Rattle.cola_blocks.proofs.block_level.BlockLevel.finish.Goals as goal
 

@@ -1,7 +1,7 @@
-use Rattle.std.proofs.Common.{◌≡◌, ◌≢◌, ◌≤◌, ◌<◌, ◌+◌, ◌%◌, ℕ, length, true, false, refl, sym, ap, subst, ◌∙◌, arith}
+use Rattle.std.proofs.Common.{◌≡◌, ◌<◌, ◌+◌, ◌%◌, length, false, sym, ap, subst, ◌∙◌, arith}
 use Rattle.std.proofs.lemmas.Bool.{false≢true}
 use Rattle.cola_cell.specs.declared.sink.Shadow.{Shadow}
-use Rattle.cola_blocks.specs.Level.{Level, IsLevel, IsBlock}
+use Rattle.cola_blocks.specs.Level.{Level, IsBlock}
 use Rattle.cola_blocks.proofs.LevelKept.{shadow_block_in, level_written, copies_kept, longer_saved, longer_unsaved}
 use Rattle.cola_blocks.proofs.block_level.BlockLevel.push.Goals as goal
 

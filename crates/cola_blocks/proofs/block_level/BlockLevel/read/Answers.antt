@@ -1,5 +1,4 @@
-use Rattle.std.proofs.Common.{◌≡◌, ◌*◌, ◌%◌, ℕ, false, List, Option, None, get_or, refl, sym, ap, subst, ◌∙◌, arith}
-use Rattle.cola_cell.specs.declared.cell.Cell.{Cell}
+use Rattle.std.proofs.Common.{◌≡◌, ◌*◌, ◌%◌, ℕ, false, List, None, get_or, sym, ap, subst, ◌∙◌}
 use Rattle.cola_blocks.specs.Decoded.{decoded}
 use Rattle.cola_blocks.specs.Level.{Level, IsBlock, cell_part, block_part, turn_fails, held_by}
 use Rattle.cola_blocks.proofs.LevelLemmas.{between_is_part}
