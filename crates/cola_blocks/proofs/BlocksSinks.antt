@@ -570,13 +570,3 @@ restart_meets blocks new l slot sound h d =
         let low : Blocks = record blocks { front = flat.with_shadow blocks.front l (emptied slot) } in
         subst (λ (x : Blocks). RestartMeets blocks x l slot) (sym (choose_else (l == 3) (record blocks { level = after_level_restart blocks.level slot }) low f))
         (record { restarts = restarts_low blocks l slot sound.front k; spends_nothing = refl })
-
--- how the shadow of each level stands
-pub shadow_meets : (blocks : Blocks) (l : ℕ) → IsSound blocks → l < 4 → ((shadow_of blocks l).len ≤ slot_size l) × ((shadow_of blocks l).slot < 2)
-shadow_meets blocks l sound h = elim (low_or_three l h) [ inl k ↦ at_three l k | inr k ↦ at_low k ]
-  where
-    at_three : (m : ℕ) → m ≡ 3 → ((shadow_of blocks m).len ≤ slot_size m) × ((shadow_of blocks m).slot < 2)
-    at_three m k = subst (λ (x : ℕ). ((shadow_of blocks x).len ≤ slot_size x) × ((shadow_of blocks x).slot < 2)) (sym k) (sound.level.len_within, sound.level.slot_within)
-
-    at_low : l < 3 → ((shadow_of blocks l).len ≤ slot_size l) × ((shadow_of blocks l).slot < 2)
-    at_low k = subst (λ (x : Shadow). (x.len ≤ slot_size l) × (x.slot < 2)) (sym (shadow_low blocks l k)) (sound.front.lengths_within l, sound.front.slots_within l)

@@ -65,11 +65,6 @@ pub ok_not_fails : (fails : Bool) (done : Unit {0}) → Ok done ≡ answered fai
 ok_not_fails true done e = absurd (cc)
 ok_not_fails false done e = refl
 
--- and only where it fails is Err answered
-pub err_fails : (fails : Bool) (fault : PushFault) → Err fault ≡ answered fails → fails ≡ true
-err_fails true fault e = refl
-err_fails false fault e = absurd (cc)
-
 -- a level after a block was written
 module _ (old device : Memory) (tail : List ℕ) (lasts held : List (Option ℕ)) (copies : List ℕ) (k : ℕ) (shadow : Shadow)
     (block : IsBlock k) (holds : 8192 ≤ length old.bytes) (whole : length tail ≡ 512)
@@ -129,12 +124,6 @@ pub turned_ok : (is : Bool) (fails : Bool) (k : ℕ) → fails ≡ false → (if
 turned_ok true fails k e = refl
 turned_ok false true k e = absurd (false≢true (sym e))
 turned_ok false false k e = refl
-
--- a buffer that failed to turn holds nothing
-pub turned_none : (is : Bool) (fails : Bool) (k : ℕ) → is ≡ false → fails ≡ true → (if not is && fails then None else Some k) ≡ None
-turned_none true fails k e d = absurd (false≢true (sym e))
-turned_none false true k e d = refl
-turned_none false false k e d = absurd (false≢true d)
 
 -- the copies after one was changed
 pub copies_turned : (bytes copies new : List ℕ) (held : List (Option ℕ)) (b : ℕ) (now : Option ℕ) → b < 4 → length held ≡ 4 → length new ≡ 512 → Agrees bytes new now →

@@ -31,7 +31,7 @@ pub record IsBlocks (blocks : Blocks) : Type 0 where
   pub none_fails : blocks.front.failing ≡ []
   pub ticked_within : blocks.ticked < 2 ^ 64
 
--- what each of them may be, and its parts
+-- what they may be, with their parts
 pub record IsSound (blocks : Blocks) : Type 0 where
   pub own : IsBlocks blocks
   pub front : IsFlat blocks.front

@@ -10,15 +10,20 @@ ghost use Rattle.cola_blocks.specs.Level.{new_level};
 ghost use Rattle.cola_blocks.specs.Blocks.{IsSound, level_spots, new_blocks, held_of, spent_of, reader_buffer, shadow_of, read_answer, after_read, push_answer, after_push, finish_answer, after_finish, after_restart};
 
 use crate::block_level::BlockLevel;
-use cola_cell::{Cell, CellSink, CellSource, FlatCells, PushFault, ReadFault, Reader, Shadow};
+use cola_cell::{Cell, CellSink, CellSource, FlatCells, PushFault, ReadFault, Reader};
 use cola_device::{Device, MemoryDevice};
 use cola_outside::Steps;
 use std::alloc::{AllocError, Global};
 use std::marker::Model;
 use std::sync::ledger::Ledger;
 
-/// Cells of four levels, in format One, with blocks of 8 cells: levels 0 to 2 are in memory, and level 3 lies
-/// on a device in memory.
+/// Cells of four levels, in format One, with blocks of 8 cells of 64 bytes: a small object that turns to blocks,
+/// writes them, and fails where its device does.
+///
+/// Levels 0 to 2 are in memory, and no call on them is refused by a device. Level 3 lies in blocks 8 to 15 of the
+/// device, where a store's file has it. The cells of its shadow's last block are in memory until it is full, or
+/// until the shadow is finished. Each search, cursor and reader keeps the block of level 3 that it read last, and
+/// turns to a block only where it does not have it.
 #[derive(Drop)]
 pub struct BlockCells {
     front: FlatCells,
@@ -70,8 +75,8 @@ impl Model for BlockCells {
 }
 
 impl BlockCells {
-    /// Cells on this device, where each shadow is empty and stands in slot 1. An error comes only for want of
-    /// memory.
+    /// Cells on this device of at least 8192 bytes, where each shadow is empty and stands in slot 1. The cells of
+    /// level 3 are those that the device's bytes spell. An error comes only for want of memory.
     pub fn new(alloc: Global, device: MemoryDevice) -> Result<BlockCells, AllocError>
         requires { 8192 ≤ length device.bytes }
         ensures { IfOk result (λ cells. cells ≡ new_blocks device) }
