@@ -1,4 +1,5 @@
-//! A session over a small map in memory, slow and simple: what the store is compared with.
+//! A session over a small map in memory, slow and simple, with its faults by a script, and the bounds: what the
+//! store is compared with.
 #![tactic(auto)]
 
 pub mod bounds;
