@@ -2,7 +2,6 @@
 use Rattle.std.proofs.Common.{◌≡◌, ◌≢◌, ◌⊎◌, inl, inr, ℕ, ◌+◌, ◌-◌, ◌/◌, ◌%◌, ◌^◌, ◌<◌, ◌≤◌, ◌==◌, ◌&&◌, not, Bool, true, false, if◌then◌else◌, List, [], length, get_or, set, Option, None, Some, IfSome, Result, Ok, Err, OnOk, refl, sym, ap, subst, ◌∙◌, arith}
 use Rattle.std.proofs.lemmas.Bool.{eqb-true, false≢true}
 use Rattle.std.proofs.lemmas.List.{get_or-set_same, get_or-set_other}
-use Rattle.cola_outside.specs.Faults.{Rose}
 use Rattle.cola_cell.specs.declared.format.Format.TheVariants.{One}
 use Rattle.cola_cell.specs.declared.cell.Cell.{Cell}
 use Rattle.cola_cell.specs.declared.cell.Reader.{Reader}
@@ -16,8 +15,6 @@ use Rattle.cola_cell.specs.Spent.{Buffer, Search, By, Spent, ReadAnswers, Reads}
 use Rattle.cola_cell.specs.Flat as flat
 use Rattle.cola_cell.specs.Flat.{Flat, IsFlat, found, spot_of}
 use Rattle.cola_cell.proofs.FlatLemmas.{spot_is}
-use Rattle.cola_device.specs.declared.counts.Counts.{Counts}
-use Rattle.cola_device.specs.Counts.{count_fault, count_read}
 use Rattle.cola_device.specs.Memory.{Memory, next_fails, after_read}
 use Rattle.cola_blocks.specs.Decoded.{decoded}
 use Rattle.cola_blocks.specs.Level.{Level, IsLevel, IsBlock, block_number, cell_number, is_in_tail, cell_bytes, is_block, held_by, after_level_read, level_answer}
@@ -25,6 +22,7 @@ use Rattle.cola_blocks.specs.Blocks.{Blocks, IsBlocks, IsSound, level_spots, spo
 use Rattle.cola_blocks.specs.Blocks as cells
 use Rattle.cola_blocks.proofs.DecodedLemmas.{decoded_fits}
 use Rattle.cola_blocks.proofs.LevelLemmas.{Order, Below, Same, Above, order}
+use Rattle.cola_blocks.proofs.Counting.{read_called, fault_rose}
 use Rattle.cola_blocks.proofs.LevelKept.{choose_else}
 use Rattle.cola_blocks.proofs.LevelSpots.{choose_then, eq_true, eq_false, spot_there}
 
@@ -46,27 +44,6 @@ spelled_fits bytes = by_case (decoded bytes) refl
 pub on_ok : {T E P : Type 0} (result : Result T E) → P → OnOk result P
 on_ok (Ok x) p = p
 on_ok (Err e) p = tt
-
--- what a read does to them
-pub record Counted (old new : Counts) : Type 0 where
-  pub faults_stay : old.faults ≤ new.faults
-  pub reads_stay : old.reads ≤ new.reads
-  pub reads_rise : new.reads ≤ old.reads + 1
-  pub writes_are : new.writes ≡ old.writes
-
-counted_by : (failed : Bool) (counts : Counts) → Counted counts (count_read (count_fault failed counts))
-counted_by true counts = record { faults_stay = omega arith; reads_stay = omega arith; reads_rise = omega arith; writes_are = refl }
-counted_by false counts = record { faults_stay = omega arith; reads_stay = omega arith; reads_rise = omega arith; writes_are = refl }
-
-pub counted : (device : Memory) → Counted device.counts (after_read device).counts
-counted device = counted_by (next_fails device) device.counts
-
-rose_by : (failed : Bool) (counts : Counts) → failed ≡ true → Rose counts.faults (count_read (count_fault failed counts)).faults
-rose_by true counts e = omega arith
-rose_by false counts e = absurd (false≢true e)
-
-pub rose : (device : Memory) → next_fails device ≡ true → Rose device.counts.faults (after_read device).counts.faults
-rose device e = rose_by (next_fails device) device.counts e
 
 -- a block that is held is this one
 pub is_this : (k : ℕ) (held : Option ℕ) → is_block k held ≡ true → held ≡ Some k
@@ -228,12 +205,12 @@ module _ (blocks : Blocks) (buffer : Buffer) (b slot index : ℕ) (sound : IsLev
         others_stay = λ other d. others blocks.level.device (Some k) other d;
       })
       (λ e f.
-      let c : Counted blocks.level.device.counts (after_read blocks.level.device).counts = counted blocks.level.device in
+      let c = read_called blocks.level.device in
       record {
-        answer = rose blocks.level.device f;
+        answer = fault_rose 1 0 blocks.level.device.counts (after_read blocks.level.device).counts (next_fails blocks.level.device) c f;
         faults_stay = c.faults_stay;
         one_tick = omega arith;
-        written_is = c.writes_are;
+        written_is = omega (arith, c.writes_stay, c.writes_rise);
         turned_stays = c.reads_stay;
         turned_rises = c.reads_rise;
         in_last = λ h. absurd (not_last e h);
@@ -243,14 +220,14 @@ module _ (blocks : Blocks) (buffer : Buffer) (b slot index : ℕ) (sound : IsLev
         others_stay = λ other d. others (after_read blocks.level.device) None other d;
       })
       (λ e f.
-      let c : Counted blocks.level.device.counts (after_read blocks.level.device).counts = counted blocks.level.device in
+      let c = read_called blocks.level.device in
       let moved : last_of (record blocks.level { device = after_read blocks.level.device; held = set blocks.level.held b (Some k) }) buffer ≡ Some (block_of 8 3 slot index) =
       own_set (after_read blocks.level.device) (Some k) ∙ block_is slot index slot_in index_in in
       record {
         answer = cell_found (after_read blocks.level.device).counts.faults;
         faults_stay = c.faults_stay;
         one_tick = omega arith;
-        written_is = c.writes_are;
+        written_is = omega (arith, c.writes_stay, c.writes_rise);
         turned_stays = c.reads_stay;
         turned_rises = c.reads_rise;
         in_last = λ h. absurd (not_last e h);

@@ -16,10 +16,9 @@ use Rattle.cola_cell.specs.Spelling.{IsSpelling}
 use Rattle.cola_cell.specs.Flat as flat
 use Rattle.cola_cell.specs.Flat.{Flat, IsFlat, shadow_at, spot_of}
 use Rattle.cola_cell.proofs.FlatLemmas.{spots_told, shadow_put, pushes_flat}
-use Rattle.cola_device.specs.declared.counts.Counts.{Counts}
 use Rattle.cola_device.specs.declared.memory.TheConstants.{SPOILED}
 use Rattle.cola_device.specs.Bytes.{splice}
-use Rattle.cola_device.specs.Counts.{count_fault, count_write}
+use Rattle.cola_device.specs.Counts.{Called}
 use Rattle.cola_device.specs.Memory.{Memory, next_fails, after_write}
 use Rattle.cola_device.proofs.BytesLemmas.{length-splice}
 use Rattle.cola_blocks.specs.Decoded.{decoded, spelling, spot_of_bytes}
@@ -28,6 +27,7 @@ use Rattle.cola_blocks.specs.Blocks.{Blocks, IsBlocks, IsSound, level_spots, spo
 use Rattle.cola_blocks.specs.Blocks as cells
 use Rattle.cola_blocks.proofs.DecodedLemmas.{decoded_is}
 use Rattle.cola_blocks.proofs.LevelLemmas.{Order, Below, Same, Above, order, map_forgotten}
+use Rattle.cola_blocks.proofs.Counting.{outcome, write_called, fault_rose}
 use Rattle.cola_blocks.proofs.LevelKept.{choose_else, ends_within, written_whole}
 use Rattle.cola_blocks.proofs.LevelSpots.{choose_then, eq_true, eq_false, spot_there, spots_stay, restart_bytes, tail_before, tail_at, more_bytes, more_end, written_bytes, full_bytes, full_end}
 use Rattle.cola_blocks.proofs.BlocksReads.{block_is, none_fails, low_or_three}
@@ -131,40 +131,29 @@ lasts_forget old new slot index s i e (By reader l) = by_test (l == 3)
     by_test true = at (reader_buffer reader)
     by_test false = inl refl
 
--- what a write does to the counts of a device
-pub record Counted (old new : Counts) : Type 0 where
-  pub faults_stay : old.faults ≤ new.faults
-  pub reads_are : new.reads ≡ old.reads
-  pub writes_stay : old.writes ≤ new.writes
-  pub writes_rise : new.writes ≤ old.writes + 1
-
-counted_by : (failed : Bool) (counts : Counts) → Counted counts (count_write (count_fault failed counts))
-counted_by true counts = record { faults_stay = omega arith; reads_are = refl; writes_stay = omega arith; writes_rise = omega arith }
-counted_by false counts = record { faults_stay = omega arith; reads_are = refl; writes_stay = omega arith; writes_rise = omega arith }
-
-rose_by : (failed : Bool) (counts : Counts) → failed ≡ true → Rose counts.faults (count_write (count_fault failed counts)).faults
-rose_by true counts e = omega arith
-rose_by false counts e = absurd (false≢true e)
-
 -- a write of the block in which the shadow ends
 module _ (old new : Blocks) (ticks : ℕ) (from : List ℕ) (slot_in : old.level.shadow.slot < 2) (room : old.level.shadow.len < 32)
     (is_device : new.level.device ≡ after_write (512 * block_number old.level.shadow.slot old.level.shadow.len) from old.level.device)
     (is_held : new.level.held ≡ map (forgotten (block_number old.level.shadow.slot old.level.shadow.len)) old.level.held) (is_ticked : Ticks old.ticked new.ticked ticks) where
+  called : Called old.level.device.counts new.level.device.counts 0 1 (outcome (next_fails old.level.device))
+  called =
+      subst (λ (d : Memory). Called old.level.device.counts d.counts 0 1 (outcome (next_fails old.level.device))) (sym is_device)
+      (write_called old.level.device (512 * block_number old.level.shadow.slot old.level.shadow.len) from)
+
   pub writes_block : Writes (spent_of old) (spent_of new) ticks (block_of 8 3 old.level.shadow.slot old.level.shadow.len)
   writes_block =
-      let c : Counted old.level.device.counts new.level.device.counts =
-      subst (λ (d : Memory). Counted old.level.device.counts d.counts) (sym is_device) (counted_by (next_fails old.level.device) old.level.device.counts) in
+      let c = called in
       record {
         faults_stay = c.faults_stay;
         ticks_made = is_ticked;
-        turned_is = c.reads_are;
+        turned_is = omega (arith, c.reads_stay, c.reads_rise);
         written_stays = c.writes_stay;
         written_rises = c.writes_rise;
         lasts_forget = lasts_forget old.level new.level old.level.shadow.slot old.level.shadow.len slot_in room is_held;
       }
 
   pub write_rose : next_fails old.level.device ≡ true → Rose old.level.device.counts.faults new.level.device.counts.faults
-  write_rose e = subst (λ (d : Memory). Rose old.level.device.counts.faults d.counts.faults) (sym is_device) (rose_by (next_fails old.level.device) old.level.device.counts e)
+  write_rose e = fault_rose 0 1 old.level.device.counts new.level.device.counts (next_fails old.level.device) called e
 
 -- a call that writes nothing
 pub writes_none : (old new : Blocks) (ticks : ℕ) (block : Block) → Ticks old.ticked new.ticked ticks → new.level.device ≡ old.level.device → new.level.held ≡ old.level.held → Writes (spent_of old) (spent_of new) ticks block
@@ -362,13 +351,18 @@ module _ (blocks : Blocks) (sound : IsLevel blocks.level) where
         };
       }
 
+  finish_rose : next_fails blocks.level.device ≡ true → Rose blocks.level.device.counts.faults (after_tail_write blocks.level).device.counts.faults
+  finish_rose d =
+      fault_rose 0 1 blocks.level.device.counts (after_tail_write blocks.level).device.counts (next_fails blocks.level.device)
+      (write_called blocks.level.device (512 * block_number blocks.level.shadow.slot blocks.level.shadow.len) blocks.level.tail) d
+
   pub finish_level : FinishMeets blocks (record blocks { level = after_level_finish blocks.level }) 3 (level_finish_answer blocks.level)
   finish_level = by_test blocks.level.shadow.saved (next_fails blocks.level.device) refl refl
     where
       by_test : (t f : Bool) → blocks.level.shadow.saved ≡ t → next_fails blocks.level.device ≡ f →
           FinishMeets blocks (record blocks { level = (if t then blocks.level else record (after_tail_write blocks.level) { shadow = record blocks.level.shadow { saved = not f } }) }) 3 (if not t && f then Err push.Device else Ok tt)
       by_test true f e d = finish_saved e
-      by_test false true e d = finish_written true (Err push.Device) e (rose_by (next_fails blocks.level.device) blocks.level.device.counts d, e) refl
+      by_test false true e d = finish_written true (Err push.Device) e (finish_rose d, e) refl
       by_test false false e d = finish_written false (Ok tt) e tt refl
 
 -- a level in memory: its shadow, and what is told of it
