@@ -1,3 +1,4 @@
+use Rattle.std.proofs.Common.{refl}
 use Rattle.cola_cell.proofs.FlatLemmas.{restart_meets, push_meets, finish_meets}
 use Rattle.cola_cell.proofs.flat_cells.FlatCellsCellSink.TheImpl.Goals as goal
 

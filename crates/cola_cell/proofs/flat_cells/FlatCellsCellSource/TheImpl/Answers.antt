@@ -1,4 +1,4 @@
-use Rattle.std.proofs.Common.{ap}
+use Rattle.std.proofs.Common.{ap, refl}
 use Rattle.cola_cell.specs.Spent.{Search, By}
 use Rattle.cola_cell.specs.Flat.{held_of}
 use Rattle.cola_cell.proofs.FlatLemmas.{read_meets}
