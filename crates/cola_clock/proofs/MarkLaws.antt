@@ -276,7 +276,7 @@ marks-next t built worked rest fits h = (
   next-levels t 0 built.visible (marks_after t 0 built).visible worked (λ stay. absurd (false≢true (sym stay ∙ flips-zero t))) h,
 )
 
-length-after : (t j : ℕ) (levels : List Marks) → length (all_marks_after t j levels) ≡ length levels
+pub length-after : (t j : ℕ) (levels : List Marks) → length (all_marks_after t j levels) ≡ length levels
 length-after t j [] = refl
 length-after t j (m ∷ below) = ap (λ (n : ℕ). suc n) (length-after t (suc j) below)
 
