@@ -7,3 +7,6 @@ pub mod LineLaws
 pub mod BoundLaws
 pub mod MachineLaws
 pub mod Digits
+pub mod StepLaws
+pub mod SpellingLaws
+pub mod ToldLaws
