@@ -1,0 +1,5 @@
+pub mod Order
+pub mod Outcome
+pub mod Seek
+pub mod Stops
+pub mod Turns
