@@ -14,7 +14,7 @@ failure_is_not_short Fault kind = cc
 failure_is_not_short (Damaged cell) kind = cc
 failure_is_not_short (Overfull level) kind = cc
 
-answered_memory : (answer : Reply) → kind_of answer ≡ ShortStep → answer ≡ Refused Memory
+pub answered_memory : (answer : Reply) → kind_of answer ≡ ShortStep → answer ≡ Refused Memory
 answered_memory (Failed failure) kind = absurd (failure_is_not_short failure kind)
 answered_memory (Cut rows failure) kind = absurd (failure_is_not_short failure kind)
 answered_memory (Refused NotStore) kind = cc

@@ -4,5 +4,6 @@
 pub mod bound_laws;
 pub mod command_laws;
 pub mod laws;
+pub mod order_laws;
 pub mod reply_laws;
 pub mod step_laws;

@@ -1,15 +1,20 @@
 //! The laws of the texts of replies. Each function does nothing: its clauses are the law.
 
 ghost use Rattle.std.specs.Prelude.{ℕ, ◌≡◌, ◌↔◌, Bool, true, false, List, [], ◌∷◌, ◌++◌, Option, Some, None, length, map, All, codes, decimal};
-ghost use Rattle.cola_spec.specs.Map.{New, Old, Full, Worn, Other};
+ghost use Rattle.cola_spec.specs.Map.{Shape, New, Old, Full, Worn, Other};
 ghost use Rattle.cola_spec.specs.Reply.{Reply, Failure, Fault, Damaged, Overfull, NotStore, NotClosed, Small, Memory, Put, Deleted, Got, Stamped, Rows, Cut, Counted, Failed, Closed, Opened, Refused, Already, Shut, Bad, reply_text, rows_text};
-ghost use Rattle.cola_spec.specs.Machine.{Turn, turns_text};
+ghost use Rattle.cola_spec.specs.Machine.{Run, State, Turn, turns_text};
 ghost use Rattle.cola_spec.specs.Told.{IsReadable, IsReadableTurn, IsWritten, is_costed, told, told_turn};
 
 /// The text of the replies to many lines tells each reply, up to what is one text whatever was asked, and the costs that are printed: two texts are the same exactly where both tell the same. So do the texts of two replies.
 pub fn texts_tell_replies()
     ensures turns { (cost : Bool) (turns others : List Turn) → All IsReadableTurn turns → All IsReadableTurn others → (turns_text cost turns ≡ turns_text cost others) ↔ (map (told_turn cost) turns ≡ map (told_turn cost) others) }
     ensures replies { (cost : Bool) (ticks others : ℕ) (answer other : Reply) → IsReadable answer → IsWritten ticks → IsReadable other → IsWritten others → reply_text cost ticks answer ≡ reply_text cost others other → told answer ≡ told other }
+{}
+
+/// For the requests that were made the text tells the replies whole: two runs over the same requests, whatever their steps met, have the same text only where they have the same replies.
+pub fn texts_tell_runs()
+    ensures { (cost : Bool) (shape other_shape : Shape) (state other_state : State) (turns others : List Turn) (last other_last : State) → Run shape state turns last → Run other_shape other_state others other_last → All IsReadableTurn turns → All IsReadableTurn others → map (λ turn. turn.request) turns ≡ map (λ turn. turn.request) others → turns_text cost turns ≡ turns_text cost others → map (λ turn. turn.answer) turns ≡ map (λ turn. turn.answer) others }
 {}
 
 /// The words of the replies, without costs.
