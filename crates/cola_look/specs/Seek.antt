@@ -11,18 +11,12 @@ use Rattle.cola_runs.specs.Search as laws
 use Rattle.cola_cell.specs.declared.cell.Run.{Run}
 use Rattle.cola_cell.specs.declared.fault.ReadFault.{ReadFault}
 use Rattle.cola_cell.specs.declared.fault.ReadFault.TheVariants.{Device, BadCell}
-use Rattle.cola_cell.specs.Places.{slot_size, number_of}
+use Rattle.cola_cell.specs.Places.{number_of}
 use Rattle.cola_cell.specs.Held.{Held, Spot, Untold, Bad, Told, LawCell, Stamped, as_item}
 use Rattle.cola_cell.specs.Spent.{IsBad}
 use Rattle.cola_look.specs.declared.seeking.Seat.{Seat}
 use Rattle.cola_look.specs.Order.{key_cmp}
 use Rattle.cola_look.specs.Outcome.{Outcome, Found, BadAt, Open}
-
--- a run of the object: of one of its levels and slots, and no longer than the slot
-pub record HasRun (held : Held) (run : Run) : Type 0 where
-  pub level_in : run.level < held.fixed.levels
-  pub slot_in : run.slot < 2
-  pub within : run.len ≤ slot_size run.level
 
 -- the first index that a search may read, and the index after the last: at most 8 cells, and none past the length
 abbrev pub first_of : (link len : ℕ) → ℕ

@@ -8,7 +8,8 @@ ghost use Rattle.cola_cell.specs.Spent.{Buffer, Search, ReadCalm};
 ghost use Rattle.cola_cell.specs.Costs.{Costs};
 ghost use Rattle.cola_look.specs.Order.{key_cmp};
 ghost use Rattle.cola_look.specs.Outcome.{Found, Answers};
-ghost use Rattle.cola_look.specs.Seek.{HasRun, found_in, seat_at, seat_of_key, as_seat, SeekCause, turns_from};
+ghost use Rattle.cola_look.specs.Runs.{HasRun};
+ghost use Rattle.cola_look.specs.Seek.{found_in, seat_at, seat_of_key, as_seat, SeekCause, turns_from};
 
 use crate::windowing::window;
 use cola_cell::{Cell, CellSource, Item, Key, ReadFault, Run};
