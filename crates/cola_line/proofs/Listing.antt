@@ -1,5 +1,5 @@
 -- Rows that are written one by one, as the text of one reply.
-use Rattle.std.proofs.Common.{◌≡◌, inl, inr, ℕ, suc, ◌+◌, ◌-◌, ◌<◌, ◌≤◌, min, true, false, List, [], ◌∷◌, ◌++◌, length, take, Option, Some, None, Result, Ok, Err, refl, sym, ap, ◌∙◌, subst, append_assoc, length-append, arith, codes, decimal, zero}
+use Rattle.std.proofs.Common.{◌≡◌, inl, inr, ℕ, suc, ◌+◌, ◌-◌, ◌<◌, ◌≤◌, min, true, false, List, [], ◌∷◌, ◌++◌, length, take, drop, Option, Some, None, Result, Ok, Err, refl, sym, ap, ◌∙◌, subst, append_assoc, length-append, arith, codes, decimal, zero}
 use Rattle.std.specs.Prelude.{⊤, OnSome}
 use borrow.Author.Tests.{ltb-true, ltb-false}
 use Rattle.std.proofs.lemmas.List.{take_all, append-nil}
@@ -10,11 +10,13 @@ use Rattle.cola_io.proofs.StreamLemmas.{Appended-then}
 use Rattle.cola_spec.specs.Reply.{Failure, Fault, Rows, Cut, Failed, row_text, rows_text, line, failure_text, reply_text}
 use Rattle.cola_cell.specs.declared.fault.ReadFault.{ReadFault}
 use Rattle.cola_cell.specs.declared.fault.ReadFault.TheVariants as read
-use Rattle.cola_table.specs.Answers.{OnlyDeviceRead, NextAnswers, read_cause}
+use Rattle.cola_table.specs.Answers.{OnlyDeviceRead, NextAnswers, ReadFaults}
 use Rattle.cola_spec.specs.Machine.{kind_of}
 use Rattle.cola_table.specs.Replies.{read_failure}
-use Rattle.cola_line.specs.Replied.{Wrote, KindHasCause}
-use Rattle.cola_line.specs.Listed.{Listed, RowsFor, first_of, wants}
+use Rattle.cola_line.specs.Replied.{Wrote, KindFaults}
+use Rattle.cola_line.specs.Given.{wants}
+use Rattle.cola_line.specs.Listed.{RowsFor, first_of}
+use Rattle.cola_line.proofs.Turns.{read_faults}
 
 -- a front of two texts
 
@@ -124,6 +126,11 @@ pub wrote_cut : {A E : Type 0} (result : Result A E) (w w' w'' : Option (List �
 wrote_cut result w w' w'' rows done failure so_far wrote =
     wrote_after (rows_text done) (line (failure_text failure)) result w w' w'' so_far.text wrote
 
+-- a row that the sink refused: a front of the rows given was written
+pub wrote_some : (A : Type 0) {E : Type 0} (e : E) (w w' w'' : Option (List ℕ)) (rows : ℕ) (done : List (List ℕ × List ℕ)) (pair : List ℕ × List ℕ) → Listing w w' rows done → Wrote {A = A} (row_text pair) (Err e) w' w'' → (n : ℕ) × Appended (take n (rows_text (done ++ pair ∷ []))) w w''
+wrote_some A e w w' w'' rows done pair so_far wrote =
+    subst (λ t. (n : ℕ) × Appended (take n t) w w'') (sym (rows_push done pair)) (wrote_after {A = A} (rows_text done) (row_text pair) (Err e) w w' w'' so_far.text wrote)
+
 regroup : (a b c d : List ℕ) → (a ++ (b ++ c)) ++ d ≡ a ++ (b ++ (c ++ d))
 regroup a b c d = simp append_assoc
 
@@ -137,27 +144,12 @@ wrote_row A e w w' w'' rows done more pair so_far wrote =
     (wrote_after {A = A} (rows_text done) (row_text pair ++ (rows_text more ++ end)) (Err e) w w' w'' so_far.text
     (wrote_front (row_text pair) (rows_text more ++ end) w' w'' wrote))
 
--- The reply as a whole
+-- What a refusal counts
 
-failure_cause : (done : List (List ℕ × List ℕ)) (fault : ReadFault) (f f' f'' : ℕ) → f ≤ f' → read_cause fault f' f'' → KindHasCause (kind_of (Cut done (read_failure fault))) f f''
-failure_cause done read.Device f f' f'' least rose = omega arith
-failure_cause done (read.BadCell cell) f f' f'' least rose = tt
-
--- rows that a failure cuts
-pub listed_cut : {A E : Type 0} (result : Result A E) (w w' w'' : Option (List ℕ)) (rows : ℕ) (done : List (List ℕ × List ℕ)) (fault : ReadFault) (failure : Failure) (f f' f'' : ℕ) → failure ≡ read_failure fault → f ≤ f' → Listing w w' rows done → Wrote (reply_text false 0 (Failed failure)) result w' w'' → read_cause fault f' f'' → Listed result w w'' f f'' (Cut done failure)
-listed_cut result w w' w'' rows done fault failure f f' f'' is least so_far wrote cause = record {
-  wrote = wrote_cut result w w' w'' rows done failure so_far wrote;
-  cause = subst (λ (r : Failure). KindHasCause (kind_of (Cut done r)) f f'') (sym is) (failure_cause done fault f f' f'' least cause);
-  costless = λ cost ticks. refl;
-}
-
--- rows that end
-pub listed_end : {A E : Type 0} (result : Result A E) (w w' w'' : Option (List ℕ)) (rows : ℕ) (done : List (List ℕ × List ℕ)) (f f'' : ℕ) → Listing w w' rows done → Wrote (line (codes "end " ++ decimal rows)) result w' w'' → Listed result w w'' f f'' (Rows done)
-listed_end result w w' w'' rows done f f'' so_far wrote = record { wrote = wrote_end result w w' w'' rows done so_far wrote; cause = tt; costless = λ cost ticks. refl }
-
--- rows of which the sink refused one
-pub listed_row : (A : Type 0) {E : Type 0} (e : E) (w w' w'' : Option (List ℕ)) (rows : ℕ) (done more : List (List ℕ × List ℕ)) (pair : List ℕ × List ℕ) (f f'' : ℕ) → Listing w w' rows done → Wrote {A = A} (row_text pair) (Err e) w' w'' → Listed {A = A} (Err e) w w'' f f'' (Rows (done ++ pair ∷ more))
-listed_row A e w w' w'' rows done more pair f f'' so_far wrote = record { wrote = wrote_row A e w w' w'' rows done more pair so_far wrote; cause = tt; costless = λ cost ticks. refl }
+-- a failure after calls that counted no fault has the faults of its kind
+pub failure_faults : (A : Type 0) (done : List (List ℕ × List ℕ)) (fault : ReadFault) (failure : Failure) (f f' f'' : ℕ) → failure ≡ read_failure fault → f' ≡ f → ReadFaults {A = A} (Err fault) f' f'' → KindFaults (kind_of (Cut done failure)) f f''
+failure_faults A done fault failure f f' f'' is stays counts =
+    subst (λ (r : Failure). KindFaults (kind_of (Cut done r)) f f'') (sym is) (subst (λ g. KindFaults (kind_of (Cut done (read_failure fault))) g f'') stays (read_faults A fault f' f'' counts))
 
 only_fault : (fault : ReadFault) → OnlyDeviceRead fault → read_failure fault ≡ Fault
 only_fault read.Device only = refl
@@ -180,11 +172,21 @@ pub rows_enough : (most : Option ℕ) (rows : ℕ) (done ahead all : List (List 
 rows_enough most rows done ahead all whole number within unwanted =
     inl (ap Rows (sym (ap (first_of most) whole ∙ no_more most rows done ahead number within unwanted)))
 
--- a row that is next is among those asked for
-pub rows_go_on : (most : Option ℕ) (rows : ℕ) (done rest all : List (List ℕ × List ℕ)) (pair : List ℕ × List ℕ) → all ≡ done ++ pair ∷ rest → rows ≡ length done → wants most rows ≡ true → (more : List (List ℕ × List ℕ)) × RowsFor (first_of most all) (Rows (done ++ pair ∷ more))
+-- the rest of a list after a front of it
+drop_front : {A : Type 0} (front rest : List A) → drop (length front) (front ++ rest) ≡ rest
+drop_front [] rest = refl
+drop_front (x ∷ front) rest = drop_front front rest
+
+front_and_rest : {A : Type 0} (front rest whole : List A) → whole ≡ front ++ rest → front ++ drop (length front) whole ≡ whole
+front_and_rest front rest whole is = ap (λ w. front ++ drop (length front) w) is ∙ ap (λ r. front ++ r) (drop_front front rest) ∙ sym is
+
+-- a row that is next is among those asked for, and the others are what follows it
+pub rows_go_on : (most : Option ℕ) (rows : ℕ) (done rest all : List (List ℕ × List ℕ)) (pair : List ℕ × List ℕ) → all ≡ done ++ pair ∷ rest → rows ≡ length done → wants most rows ≡ true → RowsFor (first_of most all) (Rows (done ++ pair ∷ drop (length (done ++ pair ∷ [])) (first_of most all)))
 rows_go_on most rows done rest all pair whole number wanted =
     let next = next_wanted most rows done pair rest number wanted in
-    (next.0, inl (ap Rows (sym (ap (first_of most) whole ∙ next.1))))
+    let front : List (List ℕ × List ℕ) = done ++ pair ∷ [] in
+    let is : first_of most all ≡ front ++ next.0 = ap (first_of most) whole ∙ next.1 ∙ sym (append_assoc done (pair ∷ []) next.0) in
+    inl (ap Rows (sym (append_assoc done (pair ∷ []) (drop (length front) (first_of most all))) ∙ front_and_rest front next.0 (first_of most all) is))
 
 pub one_more_done : {A : Type 0} (done rest all ahead : List A) (pair : A) → all ≡ done ++ ahead → ahead ≡ pair ∷ rest → all ≡ (done ++ pair ∷ []) ++ rest
 one_more_done done rest all ahead pair whole next = whole ∙ ap (λ t. done ++ t) next ∙ sym (append_assoc done (pair ∷ []) rest)

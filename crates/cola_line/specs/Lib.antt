@@ -3,3 +3,4 @@ pub mod Words
 pub mod Replied
 pub mod Listed
 pub mod Given
+pub mod Answered

@@ -1,12 +1,11 @@
--- A reply of the code as a reply of the session machine, and what an answered command did.
-use Rattle.std.specs.Prelude.{ℕ, ◌≡◌, ◌+◌, Bool, List, take, Option, Some, Result, MatchResult, ⊤}
+-- A reply of the code as a reply of the session machine, and when a turn is a step of it.
+use Rattle.std.specs.Prelude.{ℕ, ◌≡◌, List, take, Option, Result, MatchResult}
 use Rattle.cola_outside.specs.Faults.{Rose}
 use Rattle.cola_io.specs.Streams.{Appended}
 use Rattle.cola_spec.specs.Map.{Shape, Map, PutOutcome}
 use Rattle.cola_spec.specs.Map as map
-use Rattle.cola_spec.specs.Command as spec
 use Rattle.cola_spec.specs.Reply as reply
-use Rattle.cola_spec.specs.Machine.{Kind, PlainStep, FaultedStep, ShortStep, Turn, Step, Open, kind_of, turn_text}
+use Rattle.cola_spec.specs.Machine.{Kind, PlainStep, FaultedStep, ShortStep, Turn, Step, Open}
 use Rattle.cola_line.specs.declared.reply.Outcome.{Outcome}
 use Rattle.cola_line.specs.declared.reply.Outcome.TheVariants as outcome
 use Rattle.cola_line.specs.declared.reply.Failure.{Failure}
@@ -53,18 +52,11 @@ reply_of code.Bad = reply.Bad
 abbrev pub Wrote : {A E : Type 0} → List ℕ → Result A E → Option (List ℕ) → Option (List ℕ) → Type 0
 Wrote text result before after = MatchResult result (λ _. Appended text before after) (λ _. (n : ℕ) × Appended (take n text) before after)
 
--- a faulted step comes only where the count of faults rose
-abbrev pub KindHasCause : Kind → ℕ → ℕ → Type 0
-KindHasCause PlainStep before now = ⊤
-KindHasCause FaultedStep before now = Rose before now
-KindHasCause ShortStep before now = ⊤
-
--- the turn answers the command: the text of its reply was written, its faults have their cause, and its cell accesses are those that were made
-pub record Answered {A E : Type 0} (command : spec.Command) (cost : Bool) (result : Result A E) (written written' : Option (List ℕ)) (faults faults' steps steps' : ℕ) (turn : Turn) : Type 0 where
-  pub asked : turn.request ≡ Some command
-  pub wrote : Wrote (turn_text cost turn) result written written'
-  pub cause : KindHasCause (kind_of turn.answer) faults faults'
-  pub counted : steps' ≡ steps + turn.ticks
+-- the count of faults of a table rises in a faulted step, and stays in every other
+abbrev pub KindFaults : Kind → ℕ → ℕ → Type 0
+KindFaults PlainStep before now = now ≡ before
+KindFaults FaultedStep before now = Rose before now
+KindFaults ShortStep before now = now ≡ before
 
 -- from the map m the turn is a step of the session machine that leaves it open, with a map that is held
 pub record StepsFrom (shape : Shape) (m : Map) (Holds : Map → Type 0) (turn : Turn) : Type 0 where

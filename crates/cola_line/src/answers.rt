@@ -1,15 +1,14 @@
 //! The reply that a table gives to a command.
 ghost use Rattle.std.specs.Prelude.{◌≡◌, ◌-◌, ◌≤◌, ℕ, Bool};
-ghost use Rattle.cola_outside.specs.Faults.{HasCause};
+ghost use Rattle.cola_io.specs.Counted.{CountsFaults};
 ghost use Rattle.cola_spec.specs.Map.{Map};
 ghost use Rattle.cola_spec.specs.Reply.{reply_text};
-ghost use Rattle.cola_spec.specs.Machine.{Turn, kind_of};
+ghost use Rattle.cola_spec.specs.Machine.{Turn};
 ghost use Rattle.cola_spec.specs.Bounds.{command_bound};
-ghost use Rattle.cola_table.specs.Terms.{Call, shape};
 ghost use Rattle.cola_table.specs.Replies.{turn_of};
 ghost use Rattle.cola_line.specs.Spoken.{spoken, CommandFits, IsOfTable, IsOfOneLine};
-ghost use Rattle.cola_line.specs.Replied.{reply_of, Answered, StepsFrom, KindHasCause};
-ghost use Rattle.cola_line.specs.Given.{Given};
+ghost use Rattle.cola_line.specs.Replied.{reply_of};
+ghost use Rattle.cola_line.specs.Answered.{Answered, Calls, GaveTurn};
 
 use crate::ask::{delete, get, put, put_if, stamp};
 use crate::command::Command;
@@ -24,10 +23,8 @@ use std::sync::ledger::Ledger;
 fn ask<T: Table, L: Ledger>(table: &mut T, command: &Command, steps: &mut Steps<L>) -> (Reply, u32)
     requires one_line { IsOfOneLine command.now }
     requires fits { CommandFits (T.terms table.old).format command.now }
-    ensures given { T.answers table.old (turn_of (spoken command.now) (reply_of result.0) (steps.new - steps.old)) table.new }
-    ensures sound { (m : Map) → T.holds table.old m → StepsFrom (shape (T.terms table.old)) m (T.holds table.new) (turn_of (spoken command.now) (reply_of result.0) (steps.new - steps.old)) }
-    ensures call { Call (T.terms table.old) (T.terms table.new) (T.faults table.old) (T.faults table.new) steps.old steps.new (command_bound (T.terms table.old).depth (spoken command.now)) }
-    ensures cause { KindHasCause (kind_of (reply_of result.0)) (T.faults table.old) (T.faults table.new) }
+    ensures turn { GaveTurn T.Table table.old (turn_of (spoken command.now) (reply_of result.0) (steps.new - steps.old)) table.new }
+    ensures call { Calls T.Table table.old table.new steps.old steps.new (command_bound (T.terms table.old).depth (spoken command.now)) }
     ensures ticks { (cost : Bool) → reply_text cost result.1 (reply_of result.0) ≡ reply_text cost (steps.new - steps.old) (reply_of result.0) }
 {
     match command {
@@ -42,11 +39,15 @@ fn ask<T: Table, L: Ledger>(table: &mut T, command: &Command, steps: &mut Steps<
 }
 
 /// Writes the reply to a command that a table answers: one line, or the rows of a range or a scan and
-/// the line that ends them. Where costs are asked for, the ticks of a call stand behind its reply. What is
-/// written is what the table gave, whether it holds a map or not.
+/// the line that ends them. Where costs are asked for, the ticks of a call stand behind its reply.
 ///
-/// At a fault of the sink some front of the reply was written; what the table did stays done. An
-/// `Err` comes only where the sink's count of faults rose.
+/// What is written is one turn. It is the one that the table gave, whether the table holds a map or
+/// not, and where it holds one it is a step of the session from that map. Where the sink fails amid
+/// rows it is the turn with all rows of the map.
+///
+/// At a fault of the sink some front of the reply was written; what the table did stays done. The
+/// sink's count of faults stays at `Ok`, and is one more at `Err`. The table's count stays unless the
+/// reply is `fault`, or ends in it.
 pub fn answer<T: Table, K: Sink, L: Ledger>(
     table: &mut T,
     command: &Command,
@@ -56,10 +57,9 @@ pub fn answer<T: Table, K: Sink, L: Ledger>(
 ) -> Result<(), SinkFault>
     requires of_table { IsOfTable command.now }
     requires fits { CommandFits (T.terms table.old).format command.now }
-    ensures any { (turn : Turn) × (Answered (spoken command.now) cost result (K.written sink.old) (K.written sink.new) (T.faults table.old) (T.faults table.new) steps.old steps.new turn × Given T.answers T.begins T.goes (spoken command.now) result table.old turn table.new) }
-    ensures sound { (m : Map) → T.holds table.old m → (turn : Turn) × (Answered (spoken command.now) cost result (K.written sink.old) (K.written sink.new) (T.faults table.old) (T.faults table.new) steps.old steps.new turn × StepsFrom (shape (T.terms table.old)) m (T.holds table.new) turn) }
-    ensures call { Call (T.terms table.old) (T.terms table.new) (T.faults table.old) (T.faults table.new) steps.old steps.new (command_bound (T.terms table.old).depth (spoken command.now)) }
-    ensures cause { HasCause result (K.faults sink.old) (K.faults sink.new) }
+    ensures turn { (m : Map) → (turn : Turn) × Answered T.Table K.Sink m (spoken command.now) cost result table.old table.new sink.old sink.new steps.old steps.new turn }
+    ensures call { Calls T.Table table.old table.new steps.old steps.new (command_bound (T.terms table.old).depth (spoken command.now)) }
+    ensures faults_counted { CountsFaults result (K.faults sink.old) (K.faults sink.new) }
     ensures faults_kept { K.faults sink.old ≤ K.faults sink.new }
 {
     match command {

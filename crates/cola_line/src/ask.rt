@@ -2,15 +2,13 @@
 ghost use Rattle.std.specs.Prelude.{◌≡◌, ◌+◌, ◌-◌, ◌≤◌, ℕ, Bool, List, option_copied};
 ghost use Rattle.cola_cell.specs.declared.format.Format.TheVariants.{Two};
 ghost use Rattle.cola_cell.specs.Format.{KeyFits, ValueFits};
-ghost use Rattle.cola_spec.specs.Map.{Map};
 ghost use Rattle.cola_spec.specs.Command as spec;
 ghost use Rattle.cola_spec.specs.Reply.{reply_text};
-ghost use Rattle.cola_spec.specs.Machine.{kind_of};
 ghost use Rattle.cola_spec.specs.Bounds.{put_bound, get_bound};
-ghost use Rattle.cola_table.specs.Terms.{Call, shape};
 ghost use Rattle.cola_table.specs.Answers.{put_answer, put_if_answer};
 ghost use Rattle.cola_table.specs.Replies.{turn_of, put_refused, step_failure, read_failure};
-ghost use Rattle.cola_line.specs.Replied.{reply_of, outcome_of, failure_of, StepsFrom, KindHasCause};
+ghost use Rattle.cola_line.specs.Replied.{reply_of, outcome_of, failure_of};
+ghost use Rattle.cola_line.specs.Answered.{Calls, GaveTurn};
 
 use crate::reply::{Failure, Outcome, Reply};
 use cola_cell::{Key, ReadFault, StepFault, Value};
@@ -78,10 +76,8 @@ pub fn put<T: Table, L: Ledger>(
 ) -> (Reply, u32)
     requires key_fits { KeyFits (T.terms table.old).format key.now }
     requires value_fits { ValueFits (T.terms table.old).format value.now }
-    ensures given { T.answers table.old (turn_of (spec.Put key.now value.now) (reply_of result.0) (steps.new - steps.old)) table.new }
-    ensures sound { (m : Map) → T.holds table.old m → StepsFrom (shape (T.terms table.old)) m (T.holds table.new) (turn_of (spec.Put key.now value.now) (reply_of result.0) (steps.new - steps.old)) }
-    ensures call { Call (T.terms table.old) (T.terms table.new) (T.faults table.old) (T.faults table.new) steps.old steps.new (put_bound (T.terms table.old).depth) }
-    ensures cause { KindHasCause (kind_of (reply_of result.0)) (T.faults table.old) (T.faults table.new) }
+    ensures turn { GaveTurn T.Table table.old (turn_of (spec.Put key.now value.now) (reply_of result.0) (steps.new - steps.old)) table.new }
+    ensures call { Calls T.Table table.old table.new steps.old steps.new (put_bound (T.terms table.old).depth) }
     ensures ticks { (cost : Bool) → reply_text cost result.1 (reply_of result.0) ≡ reply_text cost (steps.new - steps.old) (reply_of result.0) }
 {
     match table.put(key, value, steps) {
@@ -101,10 +97,8 @@ pub fn put_if<T: Table, L: Ledger>(
     requires stamped { (T.terms table.old).format ≡ Two }
     requires key_fits { KeyFits (T.terms table.old).format key.now }
     requires value_fits { ValueFits (T.terms table.old).format value.now }
-    ensures given { T.answers table.old (turn_of (spec.PutIf key.now seen value.now) (reply_of result.0) (steps.new - steps.old)) table.new }
-    ensures sound { (m : Map) → T.holds table.old m → StepsFrom (shape (T.terms table.old)) m (T.holds table.new) (turn_of (spec.PutIf key.now seen value.now) (reply_of result.0) (steps.new - steps.old)) }
-    ensures call { Call (T.terms table.old) (T.terms table.new) (T.faults table.old) (T.faults table.new) steps.old steps.new (put_bound (T.terms table.old).depth) }
-    ensures cause { KindHasCause (kind_of (reply_of result.0)) (T.faults table.old) (T.faults table.new) }
+    ensures turn { GaveTurn T.Table table.old (turn_of (spec.PutIf key.now seen value.now) (reply_of result.0) (steps.new - steps.old)) table.new }
+    ensures call { Calls T.Table table.old table.new steps.old steps.new (put_bound (T.terms table.old).depth) }
     ensures ticks { (cost : Bool) → reply_text cost result.1 (reply_of result.0) ≡ reply_text cost (steps.new - steps.old) (reply_of result.0) }
 {
     match table.put_if(key, seen, value, steps) {
@@ -115,10 +109,8 @@ pub fn put_if<T: Table, L: Ledger>(
 
 /// The reply to a delete, and the ticks that it made.
 pub fn delete<T: Table, L: Ledger>(table: &mut T, key: &Key, steps: &mut Steps<L>) -> (Reply, u32)
-    ensures given { T.answers table.old (turn_of (spec.Del key.now) (reply_of result.0) (steps.new - steps.old)) table.new }
-    ensures sound { (m : Map) → T.holds table.old m → StepsFrom (shape (T.terms table.old)) m (T.holds table.new) (turn_of (spec.Del key.now) (reply_of result.0) (steps.new - steps.old)) }
-    ensures call { Call (T.terms table.old) (T.terms table.new) (T.faults table.old) (T.faults table.new) steps.old steps.new (put_bound (T.terms table.old).depth) }
-    ensures cause { KindHasCause (kind_of (reply_of result.0)) (T.faults table.old) (T.faults table.new) }
+    ensures turn { GaveTurn T.Table table.old (turn_of (spec.Del key.now) (reply_of result.0) (steps.new - steps.old)) table.new }
+    ensures call { Calls T.Table table.old table.new steps.old steps.new (put_bound (T.terms table.old).depth) }
     ensures ticks { (cost : Bool) → reply_text cost result.1 (reply_of result.0) ≡ reply_text cost (steps.new - steps.old) (reply_of result.0) }
 {
     match table.delete(key, steps) {
@@ -129,10 +121,8 @@ pub fn delete<T: Table, L: Ledger>(table: &mut T, key: &Key, steps: &mut Steps<L
 
 /// The reply to a get, and the ticks that it made.
 pub fn get<T: Table, L: Ledger>(table: &mut T, key: &Key, steps: &mut Steps<L>) -> (Reply, u32)
-    ensures given { T.answers table.old (turn_of (spec.Get key.now) (reply_of result.0) (steps.new - steps.old)) table.new }
-    ensures sound { (m : Map) → T.holds table.old m → StepsFrom (shape (T.terms table.old)) m (T.holds table.new) (turn_of (spec.Get key.now) (reply_of result.0) (steps.new - steps.old)) }
-    ensures call { Call (T.terms table.old) (T.terms table.new) (T.faults table.old) (T.faults table.new) steps.old steps.new (get_bound (T.terms table.old).depth) }
-    ensures cause { KindHasCause (kind_of (reply_of result.0)) (T.faults table.old) (T.faults table.new) }
+    ensures turn { GaveTurn T.Table table.old (turn_of (spec.Get key.now) (reply_of result.0) (steps.new - steps.old)) table.new }
+    ensures call { Calls T.Table table.old table.new steps.old steps.new (get_bound (T.terms table.old).depth) }
     ensures ticks { (cost : Bool) → reply_text cost result.1 (reply_of result.0) ≡ reply_text cost (steps.new - steps.old) (reply_of result.0) }
 {
     match table.get(key, steps) {
@@ -144,10 +134,8 @@ pub fn get<T: Table, L: Ledger>(table: &mut T, key: &Key, steps: &mut Steps<L>) 
 /// The reply to a stamp, and the ticks that it made.
 pub fn stamp<T: Table, L: Ledger>(table: &mut T, key: &Key, steps: &mut Steps<L>) -> (Reply, u32)
     requires { (T.terms table.old).format ≡ Two }
-    ensures given { T.answers table.old (turn_of (spec.Stamp key.now) (reply_of result.0) (steps.new - steps.old)) table.new }
-    ensures sound { (m : Map) → T.holds table.old m → StepsFrom (shape (T.terms table.old)) m (T.holds table.new) (turn_of (spec.Stamp key.now) (reply_of result.0) (steps.new - steps.old)) }
-    ensures call { Call (T.terms table.old) (T.terms table.new) (T.faults table.old) (T.faults table.new) steps.old steps.new (get_bound (T.terms table.old).depth) }
-    ensures cause { KindHasCause (kind_of (reply_of result.0)) (T.faults table.old) (T.faults table.new) }
+    ensures turn { GaveTurn T.Table table.old (turn_of (spec.Stamp key.now) (reply_of result.0) (steps.new - steps.old)) table.new }
+    ensures call { Calls T.Table table.old table.new steps.old steps.new (get_bound (T.terms table.old).depth) }
     ensures ticks { (cost : Bool) → reply_text cost result.1 (reply_of result.0) ≡ reply_text cost (steps.new - steps.old) (reply_of result.0) }
 {
     match table.stamp(key, steps) {

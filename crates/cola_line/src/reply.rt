@@ -1,7 +1,7 @@
 //! The replies that are one line, and their texts.
 ghost use Rattle.std.specs.Prelude.{◌≡◌, ◌≤◌, ◌+◌, ◌∷◌, [], ◌++◌, ℕ, length, decimal};
 ghost use Rattle.cola_spec.specs.Reply.{reply_text, outcome_text, outcome_suffix, cost_suffix, value_text, stamp_text, failure_text, refusal_text};
-ghost use Rattle.cola_outside.specs.Faults.{HasCause};
+ghost use Rattle.cola_io.specs.Counted.{CountsFaults};
 ghost use Rattle.cola_line.specs.Replied.{reply_of, outcome_of, failure_of, refusal_of, Wrote};
 
 use arrayvec::ArrayVec;
@@ -238,7 +238,7 @@ fn push_reply(text: &mut Text, reply: &Reply, cost: bool, ticks: u32)
 /// Writes a reply, and the ticks behind it where costs are asked for and the reply has one. At a
 /// fault of the sink some bytes of its front were written.
 ///
-/// An `Err` comes only where the sink's count of faults rose.
+/// The sink's count of faults stays at `Ok`, and is one more at `Err`.
 pub fn write_reply<K: Sink>(
     reply: &Reply,
     cost: bool,
@@ -246,7 +246,7 @@ pub fn write_reply<K: Sink>(
     sink: &mut K,
 ) -> Result<(), SinkFault>
     ensures wrote { Wrote (reply_text cost ticks (reply_of reply.now)) result (K.written sink.old) (K.written sink.new) }
-    ensures cause { HasCause result (K.faults sink.old) (K.faults sink.new) }
+    ensures faults_counted { CountsFaults result (K.faults sink.old) (K.faults sink.new) }
     ensures faults_kept { K.faults sink.old ≤ K.faults sink.new }
 {
     let mut text = Text::new();

@@ -1,14 +1,14 @@
 //! The replies to ranges and scans, row by row.
 ghost use Rattle.std.specs.Prelude.{◌≡◌, ◌+◌, ◌-◌, ◌∷◌, ◌++◌, ◌≤◌, [], ℕ, Bool, List, Option, Some, None, Ok, length, option_copied, codes, decimal};
-ghost use Rattle.cola_outside.specs.Faults.{HasCause};
+ghost use Rattle.cola_io.specs.Counted.{CountsFaults};
 ghost use Rattle.cola_io.specs.Streams.{Appended};
-ghost use Rattle.cola_spec.specs.Map.{Map, pairs_between};
+ghost use Rattle.cola_spec.specs.Map.{Map};
 ghost use Rattle.cola_spec.specs.Reply.{row_text, line, Reply as Answer};
 ghost use Rattle.cola_spec.specs.Bounds.{range_bound};
-ghost use Rattle.cola_table.specs.Terms.{Call, shape};
 ghost use Rattle.cola_line.specs.Replied.{Wrote};
-ghost use Rattle.cola_line.specs.Listed.{Listed, RowsFor, first_of, wants};
-ghost use Rattle.cola_line.specs.Given.{RowsGiven};
+ghost use Rattle.cola_line.specs.Given.{wants};
+ghost use Rattle.cola_line.specs.Listed.{Listed};
+ghost use Rattle.cola_line.specs.Answered.{Calls};
 
 use crate::ask::failed_read;
 use crate::reply::{Reply, Text, push_bytes, push_number, write_reply};
@@ -21,7 +21,7 @@ use std::sync::ledger::Ledger;
 /// Writes a pair as a row.
 fn write_row<K: Sink>(row: &(Key, Value), sink: &mut K) -> Result<(), SinkFault>
     ensures wrote { Wrote (row_text row.now) result (K.written sink.old) (K.written sink.new) }
-    ensures cause { HasCause result (K.faults sink.old) (K.faults sink.new) }
+    ensures faults_counted { CountsFaults result (K.faults sink.old) (K.faults sink.new) }
     ensures faults_kept { K.faults sink.old ≤ K.faults sink.new }
 {
     let (key, value) = row;
@@ -37,7 +37,7 @@ fn write_row<K: Sink>(row: &(Key, Value), sink: &mut K) -> Result<(), SinkFault>
 /// Writes the line after the last row.
 fn write_end<K: Sink>(rows: u64, sink: &mut K) -> Result<(), SinkFault>
     ensures wrote { Wrote (line (codes "end " ++ decimal rows)) result (K.written sink.old) (K.written sink.new) }
-    ensures cause { HasCause result (K.faults sink.old) (K.faults sink.new) }
+    ensures faults_counted { CountsFaults result (K.faults sink.old) (K.faults sink.new) }
     ensures faults_kept { K.faults sink.old ≤ K.faults sink.new }
 {
     let mut text = Text::new();
@@ -60,7 +60,8 @@ fn is_wanted(most: Option<u64>, rows: u64) -> bool
 /// Writes the pairs from `low` on and below `high` as rows, at most `most` of them where that is
 /// given, and then the line that ends them, or that of a failure.
 ///
-/// An `Err` comes only where the sink's count of faults rose; then some front of all that was written.
+/// The sink's count of faults stays at `Ok`, and is one more at `Err`; then some front of all that was
+/// written.
 pub fn write_rows<T: Table, K: Sink, L: Ledger>(
     table: &mut T,
     low: &Key,
@@ -69,10 +70,10 @@ pub fn write_rows<T: Table, K: Sink, L: Ledger>(
     sink: &mut K,
     steps: &mut Steps<L>,
 ) -> Result<(), SinkFault>
-    ensures any { (answer : Answer) × (Listed result (K.written sink.old) (K.written sink.new) (T.faults table.old) (T.faults table.new) answer × RowsGiven T.begins T.goes low.now (option_copied high.entry) most result table.old answer table.new) }
-    ensures sound { (m : Map) → T.holds table.old m → T.holds table.new m × ((answer : Answer) × (Listed result (K.written sink.old) (K.written sink.new) (T.faults table.old) (T.faults table.new) answer × RowsFor (first_of most (pairs_between m low.now (option_copied high.entry))) answer)) }
-    ensures call { Call (T.terms table.old) (T.terms table.new) (T.faults table.old) (T.faults table.new) steps.old steps.new (range_bound (T.terms table.old).depth) }
-    ensures cause { HasCause result (K.faults sink.old) (K.faults sink.new) }
+    ensures rows { (m : Map) → (answer : Answer) × Listed T.Table K.Sink m low.now (option_copied high.entry) most result table.old table.new sink.old sink.new answer }
+    ensures sound { (m : Map) → T.holds table.old m → T.holds table.new m }
+    ensures call { Calls T.Table table.old table.new steps.old steps.new (range_bound (T.terms table.old).depth) }
+    ensures faults_counted { CountsFaults result (K.faults sink.old) (K.faults sink.new) }
     ensures faults_kept { K.faults sink.old ≤ K.faults sink.new }
 {
     let mut walk = match table.range(low, high, steps) {

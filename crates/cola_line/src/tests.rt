@@ -140,25 +140,27 @@ struct Fixed {
 struct Nothing;
 
 impl Fixed {
-    ghost use Rattle.std.specs.Prelude.{◌≡◌, ◌≤◌, ℕ, IfErr, Err};
+    ghost use Rattle.std.specs.Prelude.{◌≡◌, ◌≤◌, ℕ, Err};
     ghost use Rattle.cola_cell.specs.declared.fault.ReadFault.TheVariants as read;
     ghost use Rattle.cola_table.specs.declared.PutFault.TheVariants as put_fault;
     ghost use Rattle.cola_line.specs.declared.tests.Says.TheVariants as says;
-    ghost use Rattle.cola_table.specs.Answers.{put_cause, step_cause, read_cause};
+    ghost use Rattle.cola_table.specs.Answers.{PutFaults, ReadFaults};
 
-    /// Why a put is refused.
-    fn refuses_put(&mut self) -> PutFault
-        ensures bad { (cell : ℕ) → self.old.says ≡ says.BadCell cell → result ≡ put_fault.BadCell cell }
-        ensures cause { put_cause result self.old.faults self.new.faults }
+    /// A put is refused.
+    fn refuses_put<A>(&mut self) -> Result<A, PutFault>
+        ensures bad { (cell : ℕ) → self.old.says ≡ says.BadCell cell → result ≡ Err (put_fault.BadCell cell) }
+        ensures faults { PutFaults result self.old.faults self.new.faults }
         ensures kept { self.old.faults ≤ self.new.faults }
     {
-        self.faults = one_more(self.faults);
         match self.says {
-            Says::Device => PutFault::Device,
-            Says::BadCell(cell) => PutFault::BadCell(cell),
-            Says::Overfull(level) => PutFault::Overfull(level),
-            Says::Worn => PutFault::Worn,
-            Says::Other(_) => PutFault::Full,
+            Says::Device => {
+                self.faults = one_more(self.faults);
+                Err(PutFault::Device)
+            }
+            Says::BadCell(cell) => Err(PutFault::BadCell(cell)),
+            Says::Overfull(level) => Err(PutFault::Overfull(level)),
+            Says::Worn => Err(PutFault::Worn),
+            Says::Other(_) => Err(PutFault::Full),
         }
     }
 
@@ -166,12 +168,14 @@ impl Fixed {
     fn refuses_read(&mut self) -> Result<(), ReadFault>
         ensures bad { (cell : ℕ) → self.old.says ≡ says.BadCell cell → result ≡ Err (read.BadCell cell) }
         ensures stays { self.new.says ≡ self.old.says }
-        ensures cause { IfErr result (λ refusal. read_cause refusal self.old.faults self.new.faults) }
+        ensures faults { ReadFaults result self.old.faults self.new.faults }
         ensures kept { self.old.faults ≤ self.new.faults }
     {
-        self.faults = one_more(self.faults);
         match self.says {
-            Says::Device => Err(ReadFault::Device),
+            Says::Device => {
+                self.faults = one_more(self.faults);
+                Err(ReadFault::Device)
+            }
             Says::BadCell(cell) => Err(ReadFault::BadCell(cell)),
             _ => Ok(()),
         }
@@ -187,6 +191,8 @@ impl Table for Fixed {
     ghost use Rattle.cola_line.specs.declared.tests.Says.TheVariants as says;
 
     type Walk = Nothing;
+
+    ghost kept = { λ _. tt };
 
     ghost terms = { λ _. record { format = Two; limit = 0; depth = 0 } };
 
@@ -224,7 +230,7 @@ impl Table for Fixed {
         value: &Value,
         steps: &mut Steps<L>,
     ) -> Result<(Put, u32), PutFault> {
-        Err(self.refuses_put())
+        self.refuses_put()
     }
 
     fn put_if<L: Ledger>(
@@ -237,7 +243,7 @@ impl Table for Fixed {
         if let Says::Other(stamp) = self.says {
             return Ok((PutIf::Other(stamp), 0));
         }
-        Err(self.refuses_put())
+        self.refuses_put()
     }
 
     fn delete<L: Ledger>(

@@ -1,14 +1,28 @@
 use Rattle.std.proofs.Common.{◌-◌}
 use Rattle.cola_table.specs.Terms.{shape}
-use Rattle.cola_line.proofs.Turns.{delete_steps, delete_refused_steps}
+use Rattle.cola_line.proofs.Turns.{delete_steps, delete_refused_steps, step_faults, calls}
 use Rattle.cola_line.proofs.ask.delete.Goals as goal
 
-pub returns-in-Ok-clause-sound : goal.returns-in-Ok-clause-sound
-returns-in-Ok-clause-sound g c m held =
-    let a = c.in-Ok.ensures.answer m held in
-    delete_steps (shape (g.T.Table.terms c.args.table.now)) m (g.T.Table.holds c.delete.new.self) c.args.key.now (c.delete.new.steps - c.args.steps.now) c.in-Ok.value a.0 a.1
+pub returns-in-Ok-clause-turn : goal.returns-in-Ok-clause-turn
+returns-in-Ok-clause-turn g c = record {
+  given = c.in-Ok.ensures.given;
+  faults = c.in-Ok.ensures.faults;
+  step = λ m held.
+      let a = c.in-Ok.ensures.answer m held in
+      delete_steps (shape (g.T.Table.terms c.args.table.now)) m (g.T.Table.holds c.delete.new.self) c.args.key.now (c.delete.new.steps - c.args.steps.now) c.in-Ok.value a.0 a.1;
+}
 
-pub returns-in-Err-clause-sound : goal.returns-in-Err-clause-sound
-returns-in-Err-clause-sound g c m held =
-    let a = c.in-Err.ensures.answer m held in
-    rw c.failed_step.ensures (delete_refused_steps (shape (g.T.Table.terms c.args.table.now)) m (g.T.Table.holds c.delete.new.self) c.args.key.now (c.delete.new.steps - c.args.steps.now) c.in-Err.fault a.0 a.1)
+pub returns-in-Err-clause-turn : goal.returns-in-Err-clause-turn
+returns-in-Err-clause-turn g c = rw c.failed_step.ensures (record {
+  given = c.in-Err.ensures.given;
+  faults = step_faults (Unit {0}) c.in-Err.fault (g.T.Table.faults c.args.table.now) (g.T.Table.faults c.delete.new.self) c.in-Err.ensures.faults;
+  step = λ m held.
+      let a = c.in-Err.ensures.answer m held in
+      delete_refused_steps (shape (g.T.Table.terms c.args.table.now)) m (g.T.Table.holds c.delete.new.self) c.args.key.now (c.delete.new.steps - c.args.steps.now) c.in-Err.fault a.0 a.1;
+})
+
+pub returns-in-Ok-clause-call : goal.returns-in-Ok-clause-call
+returns-in-Ok-clause-call g c = calls g.T.Table c.args.table.now c.delete.new.self c.args.steps.now c.delete.new.steps _ c.in-Ok.ensures.kept c.in-Ok.ensures.call
+
+pub returns-in-Err-clause-call : goal.returns-in-Err-clause-call
+returns-in-Err-clause-call g c = calls g.T.Table c.args.table.now c.delete.new.self c.args.steps.now c.delete.new.steps _ c.in-Err.ensures.kept c.in-Err.ensures.call
