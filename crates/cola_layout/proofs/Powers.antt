@@ -74,3 +74,16 @@ bottom-of_leading keys some fits =
     let (m, parts, below, least) = leading_length 64 (keys - 1) (omega arith) in
     let is : 64 - count_leading_zeros 64 (keys - 1) ≡ m = omega arith in
     rw is (bottom-from keys m some (omega arith) least)
+
+-- the levels of a store, by three facts on their number
+pub levels-are : (keys levels bottom : ℕ) → 4 ≤ levels → keys ≤ 2 ^ (levels + 1) → (4 < levels → 2 ^ levels < keys) → IsBottom keys bottom → levels ≡ bottom + 1
+levels-are keys levels bottom some holds least is =
+    let down : levels - 1 + 1 ≡ levels = omega arith in
+    let room : levels - 1 + 2 ≡ levels + 1 = omega arith in
+    let theirs : IsBottom keys (levels - 1) = record {
+      three = omega arith;
+      holds = rw room holds;
+      least = λ more. rw down (least (omega arith));
+    } in
+    let same : levels - 1 ≡ bottom = bottom-is_one keys (levels - 1) bottom theirs is in
+    omega arith

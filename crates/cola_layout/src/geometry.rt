@@ -2,7 +2,7 @@
 
 ghost use Rattle.std.specs.Prelude.{◌≡◌, ◌<◌, ◌≤◌, ◌^◌, ◌+◌, ◌-◌, min, ℕ, IfOk, IfErr};
 ghost use Rattle.cola_layout.specs.Geometry.{IsBottom, AreKeys, IsBlock, Refuses};
-ghost use Rattle.cola_layout.specs.Place.{place_of};
+ghost use Rattle.cola_cell.specs.Places.{number_of};
 
 use crate::fault::LayoutFault;
 use cola_cell::Format;
@@ -86,7 +86,7 @@ impl Geometry {
         requires level_exists { level ≤ self.now.bottom }
         requires slot_exists { slot ≤ 1 }
         requires index_exists { index < 2 ^ (level + 2) }
-        ensures value { result ≡ place_of level slot index }
+        ensures value { result ≡ number_of level slot index }
         ensures behind_header { 8 ≤ result }
         ensures within { result < 2 ^ (self.now.bottom + 4) }
     {
@@ -99,9 +99,9 @@ fn cell_at(level: u8, slot: u8, index: u32) -> u64
     requires level_in_range { level ≤ 22 }
     requires slot_exists { slot ≤ 1 }
     requires index_exists { index < 2 ^ (level + 2) }
-    ensures { result ≡ place_of level slot index }
+    ensures { result ≡ number_of level slot index }
 {
-    (1 << (level + 3)) + (u64::from(slot) << (level + 2)) + u64::from(index)
+    ((2 + u64::from(slot)) << (level + 2)) + u64::from(index)
 }
 
 /// The lowest level of a store for so many keys.

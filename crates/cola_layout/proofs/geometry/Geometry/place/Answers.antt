@@ -1,4 +1,5 @@
-use Rattle.cola_layout.specs.Place.{IsPlace}
+use Rattle.std.proofs.Common.{◌+◌, arith}
+use Rattle.cola_cell.specs.Places.{IsPlace}
 use Rattle.cola_layout.proofs.Places.{place-behind, place-within}
 use Rattle.cola_layout.proofs.geometry.Geometry.place.Goals as goal
 
@@ -7,6 +8,6 @@ returns-clause-behind_header c = rw c.cell_at.ensures (place-behind c.args.level
 
 pub returns-clause-within : goal.returns-clause-within
 returns-clause-within c =
-    let is : IsPlace c.args.self.now.bottom c.args.level c.args.slot c.args.index =
-    record { level_exists = c.requires.level_exists; slot_exists = c.requires.slot_exists; index_exists = c.requires.index_exists } in
+    let is : IsPlace (c.args.self.now.bottom + 1) c.args.level c.args.slot c.args.index =
+    record { level_in = omega (arith, c.requires.level_exists); slot_in = omega (arith, c.requires.slot_exists); index_in = c.requires.index_exists } in
     rw c.cell_at.ensures (place-within c.args.self.now.bottom c.args.level c.args.slot c.args.index is)
