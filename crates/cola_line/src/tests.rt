@@ -142,27 +142,8 @@ struct Nothing;
 impl Fixed {
     ghost use Rattle.std.specs.Prelude.{◌≡◌, ◌≤◌, ℕ, Err};
     ghost use Rattle.cola_cell.specs.declared.fault.ReadFault.TheVariants as read;
-    ghost use Rattle.cola_table.specs.declared.PutFault.TheVariants as put_fault;
     ghost use Rattle.cola_line.specs.declared.tests.Says.TheVariants as says;
-    ghost use Rattle.cola_table.specs.Answers.{PutFaults, ReadFaults};
-
-    /// A put is refused.
-    fn refuses_put<A>(&mut self) -> Result<A, PutFault>
-        ensures bad { (cell : ℕ) → self.old.says ≡ says.BadCell cell → result ≡ Err (put_fault.BadCell cell) }
-        ensures faults { PutFaults result self.old.faults self.new.faults }
-        ensures kept { self.old.faults ≤ self.new.faults }
-    {
-        match self.says {
-            Says::Device => {
-                self.faults = one_more(self.faults);
-                Err(PutFault::Device)
-            }
-            Says::BadCell(cell) => Err(PutFault::BadCell(cell)),
-            Says::Overfull(level) => Err(PutFault::Overfull(level)),
-            Says::Worn => Err(PutFault::Worn),
-            Says::Other(_) => Err(PutFault::Full),
-        }
-    }
+    ghost use Rattle.cola_table.specs.Answers.{ReadFaults};
 
     /// Whether a reading is refused.
     fn refuses_read(&mut self) -> Result<(), ReadFault>
@@ -230,7 +211,16 @@ impl Table for Fixed {
         value: &Value,
         steps: &mut Steps<L>,
     ) -> Result<(Put, u32), PutFault> {
-        self.refuses_put()
+        match self.says {
+            Says::Device => {
+                self.faults = one_more(self.faults);
+                Err(PutFault::Device)
+            }
+            Says::BadCell(cell) => Err(PutFault::BadCell(cell)),
+            Says::Overfull(level) => Err(PutFault::Overfull(level)),
+            Says::Worn => Err(PutFault::Worn),
+            Says::Other(_) => Err(PutFault::Full),
+        }
     }
 
     fn put_if<L: Ledger>(
@@ -240,10 +230,16 @@ impl Table for Fixed {
         value: &Value,
         steps: &mut Steps<L>,
     ) -> Result<(PutIf, u32), PutFault> {
-        if let Says::Other(stamp) = self.says {
-            return Ok((PutIf::Other(stamp), 0));
+        match self.says {
+            Says::Device => {
+                self.faults = one_more(self.faults);
+                Err(PutFault::Device)
+            }
+            Says::BadCell(cell) => Err(PutFault::BadCell(cell)),
+            Says::Overfull(level) => Err(PutFault::Overfull(level)),
+            Says::Worn => Err(PutFault::Worn),
+            Says::Other(stamp) => Ok((PutIf::Other(stamp), 0)),
         }
-        self.refuses_put()
     }
 
     fn delete<L: Ledger>(
