@@ -1,16 +1,34 @@
--- What a handle shows of a file.
+-- What a handle says of a file.
+use Rattle.std.specs.Prelude.{◌≡◌, ⊤}
 use Rattle.cola_filedev.specs.declared.handle.Handle.{Handle}
 use Rattle.cola_filedev.specs.declared.handle.Handle.TheVariants.{Unopened, Open, Refused}
-use Rattle.cola_filedev.specs.Opening.{Opening, Wanted, unopened, opened, refused}
-use Rattle.std.specs.Prelude.{Option, Some, None}
 
-abbrev pub opening_of : {F : Type 0} → Handle F → Opening
-opening_of (Unopened path make) = unopened
-opening_of (Open file) = opened
-opening_of Refused = refused
+-- the file was not asked for yet
+abbrev pub IsUnopened : {F : Type 0} → Handle F → Type 0
+IsUnopened Unopened = ⊤
+IsUnopened (Open file) = ⊥
+IsUnopened Refused = ⊥
 
--- what the first call will open
-abbrev pub wanted_of : {F : Type 0} → Handle F → Option Wanted
-wanted_of (Unopened path make) = Some (path.now, make)
-wanted_of (Open file) = None
-wanted_of Refused = None
+-- the file is open
+abbrev pub IsOpen : {F : Type 0} → Handle F → Type 0
+IsOpen Unopened = ⊥
+IsOpen (Open file) = ⊤
+IsOpen Refused = ⊥
+
+-- the file was refused, or there is none
+abbrev pub IsRefused : {F : Type 0} → Handle F → Type 0
+IsRefused Unopened = ⊥
+IsRefused (Open file) = ⊥
+IsRefused Refused = ⊤
+
+-- this file is the one that was there before a call, or one that the call opened
+abbrev pub CanBe : {F : Type 0} → Handle F → F → Type 0
+CanBe Unopened file = ⊤
+CanBe (Open held) file = file ≡ held
+CanBe Refused file = ⊥
+
+-- this file is there
+abbrev pub Holds : {F : Type 0} → Handle F → F → Type 0
+Holds Unopened file = ⊥
+Holds (Open held) file = file ≡ held
+Holds Refused file = ⊥

@@ -1,6 +1,9 @@
-ghost use Rattle.std.specs.Prelude.{◌≡◌, ◌≢◌, false, Some, None, refl, is_err};
+ghost use Rattle.std.specs.Prelude.{◌≡◌, Option, false, Some, None, refl, is_err, OnOk};
 ghost use Rattle.cola_device.specs.Counts.{count_fault, count_read, count_write};
-ghost use Rattle.cola_filedev.specs.Opening.{unopened, refused, unused, Asked};
+ghost use Rattle.cola_filedev.specs.Handle.{IsUnopened};
+ghost use Rattle.cola_filedev.specs.Opening.{Wanted, unused, Asked, IsSame, Done};
+ghost use Rattle.cola_filedev.specs.Work.{ReadFrom, WroteTo};
+ghost use Rattle.cola_filedev.specs.declared.handle.Handle.TheVariants.{Unopened, Refused};
 
 use crate::handle::{self, Handle};
 use cola_device::{Counts, Device, DeviceFault};
@@ -11,18 +14,18 @@ use std::rt::Files;
 #[derive(Drop)]
 pub struct FileDevice<'a, R: Files> {
     rt: &'a R,
-    handle: Handle<'a, R::File>,
+    /// The path that the first call opens, and whether it makes the file.
+    wanted: Option<(&'a str, bool)>,
+    handle: Handle<R::File>,
     counts: Counts,
 }
 
 impl<'a, R: Files> Model for FileDevice<'a, R> {
-    ghost use Rattle.cola_filedev.specs.Opening.{Shown};
+    ghost use Rattle.cola_filedev.specs.Opening.{Shown, wanted_of};
 
-    ghost Value = { Shown };
+    ghost Value = { Shown R.File };
 
-    ghost use Rattle.cola_filedev.specs.Handle.{opening_of, wanted_of};
-
-    ghost view = { λ d. record { opening = opening_of d.handle; wanted = wanted_of d.handle; counts = d.counts } };
+    ghost view = { λ d. record { handle = d.handle; wanted = wanted_of d.wanted; counts = d.counts } };
 }
 
 impl<'a, R: Files> FileDevice<'a, R> {
@@ -30,21 +33,23 @@ impl<'a, R: Files> FileDevice<'a, R> {
     /// `read`, `write` or `settle`: that call opens the file for reading and writing, and makes it where
     /// it is not there and `make` is true.
     pub fn new(rt: &'a R, path: &'a str, make: bool) -> FileDevice<'a, R>
-        ensures { result ≡ unused unopened (Some (path.now, make)) }
+        ensures { result ≡ unused Unopened (Some (path.now, make)) }
     {
         FileDevice {
             rt,
-            handle: Handle::Unopened { path, make },
+            wanted: Some((path, make)),
+            handle: Handle::Unopened,
             counts: Counts::default(),
         }
     }
 
     /// A device with no file: each of those calls is a fault.
     pub fn none(rt: &'a R) -> FileDevice<'a, R>
-        ensures { result ≡ unused refused None }
+        ensures { result ≡ unused Refused None }
     {
         FileDevice {
             rt,
+            wanted: None,
             handle: Handle::Refused,
             counts: Counts::default(),
         }
@@ -52,12 +57,16 @@ impl<'a, R: Files> FileDevice<'a, R> {
 
     /// Asks for the file where that was not done yet.
     fn ask(&mut self)
-        ensures asked { self.new.opening ≢ unopened }
-        ensures kept { self.old.opening ≢ unopened → self.new.opening ≡ self.old.opening }
+        ensures asked { IsUnopened self.new.handle → ⊥ }
+        ensures same { IsSame self.old.handle self.new.handle }
+        ensures wanted { self.new.wanted ≡ self.old.wanted }
         ensures counts { self.new.counts ≡ self.old.counts }
     {
-        if let Handle::Unopened { path, make } = self.handle {
-            self.handle = handle::open(self.rt, path, make);
+        if let Handle::Unopened = self.handle {
+            self.handle = match self.wanted {
+                Some((path, make)) => handle::open(self.rt, path, make),
+                None => Handle::Refused,
+            };
         }
     }
 }
@@ -69,10 +78,16 @@ impl<'a, R: Files> Device for FileDevice<'a, R> {
 
     ghost counts = { λ d. d.counts };
 
+    ghost Kept = { Option Wanted };
+
+    ghost kept = { λ d. d.wanted };
+
     ghost told = { λ _. refl };
 
     fn size(&mut self) -> Result<u64, DeviceFault>
-        ensures asked { Asked self.old.opening self.new.opening result }
+        ensures asked { Asked self.old.handle self.new.handle result }
+        ensures same { IsSame self.old.handle self.new.handle }
+        ensures wanted { self.new.wanted ≡ self.old.wanted }
         ensures counted { self.new.counts ≡ count_fault (is_err result) self.old.counts }
     {
         self.ask();
@@ -85,7 +100,9 @@ impl<'a, R: Files> Device for FileDevice<'a, R> {
     }
 
     fn lay_out(&mut self, size: u64) -> Result<(), DeviceFault>
-        ensures asked { Asked self.old.opening self.new.opening result }
+        ensures asked { Asked self.old.handle self.new.handle result }
+        ensures same { IsSame self.old.handle self.new.handle }
+        ensures wanted { self.new.wanted ≡ self.old.wanted }
         ensures counted { self.new.counts ≡ count_fault (is_err result) self.old.counts }
     {
         self.ask();
@@ -98,7 +115,10 @@ impl<'a, R: Files> Device for FileDevice<'a, R> {
     }
 
     fn read(&mut self, at: u64, into: &mut [u8]) -> Result<(), DeviceFault>
-        ensures asked { Asked self.old.opening self.new.opening result }
+        ensures asked { Asked self.old.handle self.new.handle result }
+        ensures given { OnOk result (Done self.old.handle self.new.handle
+            (λ old new. ReadFrom R.File.stream_position R.File.stream_bytes R.File.remaining at old new into.new)) }
+        ensures wanted { self.new.wanted ≡ self.old.wanted }
         ensures counted { self.new.counts ≡ count_read (count_fault (is_err result) self.old.counts) }
     {
         self.counts.read();
@@ -112,7 +132,10 @@ impl<'a, R: Files> Device for FileDevice<'a, R> {
     }
 
     fn write(&mut self, at: u64, from: &[u8]) -> Result<(), DeviceFault>
-        ensures asked { Asked self.old.opening self.new.opening result }
+        ensures asked { Asked self.old.handle self.new.handle result }
+        ensures put { OnOk result (Done self.old.handle self.new.handle
+            (λ old new. WroteTo R.File.stream_position R.File.stream_bytes R.File.contents at old new from.now)) }
+        ensures wanted { self.new.wanted ≡ self.old.wanted }
         ensures counted { self.new.counts ≡ count_write (count_fault (is_err result) self.old.counts) }
     {
         self.counts.write();
@@ -126,7 +149,9 @@ impl<'a, R: Files> Device for FileDevice<'a, R> {
     }
 
     fn settle(&mut self) -> Result<(), DeviceFault>
-        ensures asked { Asked self.old.opening self.new.opening result }
+        ensures asked { Asked self.old.handle self.new.handle result }
+        ensures same { IsSame self.old.handle self.new.handle }
+        ensures wanted { self.new.wanted ≡ self.old.wanted }
         ensures counted { self.new.counts ≡ count_fault (is_err result) self.old.counts }
     {
         self.ask();

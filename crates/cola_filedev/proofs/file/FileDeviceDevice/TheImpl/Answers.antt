@@ -7,12 +7,14 @@ pub size-tells : goal.size-tells
 size-tells g c = record {
   value = value_untold c.result;
   bytes_stay = refl;
+  kept = c.ensures.wanted;
   counts = Called-count_fault c.result c.args.self.now.counts c.new.self.now.counts c.ensures.counted;
 }
 
 pub lay_out-tells : goal.lay_out-tells
 lay_out-tells g c = record {
   laid = tt;
+  kept = c.ensures.wanted;
   counts = Called-count_fault c.result c.args.self.now.counts c.new.self.now.counts c.ensures.counted;
 }
 
@@ -20,17 +22,20 @@ pub read-tells : goal.read-tells
 read-tells g c = record {
   given = given_untold c.result;
   bytes_stay = refl;
+  kept = c.ensures.wanted;
   counts = Called-count_read c.result c.args.self.now.counts c.new.self.now.counts c.ensures.counted;
 }
 
 pub write-tells : goal.write-tells
 write-tells g c = record {
   wrote = tt;
+  kept = c.ensures.wanted;
   counts = Called-count_write c.result c.args.self.now.counts c.new.self.now.counts c.ensures.counted;
 }
 
 pub settle-tells : goal.settle-tells
 settle-tells g c = record {
   bytes_stay = refl;
+  kept = c.ensures.wanted;
   counts = Called-count_fault c.result c.args.self.now.counts c.new.self.now.counts c.ensures.counted;
 }
