@@ -18,5 +18,6 @@ pub mod Facts
 pub mod Loaded
 pub mod SlotSteps
 mod Tested
+mod Passing
 mod Ablated
 mod Worked
