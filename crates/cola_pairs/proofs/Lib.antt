@@ -1,0 +1,4 @@
+pub mod Order
+pub mod Entries
+pub mod LivePairs
+pub mod Steps
