@@ -12,7 +12,7 @@ use Rattle.cola_cell.specs.declared.sink.Shadow.{Shadow}
 use Rattle.cola_cell.specs.Format.{CellFits}
 use Rattle.cola_cell.specs.Places.{slot_size, number_of, IsPlace, block_of}
 use Rattle.cola_cell.specs.Held.{Held, Bad, Told, Tells, LawCell, as_cell, is_untold, with_cell, IsElsewhere}
-use Rattle.cola_cell.specs.Spent.{Buffer, Ticks, Reads, ReadAnswers}
+use Rattle.cola_cell.specs.Spent.{Buffer, Ticks, Reads, ReadAnswers, ReadCalm}
 use Rattle.cola_cell.specs.Shadows.{emptied, StaysAround, Restarts, Pushes, PushSpends, Writes, Finishes, FinishSpends}
 use Rattle.cola_cell.specs.Flat.{Flat, IsFlat, shadow_at, spot_of, is_place, spots_of, held_of, spent_of, one_more, next_fails, after_access, found, read_answer, with_shadow, longer, is_full, push_answer, after_push, after_finish}
 use Rattle.cola_cell.proofs.PlaceNumbers.{numbers_differ, number_within}
@@ -82,6 +82,12 @@ read_says held count l s i true c e h = rose count
 read_says held count l s i false None e h = record { told = subst (λ x. Tells x Bad) (sym e) refl; number_is = refl }
 read_says held count l s i false (Some c) e h = record { told = subst (λ x. Tells x (Told (as_cell c))) (sym e) refl; fits = h }
 
+-- and it counts no fault, unless it is the device's
+read_is_calm : (count number : ℕ) (fails : Bool) (c : Option Cell) → ReadCalm count (if fails then one_more count else count) (if fails then Err Device else found number c)
+read_is_calm count number true c = tt
+read_is_calm count number false None = refl
+read_is_calm count number false (Some c) = refl
+
 -- a fact is one on Ok
 on_ok : {T E P : Type 0} (result : Result T E) → P → OnOk result P
 on_ok (Ok x) p = p
@@ -93,6 +99,7 @@ pub reads_flat : (flat : Flat) (buffer : Buffer) (l s i : ℕ) → IsFlat flat �
 reads_flat flat buffer l s i f p = record {
   answer = read_says (held_of flat) flat.faults l s i (next_fails flat) (get_or flat.cells (number_of l s i) None) (spot_is flat.levels flat.cells l s i p) (f.cells_fit (number_of l s i));
   faults_stay = counted (next_fails flat) flat.faults;
+  calm = read_is_calm flat.faults (number_of l s i) (next_fails flat) (get_or flat.cells (number_of l s i) None);
   one_tick = omega arith;
   written_is = refl;
   turned_stays = omega arith;
@@ -146,6 +153,7 @@ pub finishes_flat : (flat : Flat) (level : ℕ) → level < length flat.shadows 
 finishes_flat flat level h = record {
   around = around_shadow flat level (record (shadow_at flat.shadows level) { saved = true });
   answer = tt;
+  calm = refl;
   shadow_is = shadow_put flat.shadows level (record (shadow_at flat.shadows level) { saved = true }) h;
   others_stay = λ l s i _. refl;
 }
@@ -165,6 +173,7 @@ full_push : (flat : Flat) (level : ℕ) (cell : Cell) → is_full flat level ≡
 full_push flat level cell e = record {
   around = record { fixed_is = refl; shadows_stay = λ _ _. refl; telling_is = λ _ _ _. refl };
   answer = (eqb-true (shadow_at flat.shadows level).len (slot_size level) e, refl, refl, refl);
+  calm = refl;
   shadow_is = refl;
   others_stay = λ _ _ _ _. refl;
 }
@@ -175,14 +184,15 @@ refused_push : (flat : Flat) (level : ℕ) (cell : Cell) → IsFlat flat → lev
 refused_push flat level cell f h e d = record {
   around = around_shadow flat level (record (shadow_at flat.shadows level) { saved = false });
   answer = (has_room flat level f e, rw d (rose flat.faults));
+  calm = tt;
   shadow_is = shadow_put flat.shadows level (record (shadow_at flat.shadows level) { saved = false }) h;
   others_stay = λ _ _ _ _. refl;
 }
 
 -- a push that is accepted
-accepted_push : (flat : Flat) (level : ℕ) (cell : Cell) → IsFlat flat → level < flat.levels → is_full flat level ≡ false →
+accepted_push : (flat : Flat) (level : ℕ) (cell : Cell) → IsFlat flat → level < flat.levels → is_full flat level ≡ false → next_fails flat ≡ false →
     Pushes {A = Unit {0}} (held_of flat) (held_of (longer (after_access flat) level (shadow_at flat.shadows level) cell)) (spent_of flat) (spent_of (after_access flat)) level cell (Ok tt)
-accepted_push flat level cell f h e =
+accepted_push flat level cell f h e c =
     let shadow : Shadow = shadow_at flat.shadows level in
     let room : shadow.len < slot_size level = has_room flat level f e in
     let place : IsPlace flat.levels level shadow.slot shadow.len = record { level_in = h; slot_in = f.slots_within level; index_in = room } in
@@ -201,6 +211,7 @@ accepted_push flat level cell f h e =
             ∙ with_told (get_or flat.cells (number_of level shadow.slot shadow.len) None) (as_cell cell)
             ∙ ap (λ x. with_cell x (as_cell cell)) (sym (spot_is flat.levels flat.cells level shadow.slot shadow.len place)),
       );
+      calm = rw c refl;
       shadow_is = shadow_put flat.shadows level (record { slot = shadow.slot; len = shadow.len + 1; saved = (shadow.len + 1) % 8 == 0 }) low;
       others_stay = λ l s i d. spots_other flat.levels flat.cells level shadow.slot shadow.len (Some cell) (f.slots_within level) room l s i d;
     }
@@ -212,7 +223,7 @@ push_by : (flat : Flat) (level : ℕ) (cell : Cell) (full fails : Bool) → IsFl
     level cell (if full then Err (push.Overfull level) else if fails then Err push.Device else Ok tt)
 push_by flat level cell true fails f h e d = full_push flat level cell e
 push_by flat level cell false true f h e d = refused_push flat level cell f (low_level flat level f h) e d
-push_by flat level cell false false f h e d = accepted_push flat level cell f h e
+push_by flat level cell false false f h e d = accepted_push flat level cell f h e d
 
 -- a push meets the trait
 pub pushes_flat : (flat : Flat) (level : ℕ) (cell : Cell) → IsFlat flat → level < flat.levels →

@@ -1,6 +1,6 @@
 -- What an object of cells holds.
 use Rattle.std.specs.Prelude.{◌≡◌, ◌≢◌, ◌⊎◌, ℕ, ◌*◌, ◌^◌, List, Bool, true, false, ⊤}
-use Rattle.cola_runs.specs.Cells as laws
+use Rattle.cola_abstract.specs.Cell as laws
 use Rattle.cola_cell.specs.declared.format.Format.{Format}
 use Rattle.cola_cell.specs.declared.cell.Item.{Item}
 use Rattle.cola_cell.specs.declared.cell.Item.TheVariants.{Value, Tombstone}

@@ -45,10 +45,17 @@ PushAnswers old new before now level cell (Err Device) = ((old.shadows level).le
 PushAnswers old new before now level cell (Err (Overfull number)) =
     ((old.shadows level).len ≡ slot_size level) × (number ≡ level) × (new ≡ old) × (now ≡ before)
 
+-- no fault was counted, unless the answer is the device's fault
+abbrev pub WriteCalm : {A : Type 0} (before now : ℕ) → Result A PushFault → Type 0
+WriteCalm before now (Ok _) = now ≡ before
+WriteCalm before now (Err Device) = ⊤
+WriteCalm before now (Err (Overfull _)) = now ≡ before
+
 -- a push: what it answers, and that no place but the shadow's end changes
 pub record Pushes {A : Type 0} (old new : Held) (before now : Spent) (level : ℕ) (cell : Cell) (result : Result A PushFault) : Type 0 where
   pub around : StaysAround old new level
   pub answer : PushAnswers old new before now level cell result
+  pub calm : WriteCalm before.faults now.faults result
   pub shadow_is : new.shadows level ≡ after_push (span old) (old.shadows level) result
   pub others_stay : (l s i : ℕ) → IsElsewhere level (old.shadows level).slot (old.shadows level).len l s i → new.spots l s i ≡ old.spots l s i
 
@@ -91,6 +98,7 @@ FinishAnswers held before now level (Err (Overfull _)) = ⊥
 pub record Finishes {A : Type 0} (old new : Held) (before now : Spent) (level : ℕ) (result : Result A PushFault) : Type 0 where
   pub around : StaysAround old new level
   pub answer : FinishAnswers old before.faults now.faults level result
+  pub calm : WriteCalm before.faults now.faults result
   pub shadow_is : new.shadows level ≡ record (old.shadows level) { saved = is_ok result }
   pub others_stay : (l s i : ℕ) → (l ≢ level) ⊎ (s ≢ (old.shadows level).slot) ⊎ (i < (old.shadows level).len) → new.spots l s i ≡ old.spots l s i
 

@@ -1,5 +1,5 @@
 -- What calls on cells spend, and what a read answers and spends.
-use Rattle.std.specs.Prelude.{◌≡◌, ◌≢◌, ◌⊎◌, ℕ, ◌+◌, ◌%◌, ◌^◌, ◌≤◌, ◌<◌, Option, Some, Result, Ok, Err, OnOk}
+use Rattle.std.specs.Prelude.{◌≡◌, ◌≢◌, ◌⊎◌, ℕ, ◌+◌, ◌%◌, ◌^◌, ◌≤◌, ◌<◌, ⊤, Option, Some, Result, Ok, Err, OnOk}
 use Rattle.cola_outside.specs.Faults.{Rose}
 use Rattle.cola_cell.specs.declared.cell.Cell.{Cell}
 use Rattle.cola_cell.specs.declared.cell.Reader.{Reader}
@@ -47,10 +47,17 @@ ReadAnswers held before now level slot index (Ok cell) = IsGiven held level slot
 ReadAnswers held before now level slot index (Err Device) = Rose before now
 ReadAnswers held before now level slot index (Err (BadCell number)) = IsBad held level slot index number
 
+-- no fault was counted, unless the answer is the device's fault
+abbrev pub ReadCalm : {T : Type 0} (before now : ℕ) → Result T ReadFault → Type 0
+ReadCalm before now (Ok answer) = now ≡ before
+ReadCalm before now (Err Device) = ⊤
+ReadCalm before now (Err (BadCell number)) = now ≡ before
+
 -- a read by way of a buffer: what it answers, its one tick, and the at most one block that it turns to
 pub record Reads (held : Held) (old new : Spent) (buffer : Buffer) (level slot index : ℕ) (result : Result Cell ReadFault) : Type 0 where
   pub answer : ReadAnswers held old.faults new.faults level slot index result
   pub faults_stay : old.faults ≤ new.faults
+  pub calm : ReadCalm old.faults new.faults result
   pub one_tick : Ticks old.ticked new.ticked 1
   pub written_is : new.written ≡ old.written
   pub turned_stays : old.turned ≤ new.turned

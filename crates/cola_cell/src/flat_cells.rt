@@ -140,6 +140,8 @@ impl CellSource for FlatCells {
 
     ghost spent = { spent_of };
 
+    ghost kept = { λ _. tt };
+
     fn read<L: Ledger>(
         &mut self,
         level: u8,

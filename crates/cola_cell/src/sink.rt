@@ -27,6 +27,7 @@ pub trait CellSink: CellSource {
     fn restart(&mut self, level: u8, slot: u8)
         requires level_in { level < (Self.held self.old).fixed.levels }
         requires slot_in { slot < 2 }
+        ensures kept { Self.kept self.new ≡ Self.kept self.old }
         ensures restarts { Restarts (Self.held self.old) (Self.held self.new) level slot }
         ensures spends_nothing { Self.spent self.new ≡ Self.spent self.old };
 
@@ -43,6 +44,7 @@ pub trait CellSink: CellSource {
         requires level_in { level < (Self.held self.old).fixed.levels }
         requires in_slot { slot ≡ ((Self.held self.old).shadows level).slot }
         requires fits { CellFits (Self.held self.old).fixed.format cell.now }
+        ensures kept { Self.kept self.new ≡ Self.kept self.old }
         ensures ticks { steps.new ≡ steps.old + push_ticks result }
         ensures pushes { Pushes (Self.held self.old) (Self.held self.new) (Self.spent self.old) (Self.spent self.new) level cell.now result }
         ensures spends { PushSpends (Self.held self.old) (Self.spent self.old) (Self.spent self.new) level result };
@@ -51,6 +53,7 @@ pub trait CellSink: CellSource {
     /// failed, and changes no cell of the shadow.
     fn finish(&mut self, level: u8) -> Result<(), PushFault>
         requires { level < (Self.held self.old).fixed.levels }
+        ensures kept { Self.kept self.new ≡ Self.kept self.old }
         ensures finishes { Finishes (Self.held self.old) (Self.held self.new) (Self.spent self.old) (Self.spent self.new) level result }
         ensures spends { FinishSpends (Self.held self.old) (Self.spent self.old) (Self.spent self.new) level };
 

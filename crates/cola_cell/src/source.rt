@@ -22,6 +22,12 @@ pub trait CellSource {
     /// Its counts of faults, ticks and blocks, and the blocks that were read last.
     ghost spent: { Self → Spent };
 
+    /// What it has beside its cells and counts, of which a caller may want to know that no call changes it: an
+    /// object over a device may name the device's size and the bytes behind its cells, one over a cache its size.
+    ghost Kept: { Type 0 } = { Unit {0} };
+
+    ghost kept: { Self → Self.Kept };
+
     /// The cell at a place, for a search or a cursor. It is refused where the device failed, or where the
     /// bytes of that cell spell none. The index is counted in cells of the slot.
     fn read<L: Ledger>(
@@ -33,6 +39,7 @@ pub trait CellSource {
     ) -> Result<Cell, ReadFault>
         requires { HasPlace (held self.old) level slot index }
         ensures cells_stay { held self.new ≡ held self.old }
+        ensures kept { kept self.new ≡ kept self.old }
         ensures one_tick { steps.new ≡ steps.old + 1 }
         ensures reads { Reads (held self.old) (spent self.old) (spent self.new) Search level slot index result };
 
@@ -48,6 +55,7 @@ pub trait CellSource {
     ) -> Result<Cell, ReadFault>
         requires { HasPlace (held self.old) level slot index }
         ensures cells_stay { held self.new ≡ held self.old }
+        ensures kept { kept self.new ≡ kept self.old }
         ensures one_tick { steps.new ≡ steps.old + 1 }
         ensures reads { Reads (held self.old) (spent self.old) (spent self.new) (By reader level) level slot index result };
 

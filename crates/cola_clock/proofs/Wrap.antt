@@ -66,3 +66,17 @@ same_place t u j e below =
 pub schedule-wrap : (t bottom j : ℕ) → j ≤ bottom → SameSchedule (t % 2 ^ suc bottom) t j
 schedule-wrap t bottom j h =
     same_place (t % 2 ^ suc bottom) t j (elapsed-wrap t (suc bottom) j (omega arith)) (elapsed-wrap t (suc bottom) (suc j) (omega arith))
+
+-- what cannot be told apart cannot be told apart the other way round
+pub same-back : (t u j : ℕ) → SameSchedule t u j → SameSchedule u t j
+same-back t u j h = record {
+  place = sym h.place;
+  parity = sym h.parity;
+  slot = sym h.slot;
+  flip = sym h.flip;
+  work = sym h.work;
+  before = sym h.before;
+  over = sym h.over;
+  step = sym h.step;
+  end = sym h.end;
+}

@@ -20,7 +20,7 @@ use Rattle.cola_cell.proofs.Limits.{small-key, small-value, small-stamp, within-
 use Rattle.cola_cell.proofs.Padding.{padded-front}
 use Rattle.cola_cell.proofs.Unique as unique
 use Rattle.cola_cell.proofs.Writing.{spelled}
-use Rattle.cola_blocks.specs.Decoded.{cell_of, standing, standing_stamp, spelling, is_spellable, decoded_in, decoded, spot_of_bytes}
+use Rattle.cola_cell.specs.Decoded.{cell_of, standing, standing_stamp, spelling, is_spellable, decoded, spot_of_bytes}
 
 -- a cell is the one of its own kind and parts
 of-its-parts : (cell : Cell) → cell_of (kind_of cell) (young_of cell) (key_of cell) (value_of cell) (stamp_of cell) (link_of cell) ≡ cell
@@ -123,8 +123,8 @@ answered format bytes cell false test only = λ other s.
     let yes : false ≡ true = test.1 (subst (λ (c : Cell). IsSpelling format c bytes) (sym (only other s)) s) in cc
 
 -- the function gives what decoding is to answer
-pub decodes_in : (format : Format) (bytes : List ℕ) → Decodes format bytes (decoded_in format bytes)
-decodes_in format bytes =
+pub decodes : (format : Format) (bytes : List ℕ) → Decodes format bytes (decoded format bytes)
+decodes format bytes =
     answered format bytes (standing format bytes)
     (is_spellable format (standing format bytes) && bytes_eq (spelling format (standing format bytes)) bytes) (tells format (standing format bytes) bytes)
     (λ other s. standing-is format other bytes s)
@@ -136,56 +136,40 @@ same-answer format bytes None (Some other) a b = absurd (a other b)
 same-answer format bytes (Some cell) second a b = sym (unique.decoded format cell bytes second a b)
 
 -- where it gives a cell, the bytes spell it
-pub decoded_in_spells : (format : Format) (bytes : List ℕ) (cell : Cell) → decoded_in format bytes ≡ Some cell → IsSpelling format cell bytes
-decoded_in_spells format bytes cell is = subst (Decodes format bytes) is (decodes_in format bytes)
+pub decoded_spells : (format : Format) (bytes : List ℕ) (cell : Cell) → decoded format bytes ≡ Some cell → IsSpelling format cell bytes
+decoded_spells format bytes cell is = subst (Decodes format bytes) is (decodes format bytes)
 
 -- where the bytes spell a cell, it gives that cell
-pub decoded_in_is : (format : Format) (cell : Cell) (bytes : List ℕ) → IsSpelling format cell bytes → decoded_in format bytes ≡ Some cell
-decoded_in_is format cell bytes s = unique.decoded format cell bytes (decoded_in format bytes) s (decodes_in format bytes)
+pub decoded_is : (format : Format) (cell : Cell) (bytes : List ℕ) → IsSpelling format cell bytes → decoded format bytes ≡ Some cell
+decoded_is format cell bytes s = unique.decoded format cell bytes (decoded format bytes) s (decodes format bytes)
 
 -- an answer of decoding is what it gives
-pub decoding_in_is : (format : Format) (bytes : List ℕ) (answer : Option Cell) → Decodes format bytes answer → answer ≡ decoded_in format bytes
-decoding_in_is format bytes answer answers = same-answer format bytes answer (decoded_in format bytes) answers (decodes_in format bytes)
+pub decoding_is : (format : Format) (bytes : List ℕ) (answer : Option Cell) → Decodes format bytes answer → answer ≡ decoded format bytes
+decoding_is format bytes answer answers = same-answer format bytes answer (decoded format bytes) answers (decodes format bytes)
 
--- in format One the function gives what decoding is to answer
-pub decodes : (bytes : List ℕ) → Decodes One bytes (decoded bytes)
-decodes bytes = decodes_in One bytes
-
--- where it gives a cell, the bytes spell it
-pub decoded_spells : (bytes : List ℕ) (cell : Cell) → decoded bytes ≡ Some cell → IsSpelling One cell bytes
-decoded_spells bytes cell is = decoded_in_spells One bytes cell is
-
--- where the bytes spell a cell, it gives that cell
-pub decoded_is : (cell : Cell) (bytes : List ℕ) → IsSpelling One cell bytes → decoded bytes ≡ Some cell
-decoded_is cell bytes s = decoded_in_is One cell bytes s
-
--- an answer of decoding is what it gives
-pub decoding_is : (bytes : List ℕ) (answer : Option Cell) → Decodes One bytes answer → answer ≡ decoded bytes
-decoding_is bytes answer answers = decoding_in_is One bytes answer answers
-
--- a cell that it gives fits format One
-pub decoded_fits : (bytes : List ℕ) (cell : Cell) → decoded bytes ≡ Some cell → CellFits One cell
-decoded_fits bytes cell is = let s = decoded_spells bytes cell is in s.fits
+-- a cell that it gives fits the format
+pub decoded_fits : (format : Format) (bytes : List ℕ) (cell : Cell) → decoded format bytes ≡ Some cell → CellFits format cell
+decoded_fits format bytes cell is = let s = decoded_spells format bytes cell is in s.fits
 
 -- spoiled bytes spell no cell
-pub spoiled_none : decoded (replicate 64 165) ≡ None
+pub spoiled_none : decoded One (replicate 64 165) ≡ None
 spoiled_none = refl
 
 -- zeros spell no cell
-pub zeros_none : decoded (replicate 64 0) ≡ None
+pub zeros_none : decoded One (replicate 64 0) ≡ None
 zeros_none = refl
 
 -- what bytes tell of a cell, from any answer of decoding them
-pub spot_is : (bytes : List ℕ) (answer : Option Cell) → Decodes One bytes answer → spot_of_bytes bytes ≡ spot_of answer
-spot_is bytes answer answers = ap spot_of (sym (decoding_is bytes answer answers))
+pub spot_is : (format : Format) (bytes : List ℕ) (answer : Option Cell) → Decodes format bytes answer → spot_of_bytes format bytes ≡ spot_of answer
+spot_is format bytes answer answers = ap spot_of (sym (decoding_is format bytes answer answers))
 
 -- the bytes of a cell tell it
-pub spot_told : (cell : Cell) (bytes : List ℕ) → IsSpelling One cell bytes → spot_of_bytes bytes ≡ Told (as_cell cell)
-spot_told cell bytes s = ap spot_of (decoded_is cell bytes s)
+pub spot_told : (format : Format) (cell : Cell) (bytes : List ℕ) → IsSpelling format cell bytes → spot_of_bytes format bytes ≡ Told (as_cell cell)
+spot_told format cell bytes s = ap spot_of (decoded_is format cell bytes s)
 
 -- bytes that spell no cell tell so
-pub spot_bad : (bytes : List ℕ) → IsNoSpelling One bytes → spot_of_bytes bytes ≡ Bad
-spot_bad bytes none = spot_is bytes None none
+pub spot_bad : (format : Format) (bytes : List ℕ) → IsNoSpelling format bytes → spot_of_bytes format bytes ≡ Bad
+spot_bad format bytes none = spot_is format bytes None none
 
 -- a cell told or none: never untold
 some-spot : (answer : Option Cell) → is_untold (spot_of answer) ≡ false
@@ -193,55 +177,55 @@ some-spot None = refl
 some-spot (Some cell) = refl
 
 -- bytes always tell something
-pub spot_is_told : (bytes : List ℕ) → is_untold (spot_of_bytes bytes) ≡ false
-spot_is_told bytes = some-spot (decoded bytes)
+pub spot_is_told : (format : Format) (bytes : List ℕ) → is_untold (spot_of_bytes format bytes) ≡ false
+spot_is_told format bytes = some-spot (decoded format bytes)
 
 -- worked: key k03, value 3, old, link 0
-worked-value : decoded (((0 ∷ 0 ∷ 3 ∷ 1 ∷ 0 ∷ 0 ∷ 0 ∷ 0 ∷ 107 ∷ 48 ∷ 51 ∷ []) ++ replicate 21 0) ++ (51 ∷ []) ++ replicate 31 0)
+worked-value : decoded One (((0 ∷ 0 ∷ 3 ∷ 1 ∷ 0 ∷ 0 ∷ 0 ∷ 0 ∷ 107 ∷ 48 ∷ 51 ∷ []) ++ replicate 21 0) ++ (51 ∷ []) ++ replicate 31 0)
     ≡ Some (cell.Item (107 ∷ 48 ∷ 51 ∷ []) (Value (51 ∷ []) 0) false 0)
 worked-value = refl
 
 -- worked: a young tombstone of key a with link 258
-worked-tombstone : decoded ((1 ∷ 1 ∷ 1 ∷ 0 ∷ 2 ∷ 1 ∷ 0 ∷ 0 ∷ 97 ∷ []) ++ replicate 55 0) ≡ Some (cell.Item (97 ∷ []) Tombstone true 258)
+worked-tombstone : decoded One ((1 ∷ 1 ∷ 1 ∷ 0 ∷ 2 ∷ 1 ∷ 0 ∷ 0 ∷ 97 ∷ []) ++ replicate 55 0) ≡ Some (cell.Item (97 ∷ []) Tombstone true 258)
 worked-tombstone = refl
 
 -- worked: a lookahead cell of key k09 with link 0
-worked-look : decoded ((2 ∷ 0 ∷ 3 ∷ 0 ∷ 0 ∷ 0 ∷ 0 ∷ 0 ∷ 107 ∷ 48 ∷ 57 ∷ []) ++ replicate 53 0) ≡ Some (cell.Look (107 ∷ 48 ∷ 57 ∷ []) 0)
+worked-look : decoded One ((2 ∷ 0 ∷ 3 ∷ 0 ∷ 0 ∷ 0 ∷ 0 ∷ 0 ∷ 107 ∷ 48 ∷ 57 ∷ []) ++ replicate 53 0) ≡ Some (cell.Look (107 ∷ 48 ∷ 57 ∷ []) 0)
 worked-look = refl
 
 -- worked: key k03, value 3, old, link 0, stamp 258 in format Two
-worked-wide : decoded_in Two ((((0 ∷ 0 ∷ 3 ∷ 1 ∷ 0 ∷ 0 ∷ 0 ∷ 0 ∷ 2 ∷ 1 ∷ []) ++ replicate 6 0) ++ (107 ∷ 48 ∷ 51 ∷ []) ++ replicate 37 0) ++ (51 ∷ []) ++ replicate 71 0)
+worked-wide : decoded Two ((((0 ∷ 0 ∷ 3 ∷ 1 ∷ 0 ∷ 0 ∷ 0 ∷ 0 ∷ 2 ∷ 1 ∷ []) ++ replicate 6 0) ++ (107 ∷ 48 ∷ 51 ∷ []) ++ replicate 37 0) ++ (51 ∷ []) ++ replicate 71 0)
     ≡ Some (cell.Item (107 ∷ 48 ∷ 51 ∷ []) (Value (51 ∷ []) 258) false 0)
 worked-wide = refl
 
 -- worked: a stamp above 2 ^ 63 is none
-worked-late : decoded_in Two ((((0 ∷ 0 ∷ 3 ∷ 1 ∷ 0 ∷ 0 ∷ 0 ∷ 0 ∷ 1 ∷ []) ++ replicate 6 0) ++ (128 ∷ 107 ∷ 48 ∷ 51 ∷ []) ++ replicate 37 0) ++ (51 ∷ []) ++ replicate 71 0) ≡ None
+worked-late : decoded Two ((((0 ∷ 0 ∷ 3 ∷ 1 ∷ 0 ∷ 0 ∷ 0 ∷ 0 ∷ 1 ∷ []) ++ replicate 6 0) ++ (128 ∷ 107 ∷ 48 ∷ 51 ∷ []) ++ replicate 37 0) ++ (51 ∷ []) ++ replicate 71 0) ≡ None
 worked-late = refl
 
 -- worked: a young lookahead cell is none
-worked-young-look : decoded ((2 ∷ 1 ∷ 1 ∷ 0 ∷ 0 ∷ 0 ∷ 0 ∷ 0 ∷ 97 ∷ []) ++ replicate 55 0) ≡ None
+worked-young-look : decoded One ((2 ∷ 1 ∷ 1 ∷ 0 ∷ 0 ∷ 0 ∷ 0 ∷ 0 ∷ 97 ∷ []) ++ replicate 55 0) ≡ None
 worked-young-look = refl
 
 -- worked: a tombstone with a value is none
-worked-tombstone-with-value : decoded (((1 ∷ 0 ∷ 1 ∷ 1 ∷ 0 ∷ 0 ∷ 0 ∷ 0 ∷ 97 ∷ []) ++ replicate 23 0) ++ (51 ∷ []) ++ replicate 31 0) ≡ None
+worked-tombstone-with-value : decoded One (((1 ∷ 0 ∷ 1 ∷ 1 ∷ 0 ∷ 0 ∷ 0 ∷ 0 ∷ 97 ∷ []) ++ replicate 23 0) ++ (51 ∷ []) ++ replicate 31 0) ≡ None
 worked-tombstone-with-value = refl
 
 -- worked: a fourth kind is none
-worked-fourth-kind : decoded ((3 ∷ 0 ∷ 1 ∷ 0 ∷ 0 ∷ 0 ∷ 0 ∷ 0 ∷ 97 ∷ []) ++ replicate 55 0) ≡ None
+worked-fourth-kind : decoded One ((3 ∷ 0 ∷ 1 ∷ 0 ∷ 0 ∷ 0 ∷ 0 ∷ 0 ∷ 97 ∷ []) ++ replicate 55 0) ≡ None
 worked-fourth-kind = refl
 
 -- worked: a youth of 2 is none
-worked-youth : decoded ((1 ∷ 2 ∷ 1 ∷ 0 ∷ 0 ∷ 0 ∷ 0 ∷ 0 ∷ 97 ∷ []) ++ replicate 55 0) ≡ None
+worked-youth : decoded One ((1 ∷ 2 ∷ 1 ∷ 0 ∷ 0 ∷ 0 ∷ 0 ∷ 0 ∷ 97 ∷ []) ++ replicate 55 0) ≡ None
 worked-youth = refl
 
 -- worked: a byte behind the key is none
-worked-behind-key : decoded ((1 ∷ 0 ∷ 1 ∷ 0 ∷ 0 ∷ 0 ∷ 0 ∷ 0 ∷ 97 ∷ 97 ∷ []) ++ replicate 54 0) ≡ None
+worked-behind-key : decoded One ((1 ∷ 0 ∷ 1 ∷ 0 ∷ 0 ∷ 0 ∷ 0 ∷ 0 ∷ 97 ∷ 97 ∷ []) ++ replicate 54 0) ≡ None
 worked-behind-key = refl
 
 -- worked: a key longer than its room is none
-worked-long-key : decoded ((1 ∷ 0 ∷ 25 ∷ 0 ∷ 0 ∷ 0 ∷ 0 ∷ 0 ∷ []) ++ replicate 25 97 ++ replicate 31 0) ≡ None
+worked-long-key : decoded One ((1 ∷ 0 ∷ 25 ∷ 0 ∷ 0 ∷ 0 ∷ 0 ∷ 0 ∷ []) ++ replicate 25 97 ++ replicate 31 0) ≡ None
 worked-long-key = refl
 
 -- worked: bytes of another number are none
-worked-short : decoded ((1 ∷ 0 ∷ 1 ∷ 0 ∷ 0 ∷ 0 ∷ 0 ∷ 0 ∷ 97 ∷ []) ++ replicate 54 0) ≡ None
+worked-short : decoded One ((1 ∷ 0 ∷ 1 ∷ 0 ∷ 0 ∷ 0 ∷ 0 ∷ 0 ∷ 97 ∷ []) ++ replicate 54 0) ≡ None
 worked-short = refl

@@ -43,14 +43,10 @@ is_spellable format cell =
     && nat_le (stamp_of cell) (stamp_limit format) && nat_lt (link_of cell) (2 ^ 32)
 
 -- the cell that the bytes spell in the format: the one that stands in them, where they are its bytes; else none
-abbrev pub decoded_in : Format → List ℕ → Option Cell
-decoded_in format bytes =
+abbrev pub decoded : Format → List ℕ → Option Cell
+decoded format bytes =
     if is_spellable format (standing format bytes) && bytes_eq (spelling format (standing format bytes)) bytes then Some (standing format bytes) else None
 
--- the cell that the bytes spell in format One, where they spell one
-abbrev pub decoded : List ℕ → Option Cell
-decoded bytes = decoded_in One bytes
-
--- what the bytes of a cell tell of it: bad where they spell none
-abbrev pub spot_of_bytes : List ℕ → Spot
-spot_of_bytes bytes = spot_of (decoded bytes)
+-- what the bytes of a cell tell of it in the format: bad where they spell none
+abbrev pub spot_of_bytes : Format → List ℕ → Spot
+spot_of_bytes format bytes = spot_of (decoded format bytes)
