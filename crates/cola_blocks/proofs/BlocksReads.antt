@@ -11,18 +11,18 @@ use Rattle.cola_cell.specs.declared.fault.ReadFault.TheVariants.{Device}
 use Rattle.cola_cell.specs.Format.{CellFits}
 use Rattle.cola_cell.specs.Places.{slot_size, number_of, IsPlace, Block, block_of}
 use Rattle.cola_cell.specs.Held.{Held, Bad, Told, Tells, as_cell}
-use Rattle.cola_cell.specs.Spent.{Buffer, Search, By, Spent, ReadAnswers, Reads}
+use Rattle.cola_cell.specs.Spent.{Buffer, Search, By, Spent, ReadAnswers, ReadCalm, Reads}
 use Rattle.cola_cell.specs.Flat as flat
 use Rattle.cola_cell.specs.Flat.{Flat, IsFlat, found, spot_of}
 use Rattle.cola_cell.proofs.FlatLemmas.{spot_is}
 use Rattle.cola_device.specs.Memory.{Memory, next_fails, after_read}
-use Rattle.cola_blocks.specs.Decoded.{decoded}
+use Rattle.cola_cell.specs.Decoded.{decoded}
 use Rattle.cola_blocks.specs.Level.{Level, IsLevel, IsBlock, block_number, cell_number, is_in_tail, cell_bytes, is_block, held_by, after_level_read, level_answer}
-use Rattle.cola_blocks.specs.Blocks.{Blocks, IsBlocks, IsSound, level_spots, spots_of, held_of, as_block, reader_buffer, last_of, spent_of}
+use Rattle.cola_blocks.specs.Blocks.{Blocks, IsBlocks, IsSound, level_spots, spots_of, held_of, as_block, reader_buffer, last_of, spent_of, kept_of}
 use Rattle.cola_blocks.specs.Blocks as cells
-use Rattle.cola_blocks.proofs.DecodedLemmas.{decoded_fits}
+use Rattle.cola_cell.proofs.DecodedLemmas.{decoded_fits}
 use Rattle.cola_blocks.proofs.LevelLemmas.{Order, Below, Same, Above, order}
-use Rattle.cola_blocks.proofs.Counting.{read_called, fault_rose}
+use Rattle.cola_blocks.proofs.Counting.{read_called, fault_rose, read_calm}
 use Rattle.cola_blocks.proofs.LevelKept.{choose_else}
 use Rattle.cola_blocks.proofs.LevelSpots.{choose_then, eq_true, eq_false, spot_there}
 
@@ -32,13 +32,18 @@ pub found_says : (held : Held) (before now l s i n : ℕ) (c : Option Cell) → 
 found_says held before now l s i n None e h k = record { told = subst (λ x. Tells x Bad) (sym e) refl; number_is = k }
 found_says held before now l s i n (Some c) e h k = record { told = subst (λ x. Tells x (Told (as_cell c))) (sym e) refl; fits = h }
 
+-- what a read finds counts no fault where none was met
+pub found_is_calm : (before now n : ℕ) (c : Option Cell) → now ≡ before → ReadCalm before now (found n c)
+found_is_calm before now n None e = e
+found_is_calm before now n (Some c) e = e
+
 -- a cell that bytes spell fits
-pub spelled_fits : (bytes : List ℕ) → IfSome (decoded bytes) (CellFits One)
-spelled_fits bytes = by_case (decoded bytes) refl
+pub spelled_fits : (bytes : List ℕ) → IfSome (decoded One bytes) (CellFits One)
+spelled_fits bytes = by_case (decoded One bytes) refl
   where
-    by_case : (c : Option Cell) → decoded bytes ≡ c → IfSome c (CellFits One)
+    by_case : (c : Option Cell) → decoded One bytes ≡ c → IfSome c (CellFits One)
     by_case None e = tt
-    by_case (Some cell) e = decoded_fits bytes cell e
+    by_case (Some cell) e = decoded_fits One bytes cell e
 
 -- a fact is one on Ok
 pub on_ok : {T E P : Type 0} (result : Result T E) → P → OnOk result P
@@ -52,18 +57,18 @@ is_this k (Some n) e = ap Some (eqb-true n k e)
 
 -- the four ways of a read in the level: from the tail, from a copy, refused by the device, and from a block that was turned to
 pub read_ways : (level : Level) (b slot index : ℕ) (P : Level → Result Cell ReadFault → Type 0) →
-    (is_in_tail level.shadow slot index ≡ true → P level (found (cell_number slot index) (decoded (cell_bytes level slot index)))) →
+    (is_in_tail level.shadow slot index ≡ true → P level (found (cell_number slot index) (decoded One (cell_bytes level slot index)))) →
     (is_block (block_number slot index) (held_by level b) ≡ true →
-    P (record level { held = set level.held b (Some (block_number slot index)) }) (found (cell_number slot index) (decoded (cell_bytes level slot index)))) →
+    P (record level { held = set level.held b (Some (block_number slot index)) }) (found (cell_number slot index) (decoded One (cell_bytes level slot index)))) →
     (is_block (block_number slot index) (held_by level b) ≡ false → next_fails level.device ≡ true → P (record level { device = after_read level.device; held = set level.held b None }) (Err Device)) →
     (is_block (block_number slot index) (held_by level b) ≡ false → next_fails level.device ≡ false →
-    P (record level { device = after_read level.device; held = set level.held b (Some (block_number slot index)) }) (found (cell_number slot index) (decoded (cell_bytes level slot index)))) →
+    P (record level { device = after_read level.device; held = set level.held b (Some (block_number slot index)) }) (found (cell_number slot index) (decoded One (cell_bytes level slot index)))) →
     P (after_level_read level b slot index) (level_answer level b slot index)
 read_ways level b slot index P tail copy refused turned = by_test (is_in_tail level.shadow slot index) (is_block (block_number slot index) (held_by level b)) (next_fails level.device) refl refl refl
   where
     by_test : (t h f : Bool) → is_in_tail level.shadow slot index ≡ t → is_block (block_number slot index) (held_by level b) ≡ h → next_fails level.device ≡ f →
         P (if t then level else record level { device = (if h then level.device else after_read level.device); held = set level.held b (if not h && f then None else Some (block_number slot index)) })
-        (if not t && (not h && f) then Err Device else found (cell_number slot index) (decoded (cell_bytes level slot index)))
+        (if not t && (not h && f) then Err Device else found (cell_number slot index) (decoded One (cell_bytes level slot index)))
     by_test true h f e d g = tail e
     by_test false true f e d g = copy d
     by_test false false true e d g = refused d g
@@ -157,9 +162,9 @@ module _ (blocks : Blocks) (buffer : Buffer) (b slot index : ℕ) (sound : IsLev
       is_for.own (record blocks.level { device = device; held = set blocks.level.held b now })
       ∙ ap (λ (o : Option ℕ). as_block o) (get_or-set_same blocks.level.held b now None (omega (arith, many, within)))
 
-  cell_found : (now : ℕ) → ReadAnswers (held_of blocks) blocks.level.device.counts.faults now 3 slot index (found (cell_number slot index) (decoded (cell_bytes blocks.level slot index)))
+  cell_found : (now : ℕ) → ReadAnswers (held_of blocks) blocks.level.device.counts.faults now 3 slot index (found (cell_number slot index) (decoded One (cell_bytes blocks.level slot index)))
   cell_found now =
-      found_says (held_of blocks) blocks.level.device.counts.faults now 3 slot index (cell_number slot index) (decoded (cell_bytes blocks.level slot index))
+      found_says (held_of blocks) blocks.level.device.counts.faults now 3 slot index (cell_number slot index) (decoded One (cell_bytes blocks.level slot index))
       (spot_there blocks.level slot index slot_in index_in) (spelled_fits (cell_bytes blocks.level slot index)) refl
 
   small : slot_size 3 < 8 → ⊥
@@ -172,11 +177,12 @@ module _ (blocks : Blocks) (buffer : Buffer) (b slot index : ℕ) (sound : IsLev
   pub reads_level : Reads (held_of blocks) (spent_of blocks) (spent_of (record blocks { level = after_level_read blocks.level b slot index; ticked = (blocks.ticked + 1) % 2 ^ 64 })) buffer 3 slot index (level_answer blocks.level b slot index)
   reads_level =
       let k : ℕ = block_number slot index in
-      let answer : Result Cell ReadFault = found (cell_number slot index) (decoded (cell_bytes blocks.level slot index)) in
+      let answer : Result Cell ReadFault = found (cell_number slot index) (decoded One (cell_bytes blocks.level slot index)) in
       read_ways blocks.level b slot index
       (λ level result. Reads (held_of blocks) (spent_of blocks) (spent_of (record blocks { level = level; ticked = (blocks.ticked + 1) % 2 ^ 64 })) buffer 3 slot index result)
       (λ e. record {
         answer = cell_found blocks.level.device.counts.faults;
+        calm = found_is_calm blocks.level.device.counts.faults blocks.level.device.counts.faults (cell_number slot index) (decoded One (cell_bytes blocks.level slot index)) refl;
         faults_stay = omega arith;
         one_tick = omega arith;
         written_is = refl;
@@ -193,6 +199,7 @@ module _ (blocks : Blocks) (buffer : Buffer) (b slot index : ℕ) (sound : IsLev
       own_set blocks.level.device (Some k) ∙ ap (λ (o : Option ℕ). as_block o) (sym (is_this k (held_by blocks.level b) e)) ∙ sym (is_for.own blocks.level) in
       record {
         answer = cell_found blocks.level.device.counts.faults;
+        calm = found_is_calm blocks.level.device.counts.faults blocks.level.device.counts.faults (cell_number slot index) (decoded One (cell_bytes blocks.level slot index)) refl;
         faults_stay = omega arith;
         one_tick = omega arith;
         written_is = refl;
@@ -207,6 +214,7 @@ module _ (blocks : Blocks) (buffer : Buffer) (b slot index : ℕ) (sound : IsLev
       (λ e f.
       let c = read_called blocks.level.device in
       record {
+        calm = tt;
         answer = fault_rose 1 0 blocks.level.device.counts (after_read blocks.level.device).counts (next_fails blocks.level.device) c f;
         faults_stay = c.faults_stay;
         one_tick = omega arith;
@@ -225,6 +233,7 @@ module _ (blocks : Blocks) (buffer : Buffer) (b slot index : ℕ) (sound : IsLev
       own_set (after_read blocks.level.device) (Some k) ∙ block_is slot index slot_in index_in in
       record {
         answer = cell_found (after_read blocks.level.device).counts.faults;
+        calm = found_is_calm blocks.level.device.counts.faults (after_read blocks.level.device).counts.faults (cell_number slot index) (decoded One (cell_bytes blocks.level slot index)) (read_calm blocks.level.device f);
         faults_stay = c.faults_stay;
         one_tick = omega arith;
         written_is = omega (arith, c.writes_stay, c.writes_rise);
@@ -255,6 +264,7 @@ reads_front blocks buffer l s i sound low place =
     subst (λ r. Reads (held_of blocks) (spent_of blocks) (spent_of (record blocks { front = flat.after_access blocks.front; ticked = (blocks.ticked + 1) % 2 ^ 64 })) buffer l s i r) (sym answer)
     (record {
       answer = found_says (held_of blocks) blocks.level.device.counts.faults blocks.level.device.counts.faults l s i n c spot (sound.front.cells_fit n) refl;
+      calm = found_is_calm blocks.level.device.counts.faults blocks.level.device.counts.faults n c refl;
       faults_stay = omega arith;
       one_tick = omega arith;
       written_is = refl;
@@ -314,5 +324,18 @@ read_keeps blocks new b l s i d = ap (λ (x : Blocks). held_of x) d ∙ by_test 
         (λ _. refl) (λ _. refl) (λ _ _. refl) (λ _ _. refl)
 
     by_test : (t : Bool) → held_of (if t then record blocks { level = after_level_read blocks.level b s i; ticked = (blocks.ticked + 1) % 2 ^ 64 } else record blocks { front = flat.after_access blocks.front; ticked = (blocks.ticked + 1) % 2 ^ 64 }) ≡ held_of blocks
+    by_test true = level_keeps
+    by_test false = refl
+
+-- and what the device has beside level 3
+pub read_keeps_beside : (blocks new : Blocks) (b l s i : ℕ) → new ≡ cells.after_read blocks b l s i → kept_of new ≡ kept_of blocks
+read_keeps_beside blocks new b l s i d = ap (λ (x : Blocks). kept_of x) d ∙ by_test (l == 3)
+  where
+    level_keeps : kept_of (record blocks { level = after_level_read blocks.level b s i; ticked = (blocks.ticked + 1) % 2 ^ 64 }) ≡ kept_of blocks
+    level_keeps =
+        read_ways blocks.level b s i (λ level result. kept_of (record blocks { level = level; ticked = (blocks.ticked + 1) % 2 ^ 64 }) ≡ kept_of blocks)
+        (λ _. refl) (λ _. refl) (λ _ _. refl) (λ _ _. refl)
+
+    by_test : (t : Bool) → kept_of (if t then record blocks { level = after_level_read blocks.level b s i; ticked = (blocks.ticked + 1) % 2 ^ 64 } else record blocks { front = flat.after_access blocks.front; ticked = (blocks.ticked + 1) % 2 ^ 64 }) ≡ kept_of blocks
     by_test true = level_keeps
     by_test false = refl

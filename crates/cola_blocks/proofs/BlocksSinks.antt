@@ -1,5 +1,5 @@
 -- That pushes, finishes and restarts of cells of which level 3 lies in blocks meet the trait.
-use Rattle.std.proofs.Common.{◌≡◌, ◌≢◌, ◌⊎◌, inl, inr, ℕ, ◌+◌, ◌*◌, ◌%◌, ◌^◌, ◌<◌, ◌≤◌, ◌==◌, nat_lt, ◌&&◌, not, Bool, true, false, if◌then◌else◌, List, length, map, get_or, replicate, Option, None, Some, Result, Ok, Err, is_ok, refl, sym, ap, subst, ◌∙◌, arith}
+use Rattle.std.proofs.Common.{◌≡◌, ◌≢◌, ◌⊎◌, inl, inr, ℕ, ◌+◌, ◌-◌, ◌*◌, ◌%◌, ◌^◌, ◌<◌, ◌≤◌, ◌==◌, nat_lt, ◌&&◌, not, Bool, true, false, if◌then◌else◌, List, length, map, get_or, replicate, Option, None, Some, Result, Ok, Err, is_ok, refl, sym, ap, subst, ◌∙◌, arith}
 use Rattle.std.proofs.lemmas.Bool.{eqb-true, eqb-false, false≢true}
 use Rattle.std.proofs.lemmas.List.{get_or-set_other}
 use Rattle.cola_outside.specs.Faults.{Rose}
@@ -11,24 +11,24 @@ use Rattle.cola_cell.specs.declared.sink.Shadow.{Shadow}
 use Rattle.cola_cell.specs.Places.{slot_size, Block, block_of}
 use Rattle.cola_cell.specs.Held.{Spot, Untold, Bad, Told, LawCell, as_cell, is_untold, with_cell, IsElsewhere}
 use Rattle.cola_cell.specs.Spent.{Buffer, Search, By, Ticks}
-use Rattle.cola_cell.specs.Shadows.{emptied, StaysAround, Restarts, Pushes, PushSpends, Forgets, WritesNothing, Writes, Finishes, FinishAnswers, FinishSpends}
+use Rattle.cola_cell.specs.Shadows.{emptied, StaysAround, Restarts, Pushes, PushSpends, Forgets, WritesNothing, Writes, Finishes, FinishAnswers, FinishSpends, WriteCalm}
 use Rattle.cola_cell.specs.Spelling.{IsSpelling}
 use Rattle.cola_cell.specs.Flat as flat
 use Rattle.cola_cell.specs.Flat.{Flat, IsFlat, shadow_at, spot_of}
 use Rattle.cola_cell.proofs.FlatLemmas.{spots_told, shadow_put, pushes_flat}
 use Rattle.cola_device.specs.declared.memory.TheConstants.{SPOILED}
-use Rattle.cola_device.specs.Bytes.{splice}
+use Rattle.cola_device.specs.Bytes.{splice, part}
 use Rattle.cola_device.specs.Counts.{Called}
 use Rattle.cola_device.specs.Memory.{Memory, next_fails, after_write}
-use Rattle.cola_device.proofs.BytesLemmas.{length-splice}
-use Rattle.cola_blocks.specs.Decoded.{decoded, spelling, spot_of_bytes}
-use Rattle.cola_blocks.specs.Level.{Level, IsLevel, block_number, cell_part, cell_bytes, held_by, forgotten, fills, longer, with_cell_put, with_cell_counted, after_tail_write, level_push_answer, after_level_push, level_finish_answer, after_level_finish, after_level_restart}
-use Rattle.cola_blocks.specs.Blocks.{Blocks, IsBlocks, IsSound, level_spots, spots_of, shadow_of, held_of, as_block, reader_buffer, last_of, spent_of, is_full}
+use Rattle.cola_device.proofs.BytesLemmas.{length-splice, part-splice_below, part-splice_above}
+use Rattle.cola_cell.specs.Decoded.{decoded, spelling, spot_of_bytes}
+use Rattle.cola_blocks.specs.Level.{Level, IsLevel, IsBlock, block_number, cell_part, cell_bytes, held_by, forgotten, fills, longer, with_cell_put, with_cell_counted, after_tail_write, level_push_answer, after_level_push, level_finish_answer, after_level_finish, after_level_restart}
+use Rattle.cola_blocks.specs.Blocks.{Blocks, IsBlocks, IsSound, level_spots, spots_of, shadow_of, held_of, as_block, reader_buffer, last_of, spent_of, Beside, beside, kept_of, is_full}
 use Rattle.cola_blocks.specs.Blocks as cells
-use Rattle.cola_blocks.proofs.DecodedLemmas.{decoded_is}
+use Rattle.cola_cell.proofs.DecodedLemmas.{decoded_is}
 use Rattle.cola_blocks.proofs.LevelLemmas.{Order, Below, Same, Above, order, map_forgotten}
-use Rattle.cola_blocks.proofs.Counting.{outcome, write_called, fault_rose}
-use Rattle.cola_blocks.proofs.LevelKept.{choose_else, ends_within, written_whole}
+use Rattle.cola_blocks.proofs.Counting.{outcome, write_called, fault_rose, write_calm}
+use Rattle.cola_blocks.proofs.LevelKept.{choose_else, ends_within, written_whole, shadow_block_in}
 use Rattle.cola_blocks.proofs.LevelSpots.{choose_then, eq_true, eq_false, spot_there, spots_stay, restart_bytes, tail_before, tail_at, more_bytes, more_end, written_bytes, full_bytes, full_end}
 use Rattle.cola_blocks.proofs.BlocksReads.{block_is, none_fails, low_or_three}
 
@@ -42,7 +42,7 @@ told_choice true c = told_spot c
 told_choice false c = refl
 
 told_by : (blocks : Blocks) (l s i : ℕ) (t : Bool) → is_untold (if t then level_spots blocks.level s i else flat.spots_of 3 blocks.front.cells l s i) ≡ false
-told_by blocks l s i true = told_choice (nat_lt s 2 && nat_lt i 32) (decoded (cell_bytes blocks.level s i))
+told_by blocks l s i true = told_choice (nat_lt s 2 && nat_lt i 32) (decoded One (cell_bytes blocks.level s i))
 told_by blocks l s i false = spots_told 3 blocks.front.cells l s i
 
 -- every place is told
@@ -194,13 +194,35 @@ push_ways level bytes P more refused full = by_test (fills level) (next_fails le
     by_test true true e d = refused e d
     by_test true false e d = full e d
 
+-- a block of level 3 that is written changes nothing beside the level
+beside_written : (bytes from : List ℕ) (k : ℕ) → IsBlock k → 8192 ≤ length bytes → length from ≡ 512 → beside (splice bytes (512 * k) from) ≡ beside bytes
+beside_written bytes from k is holds long =
+    let above : 8 ≤ k = is.above in
+    let below : k < 16 = is.below in
+    let size : length (splice bytes (512 * k) from) ≡ length bytes = length-splice bytes (512 * k) from (omega (arith, below, holds, long)) in
+    ap (λ (n : ℕ). record { size = n; before = part (splice bytes (512 * k) from) 0 4096; behind = part (splice bytes (512 * k) from) 8192 (n - 8192) }) size
+    ∙ ap (λ (xs : List ℕ). record { size = length bytes; before = xs; behind = part (splice bytes (512 * k) from) 8192 (length bytes - 8192) })
+    (part-splice_below bytes (512 * k) from 0 4096 (omega (arith, below, holds)) (omega (arith, above)))
+    ∙ ap (λ (xs : List ℕ). record { size = length bytes; before = part bytes 0 4096; behind = xs })
+    (part-splice_above bytes (512 * k) from 8192 (length bytes - 8192) (omega (arith, below, holds)) (omega (arith, below, long)))
+
+-- so does the tail
+tail_beside : (blocks new : Blocks) (tail : List ℕ) → IsLevel blocks.level → blocks.level.shadow.len < 32 → length tail ≡ 512 →
+    new.level.device ≡ after_write (512 * block_number blocks.level.shadow.slot blocks.level.shadow.len) tail blocks.level.device → kept_of new ≡ kept_of blocks
+tail_beside blocks new tail sound room whole is =
+    let k : ℕ = block_number blocks.level.shadow.slot blocks.level.shadow.len in
+    ap (λ (m : Memory). beside m.bytes) is
+    ∙ beside_written blocks.level.device.bytes (if next_fails blocks.level.device then replicate (length tail) SPOILED else tail) k
+    (shadow_block_in blocks.level.shadow.slot blocks.level.shadow.len sound.slot_within room) sound.device_holds (written_whole (next_fails blocks.level.device) tail whole)
+
 -- an answer of a push and what it spends
 pub record PushMeets (old new : Blocks) (l : ℕ) (cell : Cell) (result : Result Unit PushFault) : Type 0 where
   pub pushes : Pushes {A = Unit {0}} (held_of old) (held_of new) (spent_of old) (spent_of new) l cell result
   pub spends : PushSpends {A = Unit {0}} (held_of old) (spent_of old) (spent_of new) l result
+  pub keeps : kept_of new ≡ kept_of old
 
 -- a push to level 3 where there is room, of a cell with these bytes
-module _ (blocks : Blocks) (cell : Cell) (bytes : List ℕ) (sound : IsLevel blocks.level) (room : blocks.level.shadow.len < 32) (is_cell : decoded bytes ≡ Some cell) (long : length bytes ≡ 64) where
+module _ (blocks : Blocks) (cell : Cell) (bytes : List ℕ) (sound : IsLevel blocks.level) (room : blocks.level.shadow.len < 32) (is_cell : decoded One bytes ≡ Some cell) (long : length bytes ≡ 64) where
   put_whole : length (splice blocks.level.tail (64 * (blocks.level.shadow.len % 8)) bytes) ≡ 512
   put_whole = let h : length blocks.level.tail ≡ 512 = sound.tail_many in length-splice blocks.level.tail (64 * (blocks.level.shadow.len % 8)) bytes (omega (arith, h, long)) ∙ h
 
@@ -209,7 +231,7 @@ module _ (blocks : Blocks) (cell : Cell) (bytes : List ℕ) (sound : IsLevel blo
       level_spots level blocks.level.shadow.slot blocks.level.shadow.len ≡ with_cell (level_spots blocks.level blocks.level.shadow.slot blocks.level.shadow.len) (as_cell cell)
   end_told level e =
       spot_there level blocks.level.shadow.slot blocks.level.shadow.len sound.slot_within room
-      ∙ ap (λ (b : List ℕ). spot_of_bytes b) e ∙ ap (λ (c : Option Cell). spot_of c) is_cell
+      ∙ ap (λ (b : List ℕ). spot_of_bytes One b) e ∙ ap (λ (c : Option Cell). spot_of c) is_cell
       ∙ with_told (level_spots blocks.level blocks.level.shadow.slot blocks.level.shadow.len) (as_cell cell) (all_told blocks 3 blocks.level.shadow.slot blocks.level.shadow.len)
 
   -- the other places
@@ -228,6 +250,7 @@ module _ (blocks : Blocks) (cell : Cell) (bytes : List ℕ) (sound : IsLevel blo
         pushes = record {
           around = around_three blocks new refl refl;
           answer = (room, end_told level (more_end blocks.level bytes sound ends long));
+          calm = refl;
           shadow_is = refl;
           others_stay = others_by level (λ s i hs hi d. more_bytes blocks.level bytes sound ends s i d);
         };
@@ -235,6 +258,7 @@ module _ (blocks : Blocks) (cell : Cell) (bytes : List ℕ) (sound : IsLevel blo
           writes = writes_none blocks new 1 (block_of 8 3 blocks.level.shadow.slot blocks.level.shadow.len) (omega arith) refl refl;
           only_full = λ _. nothing_written blocks new refl refl;
         };
+        keeps = refl;
       }
 
   push_refused : fills blocks.level ≡ true → next_fails blocks.level.device ≡ true →
@@ -249,6 +273,7 @@ module _ (blocks : Blocks) (cell : Cell) (bytes : List ℕ) (sound : IsLevel blo
         pushes = record {
           around = around_three blocks new refl refl;
           answer = (room, write_rose blocks new 1 tail sound.slot_within room refl refl (omega arith) f);
+          calm = tt;
           shadow_is = refl;
           others_stay = others_by level (λ s i hs hi d.
               written_bytes blocks.level level sound room from (written_whole (next_fails blocks.level.device) tail put_whole) refl refl refl
@@ -259,6 +284,7 @@ module _ (blocks : Blocks) (cell : Cell) (bytes : List ℕ) (sound : IsLevel blo
           writes = writes_block blocks new 1 tail sound.slot_within room refl refl (omega arith);
           only_full = λ h. absurd (h (omega (arith, ends)));
         };
+        keeps = tail_beside blocks new tail sound room put_whole refl;
       }
 
   push_full : fills blocks.level ≡ true → next_fails blocks.level.device ≡ false →
@@ -278,6 +304,7 @@ module _ (blocks : Blocks) (cell : Cell) (bytes : List ℕ) (sound : IsLevel blo
         pushes = record {
           around = around_three blocks new refl refl;
           answer = (room, end_told level (full_end blocks.level level sound room tail put_whole is refl ends ∙ seventh));
+          calm = write_calm blocks.level.device (512 * block_number blocks.level.shadow.slot blocks.level.shadow.len) tail f;
           shadow_is = refl;
           others_stay = others_by level (λ s i hs hi d. full_bytes blocks.level level sound room tail put_whole is refl ends before s i hs hi d);
         };
@@ -285,6 +312,7 @@ module _ (blocks : Blocks) (cell : Cell) (bytes : List ℕ) (sound : IsLevel blo
           writes = writes_block blocks new 1 tail sound.slot_within room refl refl (omega arith);
           only_full = λ h. absurd (h (omega (arith, ends)));
         };
+        keeps = tail_beside blocks new tail sound room put_whole refl;
       }
 
   pub push_level : PushMeets blocks (record blocks { level = after_level_push blocks.level bytes; ticked = (blocks.ticked + 1) % 2 ^ 64 }) 3 cell (level_push_answer blocks.level)
@@ -297,9 +325,11 @@ push_overfull blocks l cell e = record {
   pushes = record {
     around = record { fixed_is = refl; shadows_stay = λ _ _. refl; telling_is = λ _ _ _. refl };
     answer = (e, refl, refl, refl);
+    calm = refl;
     shadow_is = refl;
     others_stay = λ _ _ _ _. refl;
   };
+  keeps = refl;
   spends = record {
     writes = writes_none blocks blocks 0 (block_of 8 l (shadow_of blocks l).slot (shadow_of blocks l).len) (omega arith) refl refl;
     only_full = λ _. nothing_written blocks blocks refl refl;
@@ -310,6 +340,7 @@ push_overfull blocks l cell e = record {
 pub record FinishMeets (old new : Blocks) (l : ℕ) (result : Result Unit PushFault) : Type 0 where
   pub finishes : Finishes {A = Unit {0}} (held_of old) (held_of new) (spent_of old) (spent_of new) l result
   pub spends : FinishSpends (held_of old) (spent_of old) (spent_of new) l
+  pub keeps : kept_of new ≡ kept_of old
 
 -- a finish of level 3
 module _ (blocks : Blocks) (sound : IsLevel blocks.level) where
@@ -318,6 +349,7 @@ module _ (blocks : Blocks) (sound : IsLevel blocks.level) where
     finishes = record {
       around = record { fixed_is = refl; shadows_stay = λ _ _. refl; telling_is = λ _ _ _. refl };
       answer = tt;
+      calm = refl;
       shadow_is = ap (λ (b : Bool). record { slot = blocks.level.shadow.slot; len = blocks.level.shadow.len; saved = b }) e;
       others_stay = λ _ _ _ _. refl;
     };
@@ -325,12 +357,14 @@ module _ (blocks : Blocks) (sound : IsLevel blocks.level) where
       writes = writes_none blocks blocks 0 (block_of 8 3 blocks.level.shadow.slot blocks.level.shadow.len) (omega arith) refl refl;
       only_needed = λ _. nothing_written blocks blocks refl refl;
     };
+    keeps = refl;
   }
 
   finish_written : (failed : Bool) (result : Result Unit PushFault) → blocks.level.shadow.saved ≡ false →
       FinishAnswers {A = Unit {0}} (held_of blocks) blocks.level.device.counts.faults (after_tail_write blocks.level).device.counts.faults 3 result → is_ok result ≡ not failed →
+      WriteCalm blocks.level.device.counts.faults (after_tail_write blocks.level).device.counts.faults result →
       FinishMeets blocks (record blocks { level = record (after_tail_write blocks.level) { shadow = record blocks.level.shadow { saved = not failed } } }) 3 result
-  finish_written failed result e answer is =
+  finish_written failed result e answer is calm =
       let level : Level = record (after_tail_write blocks.level) { shadow = record blocks.level.shadow { saved = not failed } } in
       let new : Blocks = record blocks { level = level } in
       let tail : List ℕ = blocks.level.tail in
@@ -340,6 +374,7 @@ module _ (blocks : Blocks) (sound : IsLevel blocks.level) where
         finishes = record {
           around = around_three blocks new refl refl;
           answer = answer;
+          calm = calm;
           shadow_is = ap (λ (b : Bool). record { slot = blocks.level.shadow.slot; len = blocks.level.shadow.len; saved = b }) (sym is);
           others_stay = λ l s i d. spots_by blocks new l s i refl (λ k. spots_stay blocks.level level s i (λ hs hi.
               written_bytes blocks.level level sound room from (written_whole (next_fails blocks.level.device) tail sound.tail_many) refl refl refl (λ place h. refl)
@@ -349,6 +384,7 @@ module _ (blocks : Blocks) (sound : IsLevel blocks.level) where
           writes = writes_block blocks new 0 tail sound.slot_within room refl refl (omega arith);
           only_needed = λ kept. elim kept.is [ inl h ↦ absurd (false≢true (sym e ∙ h)) | inr h ↦ absurd (omega (arith, h)) ];
         };
+        keeps = tail_beside blocks new tail sound room sound.tail_many refl;
       }
 
   finish_rose : next_fails blocks.level.device ≡ true → Rose blocks.level.device.counts.faults (after_tail_write blocks.level).device.counts.faults
@@ -362,8 +398,8 @@ module _ (blocks : Blocks) (sound : IsLevel blocks.level) where
       by_test : (t f : Bool) → blocks.level.shadow.saved ≡ t → next_fails blocks.level.device ≡ f →
           FinishMeets blocks (record blocks { level = (if t then blocks.level else record (after_tail_write blocks.level) { shadow = record blocks.level.shadow { saved = not f } }) }) 3 (if not t && f then Err push.Device else Ok tt)
       by_test true f e d = finish_saved e
-      by_test false true e d = finish_written true (Err push.Device) e (finish_rose d, e) refl
-      by_test false false e d = finish_written false (Ok tt) e tt refl
+      by_test false true e d = finish_written true (Err push.Device) e (finish_rose d, e) refl tt
+      by_test false false e d = finish_written false (Ok tt) e tt refl (write_calm blocks.level.device (512 * block_number blocks.level.shadow.slot blocks.level.shadow.len) blocks.level.tail d)
 
 -- a level in memory: its shadow, and what is told of it
 shadow_low : (blocks : Blocks) (l : ℕ) → l < 3 → shadow_of blocks l ≡ shadow_at blocks.front.shadows l
@@ -412,6 +448,7 @@ finishes_low blocks l sound h =
       finishes = record {
         around = around_low blocks new l h refl refl (λ m d. get_or-set_other blocks.front.shadows l m shadow (emptied 1) d);
         answer = tt;
+        calm = refl;
         shadow_is = shadow_low new l h ∙ shadow_put blocks.front.shadows l shadow (low_in blocks.front l sound h) ∙ ap (λ (x : Shadow). record x { saved = true }) (sym (shadow_low blocks l h));
         others_stay = λ m s i _. spots_by blocks new m s i refl (λ _. refl);
       };
@@ -419,6 +456,7 @@ finishes_low blocks l sound h =
         writes = writes_none blocks new 0 (block_of 8 l (shadow_of blocks l).slot (shadow_of blocks l).len) (omega arith) refl refl;
         only_needed = λ _. nothing_written blocks new refl refl;
       };
+      keeps = refl;
     }
 
 -- a push to a level in memory that is accepted
@@ -446,6 +484,7 @@ pushes_low blocks front l cell sound levels h p =
           subst (λ (x : Shadow). x.len < slot_size l) (sym here) room,
           subst (λ (x : Shadow). spots_of new l x.slot x.len ≡ with_cell (spots_of blocks l x.slot x.len) (as_cell cell)) (sym here) put_here,
         );
+        calm = refl;
         shadow_is = shadow_low new l h ∙ p.shadow_is ∙ ap (λ (x : Shadow). longer x) (sym here);
         others_stay = λ m s i d. by_order m s i (order m 3) (subst (λ (x : Shadow). IsElsewhere l x.slot x.len m s i) here d) told;
       };
@@ -453,6 +492,7 @@ pushes_low blocks front l cell sound levels h p =
         writes = writes_none blocks new 1 (block_of 8 l (shadow_of blocks l).slot (shadow_of blocks l).len) (omega arith) refl refl;
         only_full = λ _. nothing_written blocks new refl refl;
       };
+      keeps = refl;
     }
   where
     other : (m s i : ℕ) → m ≢ 3 → IsElsewhere l (shadow_at blocks.front.shadows l).slot (shadow_at blocks.front.shadows l).len m s i →
@@ -502,7 +542,7 @@ push_three blocks cell sound spelled = by_test (is_full blocks.level) refl
         (if t then Err (push.Overfull 3) else level_push_answer blocks.level)
     by_test true e = push_overfull blocks 3 cell (eqb-true blocks.level.shadow.len 32 e)
     by_test false e =
-        push_level blocks cell (spelling One cell) sound.level (within sound.level.len_within (eqb-false blocks.level.shadow.len 32 e)) (decoded_is cell (spelling One cell) spelled) spelled.size
+        push_level blocks cell (spelling One cell) sound.level (within sound.level.len_within (eqb-false blocks.level.shadow.len 32 e)) (decoded_is One cell (spelling One cell) spelled) spelled.size
 
 -- a push meets the trait
 pub pushes_blocks : (blocks : Blocks) (l : ℕ) (cell : Cell) → IsSound blocks → l < 4 → IsSpelling One cell (spelling One cell) →
@@ -549,6 +589,7 @@ finish_meets blocks new l result sound h e d =
 pub record RestartMeets (old new : Blocks) (l slot : ℕ) : Type 0 where
   pub restarts : Restarts (held_of old) (held_of new) l slot
   pub spends_nothing : spent_of new ≡ spent_of old
+  pub keeps : kept_of new ≡ kept_of old
 
 -- a restart meets the trait
 pub restart_meets : (blocks new : Blocks) (l slot : ℕ) → IsSound blocks → l < 4 → new ≡ cells.after_restart blocks l slot → RestartMeets blocks new l slot
@@ -556,11 +597,11 @@ restart_meets blocks new l slot sound h d =
     subst (λ (x : Blocks). RestartMeets blocks x l slot) (sym d) (elim (low_or_three l h) [ inl k ↦ at_three l k | inr k ↦ at_low k ])
   where
     at_three : (m : ℕ) → m ≡ 3 → RestartMeets blocks (cells.after_restart blocks m slot) m slot
-    at_three m k = subst (λ (x : ℕ). RestartMeets blocks (cells.after_restart blocks x slot) x slot) (sym k) (record { restarts = restarts_level blocks slot sound.level; spends_nothing = refl })
+    at_three m k = subst (λ (x : ℕ). RestartMeets blocks (cells.after_restart blocks x slot) x slot) (sym k) (record { restarts = restarts_level blocks slot sound.level; spends_nothing = refl; keeps = refl })
 
     at_low : l < 3 → RestartMeets blocks (cells.after_restart blocks l slot) l slot
     at_low k =
         let f : (l == 3) ≡ false = eq_false l 3 (λ e. omega (arith, k, e)) in
         let low : Blocks = record blocks { front = flat.with_shadow blocks.front l (emptied slot) } in
         subst (λ (x : Blocks). RestartMeets blocks x l slot) (sym (choose_else (l == 3) (record blocks { level = after_level_restart blocks.level slot }) low f))
-        (record { restarts = restarts_low blocks l slot sound.front k; spends_nothing = refl })
+        (record { restarts = restarts_low blocks l slot sound.front k; spends_nothing = refl; keeps = refl })

@@ -1,5 +1,5 @@
 -- What a read and a write do to the counts of a device in memory.
-use Rattle.std.proofs.Common.{◌≡◌, ℕ, Bool, true, false, if◌then◌else◌, List, Result, Ok, Err, refl, subst}
+use Rattle.std.proofs.Common.{◌≡◌, ℕ, Bool, true, false, if◌then◌else◌, List, Result, Ok, Err, refl, ap, subst}
 use Rattle.cola_outside.specs.Faults.{Rose, HasCause}
 use Rattle.cola_device.specs.declared.counts.Counts.{Counts}
 use Rattle.cola_device.specs.Counts.{Called, count_fault, count_read, count_write}
@@ -27,3 +27,10 @@ write_called device at from = write_by (next_fails device) device.counts
 -- a call that failed raised the count of faults
 pub fault_rose : (reads writes : ℕ) (old new : Counts) (failed : Bool) → Called old new reads writes (outcome failed) → failed ≡ true → Rose old.faults new.faults
 fault_rose reads writes old new failed called is = subst (λ (f : Bool). HasCause (outcome f) old.faults new.faults) is called.cause
+
+-- a call that did not fail counted none
+pub read_calm : (device : Memory) → next_fails device ≡ false → (after_read device).counts.faults ≡ device.counts.faults
+read_calm device is = ap (λ (failed : Bool). (count_read (count_fault failed device.counts)).faults) is
+
+pub write_calm : (device : Memory) (at : ℕ) (from : List ℕ) → next_fails device ≡ false → (after_write at from device).counts.faults ≡ device.counts.faults
+write_calm device at from is = ap (λ (failed : Bool). (count_write (count_fault failed device.counts)).faults) is

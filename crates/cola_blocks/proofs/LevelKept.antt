@@ -2,6 +2,7 @@
 use Rattle.std.proofs.Common.{◌≡◌, ◌≢◌, ℕ, ◌+◌, ◌*◌, ◌/◌, ◌%◌, ◌<◌, ◌≤◌, ◌&&◌, not, Bool, true, false, if◌then◌else◌, List, length, get_or, set, map, replicate, Option, None, Some, IfSome, ok_or, Result, Ok, Err, refl, sym, ap, subst, ◌∙◌, arith}
 use Rattle.std.proofs.lemmas.Bool.{eqb-true, eqb-false, false≢true}
 use Rattle.std.proofs.lemmas.List.{get_or-set_same, get_or-set_other, length-set, length-map, length-replicate}
+use Rattle.cola_cell.specs.declared.format.Format.TheVariants.{One}
 use Rattle.cola_cell.specs.declared.cell.Cell.{Cell}
 use Rattle.cola_cell.specs.declared.fault.ReadFault.{ReadFault}
 use Rattle.cola_cell.specs.declared.fault.ReadFault.TheVariants.{Device, BadCell}
@@ -13,7 +14,7 @@ use Rattle.cola_device.specs.declared.memory.TheConstants.{SPOILED}
 use Rattle.cola_device.specs.Bytes.{part, splice}
 use Rattle.cola_device.specs.Memory.{Memory, next_fails, after_read, after_write}
 use Rattle.cola_device.proofs.BytesLemmas.{part-splice}
-use Rattle.cola_blocks.specs.Decoded.{decoded}
+use Rattle.cola_cell.specs.Decoded.{decoded}
 use Rattle.cola_blocks.specs.Level.{Level, IsLevel, IsBlock, IsSaved, AreCopies, Agrees, block_number, cell_number, block_part, cell_part, is_block, held_by, forgotten, turn_fails, device_turned, held_turned, is_in_tail, cell_bytes, level_answer, longer}
 use Rattle.cola_blocks.proofs.LevelLemmas.{Order, Below, Same, Above, order, written_many, block_stays, cell_is_new, block_of_cell, place_of_cell, cell_of_block, forgets_by, map_forgotten}
 
@@ -218,7 +219,7 @@ copy_is device turned held now copies buffer k within many is_turned is_now ok a
 -- what is read of a copy is the answer
 pub read_of_copy : (level : Level) (buffer slot index k : ℕ) (copy : List ℕ) (cell : Option Cell) (result : Result Cell ReadFault) →
     is_in_tail level.shadow slot index ≡ false → turn_fails level.device (held_by level buffer) k ≡ false → k ≡ block_number slot index → copy ≡ block_part level.device.bytes k →
-    cell ≡ decoded (cell_part copy (index % 8)) → result ≡ ok_or cell (BadCell (cell_number slot index)) → result ≡ level_answer level buffer slot index
+    cell ≡ decoded One (cell_part copy (index % 8)) → result ≡ ok_or cell (BadCell (cell_number slot index)) → result ≡ level_answer level buffer slot index
 read_of_copy level buffer slot index k copy cell result out ok is_k is_copy is_cell is_result =
     let n : ℕ = cell_number slot index in
     let in_block : k ≡ n / 8 = is_k ∙ sym (block_of_cell slot index) in
@@ -227,6 +228,6 @@ read_of_copy level buffer slot index k copy cell result out ok is_k is_copy is_c
     ∙ ap (λ (place : ℕ). cell_part (block_part level.device.bytes (n / 8)) place) (sym (place_of_cell slot index))
     ∙ cell_of_block level.device.bytes n
     ∙ sym (choose_else (is_in_tail level.shadow slot index) (cell_part level.tail (index % 8)) (part level.device.bytes (64 * n) 64) out) in
-    is_result ∙ ap (λ (c : Option Cell). found n c) (is_cell ∙ ap (λ (b : List ℕ). decoded b) bytes)
-    ∙ sym (choose_last (is_in_tail level.shadow slot index) (turn_fails level.device (held_by level buffer) (block_number slot index)) (Err Device) (found n (decoded (cell_bytes level slot index))) out
+    is_result ∙ ap (λ (c : Option Cell). found n c) (is_cell ∙ ap (λ (b : List ℕ). decoded One b) bytes)
+    ∙ sym (choose_last (is_in_tail level.shadow slot index) (turn_fails level.device (held_by level buffer) (block_number slot index)) (Err Device) (found n (decoded One (cell_bytes level slot index))) out
     (ap (λ (b : ℕ). turn_fails level.device (held_by level buffer) b) (sym is_k) ∙ ok))

@@ -7,9 +7,9 @@ use Rattle.cola_cell.specs.Spelling.{IsSpelling}
 use Rattle.cola_cell.proofs.Unique as unique
 use Rattle.cola_device.specs.Bytes.{part, splice}
 use Rattle.cola_device.proofs.BytesLemmas.{length-splice, part-splice_inside, part-splice_below, part-splice_above, part-part}
-use Rattle.cola_blocks.specs.Decoded.{spelling}
+use Rattle.cola_cell.specs.Decoded.{spelling}
 use Rattle.cola_blocks.specs.Level.{block_number, cell_number, block_part, cell_part, forgotten}
-use Rattle.cola_blocks.proofs.DecodedLemmas.{spelled-so}
+use Rattle.cola_cell.proofs.DecodedLemmas.{spelled-so}
 use borrow.Rule.Slice.PartMut.{put_mid}
 
 -- what a slice from a place on gives

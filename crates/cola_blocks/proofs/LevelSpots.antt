@@ -1,12 +1,13 @@
 -- The bytes of the cells of a level before and after each call.
 use Rattle.std.proofs.Common.{eq-eqb, ◌≡◌, ◌≢◌, ◌⊎◌, inl, inr, ℕ, ◌+◌, ◌*◌, ◌/◌, ◌%◌, ◌<◌, ◌≤◌, ◌==◌, nat_lt, ◌&&◌, Bool, true, false, if◌then◌else◌, List, length, refl, sym, ap, ◌∙◌, arith}
 use Rattle.std.proofs.lemmas.Bool.{eqb-true, false≢true, ltb-true, lt-ltb}
+use Rattle.cola_cell.specs.declared.format.Format.TheVariants.{One}
 use Rattle.cola_cell.specs.declared.sink.Shadow.{Shadow}
 use Rattle.cola_cell.specs.Held.{Bad}
 use Rattle.cola_device.specs.Bytes.{part, splice}
 use Rattle.cola_device.specs.Memory.{Memory}
 use Rattle.cola_device.proofs.BytesLemmas.{part-splice, part-splice_below}
-use Rattle.cola_blocks.specs.Decoded.{spot_of_bytes}
+use Rattle.cola_cell.specs.Decoded.{spot_of_bytes}
 use Rattle.cola_blocks.specs.Level.{Level, IsLevel, IsSaved, block_number, cell_number, cell_part, is_in_tail, cell_bytes, with_cell_put, with_cell_counted, after_level_restart, new_level}
 use Rattle.cola_blocks.specs.Blocks.{level_spots}
 use Rattle.cola_blocks.proofs.LevelLemmas.{Order, Below, Same, Above, order, cell_stays, cell_is_new, block_of_cell, place_of_cell}
@@ -84,17 +85,17 @@ spots_stay old new slot index same = by_test (nat_lt slot 2 && nat_lt index 32) 
     by_test : (t : Bool) → (nat_lt slot 2 && nat_lt index 32) ≡ t → level_spots new slot index ≡ level_spots old slot index
     by_test true e =
         let h = both (nat_lt slot 2) (nat_lt index 32) e in
-        choose_then (nat_lt slot 2 && nat_lt index 32) (spot_of_bytes (cell_bytes new slot index)) Bad e
-        ∙ ap (λ (b : List ℕ). spot_of_bytes b) (same (ltb-true slot 2 h.0) (ltb-true index 32 h.1))
-        ∙ sym (choose_then (nat_lt slot 2 && nat_lt index 32) (spot_of_bytes (cell_bytes old slot index)) Bad e)
+        choose_then (nat_lt slot 2 && nat_lt index 32) (spot_of_bytes One (cell_bytes new slot index)) Bad e
+        ∙ ap (λ (b : List ℕ). spot_of_bytes One b) (same (ltb-true slot 2 h.0) (ltb-true index 32 h.1))
+        ∙ sym (choose_then (nat_lt slot 2 && nat_lt index 32) (spot_of_bytes One (cell_bytes old slot index)) Bad e)
     by_test false e =
-        choose_else (nat_lt slot 2 && nat_lt index 32) (spot_of_bytes (cell_bytes new slot index)) Bad e
-        ∙ sym (choose_else (nat_lt slot 2 && nat_lt index 32) (spot_of_bytes (cell_bytes old slot index)) Bad e)
+        choose_else (nat_lt slot 2 && nat_lt index 32) (spot_of_bytes One (cell_bytes new slot index)) Bad e
+        ∙ sym (choose_else (nat_lt slot 2 && nat_lt index 32) (spot_of_bytes One (cell_bytes old slot index)) Bad e)
 
 -- what is told of a place of the level
-pub spot_there : (level : Level) (slot index : ℕ) → slot < 2 → index < 32 → level_spots level slot index ≡ spot_of_bytes (cell_bytes level slot index)
+pub spot_there : (level : Level) (slot index : ℕ) → slot < 2 → index < 32 → level_spots level slot index ≡ spot_of_bytes One (cell_bytes level slot index)
 spot_there level slot index s i =
-    choose_then (nat_lt slot 2 && nat_lt index 32) (spot_of_bytes (cell_bytes level slot index)) Bad (rw (lt-ltb slot 2 s, lt-ltb index 32 i) refl)
+    choose_then (nat_lt slot 2 && nat_lt index 32) (spot_of_bytes One (cell_bytes level slot index)) Bad (rw (lt-ltb slot 2 s, lt-ltb index 32 i) refl)
 
 -- a place of another block
 pub other_block : (slot len s i : ℕ) → slot < 2 → len < 32 → s < 2 → i < 32 → (s ≢ slot) ⊎ (i / 8 ≢ len / 8) → cell_number s i / 8 ≢ block_number slot len

@@ -1,4 +1,3 @@
-pub mod DecodedLemmas
 pub mod LevelLemmas
 pub mod LevelKept
 pub mod LevelSpots

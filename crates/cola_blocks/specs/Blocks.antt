@@ -1,5 +1,5 @@
 -- Cells of which level 3 lies in blocks: what contracts see of them, and what each call does.
-use Rattle.std.specs.Prelude.{◌≡◌, ℕ, ◌+◌, ◌-◌, ◌/◌, ◌%◌, ◌^◌, ◌<◌, ◌==◌, nat_lt, ◌&&◌, Bool, if◌then◌else◌, [], Option, None, Some, Result, Ok, Err}
+use Rattle.std.specs.Prelude.{◌≡◌, ℕ, ◌+◌, ◌-◌, ◌/◌, ◌%◌, ◌^◌, ◌<◌, ◌==◌, nat_lt, ◌&&◌, Bool, if◌then◌else◌, List, [], length, Option, None, Some, Result, Ok, Err}
 use Rattle.cola_cell.specs.declared.format.Format.TheVariants.{One}
 use Rattle.cola_cell.specs.declared.cell.Cell.{Cell}
 use Rattle.cola_cell.specs.declared.cell.Reader.{Reader}
@@ -14,8 +14,9 @@ use Rattle.cola_cell.specs.Spent.{Buffer, Search, By, Spent}
 use Rattle.cola_cell.specs.Shadows.{emptied}
 use Rattle.cola_cell.specs.Flat as flat
 use Rattle.cola_cell.specs.Flat.{Flat, IsFlat, shadow_at}
+use Rattle.cola_device.specs.Bytes.{part}
 use Rattle.cola_device.specs.Memory.{Memory}
-use Rattle.cola_blocks.specs.Decoded.{spelling, spot_of_bytes}
+use Rattle.cola_cell.specs.Decoded.{spelling, spot_of_bytes}
 use Rattle.cola_blocks.specs.Level.{Level, IsLevel, cell_bytes, held_by, new_level, level_answer, after_level_read, after_level_push, after_level_finish, level_push_answer, level_finish_answer, after_level_restart}
 
 -- levels 0 to 2, level 3, the device's reads and faults when these cells were made, and the ticks
@@ -47,9 +48,23 @@ new_blocks device =
       ticked = 0;
     }
 
+-- what a device has beside level 3: its size, the bytes before the level and those behind it
+pub record Beside : Type 0 where
+  pub size : ℕ
+  pub before : List ℕ
+  pub behind : List ℕ
+
+-- the bytes beside level 3, which are those from 4096 to 8191
+abbrev pub beside : List ℕ → Beside
+beside bytes = record { size = length bytes; before = part bytes 0 4096; behind = part bytes 8192 (length bytes - 8192) }
+
+-- what no call on these cells changes of their device
+abbrev pub kept_of : Blocks → Beside
+kept_of blocks = beside blocks.level.device.bytes
+
 -- what is told of each place of level 3
 abbrev pub level_spots : Level → ℕ → ℕ → Spot
-level_spots level slot index = if nat_lt slot 2 && nat_lt index 32 then spot_of_bytes (cell_bytes level slot index) else Bad
+level_spots level slot index = if nat_lt slot 2 && nat_lt index 32 then spot_of_bytes One (cell_bytes level slot index) else Bad
 
 -- what is told of each place
 abbrev pub spots_of : Blocks → Spots

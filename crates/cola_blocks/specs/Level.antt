@@ -1,5 +1,6 @@
 -- A level in blocks on a device: what contracts see of it, and what each call does.
 use Rattle.std.specs.Prelude.{◌≡◌, ◌≢◌, ℕ, ◌+◌, ◌*◌, ◌/◌, ◌%◌, ◌≤◌, ◌<◌, ◌==◌, nat_lt, ◌&&◌, not, Bool, true, false, if◌then◌else◌, List, length, map, replicate, Option, None, Some, IfSome, Result, Ok, Err, slice_index_or, slice_set}
+use Rattle.cola_cell.specs.declared.format.Format.TheVariants.{One}
 use Rattle.cola_cell.specs.declared.cell.Cell.{Cell}
 use Rattle.cola_cell.specs.declared.fault.ReadFault.{ReadFault}
 use Rattle.cola_cell.specs.declared.fault.ReadFault.TheVariants.{Device}
@@ -10,7 +11,7 @@ use Rattle.cola_cell.specs.Shadows.{emptied}
 use Rattle.cola_cell.specs.Flat.{found}
 use Rattle.cola_device.specs.Bytes.{part, splice}
 use Rattle.cola_device.specs.Memory.{Memory, next_fails, after_read, after_write}
-use Rattle.cola_blocks.specs.Decoded.{decoded}
+use Rattle.cola_cell.specs.Decoded.{decoded}
 
 -- the device; the shadow; the bytes of the block in which the shadow ends; and for each buffer the number of the block that it holds
 pub record Level : Type 0 where
@@ -120,7 +121,7 @@ after_level_read level buffer slot index =
 abbrev pub level_answer : Level → ℕ → ℕ → ℕ → Result Cell ReadFault
 level_answer level buffer slot index =
     if not (is_in_tail level.shadow slot index) && turn_fails level.device (held_by level buffer) (block_number slot index) then Err Device
-    else found (cell_number slot index) (decoded (cell_bytes level slot index))
+    else found (cell_number slot index) (decoded One (cell_bytes level slot index))
 
 -- what a buffer holds after a block was written
 abbrev pub forgotten : ℕ → Option ℕ → Option ℕ

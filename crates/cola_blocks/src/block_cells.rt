@@ -5,9 +5,9 @@ ghost use Rattle.cola_cell.specs.Format.{CellFits};
 ghost use Rattle.cola_cell.specs.Places.{IsPlace};
 ghost use Rattle.cola_cell.specs.Shadows.{push_ticks};
 ghost use Rattle.cola_cell.specs.Spelling.{IsSpelling};
-ghost use Rattle.cola_blocks.specs.Decoded.{spelling};
+ghost use Rattle.cola_cell.specs.Decoded.{spelling};
 ghost use Rattle.cola_blocks.specs.Level.{new_level};
-ghost use Rattle.cola_blocks.specs.Blocks.{IsSound, level_spots, new_blocks, held_of, spent_of, reader_buffer, shadow_of, read_answer, after_read, push_answer, after_push, finish_answer, after_finish, after_restart};
+ghost use Rattle.cola_blocks.specs.Blocks.{IsSound, level_spots, new_blocks, held_of, spent_of, Beside, kept_of, reader_buffer, shadow_of, read_answer, after_read, push_answer, after_push, finish_answer, after_finish, after_restart};
 
 use crate::block_level::BlockLevel;
 use cola_cell::{Cell, CellSink, CellSource, FlatCells, PushFault, ReadFault, Reader};
@@ -149,6 +149,10 @@ impl CellSource for BlockCells {
     ghost held = { held_of };
 
     ghost spent = { spent_of };
+
+    ghost Kept = { Beside };
+
+    ghost kept = { kept_of };
 
     fn read<L: Ledger>(
         &mut self,

@@ -7,7 +7,7 @@ ghost use Rattle.cola_device.specs.Bytes.{splice};
 ghost use Rattle.cola_device.specs.Memory.{next_fails, after_write};
 ghost use Rattle.cola_cell.specs.declared.fault.ReadFault.TheVariants.{Device};
 ghost use Rattle.cola_cell.specs.declared.fault.PushFault.TheVariants as push;
-ghost use Rattle.cola_blocks.specs.Decoded.{decoded, spelling};
+ghost use Rattle.cola_cell.specs.Decoded.{decoded, spelling};
 ghost use Rattle.cola_blocks.specs.Level.{IsLevel, IsBlock, block_number, cell_part, is_in_tail, AreCopies, turn_fails, device_turned, held_turned, forgotten, longer, new_level, level_answer, after_level_read, level_push_answer, after_level_push, level_finish_answer, after_level_finish, after_level_restart};
 
 use cola_cell::{Cell, Item, PushFault, ReadFault, Shadow, decode, encode};
@@ -58,7 +58,7 @@ fn number_of_block(slot: u8, index: u32) -> u8
 fn cell_in(block: &[u8], place: usize) -> Option<Cell>
     requires many { length block.now ≡ 512 }
     requires place { place < 8 }
-    ensures { result ≡ decoded (cell_part block.now place) }
+    ensures { result ≡ decoded One (cell_part block.now place) }
 {
     let mut spelled = [0u8; 64];
     spelled.copy_from_slice(&block[64 * place..64 * place + 64]);

@@ -9,4 +9,4 @@ mod law;
 mod tests;
 
 pub use block_cells::BlockCells;
-pub use law::{decoding_is_a_function, every_place_is_told};
+pub use law::every_place_is_told;

@@ -11,3 +11,4 @@ pub mod PlaceNumbers
 pub mod FlatLemmas
 pub mod CostsLemmas
 pub mod RunLemmas
+pub mod DecodedLemmas

@@ -10,3 +10,4 @@ pub mod Shadows
 pub mod Listed
 pub mod Costs
 pub mod Flat
+pub mod Decoded

@@ -26,7 +26,7 @@ pub use fault::{PushFault, ReadFault, StepFault};
 pub use flat_cells::FlatCells;
 pub use format::Format;
 pub use key::Key;
-pub use law::{cell_is_one, decoding_gives_back, spelling_is_one};
+pub use law::{cell_is_one, decoding_gives_back, decoding_is_a_function, spelling_is_one};
 pub use sink::{CellSink, Shadow};
 pub use source::CellSource;
 pub use spelling::{decode, decode_wide, encode, encode_wide};

@@ -10,6 +10,11 @@ use Rattle.std.proofs.Math.Nat.{add-zero, add-suc}
 use Rattle.cola_clock.specs.Clock.{period, elapsed, is_odd, flips, works, is_before, is_over, window_step, window_length, ends, InOneWindow, SourcesStay}
 use Rattle.cola_clock.proofs.Places.{step_inside, step_over, placed, divides-next, twice, bit_cases, upper_half, second_quarter, first_quarter, last_by_halves, window_end, and_true_right, and_not}
 
+-- a level's place in its period is the remainder of the clock
+pub elapsed_is : (t j : ℕ) → elapsed t j ≡ t % 2 ^ j
+unfolding elapsed
+elapsed_is t j = refl
+
 -- a level has been in its period for less than the period's length
 pub elapsed_below : (t j : ℕ) → elapsed t j < 2 ^ j
 unfolding elapsed
@@ -174,6 +179,11 @@ ends-flips t j = rw (ends-suc t j, flips-suc t j) (and_not (flips t j) (is_odd (
 pub ends-works : (t j : ℕ) → ends t j ≡ true → works t j ≡ true
 unfolding ends
 ends-works t j h = (and_parts _ _ h).0
+
+-- where a window ends, its last mutation is done
+pub ends-last : (t j : ℕ) → ends t j ≡ true → suc (window_step t j) ≡ window_length j
+unfolding ends
+ends-last t j h = eqb-true _ _ (and_parts _ _ h).1
 
 -- a level above one that does not flip stays in its odd period
 pub keeps_odd : (t j : ℕ) → is_odd (period t j) ≡ true → flips t (suc j) ≡ false → flips t j ≡ false

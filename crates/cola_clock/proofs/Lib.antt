@@ -5,3 +5,4 @@ pub mod Laws
 pub mod Wrap
 pub mod Counts
 pub mod Sampled
+pub mod MarkLaws

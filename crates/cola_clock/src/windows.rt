@@ -1,8 +1,8 @@
 //! What holds of every clock and level: the laws on windows, flips and sources, each as a function that does nothing and
 //! whose contract is the law. A proof elsewhere cites the lemma that the function names.
 
-ghost use Rattle.std.specs.Prelude.{◌≡◌, ◌<◌, ◌≤◌, ◌^◌, ◌*◌, ◌+◌, ◌%◌, ◌&&◌, ℕ, suc, true, false, not, IsTrue};
-ghost use Rattle.cola_clock.specs.Clock.{period, is_odd, flips, works, is_before, is_over, ends, window_step, window_length, working_clocks, working_levels, SameSchedule, InOneWindow, SourcesStay};
+ghost use Rattle.std.specs.Prelude.{◌≡◌, ◌<◌, ◌≤◌, ◌^◌, ◌*◌, ◌+◌, ◌-◌, ◌%◌, ◌&&◌, ◌==◌, if◌then◌else◌, ℕ, suc, true, false, not, IsTrue};
+ghost use Rattle.cola_clock.specs.Clock.{period, elapsed, is_odd, flips, works, is_before, is_over, ends, window_step, window_length, visible_slot, working_clocks, working_levels, SameSchedule, InOneWindow, SourcesStay};
 ghost use Rattle.cola_clock.specs.Schedule.{below_at};
 ghost use Rattle.cola_clock.specs.declared.state.Below.{Below};
 
@@ -72,11 +72,15 @@ pub fn flips_follow()
     ensures over_until { (t j : ℕ) → is_over t (suc j) ≡ true → flips t (suc j) ≡ false → is_over (suc t) (suc j) ≡ true }
 {}
 
-/// The parity of a level's period turns exactly where the level flips. The lemmas are `is_odd-next_flip` and
-/// `is_odd-next_stay` of `proofs/Laws.antt`.
+/// The parity of a level's period turns exactly where the level flips, and with it the slot of its visible run, which
+/// goes by that parity. The lemmas are `is_odd-next_flip` and `period-next_stay` of `proofs/Laws.antt`, and those on
+/// `slot` of `proofs/Wrap.antt`.
 pub fn parity_turns()
     ensures flips_turn { (t j : ℕ) → flips t j ≡ true → is_odd (period (suc t) j) ≡ not (is_odd (period t j)) }
     ensures others_stay { (t j : ℕ) → flips t j ≡ false → period (suc t) j ≡ period t j }
+    ensures slot { (t j : ℕ) → visible_slot t j ≡ (if is_odd (period t j) then 1 else 0) }
+    ensures slot_turns { (t j : ℕ) → flips t j ≡ true → visible_slot (suc t) j ≡ 1 - visible_slot t j }
+    ensures slot_stays { (t j : ℕ) → flips t j ≡ false → visible_slot (suc t) j ≡ visible_slot t j }
 {}
 
 /// Where h is the highest level that flips after a mutation, exactly one window ends with it, that of level h + 1, and is
@@ -87,6 +91,27 @@ pub fn one_window_ends()
     ensures no_other { (t h j : ℕ) → flips t h ≡ true → flips t (suc h) ≡ false → ends t (suc j) ≡ true → j ≡ h }
     ensures none_at_bottom { (t bottom j : ℕ) → flips t bottom ≡ true → j < bottom → ends t (suc j) ≡ false }
     ensures then_over { (t j : ℕ) → ends t (suc j) ≡ true → is_over (suc t) (suc j) ≡ true }
+{}
+
+/// When a window ends: the level above flips and the level itself does not. The level works there, with the last of its
+/// window's mutations, and a window that is neither over nor ends is not over at the next clock. The lemmas are
+/// `ends-flips`, `ends-works`, `ends-last` and `not_over-next` of `proofs/Laws.antt`.
+pub fn windows_end()
+    ensures by_flips { (t j : ℕ) → ends t (suc j) ≡ (flips t j && not (flips t (suc j))) }
+    ensures works { (t j : ℕ) → ends t j ≡ true → works t j ≡ true }
+    ensures last { (t j : ℕ) → ends t j ≡ true → suc (window_step t j) ≡ window_length j }
+    ensures not_yet { (t j : ℕ) → is_over t (suc j) ≡ false → ends t (suc j) ≡ false → is_over (suc t) (suc j) ≡ false }
+{}
+
+/// Where a level stands in its period of `2^j` mutations: at the remainder of the clock, which begins at 0 after a flip,
+/// grows by one with each other mutation, and is the last of the period exactly where the level flips. The lemmas are
+/// `elapsed_is`, `elapsed_below`, `flips-elapsed`, `elapsed-next_flip` and `elapsed-next_stay` of `proofs/Laws.antt`.
+pub fn places_in_periods()
+    ensures remainder { (t j : ℕ) → elapsed t j ≡ t % 2 ^ j }
+    ensures below { (t j : ℕ) → elapsed t j < 2 ^ j }
+    ensures last { (t j : ℕ) → flips t j ≡ (suc (elapsed t j) == 2 ^ j) }
+    ensures after_flip { (t j : ℕ) → flips t j ≡ true → elapsed (suc t) j ≡ 0 }
+    ensures after_others { (t j : ℕ) → flips t j ≡ false → elapsed (suc t) j ≡ suc (elapsed t j) }
 {}
 
 /// In each period k a level of 1 and more works at as many clocks as its window is long: 1 at level 1, `2^(j-2)` at a

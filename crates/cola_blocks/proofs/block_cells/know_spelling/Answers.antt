@@ -1,7 +1,7 @@
 use Rattle.std.proofs.Common.{◌≡◌, ◌≤◌, ◌<◌, ◌^◌, ℕ, List, length, subst, ◌∙◌, arith}
 use Rattle.cola_cell.specs.declared.format.Format.TheVariants.{One}
 use Rattle.cola_cell.specs.Cell.{key_of, link_of}
-use Rattle.cola_blocks.proofs.DecodedLemmas.{spelled-so}
+use Rattle.cola_cell.proofs.DecodedLemmas.{spelled-so}
 use Rattle.cola_blocks.proofs.block_cells.know_spelling.Goals as goal
 
 pub returns : goal.returns

@@ -1,6 +1,6 @@
 use Rattle.std.proofs.Common.{◌*◌}
 use Rattle.cola_cell.specs.declared.format.Format.TheVariants.{One}
-use Rattle.cola_blocks.specs.Decoded.{spelling}
+use Rattle.cola_cell.specs.Decoded.{spelling}
 use Rattle.cola_blocks.proofs.LevelLemmas.{spelling_is, put_is_splice}
 use Rattle.cola_blocks.proofs.block_level.put_cell.Goals as goal
 

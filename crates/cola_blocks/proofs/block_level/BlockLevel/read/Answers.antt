@@ -1,5 +1,6 @@
 use Rattle.std.proofs.Common.{◌≡◌, ◌*◌, ◌%◌, ℕ, false, List, None, get_or, sym, ap, subst, ◌∙◌}
-use Rattle.cola_blocks.specs.Decoded.{decoded}
+use Rattle.cola_cell.specs.declared.format.Format.TheVariants.{One}
+use Rattle.cola_cell.specs.Decoded.{decoded}
 use Rattle.cola_blocks.specs.Level.{Level, IsBlock, cell_part, block_part, turn_fails, held_by}
 use Rattle.cola_blocks.proofs.LevelLemmas.{between_is_part}
 use Rattle.cola_blocks.proofs.LevelKept.{shadow_block_in, turned_level, copy_is, read_of_copy}
@@ -23,8 +24,8 @@ returns-clause-answer c =
     let same : block_part c.turn_to.new.copies c.args.buffer ≡ block_part i.device.bytes k =
     copy_is i.device c.turn_to.new.device i.held c.turn_to.new.held c.turn_to.new.copies c.args.buffer k c.requires.buffer_in c.self.invariant.0.held_many
     c.turn_to.ensures.device c.turn_to.ensures.held (sym c.in-Ok.ensures.fails) c.turn_to.ensures.copies in
-    let cell : c.cell_in-2.result ≡ decoded (cell_part copy (c.args.index % 8)) =
-    c.cell_in-2.ensures ∙ ap (λ (xs : List ℕ). decoded (cell_part xs (c.args.index % 8))) (between_is_part c.turn_to.new.copies (512 * c.args.buffer) 512) in
+    let cell : c.cell_in-2.result ≡ decoded One (cell_part copy (c.args.index % 8)) =
+    c.cell_in-2.ensures ∙ ap (λ (xs : List ℕ). decoded One (cell_part xs (c.args.index % 8))) (between_is_part c.turn_to.new.copies (512 * c.args.buffer) 512) in
     read_of_copy c.args.self.now c.args.buffer c.args.slot c.args.index k copy c.cell_in-2.result c.ok_or-2.result
     (sym c.has_in_tail.ensures ∙ c.if-has_in_tail.false)
     (subst (λ (l : Level). turn_fails l.device (held_by l c.args.buffer) k ≡ false) c.self.view_is (sym c.in-Ok.ensures.fails))
