@@ -50,14 +50,17 @@ check 'a built program runs with no word of the launcher' is_silent
 run "$root/cola" </dev/null
 check 'no words end with 2' ended 2
 check 'no words write nothing' wrote_text ''
+check 'no words say how it is called' grep -q '^cola: .*/cola mem N' "$room/err"
 run "$root/cola" mem 0 </dev/null
 check 'mem 0 ends with 2' ended 2
+check 'wrong words say what the status means' grep -q '^cola: .*status 2: the words are none of its modes' "$room/err"
 run "$root/cola" 'mem 4' </dev/null
 check 'a word with a space in it stays one word' ended 2
 run "$root/cola" mem 4 '' </dev/null
 check 'an empty word stays a word' ended 2
 run "$root/cola" mem 4 <"$root"
 check 'an input that cannot be read ends with 3' ended 3
+check 'status 3 is told in one line' complained 'status 3: reading the input failed'
 if [ -w /dev/full ]; then
     "$root/cola" mem 4 <"$root/examples/first.txt" >/dev/full 2>"$room/err"
     status=$?
@@ -111,7 +114,12 @@ for wanted in 0 1 2 3 4 9 18 255; do
     check "status $wanted is kept" ended "$wanted"
 done
 check 'a built program is not built again' builds 1
-check 'a built program runs with no word of the launcher' is_silent
+run "$copy/cola" 0 </dev/null
+check 'a built program that ends with 0 runs with no word of the launcher' is_silent
+for status_named in 1 3 4 9; do
+    run "$copy/cola" "$status_named" </dev/null
+    check "status $status_named has a meaning" complained "status $status_named: [a-z].*docs/COMMANDS.md"
+done
 touch "$copy/crates/cola/src/main.rt"
 run "$copy/cola" 0 </dev/null
 check 'a touched file with the same text is not built again' builds 1

@@ -2,10 +2,16 @@
 use Rattle.std.proofs.Common.{◌≡◌, inl, inr, ℕ, zero, suc, ◌+◌, ◌*◌, ◌/◌, ◌%◌, ◌^◌, ◌<◌, ◌≤◌, Bool, true, false, cond, List, [], ◌∷◌, length, drop, refl, sym, ◌∙◌, ap, subst, arith}
 use Rattle.std.proofs.lemmas.Bool.{cases_Bool, false≢true}
 use Rattle.std.proofs.Math.Nat.{add-zero}
+use Rattle.std.proofs.Props.{props}
 use Rattle.cola_clock.specs.Clock.{period, is_odd, works, is_before, is_over, window_step, flips, ends, SameSchedule}
 use Rattle.cola_clock.specs.Marks.{Marks, merge_steps, sample_end, marks_at, above_at, AreCursorsAtRest, AreMarksIdle, AreMarksInside, AreLevelMarks, AreAllMarks, AreChainMarks, AreMarksAt, marks_after, all_marks_after}
 use Rattle.cola_clock.proofs.Laws.{flips-zero, flips-over, flips-not_over, over-not_works, over-next, not_over-next, ends-over, works-not_over, before-not_over, before-not_works, before_else, window-keeps_above, window-keeps_self, window-keeps_below, window-next, window_step-next, window_step-first, is_odd-next_stay}
 use Rattle.cola_clock.proofs.Wrap.{schedule-wrap, same-back}
+
+-- the rules are a fact: they hold in one way at most
+pub marks-fact : (ahead t j above : ℕ) (levels : List Marks) → IsProp (AreAllMarks ahead t j above levels)
+marks-fact ahead t j above [] = hlevel props
+marks-fact ahead t j above (m ∷ below) = hlevel (props, marks-fact ahead t (suc j) m.visible below)
 
 -- ---- level by level
 
@@ -276,7 +282,7 @@ marks-next t built worked rest fits h = (
   next-levels t 0 built.visible (marks_after t 0 built).visible worked (λ stay. absurd (false≢true (sym stay ∙ flips-zero t))) h,
 )
 
-length-after : (t j : ℕ) (levels : List Marks) → length (all_marks_after t j levels) ≡ length levels
+pub length-after : (t j : ℕ) (levels : List Marks) → length (all_marks_after t j levels) ≡ length levels
 length-after t j [] = refl
 length-after t j (m ∷ below) = ap (λ (n : ℕ). suc n) (length-after t (suc j) below)
 

@@ -1,8 +1,8 @@
 -- The clock of a store whose bottom is L counts modulo 2^(L+1): no level up to the bottom can tell.
-use Rattle.std.proofs.Common.{◌≡◌, ℕ, zero, suc, ◌+◌, ◌-◌, ◌%◌, ◌^◌, ◌≤◌, eqb, cond, inl, inr, refl, sym, ◌∙◌, ap, subst, arith}
+use Rattle.std.proofs.Common.{◌≡◌, ℕ, zero, suc, ◌+◌, ◌-◌, ◌%◌, ◌^◌, ◌≤◌, Bool, true, false, not, eqb, cond, inl, inr, refl, sym, ◌∙◌, ap, subst, arith}
 use Rattle.std.proofs.Math.Pow.{mod-mod-pow}
-use Rattle.cola_clock.specs.Clock.{period, elapsed, is_odd, works, is_before, is_over, window_step, visible_slot, ends, SameSchedule}
-use Rattle.cola_clock.proofs.Laws.{is_over-suc, flips-elapsed}
+use Rattle.cola_clock.specs.Clock.{period, elapsed, is_odd, flips, works, is_before, is_over, window_step, visible_slot, ends, SameSchedule}
+use Rattle.cola_clock.proofs.Laws.{is_over-suc, flips-elapsed, is_odd-next_flip, is_odd-next_stay}
 use Rattle.cola_clock.proofs.Places.{bit_cases}
 
 -- a level's place in its period is the same modulo each power of two that its period's length divides
@@ -41,9 +41,25 @@ last_bit : (n : ℕ) → n % 2 ≡ cond (is_odd n) 1 0
 unfolding is_odd
 last_bit n = elim (bit_cases n) [ inl e ↦ rw e refl | inr e ↦ rw e refl ]
 
-same_slot : (t u j : ℕ) → is_odd (period t j) ≡ is_odd (period u j) → visible_slot t j ≡ visible_slot u j
+-- the slot by the parity of the period
+pub slot-of_parity : (t j : ℕ) → visible_slot t j ≡ cond (is_odd (period t j)) 1 0
 unfolding visible_slot
-same_slot t u j odd = last_bit (period t j) ∙ ap (λ b. cond b 1 0) odd ∙ sym (last_bit (period u j))
+slot-of_parity t j = last_bit (period t j)
+
+same_slot : (t u j : ℕ) → is_odd (period t j) ≡ is_odd (period u j) → visible_slot t j ≡ visible_slot u j
+same_slot t u j odd = slot-of_parity t j ∙ ap (λ b. cond b 1 0) odd ∙ sym (slot-of_parity u j)
+
+-- a level that flips has its visible run in its other slot then, and one that stays in the same
+other_slot : (odd : Bool) → cond (not odd) 1 0 ≡ 1 - cond odd 1 0
+other_slot true = refl
+other_slot false = refl
+
+pub slot-turns : (t j : ℕ) → flips t j ≡ true → visible_slot (suc t) j ≡ 1 - visible_slot t j
+slot-turns t j flip =
+    slot-of_parity (suc t) j ∙ ap (λ (b : Bool). cond b 1 0) (is_odd-next_flip t j flip) ∙ other_slot (is_odd (period t j)) ∙ ap (λ (n : ℕ). 1 - n) (sym (slot-of_parity t j))
+
+pub slot-stays : (t j : ℕ) → flips t j ≡ false → visible_slot (suc t) j ≡ visible_slot t j
+slot-stays t j stay = same_slot (suc t) t j (is_odd-next_stay t j stay)
 
 -- the tests of a level depend on its place and on the parity of its period alone
 pub same_place : (t u j : ℕ) → elapsed t j ≡ elapsed u j → elapsed t (suc j) ≡ elapsed u (suc j) → SameSchedule t u j

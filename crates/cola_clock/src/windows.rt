@@ -1,8 +1,8 @@
 //! What holds of every clock and level: the laws on windows, flips and sources, each as a function that does nothing and
 //! whose contract is the law. A proof elsewhere cites the lemma that the function names.
 
-ghost use Rattle.std.specs.Prelude.{◌≡◌, ◌<◌, ◌≤◌, ◌^◌, ◌*◌, ◌+◌, ◌%◌, ◌&&◌, ◌==◌, ℕ, suc, true, false, not, IsTrue};
-ghost use Rattle.cola_clock.specs.Clock.{period, elapsed, is_odd, flips, works, is_before, is_over, ends, window_step, window_length, working_clocks, working_levels, SameSchedule, InOneWindow, SourcesStay};
+ghost use Rattle.std.specs.Prelude.{◌≡◌, ◌<◌, ◌≤◌, ◌^◌, ◌*◌, ◌+◌, ◌-◌, ◌%◌, ◌&&◌, ◌==◌, if◌then◌else◌, ℕ, suc, true, false, not, IsTrue};
+ghost use Rattle.cola_clock.specs.Clock.{period, elapsed, is_odd, flips, works, is_before, is_over, ends, window_step, window_length, visible_slot, working_clocks, working_levels, SameSchedule, InOneWindow, SourcesStay};
 ghost use Rattle.cola_clock.specs.Schedule.{below_at};
 ghost use Rattle.cola_clock.specs.declared.state.Below.{Below};
 
@@ -72,11 +72,15 @@ pub fn flips_follow()
     ensures over_until { (t j : ℕ) → is_over t (suc j) ≡ true → flips t (suc j) ≡ false → is_over (suc t) (suc j) ≡ true }
 {}
 
-/// The parity of a level's period turns exactly where the level flips. The lemmas are `is_odd-next_flip` and
-/// `is_odd-next_stay` of `proofs/Laws.antt`.
+/// The parity of a level's period turns exactly where the level flips, and with it the slot of its visible run, which
+/// goes by that parity. The lemmas are `is_odd-next_flip` and `period-next_stay` of `proofs/Laws.antt`, and those on
+/// `slot` of `proofs/Wrap.antt`.
 pub fn parity_turns()
     ensures flips_turn { (t j : ℕ) → flips t j ≡ true → is_odd (period (suc t) j) ≡ not (is_odd (period t j)) }
     ensures others_stay { (t j : ℕ) → flips t j ≡ false → period (suc t) j ≡ period t j }
+    ensures slot { (t j : ℕ) → visible_slot t j ≡ (if is_odd (period t j) then 1 else 0) }
+    ensures slot_turns { (t j : ℕ) → flips t j ≡ true → visible_slot (suc t) j ≡ 1 - visible_slot t j }
+    ensures slot_stays { (t j : ℕ) → flips t j ≡ false → visible_slot (suc t) j ≡ visible_slot t j }
 {}
 
 /// Where h is the highest level that flips after a mutation, exactly one window ends with it, that of level h + 1, and is

@@ -1,5 +1,5 @@
 -- The counts of a device, and what a call does to them.
-use Rattle.std.specs.Prelude.{ℕ, ◌+◌, ◌-◌, ◌^◌, ◌≤◌, min, max, Bool, true, false, Result}
+use Rattle.std.specs.Prelude.{◌≡◌, ℕ, ◌+◌, ◌-◌, ◌^◌, ◌≤◌, min, max, Bool, true, false, Result, OnOk}
 use Rattle.cola_outside.specs.Faults.{HasCause}
 use Rattle.cola_device.specs.declared.counts.Counts.{Counts}
 
@@ -20,10 +20,12 @@ count_read counts = record counts { reads = one_more counts.reads }
 abbrev pub count_write : Counts → Counts
 count_write counts = record counts { writes = one_more counts.writes }
 
--- a call that makes at most so many reads and writes: no count falls, and an error has its cause
+-- a call that makes at most so many reads and writes: no count falls, an error has its cause, and a call that is carried
+-- out met no fault
 pub record Called {T E : Type 0} (before now : Counts) (reads writes : ℕ) (result : Result T E) : Type 0 where
   pub faults_stay : before.faults ≤ now.faults
   pub cause : HasCause result before.faults now.faults
+  pub none_hidden : OnOk result (now.faults ≡ before.faults)
   pub reads_stay : before.reads ≤ now.reads
   pub reads_rise : now.reads ≤ before.reads + reads
   pub writes_stay : before.writes ≤ now.writes

@@ -14,6 +14,14 @@ pub record Memory : Type 0 where
   pub failing : List ℕ
   pub counts : Counts
 
+-- what it was made with, which no call changes: how many bytes there is room for, and the numbers of the calls that fail
+pub record Settings : Type 0 where
+  pub room : ℕ
+  pub failing : List ℕ
+
+abbrev pub settings : Memory → Settings
+settings memory = record { room = memory.room; failing = memory.failing }
+
 -- no call was made yet
 abbrev pub unused : List ℕ → ℕ → List ℕ → Memory
 unused bytes room failing =

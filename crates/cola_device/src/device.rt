@@ -4,7 +4,8 @@ ghost use Rattle.cola_device.specs.declared.counts.Counts.{Counts};
 ghost use Rattle.cola_device.specs.Bytes.{IsEmpty, HasSize, HasRange, Gives, LaidOut, Wrote};
 ghost use Rattle.cola_device.specs.Counts.{Called};
 
-/// At most so many bytes are read or written at once: the largest block.
+/// At most so many bytes are read or written at once: the largest block. The law
+/// [`crate::laws::largest_transfer`] has the number.
 pub const MAX_TRANSFER: usize = 65_536;
 
 /// A device refused a call.
@@ -23,10 +24,16 @@ pub trait Device {
     /// How many faults it met, and how many reads and writes it made.
     ghost counts: { Self → Counts };
 
+    /// What it has beside its bytes and counts, which no call changes.
+    ghost Kept: { Type 0 } = { Unit {0} };
+
+    ghost kept: { Self → Self.Kept };
+
     /// The number of bytes.
     fn size(&mut self) -> Result<u64, DeviceFault>
         ensures value { IfOk result (HasSize (bytes self.old)) }
         ensures bytes_stay { bytes self.new ≡ bytes self.old }
+        ensures kept { kept self.new ≡ kept self.old }
         ensures counts { Called (counts self.old) (counts self.new) 0 0 result };
 
     /// Gives an empty device `size` zero bytes. After a fault it has from none to `size` bytes of any
@@ -34,6 +41,7 @@ pub trait Device {
     fn lay_out(&mut self, size: u64) -> Result<(), DeviceFault>
         requires { IsEmpty (bytes self.old) }
         ensures laid { LaidOut result size (bytes self.old) (bytes self.new) }
+        ensures kept { kept self.new ≡ kept self.old }
         ensures counts { Called (counts self.old) (counts self.new) 0 0 result };
 
     /// Fills `into` with the bytes from `at` on. After a fault it may have any bytes.
@@ -42,6 +50,7 @@ pub trait Device {
         requires inside { HasRange (bytes self.old) at (length into.old) }
         ensures given { OnOk result (Gives (bytes self.old) at into.new) }
         ensures bytes_stay { bytes self.new ≡ bytes self.old }
+        ensures kept { kept self.new ≡ kept self.old }
         ensures counts { Called (counts self.old) (counts self.new) 1 0 result };
 
     /// Puts `from` in the place of the bytes from `at` on. After a fault there may be any bytes in that
@@ -50,11 +59,13 @@ pub trait Device {
         requires block { length from.now ≤ MAX_TRANSFER }
         requires inside { HasRange (bytes self.old) at (length from.now) }
         ensures wrote { Wrote result at from.now (bytes self.old) (bytes self.new) }
+        ensures kept { kept self.new ≡ kept self.old }
         ensures counts { Called (counts self.old) (counts self.new) 0 1 result };
 
     /// Asks that all that was written be finished.
     fn settle(&mut self) -> Result<(), DeviceFault>
         ensures bytes_stay { bytes self.new ≡ bytes self.old }
+        ensures kept { kept self.new ≡ kept self.old }
         ensures counts { Called (counts self.old) (counts self.new) 0 0 result };
 
     /// How many reads it made.

@@ -1,7 +1,19 @@
-//! Laws of bytes that are written and read. Each is a function with nothing to run: what it ensures is the
-//! law, for any bytes.
+//! Laws of bytes that are written and read, and of counts. Each is a function with nothing to run: what it
+//! ensures is the law, for any bytes.
 ghost use Rattle.std.specs.Prelude.{◌≡◌, ℕ, ◌+◌, ◌≤◌, List, ◌++◌, length, replicate};
 ghost use Rattle.cola_device.specs.Bytes.{part, splice};
+
+use crate::{MAX_TRANSFER, SPOILED};
+
+/// The most bytes that are read or written at once.
+pub fn largest_transfer()
+    ensures { MAX_TRANSFER ≡ 65536 }
+{}
+
+/// The byte that stands in the place of bytes that a failing call of a device in memory spoiled.
+pub fn spoiled_byte()
+    ensures { SPOILED ≡ 165 }
+{}
 
 /// New bytes in the place of others leave the size as it is.
 pub fn size_stays()

@@ -1,7 +1,7 @@
 //! A device in memory, whose calls fail where the caller wants them to.
 ghost use Rattle.std.specs.Prelude.{◌≡◌, ◌+◌, ◌||◌, ◌≤◌, [], true, Some, refl, not, length, replicate, is_err, IfOk, OnOk, OnErr};
 ghost use Rattle.cola_device.specs.Bytes.{part};
-ghost use Rattle.cola_device.specs.Memory.{unused, next_fails, layout_fails, after_call, after_layout, after_read, after_write};
+ghost use Rattle.cola_device.specs.Memory.{Settings, settings, unused, next_fails, layout_fails, after_call, after_layout, after_read, after_write};
 
 use crate::{Counts, Device, DeviceFault, MAX_TRANSFER};
 use std::alloc::{AllocError, Global};
@@ -117,6 +117,10 @@ impl Device for MemoryDevice {
     ghost tells = { true };
 
     ghost counts = { λ d. d.counts };
+
+    ghost Kept = { Settings };
+
+    ghost kept = { settings };
 
     ghost told = { λ _. refl };
 

@@ -44,6 +44,15 @@ fn refuses_more_than_its_room(rt: HostRuntime) -> Result<(), Fail> {
 }
 
 #[test]
+fn has_room_for_a_large_file(rt: HostRuntime) -> Result<(), Fail> {
+    // No clause says that there is memory. A file of 64 MiB is larger than any that a test of a store needs.
+    let mut device = MemoryDevice::new(rt.alloc(), 64 << 20, Vec::new(rt.alloc()))?;
+    device.lay_out(3)?;
+    assert_eq!(rt; device.as_bytes(), [0; 3].as_slice());
+    Ok(())
+}
+
+#[test]
 fn fails_the_listed_calls(rt: HostRuntime) -> Result<(), Fail> {
     let failing = vec![in rt.alloc(); 2]?;
     let mut device = MemoryDevice::new(rt.alloc(), 64, failing)?;

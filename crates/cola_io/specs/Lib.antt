@@ -1,7 +1,10 @@
 pub mod Streams
+pub mod Counted
 pub mod FailedCalls
 pub mod Reading
+pub mod Reads
 pub mod Buffered
 pub mod Finished
 pub mod NextLine
+pub mod Calling
 pub mod Law

@@ -1,8 +1,7 @@
 -- What a call of a line reader's `next_line` answers, over the bytes pending before it and those that it took.
-use Rattle.std.specs.Prelude.{◌≡◌, ◌≢◌, ℕ, ◌+◌, ◌<◌, ◌≤◌, ◌⊎◌, ⊤, Bool, true, false, ◌||◌, nat_eq, List, [], ◌∷◌, ◌++◌, length, Some, None}
+use Rattle.std.specs.Prelude.{◌≡◌, ◌≢◌, ℕ, ◌+◌, ◌<◌, ◌≤◌, ◌⊎◌, Bool, true, false, ◌||◌, nat_eq, List, [], ◌∷◌, ◌++◌, length, Some, None}
 use Rattle.std.specs.List.{list_any}
 use Rattle.cola_spec.specs.Lines.{is_line_feed, line_limit, without_return}
-use Rattle.cola_outside.specs.Faults.{Rose}
 use Rattle.cola_io.specs.Reading.{Reading}
 use Rattle.cola_io.specs.Buffered.{HasNoFeed, kept_part}
 use Rattle.cola_io.specs.declared.next.Next.{Next}
@@ -59,8 +58,3 @@ pub record NextLine (old : Reading) (took : List ℕ) (answer : Next) (new : Rea
   pub stays_ended : old.ended ≡ true → new.ended ≡ true
   pub ended_within : new.ended ≡ true → 0 < new.allowed
   pub answered : Answers (old.pending ++ took) answer new
-
--- a fault is answered only where the source's count of faults rose
-abbrev pub FaultHasCause : Next → ℕ → ℕ → Type 0
-FaultHasCause Fault before now = Rose before now
-FaultHasCause _ before now = ⊤

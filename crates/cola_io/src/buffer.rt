@@ -1,9 +1,9 @@
 //! The bytes between a source and its lines.
-ghost use Rattle.std.specs.Prelude.{◌≡◌, ◌<◌, ◌≤◌, ◌+◌, ◌-◌, ◌++◌, ◌↔◌, IsTrue, ◌∷◌, ℕ, List, [], Some, None, drop, take, length, unwrap_or, IfNone, IfSome, IfOk, OnErr, position};
+ghost use Rattle.std.specs.Prelude.{◌≡◌, ◌<◌, ◌≤◌, ◌+◌, ◌-◌, ◌++◌, ◌↔◌, IsTrue, ◌∷◌, ℕ, List, [], Some, None, drop, take, length, unwrap_or, IfNone, IfSome, IfOk, OnErr, position, min};
 ghost use Rattle.cola_spec.specs.Lines.{is_line_feed, line_limit, without_return};
-ghost use Rattle.cola_outside.specs.Faults.{HasCause};
 ghost use Rattle.std.specs.Io.KnownBytes.{IsAtEnd};
-ghost use Rattle.cola_io.specs.Streams.{Taken};
+ghost use Rattle.cola_io.specs.Streams.{Taken, given};
+ghost use Rattle.cola_io.specs.Counted.{CountsFaults};
 ghost use Rattle.cola_io.specs.Buffered.{HasNoFeed, kept_part, line_held, part_held};
 ghost use Rattle.cola_io.specs.Finished.{Finished, LastFinished, CutOff};
 
@@ -202,16 +202,18 @@ impl Buffer {
         }
     }
 
-    /// Reads at most `most` bytes behind the beginning of the next line, and answers how many.
+    /// Reads bytes behind the beginning of the next line, once, and answers how many. It asks for 512
+    /// of them, or for `most` where that is fewer.
     pub fn fill<S: Source>(&mut self, source: &mut S, most: u64) -> Result<usize, SourceFault>
         requires some { 0 < most }
         requires rest { self.old.rest ≡ [] }
         ensures kept { self.new ≡ record self.old { rest = self.new.rest } }
+        ensures once { S.reads source.old (min 512 most) (given result self.new.rest) source.new }
         ensures bytes { IfOk result (λ n. (length self.new.rest ≡ n) × (n ≤ most)) }
         ensures taken { IfOk result (λ n. Taken self.new.rest (S.left source.old) (S.left source.new)) }
         ensures end { IfOk result (λ n. n ≡ 0 → IsAtEnd (S.left source.new)) }
         ensures err { OnErr result ((self.new.rest ≡ []) × (S.left source.new ≡ S.left source.old)) }
-        ensures cause { HasCause result (S.faults source.old) (S.faults source.new) }
+        ensures faults_counted { CountsFaults result (S.faults source.old) (S.faults source.new) }
         ensures faults_kept { S.faults source.old ≤ S.faults source.new }
     {
         self.from = 0;

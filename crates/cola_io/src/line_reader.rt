@@ -1,9 +1,7 @@
 //! The lines of a source.
-ghost use Rattle.std.specs.Prelude.{◌≡◌, ◌≤◌, ℕ, List, [], true, false, unwrap_or};
-ghost use Rattle.std.specs.Io.KnownBytes.{IsAtEnd};
-ghost use Rattle.cola_io.specs.Streams.{Taken};
+ghost use Rattle.std.specs.Prelude.{◌≡◌, ◌≤◌, [], unwrap_or};
 ghost use Rattle.cola_io.specs.Reading.{fresh};
-ghost use Rattle.cola_io.specs.NextLine.{NextLine, FaultHasCause, is_settled};
+ghost use Rattle.cola_io.specs.Calling.{Calls, faults_after};
 
 use super::buffer::Buffer;
 use super::next::Next;
@@ -58,15 +56,14 @@ impl LineReader {
     ///
     /// `Line` and `TooLong` answer a line that was taken whole, of at most 160 bytes before its end,
     /// or of more. `End` comes exactly where a read answered 0 and no byte is left; the source is not
-    /// asked again. `Fault` comes only where the source's count of faults rose in this call; a later
-    /// call goes on with what was taken. `Budget` comes exactly where all allowed bytes were taken;
-    /// the source is not asked for more, so an input of exactly so many bytes ends in it. At `Fault`
-    /// and `Budget` no line that a line feed ends is left among the bytes taken.
+    /// asked again. `Fault` comes exactly where the last read was refused, and then the source's count
+    /// of faults is one more; a later call goes on with what was taken. `Budget` comes exactly where
+    /// all allowed bytes were taken; the source is not asked for more, so an input of exactly so many
+    /// bytes ends in it. At `Fault` and `Budget` no line that a line feed ends is left among the bytes
+    /// taken. The source is read only where no whole line is left of them.
     pub fn next_line<S: Source>(&mut self, source: &mut S) -> Next
-        ensures lines { (took : List ℕ) × Taken took (S.left source.old) (S.left source.new) × NextLine self.old took result self.new }
-        ensures end { self.old.ended ≡ false → self.new.ended ≡ true → IsAtEnd (S.left source.new) }
-        ensures unasked { is_settled self.old ≡ true → source.new ≡ source.old }
-        ensures cause { FaultHasCause result (S.faults source.old) (S.faults source.new) }
+        ensures lines { Calls S.Source self.old source.old result self.new source.new }
+        ensures faults { S.faults source.new ≡ faults_after result (S.faults source.old) }
         ensures faults_kept { S.faults source.old ≤ S.faults source.new }
     {
         self.buffer.forget();

@@ -1,7 +1,7 @@
 //! Where bytes go.
 ghost use Rattle.std.specs.Prelude.{◌≡◌, ◌<◌, ◌≤◌, ℕ, List, Option, length, take, IfOk, OnOk, OnErr};
-ghost use Rattle.cola_outside.specs.Faults.{HasCause};
 ghost use Rattle.cola_io.specs.Streams.{Appended, WriteAppends};
+ghost use Rattle.cola_io.specs.Counted.{CountsFaults};
 
 /// A sink could not be written. Nothing was appended to it.
 #[derive(Clone, Copy, Debug, Drop, PartialEq, Eq)]
@@ -18,24 +18,24 @@ pub trait Sink {
 
     /// Appends bytes of the front of `from`, which is not empty, and answers how many: at least one.
     ///
-    /// An `Err` comes only where the count of faults rose.
+    /// The count of faults stays at `Ok`, and is one more at `Err`.
     fn write(&mut self, from: &[u8]) -> Result<usize, SinkFault>
         requires { 0 < length from.now }
         ensures some { IfOk result (λ n. 0 < n) }
         ensures bound { IfOk result (λ n. n ≤ length from.now) }
         ensures bytes { WriteAppends result from.now (written self.old) (written self.new) }
-        ensures cause { HasCause result (faults self.old) (faults self.new) }
+        ensures faults_counted { CountsFaults result (faults self.old) (faults self.new) }
         ensures faults_kept { faults self.old ≤ faults self.new };
 }
 
 /// Appends all of `bytes`, by as many writes as the sink needs. At a fault, which ends it, some
 /// bytes of their front were appended.
 ///
-/// An `Err` comes only where the sink's count of faults rose.
+/// The sink's count of faults stays at `Ok`, and is one more at `Err`.
 pub fn put_all<K: Sink>(sink: &mut K, bytes: &[u8]) -> Result<(), SinkFault>
     ensures all { OnOk result (Appended bytes.now (K.written sink.old) (K.written sink.new)) }
     ensures front { OnErr result ((n : ℕ) × (n ≤ length bytes.now) × Appended (take n bytes.now) (K.written sink.old) (K.written sink.new)) }
-    ensures cause { HasCause result (K.faults sink.old) (K.faults sink.new) }
+    ensures faults_counted { CountsFaults result (K.faults sink.old) (K.faults sink.new) }
     ensures faults_kept { K.faults sink.old ≤ K.faults sink.new }
 {
     let mut done = 0;

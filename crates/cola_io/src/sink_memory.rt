@@ -1,7 +1,7 @@
 //! A sink over bytes in memory.
-ghost use Rattle.std.specs.Prelude.{◌≡◌, ◌<◌, ◌≤◌, ◌+◌, ◌-◌, ◌^◌, ◌↔◌, ◌⊎◌, [], min, length, Some, true, vec_len, vec_capacity, IfOk, IsErr};
-ghost use Rattle.cola_outside.specs.Faults.{HasCause, Rose};
+ghost use Rattle.std.specs.Prelude.{◌≡◌, ◌<◌, ◌≤◌, ◌+◌, ◌-◌, ◌^◌, ◌↔◌, ◌⊎◌, [], min, length, Some, true, vec_len, vec_capacity, IfOk, IsErr, MatchResult};
 ghost use Rattle.cola_io.specs.Streams.{WriteAppends};
+ghost use Rattle.cola_io.specs.Counted.{CountsFaults, after_fault};
 ghost use Rattle.cola_io.specs.FailedCalls.{is_listed};
 
 use super::{Sink, SinkFault};
@@ -42,7 +42,7 @@ impl MemorySink {
 
     /// Counts a fault.
     fn fault(&mut self) -> SinkFault
-        ensures rose { Rose self.old.faults self.new.faults }
+        ensures faults { self.new.faults ≡ after_fault self.old.faults }
         ensures kept { self.old.faults ≤ self.new.faults }
         ensures bytes { self.new.bytes ≡ self.old.bytes }
         ensures room { self.new.room ≡ self.old.room }
@@ -71,11 +71,11 @@ impl Sink for MemorySink {
         ensures some { IfOk result (λ n. 0 < n) }
         ensures bound { IfOk result (λ n. n ≤ length from.now) }
         ensures bytes { WriteAppends result from.now (Some self.old.bytes.items) (Some self.new.bytes.items) }
-        ensures cause { HasCause result self.old.faults self.new.faults }
+        ensures faults_counted { CountsFaults result self.old.faults self.new.faults }
         ensures faults_kept { self.old.faults ≤ self.new.faults }
         ensures fails { IsErr result ↔ ((self.old.room ≡ 0) ⊎ (is_listed self.old.failing.items self.new.calls ≡ true)) }
         ensures amount { IfOk result (λ n. n ≡ min (length from.now) self.old.room) }
-        ensures room { IfOk result (λ n. self.new.room + n ≡ self.old.room) }
+        ensures room { MatchResult result (λ n. self.new.room + n ≡ self.old.room) (λ _. self.new.room ≡ self.old.room) }
         ensures counted { self.new.calls ≡ min (self.old.calls + 1) (2 ^ 64 - 1) }
         ensures same { self.new.failing ≡ self.old.failing }
     {

@@ -1,8 +1,8 @@
 //! A sink over a writer of std.
 ghost use Rattle.std.specs.Prelude.{◌≡◌, ◌<◌, ◌≤◌, None, length, IfOk};
 ghost use Rattle.std.specs.Io.KnownBytes.{WriteAppends};
-ghost use Rattle.cola_outside.specs.Faults.{HasCause};
 ghost use Rattle.cola_io.specs.Streams as streams;
+ghost use Rattle.cola_io.specs.Counted.{CountsFaults};
 
 use super::{Sink, SinkFault};
 use cola_outside::one_more;
@@ -35,7 +35,7 @@ impl<W: Write> Sink for StdSink<W> {
         requires { 0 < length from.now }
         ensures some { IfOk result (λ n. 0 < n) }
         ensures bound { IfOk result (λ n. n ≤ length from.now) }
-        ensures cause { HasCause result self.old.faults self.new.faults }
+        ensures faults_counted { CountsFaults result self.old.faults self.new.faults }
         ensures faults_kept { self.old.faults ≤ self.new.faults }
         ensures bytes { streams.WriteAppends result from.now None None }
         ensures inner { WriteAppends (W.contents self.old.inner) (W.contents self.new.inner) result from.now }

@@ -1,8 +1,8 @@
 //! Where bytes come from.
 ghost use Rattle.std.specs.Prelude.{◌≡◌, ◌<◌, ◌≤◌, ℕ, List, Option, length, IfOk};
 ghost use Rattle.std.specs.Io.KnownBytes.{IsAtEnd};
-ghost use Rattle.cola_outside.specs.Faults.{HasCause};
-ghost use Rattle.cola_io.specs.Streams.{ReadTakes};
+ghost use Rattle.cola_io.specs.Streams.{ReadTakes, given};
+ghost use Rattle.cola_io.specs.Counted.{CountsFaults};
 
 /// A source could not be read. Nothing was taken from it.
 #[derive(Clone, Copy, Debug, Drop, PartialEq, Eq)]
@@ -17,15 +17,20 @@ pub trait Source {
 
     ghost faults: { Self → ℕ };
 
+    /// The source was asked for so many bytes, gave these or refused, and is that source afterwards:
+    /// its own meaning of one read.
+    ghost reads: { Self → ℕ → Option (List ℕ) → Self → Type 0 };
+
     /// Places the next bytes at the front of `into`, which is not empty, and answers how many: at
     /// least one, or 0 at the end. What `into` holds behind them, and after a fault, is any bytes.
     ///
-    /// An `Err` comes only where the count of faults rose.
+    /// The count of faults stays at `Ok`, and is one more at `Err`.
     fn read(&mut self, into: &mut [u8]) -> Result<usize, SourceFault>
         requires { 0 < length into.old }
         ensures bound { IfOk result (λ n. n ≤ length into.new) }
         ensures bytes { ReadTakes result into.new (left self.old) (left self.new) }
         ensures end { IfOk result (λ n. n ≡ 0 → IsAtEnd (left self.new)) }
-        ensures cause { HasCause result (faults self.old) (faults self.new) }
+        ensures once { reads self.old (length into.old) (given result into.new) self.new }
+        ensures faults_counted { CountsFaults result (faults self.old) (faults self.new) }
         ensures faults_kept { faults self.old ≤ faults self.new };
 }

@@ -1,8 +1,8 @@
 //! A source over bytes in memory.
-ghost use Rattle.std.specs.Prelude.{◌≡◌, ◌<◌, ◌≤◌, ◌+◌, ◌-◌, ◌^◌, ◌↔◌, IsTrue, min, drop, length, take, Some, true, vec_len, IfOk, IsErr};
+ghost use Rattle.std.specs.Prelude.{◌≡◌, ◌<◌, ◌≤◌, ◌+◌, ◌-◌, ◌^◌, ◌↔◌, IsTrue, min, drop, length, take, Some, true, vec_len, IfOk, OnErr, IsErr};
 ghost use Rattle.std.specs.Io.KnownBytes.{IsAtEnd};
-ghost use Rattle.cola_outside.specs.Faults.{HasCause};
 ghost use Rattle.cola_io.specs.Streams.{ReadTakes};
+ghost use Rattle.cola_io.specs.Counted.{CountsFaults};
 ghost use Rattle.cola_io.specs.FailedCalls.{is_listed, failed_calls};
 
 use super::{Source, SourceFault};
@@ -38,16 +38,20 @@ impl Source for MemorySource {
 
     ghost faults = { λ s. failed_calls s.failing.items s.calls };
 
+    // Each read is one more call.
+    ghost reads = { λ old _ _ new. new.calls ≡ min (old.calls + 1) (2 ^ 64 - 1) };
+
     fn read(&mut self, into: &mut [u8]) -> Result<usize, SourceFault>
         requires { 0 < length into.old }
         ensures bound { IfOk result (λ n. n ≤ length into.new) }
         ensures bytes { ReadTakes result into.new (Some (drop self.old.at self.old.bytes.items)) (Some (drop self.new.at self.new.bytes.items)) }
         ensures end { IfOk result (λ n. n ≡ 0 → IsAtEnd (Some (drop self.new.at self.new.bytes.items))) }
-        ensures cause { HasCause result (failed_calls self.old.failing.items self.old.calls) (failed_calls self.new.failing.items self.new.calls) }
+        ensures faults_counted { CountsFaults result (failed_calls self.old.failing.items self.old.calls) (failed_calls self.new.failing.items self.new.calls) }
         ensures faults_kept { failed_calls self.old.failing.items self.old.calls ≤ failed_calls self.new.failing.items self.new.calls }
         ensures fails { IsErr result ↔ ((self.old.calls < 2 ^ 64 - 1) × (is_listed self.old.failing.items (self.old.calls + 1) ≡ true)) }
         ensures amount { IfOk result (λ n. n ≡ min (length into.old) (vec_len self.old.bytes - self.old.at)) }
         ensures counted { self.new.calls ≡ min (self.old.calls + 1) (2 ^ 64 - 1) }
+        ensures at { OnErr result (self.new.at ≡ self.old.at) }
         ensures same { (self.new.bytes ≡ self.old.bytes) × (self.new.failing ≡ self.old.failing) }
     {
         if self.is_failing() {

@@ -1,8 +1,8 @@
 //! A source over a reader of std.
 ghost use Rattle.std.specs.Prelude.{◌≡◌, ◌<◌, ◌≤◌, None, length, IfOk};
 ghost use Rattle.std.specs.Io.KnownBytes.{IsAtEnd, ReadConsumes};
-ghost use Rattle.cola_outside.specs.Faults.{HasCause};
 ghost use Rattle.cola_io.specs.Streams.{ReadTakes};
+ghost use Rattle.cola_io.specs.Counted.{CountsFaults};
 
 use super::{Source, SourceFault};
 use cola_outside::one_more;
@@ -30,11 +30,14 @@ impl<R: Read> Source for StdSource<R> {
 
     ghost faults = { λ s. s.faults };
 
+    // What one read is, the reader does not tell.
+    ghost reads = { λ _ _ _ _. Unit {0} };
+
     // `inner` says what becomes of the bytes of the reader, where that tells them.
     fn read(&mut self, into: &mut [u8]) -> Result<usize, SourceFault>
         requires { 0 < length into.old }
         ensures bound { IfOk result (λ n. n ≤ length into.new) }
-        ensures cause { HasCause result self.old.faults self.new.faults }
+        ensures faults_counted { CountsFaults result self.old.faults self.new.faults }
         ensures faults_kept { self.old.faults ≤ self.new.faults }
         ensures bytes { ReadTakes result into.new None None }
         ensures end { IfOk result (λ n. n ≡ 0 → IsAtEnd None) }

@@ -7,6 +7,7 @@ use super::{
 };
 use arrayvec::ArrayVec;
 use std::alloc::{AllocError, Global};
+use std::io::{self, Read, Write};
 use std::test::Fail;
 
 /// Gives one byte at a time.
@@ -20,6 +21,8 @@ impl Source for Bytewise {
     ghost left = { λ _. None };
 
     ghost faults = { λ _. 0 };
+
+    ghost reads = { λ _ _ _ _. Unit {0} };
 
     fn read(&mut self, into: &mut [u8]) -> Result<usize, SourceFault> {
         if self.at >= self.bytes.len() {
@@ -44,6 +47,40 @@ impl Sink for Slow {
 
     fn write(&mut self, from: &[u8]) -> Result<usize, SinkFault> {
         self.sink.write(&from[..1])
+    }
+}
+
+/// A reader and a writer whose first call is interrupted, whose second one moves no byte, and whose
+/// third one moves one.
+#[derive(Drop)]
+struct Slowly {
+    calls: u64,
+}
+
+impl Slowly {
+    fn next(&mut self) -> io::Result<usize> {
+        self.calls = self.calls.saturating_add(1);
+        match self.calls {
+            1 => Err(io::Error::from(io::ErrorKind::Interrupted)),
+            2 => Ok(0),
+            _ => Ok(1),
+        }
+    }
+}
+
+impl Read for Slowly {
+    fn read(&mut self, into: &mut [u8]) -> io::Result<usize> {
+        Ok(self.next()?.min(into.len()))
+    }
+}
+
+impl Write for Slowly {
+    fn write(&mut self, from: &[u8]) -> io::Result<usize> {
+        Ok(self.next()?.min(from.len()))
+    }
+
+    fn flush(&mut self) -> io::Result<()> {
+        Ok(())
     }
 }
 
@@ -168,5 +205,20 @@ fn sinks_with_room(rt: HostRuntime) -> Result<(), Fail> {
     let mut real = StdSink::new(held);
     assert_eq!(rt; put_all(&mut real, b"ab"), Ok(()));
     assert_eq!(rt; put_all(&mut real, b"c"), Err(SinkFault));
+    Ok(())
+}
+
+// No clause can say how often the reader or the writer of std is called.
+#[test]
+fn one_call_of_std_for_each(rt: HostRuntime) -> Result<(), Fail> {
+    let mut source = StdSource::new(Slowly { calls: 0 });
+    let mut into = [0; 8];
+    assert_eq!(rt; source.read(&mut into), Err(SourceFault));
+    assert_eq!(rt; source.read(&mut into), Ok(0));
+    assert_eq!(rt; source.read(&mut into), Ok(1));
+    let mut sink = StdSink::new(Slowly { calls: 0 });
+    assert_eq!(rt; sink.write(b"abc"), Err(SinkFault));
+    assert_eq!(rt; sink.write(b"abc"), Err(SinkFault));
+    assert_eq!(rt; sink.write(b"abc"), Ok(1));
     Ok(())
 }

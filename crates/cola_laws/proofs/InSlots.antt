@@ -1,39 +1,23 @@
 -- Flipping the marks flips the chain and moves no cell; and the marks of a sound chain meet the rules on marks.
-use Rattle.std.proofs.Common.{get_or, drop, ◌<◌, ◌≡◌, inl, inr, ℕ, zero, suc, ◌+◌, ◌/◌, ◌^◌, ◌≤◌, Bool, true, false, not, cond, List, [], ◌∷◌, length, refl, ap, subst, arith, Option, ◌-◌, ◌∙◌, sym}
+use Rattle.std.proofs.Common.{◌≡◌, inl, inr, ℕ, suc, ◌+◌, ◌/◌, ◌^◌, ◌≤◌, Bool, true, false, not, cond, List, [], ◌∷◌, length, refl, ap, subst, arith, Option, ◌-◌}
 use mathlib.Core.Path.{ap₂}
-use Rattle.std.proofs.lemmas.Bool.{cases_Bool}
+use Rattle.std.proofs.lemmas.Bool.{cases_Bool, false≢true}
 use Rattle.std.specs.declared.cmp.Ordering.{Ordering}
 use Rattle.std.specs.Cmp.{IsTotalOrder}
-use Rattle.cola_clock.specs.Clock.{period, is_odd, is_over, works, flips, ends, visible_slot}
-use Rattle.cola_clock.proofs.Places.{bit_cases}
-use Rattle.cola_clock.proofs.Laws.{is_odd-next_flip, is_odd-next_stay, before_else}
+use Rattle.cola_clock.specs.Clock.{period, is_odd, is_before, is_over, works, flips, ends, visible_slot}
+use Rattle.cola_clock.specs.Marks.{Marks, marks_after, all_marks_after, AreCursorsAtRest, AreMarksIdle, sample_end, AreAllMarks, AreChainMarks}
+use Rattle.cola_clock.proofs.Laws.{before_else}
+use Rattle.cola_clock.proofs.Wrap.{slot-turns, slot-stays}
 use Rattle.cola_runs.specs.Cells.{Cell}
 use Rattle.cola_runs.proofs.Samples.{sample_length}
 use Rattle.cola_laws.specs.Chain.{Level, part_of, build_of, visibles, next_runs, first_keys}
-use Rattle.cola_laws.specs.Sound.{AreVisible, AreKept, IsIdle, IsAtRest, IsPaced, ArePaced, IsSound}
+use Rattle.cola_laws.specs.Sound.{AreVisible, AreKept, IsIdle, IsAtRest, IsPaced, ArePaced, IsSoundFrom, IsSound}
 use Rattle.cola_laws.specs.Mutation.{turned, left_window, level_after, levels_after, IsWorkable, AreWorkable}
-use Rattle.cola_laws.specs.Slots.{Marks, AreHeld, AreLevelMarks, marks_after, all_marks_after, marks_of, all_marks_of, level_of, levels_of, AreCursorsAtRest, AreMarksIdle, sample_end, AreAllMarks, AreChainMarks}
+use Rattle.cola_laws.specs.Slots.{AreHeld, marks_of, all_marks_of, level_of, levels_of}
 use Rattle.cola_laws.proofs.Lengths.{room-below, fit-length, visible-length-of, next-length}
 use Rattle.cola_laws.proofs.Workable.{all-workable, done-fits}
 
 -- ---- flips in slots
-
--- the slot by the parity of the period
-pub slot-of_parity : (t j : ℕ) → visible_slot t j ≡ cond (is_odd (period t j)) 1 0
-unfolding visible_slot is_odd
-slot-of_parity t j = elim (bit_cases (period t j)) [ inl e ↦ rw e refl | inr e ↦ rw e refl ]
-
--- a level that flips has its visible run in its other slot then, and one that stays in the same
-turned-slot : (odd : Bool) → cond (not odd) 1 0 ≡ 1 - cond odd 1 0
-turned-slot true = refl
-turned-slot false = refl
-
-slot-turns : (t j : ℕ) → flips t j ≡ true → visible_slot (suc t) j ≡ 1 - visible_slot t j
-slot-turns t j flip =
-    slot-of_parity (suc t) j ∙ ap (λ (b : Bool). cond b 1 0) (is_odd-next_flip t j flip) ∙ turned-slot (is_odd (period t j)) ∙ ap (λ (n : ℕ). 1 - n) (sym (slot-of_parity t j))
-
-slot-stays : (t j : ℕ) → flips t j ≡ false → visible_slot (suc t) j ≡ visible_slot t j
-slot-stays t j stay = slot-of_parity (suc t) j ∙ ap (λ (b : Bool). cond b 1 0) (is_odd-next_stay t j stay) ∙ sym (slot-of_parity t j)
 
 module _ {K V : Type 0} (cells : ℕ → ℕ → ℕ → List (Cell K V)) (none : (j s : ℕ) → cells j s 0 ≡ []) where
   turns-level : (t j : ℕ) (m : Marks) → flips t j ≡ true →
@@ -100,10 +84,10 @@ module _ {K V : Type 0} where
 
 module _ {K V : Type 0} {cmp : K → K → Ordering} (o : IsTotalOrder cmp) (most : ℕ) where
   -- the shadow of each level fits its slot, in each phase
-  shadow-fits : (t j : ℕ) (above : List (Cell K V)) (l : Level K V) (ls : List (Level K V)) → IsPaced cmp 0 t (suc j) above l ls →
+  shadow-fits : (ahead t j : ℕ) (above : List (Cell K V)) (l : Level K V) (ls : List (Level K V)) → IsPaced cmp ahead t (suc j) above l ls →
       (works t (suc j) ≡ true → IsWorkable cmp (part_of (is_odd (period t (suc j))) ls) (suc j) l.visible above (first_keys (next_runs t (suc j) ls))) →
       (is_over t (suc j) ≡ true → length l.shadow ≤ 2 ^ (suc j + 2)) → length l.shadow ≤ 2 ^ (suc j + 2)
-  shadow-fits t j above l ls p w f =
+  shadow-fits ahead t j above l ls p w f =
       elim (cases_Bool (works t (suc j))) [
         | inl work ↦ done-fits o _ l.visible above _ (suc j) (build_of l) (w work).buildable (p.inside work).under_way
         | inr rests ↦ elim (cases_Bool (is_over t (suc j))) [
@@ -112,17 +96,18 @@ module _ {K V : Type 0} {cmp : K → K → Ordering} (o : IsTotalOrder cmp) (mos
         ]
       ]
 
-  all-marks : (t j : ℕ) (above : List (Cell K V)) (ls : List (Level K V)) → AreVisible cmp most t (suc j) (visibles ls) → ArePaced cmp 0 t (suc j) above ls → AreKept cmp most t (suc j) above ls →
-      AreWorkable cmp t (suc j) above ls → most ≤ 2 ^ (suc j + length ls + 1) → AreAllMarks t (suc j) (length above) (all_marks_of ls)
-  all-marks t j above [] v p kept w room = tt
-  all-marks t j above (l ∷ ls) v p kept w room = (
+  all-marks : (ahead t j : ℕ) (above : List (Cell K V)) (ls : List (Level K V)) → AreVisible cmp most t (suc j) (visibles ls) → ArePaced cmp ahead t (suc j) above ls → AreKept cmp most t (suc j) above ls →
+      AreWorkable cmp t (suc j) above ls → most ≤ 2 ^ (suc j + length ls + 1) → AreAllMarks ahead t (suc j) (length above) (all_marks_of ls)
+  all-marks ahead t j above [] v p kept w room = tt
+  all-marks ahead t j above (l ∷ ls) v p kept w room = (
     record {
       visible_fits = visible-length-of cmp most t (suc j) l ls v room;
-      shadow_fits = shadow-fits t j above l ls p.0 w.0
+      shadow_fits = shadow-fits ahead t j above l ls p.0 w.0
           (λ over. fit-length cmp most (not (is_odd (period t (suc j)))) (suc j) l.shadow ls (first_keys (next_runs t (suc j) ls)) (kept.0.over over).fit
           (next-length cmp most t (suc j) l.visible ls v.1 kept.1 (room-below most (suc j) (length ls) room)) room);
+      first = λ zero_level. absurd (omega arith);
       before = λ before. idle-marks l (p.0.before before);
-      inside = λ work.
+      inside = λ some work.
           let is = p.0.inside work in
           let e = keys-end t (suc j) ls in
           let enough = is.enough in
@@ -137,42 +122,32 @@ module _ {K V : Type 0} {cmp : K → K → Ordering} (o : IsTotalOrder cmp) (mos
           };
       after = λ over. rest-marks l (p.0.after over);
     },
-    all-marks t (suc j) l.visible ls v.1 p.1 kept.1 w.1 (room-below most (suc j) (length ls) room),
+    all-marks ahead t (suc j) l.visible ls v.1 p.1 kept.1 w.1 (room-below most (suc j) (length ls) room),
   )
 
-  -- the marks of a sound chain meet the rules
-  pub sound-marks : (t : ℕ) (map : K → Option V) (top : Level K V) (ls : List (Level K V)) → IsSound cmp most t map top ls → most ≤ 2 ^ (length ls + 2) →
-      AreChainMarks t (marks_of top) (all_marks_of ls)
-  sound-marks t map top ls s room =
+  -- the marks of a sound chain meet the rules, below level 0 also where its levels are steps ahead
+  pub sound-ahead : (ahead t : ℕ) (map : K → Option V) (top : Level K V) (ls : List (Level K V)) → IsSoundFrom cmp most ahead t map top ls → most ≤ 2 ^ (length ls + 2) →
+      AreAllMarks ahead t 1 (length top.visible) (all_marks_of ls)
+  sound-ahead ahead t map top ls s room =
       let e : length ls + 2 ≡ 0 + suc (length ls) + 1 = omega arith in
       let room' : most ≤ 2 ^ (0 + suc (length ls) + 1) = subst (λ (x : ℕ). most ≤ 2 ^ x) e room in
-      record {
-        top_fits = visible-length-of cmp most t 0 top ls s.sound.visible room';
-        top_idle = idle-marks top s.idle;
-        all_below = all-marks t 0 top.visible ls s.sound.visible.1 s.sound.paced s.sound.kept
-            (all-workable o most t 0 top.visible ls s.sound.visible s.sound.few s.sound.kept room') (room-below most 0 (length ls) room');
-      }
+      all-marks ahead t 0 top.visible ls s.visible.1 s.paced s.kept
+      (all-workable o most t 0 top.visible ls s.visible s.few s.kept room') (room-below most 0 (length ls) room')
 
--- ---- the rules by the number of a level
-
--- the marks of each level, from those of the level above on
-pub marks-at : (t i : ℕ) (above : Marks) (ms : List Marks) (d : Marks) → AreAllMarks t i above.visible ms → (n : ℕ) → n < length ms →
-    AreLevelMarks t (i + n) (get_or (above ∷ ms) n d).visible (get_or ms n d) (drop (suc n) ms)
-marks-at t i above [] d h n less = absurd (omega arith)
-marks-at t i above (m ∷ ms) d h zero less = let e : i ≡ i + 0 = omega arith in subst (λ (x : ℕ). AreLevelMarks t x above.visible m ms) e h.0
-marks-at t i above (m ∷ ms) d h (suc n) less =
-    let e : suc i + n ≡ i + suc n = omega arith in
-    subst (λ (x : ℕ). AreLevelMarks t x (get_or (m ∷ ms) n d).visible (get_or ms n d) (drop (suc n) ms)) e (marks-at t (suc i) m ms d h.1 n (omega arith))
-
--- how many keys a level samples, by the number of the level below it; none where there is none
-pub end-at : (odd : Bool) (n : ℕ) (ms : List Marks) (d : Marks) → n < length ms → sample_end odd (drop n ms) ≡ cond odd (get_or ms n d).shadow (get_or ms n d).visible / 8
-end-at odd zero [] d less = absurd (omega arith)
-end-at odd (suc n) [] d less = absurd (omega arith)
-end-at odd zero (m ∷ ms) d less = refl
-end-at odd (suc n) (m ∷ ms) d less = end-at odd n ms d (omega arith)
-
-pub end-past : (odd : Bool) (n : ℕ) (ms : List Marks) → length ms ≤ n → sample_end odd (drop n ms) ≡ 0
-end-past odd zero [] past = refl
-end-past odd (suc n) [] past = refl
-end-past odd zero (m ∷ ms) past = absurd (omega arith)
-end-past odd (suc n) (m ∷ ms) past = end-past odd n ms (omega arith)
+  pub sound-marks : (t : ℕ) (map : K → Option V) (top : Level K V) (ls : List (Level K V)) → IsSound cmp most t map top ls → most ≤ 2 ^ (length ls + 2) →
+      AreChainMarks t (marks_of top ∷ all_marks_of ls)
+  unfolding is_before is_over
+  sound-marks t map top ls s room =
+      let e : length ls + 2 ≡ 0 + suc (length ls) + 1 = omega arith in
+      let idle = idle-marks top s.idle in
+      let empty = idle.empty in (
+        record {
+          visible_fits = visible-length-of cmp most t 0 top ls s.sound.visible (subst (λ (x : ℕ). most ≤ 2 ^ x) e room);
+          shadow_fits = omega arith;
+          first = λ _. idle;
+          before = λ early. absurd (false≢true early);
+          inside = λ some _. absurd (omega arith);
+          after = λ over. absurd (false≢true over);
+        },
+        sound-ahead 0 t map top ls s.sound room,
+      )

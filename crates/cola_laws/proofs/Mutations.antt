@@ -40,6 +40,16 @@ module _ {K V : Type 0} (cmp : K → K → Ordering) (ahead : ℕ) where
     advanced-alike t (suc j) l.visible ls ms h.1,
   )
 
+  -- so what the level above them merges stays
+  pub advanced-next_runs : (t j : ℕ) (above : List (Cell K V)) (ls ms : List (Level K V)) → AreAdvanced cmp ahead t (suc j) above ls ms → next_runs t j ls ≡ next_runs t j ms
+  advanced-next_runs t j above ls ms h = alike-next_runs t t j ls ms refl (advanced-alike t j above ls ms h)
+
+  pub advanced-part : (t j : ℕ) (odd : Bool) (above : List (Cell K V)) (ls ms : List (Level K V)) → AreAdvanced cmp ahead t (suc j) above ls ms → part_of odd ls ≡ part_of odd ms
+  advanced-part t j odd above ls ms h = alike-part t t (suc j) odd odd ls ms refl (advanced-alike t j above ls ms h)
+
+  pub advanced-visibles : (t j : ℕ) (above : List (Cell K V)) (ls ms : List (Level K V)) → AreAdvanced cmp ahead t (suc j) above ls ms → visibles ls ≡ visibles ms
+  advanced-visibles t j above ls ms h = alike-visibles t t (suc j) ls ms (advanced-alike t j above ls ms h)
+
   advanced-working : (t j : ℕ) (above : List (Cell K V)) (l m : Level K V) (ls ms : List (Level K V)) → works t (suc j) ≡ true →
       IsPaced cmp 0 t (suc j) above l ls → IsAdvanced cmp ahead t (suc j) above l ls m → AreAlike t t (suc (suc j)) ls ms →
       IsWorking cmp (part_of (is_odd (period t (suc j))) ms) m.visible above (first_keys (next_runs t (suc j) ms)) (28 * window_step t (suc j) + ahead) (build_of m)

@@ -5,11 +5,13 @@ use Rattle.std.specs.declared.cmp.Ordering.{Ordering}
 use Rattle.std.specs.Cmp.{IsTotalOrder}
 use Rattle.cola_clock.specs.Clock.{visible_slot, SameSchedule}
 use Rattle.cola_clock.proofs.Wrap.{schedule-wrap}
+use Rattle.cola_clock.proofs.MarkLaws.{length-after}
 use Rattle.cola_runs.specs.Cells.{Item, Cell}
 use Rattle.cola_laws.specs.Chain.{Level, updated}
 use Rattle.cola_laws.specs.Sound.{HasAtMost, IsSound}
 use Rattle.cola_laws.specs.Mutation.{AreAdvanced, IsBuilt, level_after, levels_after}
-use Rattle.cola_laws.specs.Slots.{Marks, marks_after, all_marks_after, level_of, levels_of}
+use Rattle.cola_clock.specs.Marks.{Marks, marks_after, all_marks_after}
+use Rattle.cola_laws.specs.Slots.{level_of, levels_of}
 use Rattle.cola_laws.proofs.InSlots.{flips-level, flips-move_nothing}
 use Rattle.cola_laws.proofs.Mutations.{mutation}
 use Rattle.cola_laws.proofs.Wraps.{clock-wraps}
@@ -27,10 +29,6 @@ module _ {K V : Type 0} (cells : ℕ → ℕ → ℕ → List (Cell K V)) where
   levels_of-length : (t j : ℕ) (ms : List Marks) → length (levels_of cells t j ms) ≡ length ms
   levels_of-length t j [] = refl
   levels_of-length t j (m ∷ ms) = ap suc (levels_of-length t (suc j) ms)
-
-marks_after-length : (t j : ℕ) (ms : List Marks) → length (all_marks_after t j ms) ≡ length ms
-marks_after-length t j [] = refl
-marks_after-length t j (m ∷ ms) = ap suc (marks_after-length t (suc j) ms)
 
 module _ {K V : Type 0} {cmp : K → K → Ordering} (o : IsTotalOrder cmp) (most : ℕ) where
   -- a chain in slots at a clock of the wrap
@@ -64,7 +62,7 @@ module _ {K V : Type 0} {cmp : K → K → Ordering} (o : IsTotalOrder cmp) (mos
       let in_slots : IsSound cmp most (suc t) (updated cmp k item map) (level_of after (suc t) 0 (marks_after t 0 n)) (levels_of after (suc t) 1 (all_marks_after t 1 ns)) =
       subst (λ (x : Level K V). IsSound cmp most (suc t) (updated cmp k item map) x (levels_of after (suc t) 1 (all_marks_after t 1 ns))) (sym (flips-level after none t 0 n))
       (subst (λ (xs : List (Level K V)). IsSound cmp most (suc t) (updated cmp k item map) (level_after t 0 (level_of after t 0 n)) xs) (sym (flips-move_nothing after none t 1 ns)) next) in
-      let c : length (all_marks_after t 1 ns) ≡ length ns = marks_after-length t 1 ns in
+      let c : length (all_marks_after t 1 ns) ≡ length ns = length-after t 1 ns in
       subst (λ (x : ℕ). IsSound cmp most (suc t % 2 ^ suc x) (updated cmp k item map)
       (level_of after (suc t % 2 ^ suc x) 0 (marks_after t 0 n)) (levels_of after (suc t % 2 ^ suc x) 1 (all_marks_after t 1 ns))) c
       (wrapped-in-slots after (suc t) (updated cmp k item map) (marks_after t 0 n) (all_marks_after t 1 ns) in_slots)

@@ -23,10 +23,11 @@ pub use flips::{
 };
 pub use mutation::{
     empty_chain_is_sound, fewer_steps_count, loaded_chain_is_sound, one_level_advances,
-    one_mutation_keeps, refused_mutation_keeps, steps_keep_soundness, whole_runs_keep,
+    one_mutation_keeps, refused_mutation_keeps, sources_stay_while_levels_work,
+    steps_keep_soundness, whole_runs_keep,
 };
 pub use reading::{clock_may_wrap, few_live_keys, sound_reads, visible_runs_are_searched};
 pub use slots::{
-    clock_may_wrap_in_slots, flips_move_no_cell, levels_have_their_marks, marks_by_level,
-    one_mutation_in_slots, sound_marks,
+    clock_may_wrap_in_slots, flips_move_no_cell, levels_have_their_marks, one_mutation_in_slots,
+    sound_marks,
 };

@@ -1,12 +1,12 @@
 //! One mutation, a refused one, and whole runs of mutations.
 
-ghost use Rattle.std.specs.Prelude.{◌≡◌, ℕ, ◌+◌, ◌^◌, ◌≤◌, suc, true, false, List, [], ◌∷◌, length};
+ghost use Rattle.std.specs.Prelude.{◌≡◌, ℕ, ◌+◌, ◌^◌, ◌≤◌, suc, true, false, Bool, List, [], ◌∷◌, length};
 ghost use Rattle.std.specs.declared.option.Option.{Option};
 ghost use Rattle.std.specs.declared.option.Option.TheVariants.{None};
 ghost use Rattle.cola_runs.specs.Cells.{Item, Cell};
 ghost use Rattle.cola_clock.specs.Clock.{period, is_odd, works};
 ghost use Rattle.cola_runs.specs.Steps as steps;
-ghost use Rattle.cola_laws.specs.Chain.{Level, part_of, build_of, next_runs, first_keys, updated, value_at};
+ghost use Rattle.cola_laws.specs.Chain.{Level, part_of, build_of, visibles, next_runs, first_keys, updated, value_at};
 ghost use Rattle.cola_laws.specs.Sound.{IsBottomRun, IsIdle, IsPaced, ArePaced, HasAtMost, IsSoundFrom, IsSound};
 ghost use Rattle.cola_laws.specs.Mutation.{level_after, levels_after, IsAdvanced, AreAdvanced, IsBuilt, IsWorkable};
 ghost use Rattle.cola_laws.specs.Plain.{empty_levels, loaded, mutated, clock_after, all_mutated, all_updated, StayWithin, IsSoundChain};
@@ -24,6 +24,17 @@ pub fn fewer_steps_count<K: Ord, V>()
     ensures fewer { (ahead less t j : ℕ) (above : List (Cell K V)) (before after : List (Level K V)) → less ≤ ahead → AreAdvanced K.cmp ahead t j above before after →
         AreAdvanced K.cmp less t j above before after }
     ensures none { (ahead t j : ℕ) (above : List (Cell K V)) (levels : List (Level K V)) → ArePaced K.cmp ahead t j above levels → AreAdvanced K.cmp 0 t j above levels levels }
+{}
+
+/// While levels work, what the level above them merges stays: its next runs, whose first it samples, and the part of its
+/// items that it takes. No visible run of theirs changes, and no shadow that is sampled.
+pub fn sources_stay_while_levels_work<K: Ord, V>()
+    ensures next_runs { (ahead t j : ℕ) (above : List (Cell K V)) (before after : List (Level K V)) → AreAdvanced K.cmp ahead t (suc j) above before after →
+        next_runs t j before ≡ next_runs t j after }
+    ensures part { (ahead t j : ℕ) (odd : Bool) (above : List (Cell K V)) (before after : List (Level K V)) → AreAdvanced K.cmp ahead t (suc j) above before after →
+        part_of odd before ≡ part_of odd after }
+    ensures visible { (ahead t j : ℕ) (above : List (Cell K V)) (before after : List (Level K V)) → AreAdvanced K.cmp ahead t (suc j) above before after →
+        visibles before ≡ visibles after }
 {}
 
 /// How one level takes its steps: a level that works, and whose build goes on by so many steps of the merge, is advanced by

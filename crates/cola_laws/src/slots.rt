@@ -1,13 +1,13 @@
-//! Levels in their slots, and the rules on their lengths and cursors.
+//! Levels in their slots, and their marks: lengths and cursors.
 
-ghost use Rattle.std.specs.Prelude.{◌≡◌, ℕ, ◌+◌, ◌/◌, ◌%◌, ◌^◌, ◌<◌, ◌≤◌, suc, Bool, if◌then◌else◌, List, [], ◌∷◌, length, drop, slice_index_or};
-ghost use Rattle.cola_clock.specs.Clock.{period, is_odd, visible_slot};
+ghost use Rattle.std.specs.Prelude.{◌≡◌, ℕ, ◌+◌, ◌%◌, ◌^◌, ◌≤◌, suc, List, [], ◌∷◌, length};
+ghost use Rattle.cola_clock.specs.Marks.{Marks, marks_after, all_marks_after, AreAllMarks, AreChainMarks};
 ghost use Rattle.std.specs.declared.option.Option.{Option};
 ghost use Rattle.cola_runs.specs.Cells.{Item, Cell};
 ghost use Rattle.cola_laws.specs.Chain.{Level, updated};
-ghost use Rattle.cola_laws.specs.Sound.{HasAtMost, IsSound};
+ghost use Rattle.cola_laws.specs.Sound.{HasAtMost, IsSoundFrom, IsSound};
 ghost use Rattle.cola_laws.specs.Mutation.{levels_after, AreAdvanced, IsBuilt};
-ghost use Rattle.cola_laws.specs.Slots.{Marks, marks_after, all_marks_after, marks_of, all_marks_of, level_of, levels_of, AreHeld, sample_end, AreLevelMarks, AreChainMarks};
+ghost use Rattle.cola_laws.specs.Slots.{marks_of, all_marks_of, level_of, levels_of, AreHeld};
 
 /// Flipping the marks flips the chain and moves no cell: what stands in the slots gives, with the marks and the visible
 /// slots of the next clock, the levels after the flips. `cells j s n` are the first `n` cells of slot `s` of level `j`.
@@ -41,20 +41,11 @@ pub fn levels_have_their_marks<K, V>()
     ensures { (cells : ℕ → ℕ → ℕ → List (Cell K V)) (t j : ℕ) (marks : List Marks) → AreHeld cells t j marks → all_marks_of (levels_of cells t j marks) ≡ marks }
 {}
 
-/// The lengths and cursors of a sound chain meet the rules on marks: both runs of a level fit its slots, and its cursors
-/// are those of its phase.
+/// The marks of a sound chain meet the rules on marks of the clock: both runs of a level fit its slots, and its cursors
+/// are those of its phase, also where its levels are so many steps ahead of the clock.
 pub fn sound_marks<K: Ord, V>()
-    ensures { (most t : ℕ) (map : K → Option V) (top : Level K V) (below : List (Level K V)) → IsSound K.cmp most t map top below → most ≤ 2 ^ (length below + 2) →
-        AreChainMarks t (marks_of top) (all_marks_of below) }
-{}
-
-/// The rules on marks by the number of a level: level `j + 1` has its own by the visible length of the level above it, and
-/// the levels below it say how many keys it samples. The slot of a visible run goes by the parity of its period.
-pub fn marks_by_level()
-    ensures at_level { (t : ℕ) (top none : Marks) (below : List Marks) → AreChainMarks t top below → (j : ℕ) → j < length below →
-        AreLevelMarks t (1 + j) (slice_index_or (top ∷ below) j none).visible (slice_index_or below j none) (drop (suc j) below) }
-    ensures sample_end { (odd : Bool) (j : ℕ) (marks : List Marks) (none : Marks) → j < length marks →
-        sample_end odd (drop j marks) ≡ (if odd then (slice_index_or marks j none).shadow else (slice_index_or marks j none).visible) / 8 }
-    ensures at_bottom { (odd : Bool) (j : ℕ) (marks : List Marks) → length marks ≤ j → sample_end odd (drop j marks) ≡ 0 }
-    ensures slot { (t j : ℕ) → visible_slot t j ≡ (if is_odd (period t j) then 1 else 0) }
+    ensures between { (most t : ℕ) (map : K → Option V) (top : Level K V) (below : List (Level K V)) → IsSound K.cmp most t map top below → most ≤ 2 ^ (length below + 2) →
+        AreChainMarks t (marks_of top ∷ all_marks_of below) }
+    ensures ahead { (most ahead t : ℕ) (map : K → Option V) (top : Level K V) (below : List (Level K V)) → IsSoundFrom K.cmp most ahead t map top below → most ≤ 2 ^ (length below + 2) →
+        AreAllMarks ahead t 1 (length top.visible) (all_marks_of below) }
 {}

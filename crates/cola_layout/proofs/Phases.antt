@@ -1,13 +1,12 @@
 -- What the answers of the clock's calls say of its tests, and which marks a level may have in each of its phases.
-use Rattle.std.proofs.Common.{◌≡◌, ℕ, zero, suc, ◌+◌, ◌*◌, ◌/◌, ◌^◌, ◌≤◌, Bool, true, false, cond, eqb, ◌↔◌, refl, sym, ◌∙◌, arith}
-use Rattle.std.proofs.lemmas.Bool.{false≢true, eqb-false}
+use Rattle.std.proofs.Common.{◌≡◌, ℕ, zero, suc, ◌+◌, ◌*◌, ◌^◌, ◌≤◌, Bool, true, false, cond, eqb, List, ◌↔◌, refl, sym, ◌∙◌, arith}
+use Rattle.std.proofs.lemmas.Bool.{false≢true, eqb-false, eqb-true}
 use Rattle.cola_clock.specs.Clock.{period, is_odd, works, is_before, is_over, window_step}
 use Rattle.cola_clock.specs.Schedule.{phase_at, below_at}
 use Rattle.cola_clock.specs.declared.state.Phase.TheVariants.{Before, Inside, After}
 use Rattle.cola_clock.specs.declared.state.Below.TheVariants.{Visible, Shadow, Nothing}
 use Rattle.cola_clock.proofs.Laws.{before_else, works-not_over, before-not_works, before-not_over}
-use Rattle.cola_layout.specs.declared.marks.Marks.{Marks}
-use Rattle.cola_layout.specs.Marks.{IsIdle, IsAtRest, IsWorking, FitsLevel, sampled_length}
+use Rattle.cola_clock.specs.Marks.{Marks, AreMarksIdle, AreCursorsAtRest, AreMarksInside, AreLevelMarks, sample_end}
 
 -- the tests behind a phase
 phase_before : (w o : Bool) (k : ℕ) → cond w (Inside k) (cond o After Before) ≡ Before → (w ≡ false) × (o ≡ false)
@@ -41,22 +40,18 @@ below_nothing true o h = refl
 below_nothing false true h = cc
 below_nothing false false h = cc
 
-module _ (t j bottom : ℕ) (m : Marks) where
-  pub sampled-visible : below_at t j bottom ≡ Visible → sampled_length t j bottom m ≡ m.visible
-  unfolding below_at
-  sampled-visible h =
-      let tests : (eqb j bottom ≡ false) × (is_odd (period t j) ≡ false) = below_visible (eqb j bottom) (is_odd (period t j)) h in
-      rw (tests.0, tests.1) refl
+-- the parity of the period behind the run that is sampled
+pub visible-even : (t j bottom : ℕ) → below_at t j bottom ≡ Visible → is_odd (period t j) ≡ false
+unfolding below_at
+visible-even t j bottom h = (below_visible (eqb j bottom) (is_odd (period t j)) h).1
 
-  pub sampled-shadow : below_at t j bottom ≡ Shadow → sampled_length t j bottom m ≡ m.shadow
-  unfolding below_at
-  sampled-shadow h =
-      let tests : (eqb j bottom ≡ false) × (is_odd (period t j) ≡ true) = below_shadow (eqb j bottom) (is_odd (period t j)) h in
-      rw (tests.0, tests.1) refl
+pub shadow-odd : (t j bottom : ℕ) → below_at t j bottom ≡ Shadow → is_odd (period t j) ≡ true
+unfolding below_at
+shadow-odd t j bottom h = (below_shadow (eqb j bottom) (is_odd (period t j)) h).1
 
-  pub sampled-nothing : below_at t j bottom ≡ Nothing → sampled_length t j bottom m ≡ 0
-  unfolding below_at
-  sampled-nothing h = rw (below_nothing (eqb j bottom) (is_odd (period t j)) h) refl
+pub nothing-bottom : (t j bottom : ℕ) → below_at t j bottom ≡ Nothing → j ≡ bottom
+unfolding below_at
+nothing-bottom t j bottom h = eqb-true j bottom (below_nothing (eqb j bottom) (is_odd (period t j)) h)
 
 -- a level that samples is not the bottom
 pub visible-above_bottom : (t j bottom : ℕ) → below_at t j bottom ≡ Visible → j ≡ bottom → ⊥
@@ -85,8 +80,22 @@ early_over t zero some early over = omega arith
 early_over t (suc j) some early over = false≢true (sym (before-not_over t j early) ∙ over)
 
 -- in each phase of a level whose runs fit their slots, the marks that it may have
-module _ (t bottom j : ℕ) (above here below : Marks) (visible_fits : here.visible ≤ 2 ^ (j + 2)) (shadow_fits : here.shadow ≤ 2 ^ (j + 2)) where
-  pub fits-before : 1 ≤ j → phase_at t j ≡ Before → IsIdle here ↔ FitsLevel t bottom j above here below
+module _ (t j above : ℕ) (m : Marks) (below : List Marks) (visible_fits : m.visible ≤ 2 ^ (j + 2)) (shadow_fits : m.shadow ≤ 2 ^ (j + 2)) where
+  pub fits-first : j ≡ 0 → AreMarksIdle m ↔ AreLevelMarks 0 t j above m below
+  unfolding is_before is_over
+  fits-first top = (
+    (λ idle. record {
+      visible_fits = visible_fits;
+      shadow_fits = shadow_fits;
+      first = λ _. idle;
+      before = λ _. idle;
+      inside = λ some _. absurd (omega arith);
+      after = λ _. idle.at_rest;
+    }),
+    (λ fits. fits.first top),
+  )
+
+  pub fits-before : 1 ≤ j → phase_at t j ≡ Before → AreMarksIdle m ↔ AreLevelMarks 0 t j above m below
   unfolding phase_at
   fits-before some h =
       let tests : (works t j ≡ false) × (is_over t j ≡ false) = phase_before (works t j) (is_over t j) (window_step t j) h in (
@@ -101,24 +110,25 @@ module _ (t bottom j : ℕ) (above here below : Marks) (visible_fits : here.visi
         (λ fits. fits.before (to_come t j some tests.0 tests.1)),
       )
 
-  pub fits-inside : (w : ℕ) → 1 ≤ j → phase_at t j ≡ Inside w →
-      IsWorking here.visible above.visible (sampled_length t j bottom below / 8) (28 * w) here ↔ FitsLevel t bottom j above here below
+  pub fits-inside : (due : ℕ) → 1 ≤ j → phase_at t j ≡ Inside due →
+      AreMarksInside (28 * due) above (sample_end (is_odd (period t j)) below) m ↔ AreLevelMarks 0 t j above m below
   unfolding phase_at
-  fits-inside w some h =
-      let tests : (works t j ≡ true) × (window_step t j ≡ w) = phase_inside (works t j) (is_over t j) (window_step t j) w h in
-      let over_not : is_over t j ≡ false = not_over t j some tests.0 in (
+  fits-inside due some h =
+      let tests : (works t j ≡ true) × (window_step t j ≡ due) = phase_inside (works t j) (is_over t j) (window_step t j) due h in
+      let over_not : is_over t j ≡ false = not_over t j some tests.0 in
+      let steps : 0 + 28 * window_step t j ≡ 28 * due = omega (arith, tests.1) in (
         (λ working. record {
           visible_fits = visible_fits;
           shadow_fits = shadow_fits;
           first = λ zero_level. absurd (omega arith);
           before = λ early. absurd (clash t j some early tests.0);
-          inside = λ one works_now. rw tests.1 working;
+          inside = λ one works_now. rw steps working;
           after = λ over. absurd (false≢true (sym over_not ∙ over));
         }),
-        (λ fits. rw tests.1 at (fits.inside some tests.0)),
+        (λ fits. rw steps at (fits.inside some tests.0)),
       )
 
-  pub fits-after : 1 ≤ j → phase_at t j ≡ After → IsAtRest here ↔ FitsLevel t bottom j above here below
+  pub fits-after : 1 ≤ j → phase_at t j ≡ After → AreCursorsAtRest m ↔ AreLevelMarks 0 t j above m below
   unfolding phase_at
   fits-after some h =
       let tests : (works t j ≡ false) × (is_over t j ≡ true) = phase_after (works t j) (is_over t j) (window_step t j) h in (

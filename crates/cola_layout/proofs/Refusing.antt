@@ -173,7 +173,7 @@ module _ (g : Geometry) (closed : Bool) (count clock last : ℕ) (levels : List 
 
   -- the bytes spell what was read of them
   pub spells-said : length bytes ≡ 512 → AreBytes bytes → Says (said g closed count clock last levels) bytes → IsZeroBehind (g.bottom + 1) bytes →
-      count ≤ g.keys → clock < 2 ^ (g.bottom + 1) → last ≤ stamp_limit g.format → length levels ≡ g.bottom + 1 → AreMarks clock g.bottom levels →
+      count ≤ g.keys → clock < 2 ^ (g.bottom + 1) → last ≤ stamp_limit g.format → length levels ≡ g.bottom + 1 → AreMarks clock levels →
       IsSpelling (said g closed count clock last levels) bytes
   spells-said size small says zeros count_fits clock_fits last_fits one_each marks_fit = record {
     text = text-from (said g closed count clock last levels) bytes size small one_each g.shallow says zeros;

@@ -1,10 +1,12 @@
 -- The marks of a sound header are small numbers, so that 32 bits hold each.
-use Rattle.std.proofs.Common.{◌≡◌, ℕ, ◌+◌, ◌-◌, ◌/◌, ◌^◌, ◌≤◌, inl, inr, eqb, List, length, refl, sym, subst, arith}
-use Rattle.std.proofs.lemmas.Bool.{cases_Bool, cases_lt, eqb-false}
+use Rattle.std.proofs.Common.{◌≡◌, ℕ, suc, ◌+◌, ◌-◌, ◌^◌, ◌≤◌, inl, inr, List, length, drop, refl, sym, subst, arith}
+use Rattle.std.proofs.lemmas.Bool.{cases_Bool, cases_lt}
 use Rattle.std.proofs.lemmas.List.{get_or_past}
 use Rattle.cola_clock.specs.Clock.{period, is_odd, works, is_over}
 use Rattle.cola_layout.specs.declared.marks.Marks.{Marks}
-use Rattle.cola_layout.specs.Marks.{IsIdle, IsAtRest, AreMarks, marks_of, no_marks, sampled_length}
+use Rattle.cola_layout.specs.Marks.{AreMarks, numbers_of, all_numbers, marks_of, no_marks}
+use Rattle.cola_clock.specs.Marks.{AreMarksIdle, AreCursorsAtRest, sample_end}
+use Rattle.cola_layout.proofs.Levels.{above-is, fits-here, end-visible, end-shadow, end-nothing}
 use Rattle.cola_layout.specs.Header.{Fields, IsSound}
 use Rattle.cola_layout.proofs.Powers.{power-le, bottom-shallow}
 use Rattle.cola_layout.proofs.Phases.{to_come}
@@ -15,18 +17,22 @@ run-small : (j n : ℕ) → j ≤ 22 → n ≤ 2 ^ (j + 2) → n ≤ 2 ^ 24
 run-small j n within fits =
     let more : 2 ^ (j + 2) ≤ 2 ^ 24 = power-le (j + 2) 24 (omega arith) in omega arith
 
--- what a level samples is a run of the level below it, or nothing
-sampled-small : (t bottom j : ℕ) (levels : List Marks) → bottom ≤ 22 → j ≤ bottom → AreMarks t bottom levels →
-    sampled_length t j bottom (marks_of levels (j + 1)) ≤ 2 ^ 24
-sampled-small t bottom j levels shallow within fit =
-    elim (cases_Bool (eqb j bottom)) [
-      | inl last ↦ rw last (omega arith)
-      | inr inner ↦
-          let apart : j ≡ bottom → ⊥ = eqb-false j bottom inner in
-          let below = fit (j + 1) (omega arith) in
+-- what a level samples is part of a run of the level below it, or nothing
+sampled-small : (t bottom j : ℕ) (levels : List Marks) → bottom ≤ 22 → length levels ≡ bottom + 1 → AreMarks t levels →
+    sample_end (is_odd (period t j)) (drop (suc j) (all_numbers levels)) ≤ 2 ^ 24
+sampled-small t bottom j levels shallow one_each fit =
+    elim (cases_lt (suc j) (length levels)) [
+      | inr past ↦ rw (end-nothing t j levels past) (omega arith)
+      | inl within ↦
+          let next : suc j ≡ j + 1 = omega arith in
+          let below = fits-here t levels fit (j + 1) (omega arith) in
           elim (cases_Bool (is_odd (period t j))) [
-            | inl odd ↦ rw (inner, odd) (run-small (j + 1) (marks_of levels (j + 1)).shadow (omega arith) below.shadow_fits)
-            | inr even ↦ rw (inner, even) (run-small (j + 1) (marks_of levels (j + 1)).visible (omega arith) below.visible_fits)
+            | inl odd ↦
+                let small : (marks_of levels (j + 1)).shadow ≤ 2 ^ 24 = run-small (j + 1) (marks_of levels (j + 1)).shadow (omega arith) below.shadow_fits in
+                rw (end-shadow t j levels odd within) (omega arith)
+            | inr even ↦
+                let small : (marks_of levels (j + 1)).visible ≤ 2 ^ 24 = run-small (j + 1) (marks_of levels (j + 1)).visible (omega arith) below.visible_fits in
+                rw (end-visible t j levels even within) (omega arith)
           ]
     ]
 
@@ -34,36 +40,34 @@ idle-small : (m : Marks) → m.visible ≤ 2 ^ 24 → m.shadow ≤ 2 ^ 24 → m.
 idle-small m v s o i p = record { visible = omega arith; shadow = omega arith; own = omega arith; incoming = omega arith; sample = omega arith }
 
 working-small : (m : Marks) (incoming sampled : ℕ) → m.visible ≤ 2 ^ 24 → m.shadow ≤ 2 ^ 24 → incoming ≤ 2 ^ 24 → sampled ≤ 2 ^ 24 →
-    m.own ≤ m.visible → m.incoming ≤ incoming → m.sample ≤ sampled / 8 → AreSmall m
+    m.own ≤ m.visible → m.incoming ≤ incoming → m.sample ≤ sampled → AreSmall m
 working-small m incoming sampled v s i p own_within incoming_within sample_within =
-    let part : sampled / 8 ≤ sampled = omega arith in
     record { visible = omega arith; shadow = omega arith; own = omega arith; incoming = omega arith; sample = omega arith }
 
 -- a level's marks
-level-small : (t bottom j : ℕ) (levels : List Marks) → bottom ≤ 22 → j ≤ bottom → AreMarks t bottom levels → AreSmall (marks_of levels j)
-level-small t bottom j levels shallow within fit =
-    let fits = fit j within in
+level-small : (t bottom j : ℕ) (levels : List Marks) → bottom ≤ 22 → length levels ≡ bottom + 1 → j ≤ bottom → AreMarks t levels → AreSmall (marks_of levels j)
+level-small t bottom j levels shallow one_each within fit =
+    let fits = fits-here t levels fit j (omega arith) in
     let visible : (marks_of levels j).visible ≤ 2 ^ 24 = run-small j (marks_of levels j).visible (omega arith) fits.visible_fits in
     let shadow : (marks_of levels j).shadow ≤ 2 ^ 24 = run-small j (marks_of levels j).shadow (omega arith) fits.shadow_fits in
     elim (cases_lt 0 j) [
       | inr first ↦
-          let idle : IsIdle (marks_of levels j) = fits.first (omega arith) in
-          idle-small (marks_of levels j) visible shadow idle.own_rests idle.incoming_rests idle.sample_rests
+          let idle : AreMarksIdle (numbers_of (marks_of levels j)) = fits.first (omega arith) in
+          idle-small (marks_of levels j) visible shadow idle.at_rest.own_rests idle.at_rest.incoming_rests idle.at_rest.sampled_rests
       | inl some ↦ elim (cases_Bool (works t j)) [
         | inl works_now ↦
-            let w = fits.inside some works_now in
-            let above = fit (j - 1) (omega arith) in
+            let w = rw (above-is levels j some) at (fits.inside some works_now) in
+            let above = fits-here t levels fit (j - 1) (omega arith) in
             let incoming : (marks_of levels (j - 1)).visible ≤ 2 ^ 24 = run-small (j - 1) (marks_of levels (j - 1)).visible (omega arith) above.visible_fits in
-            let sampled : sampled_length t j bottom (marks_of levels (j + 1)) ≤ 2 ^ 24 = sampled-small t bottom j levels shallow within fit in
-            working-small (marks_of levels j) (marks_of levels (j - 1)).visible (sampled_length t j bottom (marks_of levels (j + 1))) visible shadow incoming sampled
-            w.own_within w.incoming_within w.sample_within
+            working-small (marks_of levels j) (marks_of levels (j - 1)).visible (sample_end (is_odd (period t j)) (drop (suc j) (all_numbers levels))) visible shadow incoming
+            (sampled-small t bottom j levels shallow one_each fit) w.own_within w.incoming_within w.sampled_within
         | inr rests ↦ elim (cases_Bool (is_over t j)) [
           | inl over ↦
-              let done : IsAtRest (marks_of levels j) = fits.after over in
-              idle-small (marks_of levels j) visible shadow done.own_rests done.incoming_rests done.sample_rests
+              let done : AreCursorsAtRest (numbers_of (marks_of levels j)) = fits.after over in
+              idle-small (marks_of levels j) visible shadow done.own_rests done.incoming_rests done.sampled_rests
           | inr early ↦
-              let idle : IsIdle (marks_of levels j) = fits.before (to_come t j some rests early) in
-              idle-small (marks_of levels j) visible shadow idle.own_rests idle.incoming_rests idle.sample_rests
+              let idle : AreMarksIdle (numbers_of (marks_of levels j)) = fits.before (to_come t j some rests early) in
+              idle-small (marks_of levels j) visible shadow idle.at_rest.own_rests idle.at_rest.incoming_rests idle.at_rest.sampled_rests
         ]
       ]
     ]
@@ -72,7 +76,7 @@ level-small t bottom j levels shallow within fit =
 pub sound-small : (f : Fields) → IsSound f → (j : ℕ) → AreSmall (marks_of f.levels j)
 sound-small f sound j =
     elim (cases_lt f.bottom j) [
-      | inr within ↦ level-small f.clock f.bottom j f.levels (bottom-shallow f.keys f.bottom sound.keys_in_range.few sound.bottom_fits) within sound.marks_fit
+      | inr within ↦ level-small f.clock f.bottom j f.levels (bottom-shallow f.keys f.bottom sound.keys_in_range.few sound.bottom_fits) sound.one_each within sound.marks_fit
       | inl past ↦
           let long : length f.levels ≡ f.bottom + 1 = sound.one_each in
           let none : marks_of f.levels j ≡ no_marks = get_or_past f.levels j no_marks (omega arith) in

@@ -37,7 +37,7 @@ pub record IsSound (f : Fields) : Type 0 where
   -- each level has its marks
   pub one_each : length f.levels ≡ f.bottom + 1
   -- and marks that it may have
-  pub marks_fit : AreMarks f.clock f.bottom f.levels
+  pub marks_fit : AreMarks f.clock f.levels
 
 -- the version of a format
 abbrev pub version_of : Format → ℕ

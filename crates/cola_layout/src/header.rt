@@ -2,7 +2,8 @@
 
 ghost use Rattle.std.specs.Prelude.{◌≡◌, ◌<◌, ◌≤◌, ◌^◌, ◌+◌, length, replicate};
 ghost use Rattle.cola_cell.specs.Format.{stamp_limit};
-ghost use Rattle.cola_layout.specs.Marks.{AreMarks, no_marks};
+ghost use Rattle.cola_clock.proofs.MarkLaws.{marks-fact};
+ghost use Rattle.cola_layout.specs.Marks.{AreMarks, all_numbers, no_marks};
 
 use crate::decode::read;
 use crate::encode::write;
@@ -30,7 +31,7 @@ pub struct Header {
     pub ghost clock_fits: { clock < 2 ^ (geometry.bottom + 1) },
     pub ghost last_fits: { last ≤ stamp_limit geometry.format },
     pub ghost one_each: { length levels.items ≡ geometry.bottom + 1 },
-    pub ghost marks_fit: { AreMarks clock geometry.bottom levels.items },
+    pub ghost marks_fit: { AreMarks clock levels.items } by { marks-fact 0 clock 0 0 (all_numbers levels.items) },
 }
 
 impl Header {

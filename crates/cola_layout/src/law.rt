@@ -5,8 +5,7 @@ ghost use Rattle.cola_layout.specs.Geometry.{IsBottom};
 ghost use Rattle.cola_layout.specs.Place.{place_of, IsPlace, HasPlace};
 ghost use Rattle.cola_layout.specs.Header.{Fields, IsSpelling, IsNoSpelling};
 ghost use Rattle.cola_layout.specs.Fields.{fields_of, Decodes};
-ghost use Rattle.cola_layout.specs.Marks.{AreMarks, AreMarksFrom, no_marks};
-ghost use Rattle.cola_layout.specs.declared.marks.Marks.{Marks as AnyMarks};
+ghost use Rattle.cola_layout.specs.Marks.{AreMarks, no_marks};
 ghost use Rattle.cola_layout.specs.declared.header.Header.{Header as AnyHeader};
 
 /// A number of keys has one lowest level.
@@ -58,12 +57,7 @@ pub fn decoding_gives_back()
     ensures { (h : AnyHeader) (bytes : List ℕ) (answer : Option AnyHeader) → IsSpelling (fields_of h) bytes → Decodes bytes answer → MatchOption answer ⊥ (λ g. fields_of g ≡ fields_of h) }
 {}
 
-/// Marks that fit level by level, each beside the level above it and the one below it, are marks that a header may have.
-pub fn marks_fit_level_by_level()
-    ensures { (t bottom : ℕ) (above : AnyMarks) (levels : List AnyMarks) → length levels ≡ bottom + 1 → AreMarksFrom t bottom 0 above levels → AreMarks t bottom levels }
-{}
-
 /// Levels with nothing in them fit at every clock.
 pub fn empty_marks_fit()
-    ensures { (t bottom n : ℕ) → AreMarks t bottom (replicate n no_marks) }
+    ensures { (t n : ℕ) → AreMarks t (replicate n no_marks) }
 {}

@@ -16,8 +16,7 @@ pub use geometry::Geometry;
 pub use header::Header;
 pub use law::{
     bottom_is_one, decoding_gives_back, empty_marks_fit, front_is_two_blocks, groups_lie_in_blocks,
-    header_is_one, marks_fit_level_by_level, places_cover, places_differ, slots_are_blocks,
-    spelling_is_one,
+    header_is_one, places_cover, places_differ, slots_are_blocks, spelling_is_one,
 };
 pub use marks::Marks;
 

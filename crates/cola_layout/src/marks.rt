@@ -1,7 +1,9 @@
 //! The marks of a level, and the test of the marks that a level may have.
 
-ghost use Rattle.std.specs.Prelude.{◌≡◌, ◌<◌, ◌≤◌, ◌^◌, ◌+◌, ◌/◌, ◌*◌, ◌↔◌, IsTrue, length};
-ghost use Rattle.cola_layout.specs.Marks.{IsIdle, IsAtRest, IsWorking, FitsAt, AreMarks, marks_of, sampled_length};
+ghost use Rattle.std.specs.Prelude.{◌≡◌, ◌<◌, ◌≤◌, ◌^◌, ◌+◌, ◌↔◌, suc, IsTrue, length, drop};
+ghost use Rattle.cola_clock.specs.Clock.{period, is_odd};
+ghost use Rattle.cola_clock.specs.Marks.{AreMarksIdle, AreCursorsAtRest, AreMarksInside, sample_end};
+ghost use Rattle.cola_layout.specs.Marks.{FitsAt, AreMarks, numbers_of, all_numbers};
 
 use cola_clock::{Below, Phase, next_of, phase};
 
@@ -23,25 +25,26 @@ pub struct Marks {
 impl Marks {
     /// Whether the level's merge has not begun.
     fn is_idle(&self) -> bool
-        ensures { IsTrue result ↔ IsIdle self.now }
+        ensures { IsTrue result ↔ AreMarksIdle (numbers_of self.now) }
     {
         self.shadow == 0 && self.is_at_rest()
     }
 
     /// Whether the level's merge is done.
     fn is_at_rest(&self) -> bool
-        ensures { IsTrue result ↔ IsAtRest self.now }
+        ensures { IsTrue result ↔ AreCursorsAtRest (numbers_of self.now) }
     {
         self.own == 0 && self.incoming == 0 && self.sample == 0
     }
 
-    /// Whether the level's merge is under way over sources of these lengths and has taken so many steps, or all.
-    fn is_working(&self, own: u32, incoming: u32, sample: u32, steps: u64) -> bool
-        ensures { IsTrue result ↔ IsWorking own incoming sample steps self.now }
+    /// Whether the level's merge is under way, over its own visible run, as many incoming cells and as many keys of a sample,
+    /// and has taken so many steps, or all.
+    fn is_working(&self, incoming: u32, sample: u32, steps: u64) -> bool
+        ensures { IsTrue result ↔ AreMarksInside steps incoming sample (numbers_of self.now) }
     {
-        let total = u64::from(own) + u64::from(incoming) + u64::from(sample);
+        let total = u64::from(self.visible) + u64::from(incoming) + u64::from(sample);
         let consumed = u64::from(self.own) + u64::from(self.incoming) + u64::from(self.sample);
-        self.own <= own
+        self.own <= self.visible
             && self.incoming <= incoming
             && self.sample <= sample
             && total.min(steps) <= consumed
@@ -50,17 +53,17 @@ impl Marks {
     }
 }
 
-/// The length of the run that a level is sampled from.
+/// How many keys a level samples: one for each eight cells of the run below that it is sampled from.
 fn sampled(clock: u64, bottom: u8, levels: &[Marks], level: u8) -> u32
     requires bottom_in_range { bottom ≤ 22 }
     requires level_exists { level ≤ bottom }
     requires clock_in_range { clock < 2 ^ 23 }
     requires one_each { length levels.now ≡ bottom + 1 }
-    ensures { result ≡ sampled_length clock level bottom (marks_of levels.now (level + 1)) }
+    ensures { result ≡ sample_end (is_odd (period clock level)) (drop (suc level) (all_numbers levels.now)) }
 {
     match next_of(clock, level, bottom) {
-        Below::Visible => levels[level as usize + 1].visible,
-        Below::Shadow => levels[level as usize + 1].shadow,
+        Below::Visible => levels[level as usize + 1].visible / 8,
+        Below::Shadow => levels[level as usize + 1].shadow / 8,
         Below::Nothing => 0,
     }
 }
@@ -79,7 +82,7 @@ fn level_fits(clock: u64, bottom: u8, levels: &[Marks], level: u8) -> bool
     requires level_exists { level ≤ bottom }
     requires clock_in_range { clock < 2 ^ 23 }
     requires one_each { length levels.now ≡ bottom + 1 }
-    ensures { IsTrue result ↔ FitsAt clock bottom levels.now level }
+    ensures { IsTrue result ↔ FitsAt clock levels.now level }
 {
     let here = levels[level as usize];
     let slot = slot_cells(level);
@@ -93,8 +96,8 @@ fn level_fits(clock: u64, bottom: u8, levels: &[Marks], level: u8) -> bool
         Phase::Before => here.is_idle(),
         Phase::Inside(step) => {
             let above = levels[level as usize - 1];
-            let sample = sampled(clock, bottom, levels, level) / 8;
-            here.is_working(here.visible, above.visible, sample, 28 * u64::from(step))
+            let sample = sampled(clock, bottom, levels, level);
+            here.is_working(above.visible, sample, 28 * u64::from(step))
         }
         Phase::After => here.is_at_rest(),
     }
@@ -105,7 +108,7 @@ pub(crate) fn levels_fit(clock: u64, bottom: u8, levels: &[Marks]) -> bool
     requires bottom_in_range { bottom ≤ 22 }
     requires clock_in_range { clock < 2 ^ 23 }
     requires one_each { length levels.now ≡ bottom + 1 }
-    ensures { IsTrue result ↔ AreMarks clock bottom levels.now }
+    ensures { IsTrue result ↔ AreMarks clock levels.now }
 {
     for level in 0..=bottom {
         if !level_fits(clock, bottom, levels, level) {

@@ -3,7 +3,6 @@ use Rattle.std.specs.Prelude.{◌≡◌, ℕ, zero, suc, ◌*◌, Bool, true, fa
 use Rattle.std.specs.declared.cmp.Ordering.{Ordering}
 use Rattle.std.specs.Ordering.{on, then_cmp, bool_cmp}
 use Rattle.std.specs.List.Sorted.{IsStrictlySortedBy}
-
 pub use Rattle.cola_abstract.specs.Cell.{Item, Value, Tombstone, Cell, Entry, Look}
 
 module _ {K V : Type 0} where

@@ -1,9 +1,15 @@
 pub mod Entries
 pub mod Worked
 pub mod WorkedMaps
+pub mod WorkedSteps
 pub mod MapLaws
 pub mod RangeLaws
 pub mod LineLaws
 pub mod BoundLaws
+pub mod OrderLaws
 pub mod MachineLaws
 pub mod Digits
+pub mod StepLaws
+pub mod SpellingLaws
+pub mod ToldLaws
+pub mod ToldSteps

@@ -44,7 +44,7 @@ but_last_at_both (x ∷ []) part parts = refl
 but_last_at_both (x ∷ y ∷ xs) part parts = ap (λ rest. x ∷ rest) (but_last_at_both (y ∷ xs) part parts)
 
 -- the lines up to a line feed are the parts before it, and those after it are lines of their own
-lines_at_both : (xs ys : List ℕ) → raw_lines (xs ++ 10 ∷ ys) ≡ parts_of xs ++ raw_lines ys
+pub lines_at_both : (xs ys : List ℕ) → raw_lines (xs ++ 10 ∷ ys) ≡ parts_of xs ++ raw_lines ys
 lines_at_both xs ys =
     let last = first_part ys in
     ap without_empty_last (parts_of_both xs ys ∙ ap (λ parts. parts_of xs ++ parts) last.2) ∙ without_at_both (parts_of xs) last.0 last.1 ∙ ap (λ parts. parts_of xs ++ without_empty_last parts) (sym last.2)

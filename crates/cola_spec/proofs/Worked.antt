@@ -1,12 +1,15 @@
 -- The definitions, computed on worked examples.
-use Rattle.std.specs.Prelude.{ℕ, ◌≡◌, refl, true, false, List, [], ◌∷◌, codes, ◌++◌, length, Some, None}
+use Rattle.std.specs.Prelude.{ℕ, ◌≡◌, refl, true, false, List, [], ◌∷◌, codes, ◌++◌, length, map, Some, None}
 use Rattle.std.specs.Fmt.{digits}
 use Rattle.cola_spec.specs.Map.{Shape, New, Old, Full, Worn, Other}
 use Rattle.cola_spec.specs.Lines.{raw_lines, ended_lines, line_of, Text, TooLong}
-use Rattle.cola_spec.specs.Command.{Put, PutIf, Get, Stamp, Range, Scan, Count, Close, Reopen, command_of, requests}
+use Rattle.cola_spec.specs.Command.{Put, PutIf, Del, Get, Stamp, Range, Scan, Count, Close, Reopen, command_of, requests}
 use Rattle.cola_spec.specs.Reply as reply
 use Rattle.cola_spec.specs.Reply.{reply_text}
-use Rattle.cola_spec.specs.Bounds.{levels_of, put_bound, get_bound, range_bound}
+use Rattle.cola_spec.specs.Bounds.{levels_of, put_bound, get_bound, range_bound, command_bound, request_bound}
+use Rattle.cola_spec.specs.Kinds.{requests_bound}
+use Rattle.cola_spec.specs.Spelling.{command_lines, command_text}
+use Rattle.cola_spec.specs.Told.{told}
 
 -- a store of 32 keys without stamps, and one with stamps
 abbrev pub small_shape : Shape
@@ -218,6 +221,83 @@ pub text_of_opened : reply_text true 3 (reply.Opened 2) ≡ codes "open 2" ++ 10
 unfolding digits
 text_of_opened = refl
 
+pub text_of_a_value_with_spaces : reply_text true 12 (reply.Got (Some (codes "a # 1"))) ≡ codes "val a # 1 # 12" ++ 10 ∷ []
+unfolding digits
+text_of_a_value_with_spaces = refl
+
+pub text_of_gone_with_cost : reply_text true 40 (reply.Deleted (Some (codes "24"))) ≡ codes "gone 24 # 40" ++ 10 ∷ []
+unfolding digits
+text_of_gone_with_cost = refl
+
+pub text_of_not_gone : reply_text false 9 (reply.Deleted None) ≡ codes "none" ++ 10 ∷ []
+unfolding digits
+text_of_not_gone = refl
+
+pub text_of_no_stamp : reply_text true 8 (reply.Stamped None) ≡ codes "none # 8" ++ 10 ∷ []
+unfolding digits
+text_of_no_stamp = refl
+
+pub text_of_fault : reply_text true 3 (reply.Failed reply.Fault) ≡ codes "fault" ++ 10 ∷ []
+text_of_fault = refl
+
+pub text_of_damaged : reply_text true 3 (reply.Failed (reply.Damaged 87)) ≡ codes "damaged 87" ++ 10 ∷ []
+unfolding digits
+text_of_damaged = refl
+
+pub text_of_closed : reply_text true 3 reply.Closed ≡ codes "closed" ++ 10 ∷ []
+text_of_closed = refl
+
+pub text_of_no_store : reply_text true 3 (reply.Refused reply.NotStore) ≡ codes "notstore" ++ 10 ∷ []
+text_of_no_store = refl
+
+pub text_of_not_closed : reply_text true 3 (reply.Refused reply.NotClosed) ≡ codes "notclosed" ++ 10 ∷ []
+text_of_not_closed = refl
+
+pub text_of_small : reply_text true 3 (reply.Refused reply.Small) ≡ codes "small" ++ 10 ∷ []
+text_of_small = refl
+
+pub text_of_memory : reply_text true 3 (reply.Refused reply.Memory) ≡ codes "memory" ++ 10 ∷ []
+text_of_memory = refl
+
+pub text_of_already : reply_text true 3 reply.Already ≡ codes "already" ++ 10 ∷ []
+text_of_already = refl
+
+pub text_of_shut : reply_text true 3 reply.Shut ≡ codes "shut" ++ 10 ∷ []
+text_of_shut = refl
+
+pub text_of_bad : reply_text true 3 reply.Bad ≡ codes "bad" ++ 10 ∷ []
+text_of_bad = refl
+
+-- what two texts do not tell apart
+pub none_is_one_text : (told (reply.Deleted None) ≡ told (reply.Got None)) × (told (reply.Stamped None) ≡ told (reply.Got None))
+none_is_one_text = (refl, refl)
+
+pub cut_before_the_first_row : told (reply.Cut [] reply.Fault) ≡ reply.Failed reply.Fault
+cut_before_the_first_row = refl
+
+-- Texts that ask commands
+
+pub text_of_a_put : command_text (Put (codes "a") (codes "1")) ≡ codes "put a 1"
+text_of_a_put = refl
+
+pub text_of_a_put_if : command_text (PutIf (codes "a") 12 (codes "w")) ≡ codes "putif a 12 w"
+unfolding digits
+text_of_a_put_if = refl
+
+pub text_of_a_scan : command_text (Scan (codes "a") 0) ≡ codes "scan a 0"
+unfolding digits
+text_of_a_scan = refl
+
+pub lines_of_two_commands : command_lines (Get (codes "a") ∷ Count ∷ []) ≡ codes "get a" ++ 13 ∷ 10 ∷ codes "count" ++ 13 ∷ 10 ∷ []
+lines_of_two_commands = refl
+
+abbrev seventy_two_bytes : List ℕ
+seventy_two_bytes = forty_bytes ++ eight_bytes ++ eight_bytes ++ eight_bytes ++ eight_bytes
+
+pub longest_command : length (command_text (PutIf forty_bytes 9999999999999999999 seventy_two_bytes)) ≡ 139
+unfolding digits
+longest_command = refl
+
 -- Bounds
 
 pub levels_at_1 : levels_of 1 ≡ 4
@@ -255,6 +335,22 @@ put_bound_at_65536 = refl
 
 pub get_bound_at_65536 : get_bound (levels_of 65536) ≡ 120
 get_bound_at_65536 = refl
+
+-- each kind of command in a store of 1,000 keys, which has nine levels
+pub bounds_of_mutations : map (λ command. command_bound 9 command) (Put (codes "a") (codes "1") ∷ PutIf (codes "a") 0 (codes "1") ∷ Del (codes "a") ∷ []) ≡ 360 ∷ 360 ∷ 360 ∷ []
+bounds_of_mutations = refl
+
+pub bounds_of_look_ups : map (λ command. command_bound 9 command) (Get (codes "a") ∷ Stamp (codes "a") ∷ []) ≡ 72 ∷ 72 ∷ []
+bounds_of_look_ups = refl
+
+pub bounds_of_rows : map (λ command. command_bound 9 command) (Range (codes "a") (codes "b") ∷ Scan (codes "a") 1 ∷ []) ≡ 2129 ∷ 2129 ∷ []
+bounds_of_rows = refl
+
+pub bounds_of_others : map (request_bound 9) (Some Count ∷ Some Close ∷ Some Reopen ∷ None ∷ []) ≡ 0 ∷ 0 ∷ 0 ∷ 0 ∷ []
+bounds_of_others = refl
+
+pub bound_of_some_requests : requests_bound 9 (Some (Put (codes "a") (codes "1")) ∷ None ∷ Some (Get (codes "a")) ∷ Some Count ∷ []) ≡ 432
+bound_of_some_requests = refl
 
 pub range_bound_at_32 : range_bound (levels_of 32) ≡ 100
 range_bound_at_32 = refl

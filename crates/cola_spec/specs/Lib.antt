@@ -5,3 +5,6 @@ pub mod Reply
 pub mod Machine
 pub mod Bounds
 pub mod Laws
+pub mod Spelling
+pub mod Told
+pub mod Kinds

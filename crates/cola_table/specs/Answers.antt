@@ -81,19 +81,26 @@ NextAnswers Ahead pairs (Ok (Some pair)) = (rest : List (List ℕ × List ℕ)) 
 NextAnswers Ahead pairs (Ok None) = (pairs ≡ []) × Ahead []
 NextAnswers Ahead pairs (Err refusal) = OnlyDeviceRead refusal × Ahead pairs
 
--- Causes: a fault of the device comes only where the count of faults rose
+-- Faults: the count of faults rose where a fault of the device is answered, and stays at every other answer
 
-abbrev pub put_cause : PutFault → ℕ → ℕ → Type 0
-put_cause fault.Device before now = Rose before now
-put_cause _ before now = Unit {0}
+abbrev pub PutFaults : {A : Type 0} → Result A PutFault → ℕ → ℕ → Type 0
+PutFaults (Ok answer) before now = now ≡ before
+PutFaults (Err fault.Device) before now = Rose before now
+PutFaults (Err fault.Full) before now = now ≡ before
+PutFaults (Err fault.Worn) before now = now ≡ before
+PutFaults (Err (fault.BadCell cell)) before now = now ≡ before
+PutFaults (Err (fault.Overfull level)) before now = now ≡ before
 
-abbrev pub step_cause : StepFault → ℕ → ℕ → Type 0
-step_cause step.Device before now = Rose before now
-step_cause _ before now = Unit {0}
+abbrev pub StepFaults : {A : Type 0} → Result A StepFault → ℕ → ℕ → Type 0
+StepFaults (Ok answer) before now = now ≡ before
+StepFaults (Err step.Device) before now = Rose before now
+StepFaults (Err (step.BadCell cell)) before now = now ≡ before
+StepFaults (Err (step.Overfull level)) before now = now ≡ before
 
-abbrev pub read_cause : ReadFault → ℕ → ℕ → Type 0
-read_cause read.Device before now = Rose before now
-read_cause _ before now = Unit {0}
+abbrev pub ReadFaults : {A : Type 0} → Result A ReadFault → ℕ → ℕ → Type 0
+ReadFaults (Ok answer) before now = now ≡ before
+ReadFaults (Err read.Device) before now = Rose before now
+ReadFaults (Err (read.BadCell cell)) before now = now ≡ before
 
 -- Walks: every call but an accepted write leaves those that stand, and what is ahead of them
 

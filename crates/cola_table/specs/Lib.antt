@@ -4,3 +4,4 @@ pub mod Replies
 pub mod Flat
 pub mod Walks
 pub mod Slots
+pub mod Stamps

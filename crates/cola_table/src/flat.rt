@@ -6,7 +6,7 @@ ghost use Rattle.cola_cell.specs.Format.{KeyFits, ValueFits};
 ghost use Rattle.cola_spec.specs.Map.{Map, IsMap, Stored, count, key_cmp, empty_map, is_before};
 ghost use Rattle.cola_spec.specs.Bounds.{put_bound, get_bound, range_bound};
 ghost use Rattle.cola_table.specs.Terms.{Terms, Call, shape};
-ghost use Rattle.cola_table.specs.Answers.{PutAnswers, PutIfAnswers, DeleteAnswers, GetAnswers, StampAnswers, RangeAnswers, NextAnswers, put_cause, step_cause, read_cause, KeepsWalks, UnlessPut, UnlessDeleted};
+ghost use Rattle.cola_table.specs.Answers.{PutAnswers, PutIfAnswers, DeleteAnswers, GetAnswers, StampAnswers, RangeAnswers, NextAnswers, PutFaults, StepFaults, ReadFaults, KeepsWalks, UnlessPut, UnlessDeleted};
 ghost use Rattle.cola_table.specs.Flat.{HasKeyAt, LacksKey, terms_of, place_of};
 ghost use Rattle.cola_table.specs.Walks.{Stands, Ahead, most_ahead};
 
@@ -122,11 +122,13 @@ impl Table for FlatTable {
     ghost use Rattle.cola_spec.specs.Map.{Map, IsMap, count};
     ghost use Rattle.cola_spec.specs.Bounds.{put_bound, get_bound, range_bound};
     ghost use Rattle.cola_table.specs.Terms.{Terms, Call, shape};
-    ghost use Rattle.cola_table.specs.Answers.{PutAnswers, PutIfAnswers, DeleteAnswers, GetAnswers, StampAnswers, RangeAnswers, NextAnswers, put_cause, step_cause, read_cause, KeepsWalks, UnlessPut, UnlessDeleted};
+    ghost use Rattle.cola_table.specs.Answers.{PutAnswers, PutIfAnswers, DeleteAnswers, GetAnswers, StampAnswers, RangeAnswers, NextAnswers, PutFaults, StepFaults, ReadFaults, KeepsWalks, UnlessPut, UnlessDeleted};
     ghost use Rattle.cola_table.specs.Flat.{terms_of};
     ghost use Rattle.cola_table.specs.Walks.{Stands, Ahead, most_ahead};
 
     type Walk = FlatWalk;
+
+    ghost kept = { λ _. tt };
 
     ghost terms = { terms_of };
 
@@ -235,7 +237,7 @@ impl Table for FlatTable {
         ensures most { IfOk result (λ walk. most_ahead walk < 2 ^ 64) }
         ensures call { Call (terms_of self.old) (terms_of self.new) 0 0 steps.old steps.new (range_bound 0) }
         ensures left { IfOk result (λ _. steps.new + 0 ≤ steps.old + range_bound 0) }
-        ensures cause { IfErr result (λ refusal. read_cause refusal 0 0) }
+        ensures faults { ReadFaults result 0 0 }
         ensures walks { KeepsWalks (Stands self.old) (Stands self.new) (Ahead self.old) (Ahead self.new) }
         // Those were the trait's clauses; and no step is made.
         ensures free { steps.new ≡ steps.old }

@@ -4,12 +4,14 @@
 mod entries;
 mod entry;
 mod flat;
+mod law;
 mod table;
 #[cfg(test)]
 mod tests;
 
 use cola_cell::Value;
 pub use flat::{FlatTable, FlatWalk};
+pub use law::{entries_fit_cells, stored_is_stamped};
 pub use table::Table;
 
 /// What an accepted put did.

@@ -9,7 +9,7 @@ ghost use Rattle.cola_spec.specs.Machine.{Turn};
 ghost use Rattle.cola_spec.specs.Bounds.{put_bound, get_bound, range_bound};
 ghost use Rattle.cola_table.specs.Terms.{Terms, Call, shape};
 ghost use Rattle.cola_table.specs.Replies.{turn_of, put_reply, put_if_reply, delete_reply, get_reply, stamp_reply};
-ghost use Rattle.cola_table.specs.Answers.{PutAnswers, PutIfAnswers, DeleteAnswers, GetAnswers, StampAnswers, RangeAnswers, NextAnswers, put_cause, step_cause, read_cause, KeepsWalks, UnlessPut, UnlessDeleted};
+ghost use Rattle.cola_table.specs.Answers.{PutAnswers, PutIfAnswers, DeleteAnswers, GetAnswers, StampAnswers, RangeAnswers, NextAnswers, PutFaults, StepFaults, ReadFaults, KeepsWalks, UnlessPut, UnlessDeleted};
 
 use crate::{Put, PutFault, PutIf};
 use cola_cell::{Format, Key, ReadFault, StepFault, Value};
@@ -33,7 +33,13 @@ pub trait Table {
     /// The format, the limit and the number that bounds the steps. No call changes them.
     ghost terms: { Self → Terms };
 
-    /// A count of faults, which never falls.
+    /// What the table has beside its map, which no call changes.
+    ghost Kept: { Type 0 } = { Unit {0} };
+
+    ghost kept: { Self → Self.Kept };
+
+    /// A count of the device's faults. It rises in a call that answers a fault of the device, and stays
+    /// in every other call.
     ghost faults: { Self → ℕ };
 
     /// The table is sound, for this map.
@@ -84,7 +90,8 @@ pub trait Table {
         ensures given { answers self.old (turn_of (spec.Put key.now value.now) (put_reply result) (steps.new - steps.old)) self.new }
         ensures call { Call (terms self.old) (terms self.new) (faults self.old) (faults self.new) steps.old steps.new (put_bound (terms self.old).depth) }
         ensures counted { IfOk result (λ answer. steps.new ≡ steps.old + answer.1) }
-        ensures cause { IfErr result (λ refusal. put_cause refusal (faults self.old) (faults self.new)) }
+        ensures faults { PutFaults result (faults self.old) (faults self.new) }
+        ensures kept { kept self.new ≡ kept self.old }
         ensures walks { OnErr result (KeepsWalks (stands self.old) (stands self.new) (ahead self.old) (ahead self.new)) };
 
     /// A put that is made only where the key has the stamp seen, 0 where it is absent. That is tried
@@ -102,7 +109,8 @@ pub trait Table {
         ensures given { answers self.old (turn_of (spec.PutIf key.now seen value.now) (put_if_reply result) (steps.new - steps.old)) self.new }
         ensures call { Call (terms self.old) (terms self.new) (faults self.old) (faults self.new) steps.old steps.new (put_bound (terms self.old).depth) }
         ensures counted { IfOk result (λ answer. steps.new ≡ steps.old + answer.1) }
-        ensures cause { IfErr result (λ refusal. put_cause refusal (faults self.old) (faults self.new)) }
+        ensures faults { PutFaults result (faults self.old) (faults self.new) }
+        ensures kept { kept self.new ≡ kept self.old }
         ensures walks { UnlessPut (KeepsWalks (stands self.old) (stands self.new) (ahead self.old) (ahead self.new)) result };
 
     /// Takes the key out, and answers the value that it had.
@@ -115,7 +123,8 @@ pub trait Table {
         ensures given { answers self.old (turn_of (spec.Del key.now) (delete_reply result) (steps.new - steps.old)) self.new }
         ensures call { Call (terms self.old) (terms self.new) (faults self.old) (faults self.new) steps.old steps.new (put_bound (terms self.old).depth) }
         ensures counted { IfOk result (λ answer. steps.new ≡ steps.old + answer.1) }
-        ensures cause { IfErr result (λ refusal. step_cause refusal (faults self.old) (faults self.new)) }
+        ensures faults { StepFaults result (faults self.old) (faults self.new) }
+        ensures kept { kept self.new ≡ kept self.old }
         ensures walks { UnlessDeleted (KeepsWalks (stands self.old) (stands self.new) (ahead self.old) (ahead self.new)) result };
 
     /// The value of the key.
@@ -128,7 +137,8 @@ pub trait Table {
         ensures given { answers self.old (turn_of (spec.Get key.now) (get_reply result) (steps.new - steps.old)) self.new }
         ensures call { Call (terms self.old) (terms self.new) (faults self.old) (faults self.new) steps.old steps.new (get_bound (terms self.old).depth) }
         ensures counted { IfOk result (λ answer. steps.new ≡ steps.old + answer.1) }
-        ensures cause { IfErr result (λ refusal. read_cause refusal (faults self.old) (faults self.new)) }
+        ensures faults { ReadFaults result (faults self.old) (faults self.new) }
+        ensures kept { kept self.new ≡ kept self.old }
         ensures walks { KeepsWalks (stands self.old) (stands self.new) (ahead self.old) (ahead self.new) };
 
     /// The stamp of the key: the number of the put that gave its value, and 0 in format One.
@@ -141,7 +151,8 @@ pub trait Table {
         ensures given { answers self.old (turn_of (spec.Stamp key.now) (stamp_reply result) (steps.new - steps.old)) self.new }
         ensures call { Call (terms self.old) (terms self.new) (faults self.old) (faults self.new) steps.old steps.new (get_bound (terms self.old).depth) }
         ensures counted { IfOk result (λ answer. steps.new ≡ steps.old + answer.1) }
-        ensures cause { IfErr result (λ refusal. read_cause refusal (faults self.old) (faults self.new)) }
+        ensures faults { ReadFaults result (faults self.old) (faults self.new) }
+        ensures kept { kept self.new ≡ kept self.old }
         ensures walks { KeepsWalks (stands self.old) (stands self.new) (ahead self.old) (ahead self.new) };
 
     /// A walk over the pairs from `low` on and below `high`, by rising keys; with no upper end where
@@ -158,23 +169,27 @@ pub trait Table {
         ensures most { IfOk result (λ walk. most walk < 2 ^ 64) }
         ensures call { Call (terms self.old) (terms self.new) (faults self.old) (faults self.new) steps.old steps.new (range_bound (terms self.old).depth) }
         ensures left { IfOk result (λ walk. steps.new + left walk ≤ steps.old + range_bound (terms self.old).depth) }
-        ensures cause { IfErr result (λ refusal. read_cause refusal (faults self.old) (faults self.new)) }
+        ensures faults { ReadFaults result (faults self.old) (faults self.new) }
+        ensures kept { kept self.new ≡ kept self.old }
         ensures walks { KeepsWalks (stands self.old) (stands self.new) (ahead self.old) (ahead self.new) };
 
-    /// The next pair of the walk, or none where none is left. A refused call takes none.
+    /// The next pair of the walk, or none where none is left. A refused call leaves the walk as it was,
+    /// so that it may be asked again.
     fn next<L: Ledger>(
         &mut self,
         walk: &mut Self::Walk,
         steps: &mut Steps<L>,
     ) -> Result<Option<(Key, Value)>, ReadFault>
         requires { stands self.old walk.old }
-        ensures answer { (m : Map) (pairs : List (List ℕ × List ℕ)) → holds self.old m → ahead self.old walk.old pairs → holds self.new m × NextAnswers (ahead self.new walk.new) pairs result }
+        ensures answer { (m : Map) (pairs : List (List ℕ × List ℕ)) → holds self.old m → ahead self.old walk.old pairs → NextAnswers (ahead self.new walk.new) pairs result }
+        ensures sound { (m : Map) → holds self.old m → holds self.new m }
         ensures given { goes self.old walk.old result self.new walk.new }
         ensures stands { stands self.new walk.new }
         ensures call { Call (terms self.old) (terms self.new) (faults self.old) (faults self.new) steps.old steps.new (left walk.old) }
         ensures left { OnOk result (steps.new + left walk.new ≤ steps.old + left walk.old) }
-        ensures kept { OnErr result (left walk.new ≡ left walk.old) }
+        ensures refused { OnErr result (walk.new ≡ walk.old) }
         ensures fewer { IfOk result (λ answer. OnSome answer (most walk.new < most walk.old)) }
-        ensures cause { IfErr result (λ refusal. read_cause refusal (faults self.old) (faults self.new)) }
+        ensures faults { ReadFaults result (faults self.old) (faults self.new) }
+        ensures kept { kept self.new ≡ kept self.old }
         ensures walks { KeepsWalks (stands self.old) (stands self.new) (ahead self.old) (ahead self.new) };
 }

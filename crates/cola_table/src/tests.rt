@@ -4,6 +4,7 @@ ghost use Rattle.std.specs.Prelude.{◌≡◌, ◌<◌};
 use crate::{FlatTable, Put, PutFault, PutIf, Table};
 use cola_cell::{Key, Value};
 use cola_outside::Steps;
+use std::alloc::AllocError;
 use std::marker::Brand;
 use std::process::Abort;
 use std::sync::ledger::{Blank, Ledger};
@@ -170,5 +171,17 @@ fn both<L: Ledger>(
 fn answers_as_a_map(rt: HostRuntime) -> Result<(), Fail> {
     let mut first = FlatTable::new(rt.alloc(), 2)?;
     let mut second = FlatTable::new(rt.alloc(), 32)?;
-    both::<Brand>(&rt, &mut first, &mut second, Blank::new(1))
+    both::<Brand>(&rt, &mut first, &mut second, Blank::new(1))?;
+    // Each table took its memory in three allocations, and no call made one: a run that refuses the
+    // seventh fails here.
+    let more: Result<Vec<u8>, AllocError> = Vec::with_capacity(rt.alloc(), 1);
+    assert!(rt; more.is_ok(), "the seventh allocation is refused");
+    Ok(())
+}
+
+#[test]
+fn the_largest_table(rt: HostRuntime) -> Result<(), Fail> {
+    let table = FlatTable::new(rt.alloc(), 65_536)?;
+    assert_eq!(rt; table.count(), 0);
+    Ok(())
 }

@@ -22,6 +22,8 @@ impl Source for Pieces {
 
     ghost faults = { λ _. 0 };
 
+    ghost reads = { λ _ _ _ _. Unit {0} };
+
     fn read(&mut self, into: &mut [u8]) -> Result<usize, SourceFault> {
         let at = self.at.min(self.bytes.len());
         let count = into.len().min(self.piece).min(self.bytes.len() - at);

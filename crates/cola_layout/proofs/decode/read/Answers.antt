@@ -51,7 +51,7 @@ returns-then-not-is_zero_behind c =
       | then-not-is_zero_behind-via-else-not-is_zero_behind+then-not-levels_fit w ↦
           no-rule c.args.bytes.now (said g c.in_ok-closed.closed c.u64_at-count.result c.u64_at-clock.result c.u64_at-last.result levels) says
           (λ sound. false≢true (sym w.if-not-levels_fit.true ∙ w.levels_fit.ensures.1
-          (subst (λ (ms : List Marks). AreMarks c.u64_at-clock.result g.bottom ms) (sym w.as_slice.ensures.value) sound.marks_fit)))
+          (subst (λ (ms : List Marks). AreMarks c.u64_at-clock.result ms) (sym w.as_slice.ensures.value) sound.marks_fit)))
     ]
 
 pub invariant_of-result : goal.invariant_of-result
@@ -64,7 +64,7 @@ invariant_of-result c =
       last_fits = omega (arith, c.if-last-last_limit.false, c.last_limit.ensures);
       one_each = ap length (read_all c.levels.result (g.bottom + 1) levels (drop 48 c.args.bytes.now) c.levels.ensures.value c.read_levels-levels.ensures)
           ∙ levels-length_in (g.bottom + 1) (drop 48 c.args.bytes.now);
-      marks_fit = subst (λ (ms : List Marks). AreMarks c.u64_at-clock.result g.bottom ms) c.as_slice.ensures.value (c.levels_fit.ensures.0 c.if-not-levels_fit.false);
+      marks_fit = subst (λ (ms : List Marks). AreMarks c.u64_at-clock.result ms) c.as_slice.ensures.value (c.levels_fit.ensures.0 c.if-not-levels_fit.false);
     }
 
 pub returns : goal.returns
@@ -82,4 +82,4 @@ returns c =
     (omega (arith, c.if-clock-clock_end.false, c.clock_end.ensures.value))
     (omega (arith, c.if-last-last_limit.false, c.last_limit.ensures))
     (ap length levels_are ∙ levels-length_in (g.bottom + 1) (drop 48 c.args.bytes.now))
-    (subst (λ (ms : List Marks). AreMarks c.u64_at-clock.result g.bottom ms) c.as_slice.ensures.value (c.levels_fit.ensures.0 c.if-not-levels_fit.false))
+    (subst (λ (ms : List Marks). AreMarks c.u64_at-clock.result ms) c.as_slice.ensures.value (c.levels_fit.ensures.0 c.if-not-levels_fit.false))

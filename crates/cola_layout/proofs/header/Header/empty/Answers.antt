@@ -15,5 +15,5 @@ invariant_of-result c =
       clock_fits = pow_pos (bottom + 1);
       last_fits = omega arith;
       one_each = ap length c.empty_levels-levels.ensures ∙ length-replicate n no_marks ∙ c.levels.ensures.value;
-      marks_fit = subst (λ (ms : List Marks). AreMarks 0 bottom ms) (sym c.empty_levels-levels.ensures) (marks-empty 0 bottom n);
+      marks_fit = subst (λ (ms : List Marks). AreMarks 0 ms) (sym c.empty_levels-levels.ensures) (marks-empty 0 n);
     }

@@ -1,0 +1,78 @@
+use Rattle.std.proofs.Common.{◌*◌, ◌/◌, ℕ, None, Ok, Err, refl, sym, subst, ◌∙◌, arith}
+use Rattle.cola_cell.specs.Held.{Held, HasPlace}
+use Rattle.cola_cell.specs.Spent.{Search, Reads}
+use Rattle.cola_look.specs.Seek.{first_of, last_of}
+use Rattle.cola_look.proofs.SeekLemmas.{Seeking, seeking_begins, seeking_goes_on, err_is, compared, sought_refused, sought_found, sought_end}
+use Rattle.cola_look.proofs.seeking.seek.Goals as goal
+
+pub read-requires : goal.read-requires
+read-requires g c =
+    let P : Held → Type 0 = λ h. HasPlace h c.args.run.now.level c.args.run.now.slot c.loop-index.index in
+    subst P (sym c.loop-index.invariant.held_is) (record { level_in = c.requires.level_in; slot_in = c.requires.slot_in; index_in = omega (arith, c.requires.within) })
+
+pub loop-index-init : goal.loop-index-init
+loop-index-init g c =
+    let P : ℕ → Type 0 = λ i. Seeking (g.W.CellSource.held c.args.work.now) c.args.run.now c.args.next_len c.args.start c.args.key.now (g.W.CellSource.spent c.args.work.now) (g.W.CellSource.spent c.args.work.now)
+    c.args.steps.now c.args.steps.now (first_of c.args.start c.args.run.now.len) (last_of c.args.start c.args.run.now.len) i in
+    record {
+      held_is = refl;
+      kept_is = refl;
+      seeking = subst P (sym c.window-first.ensures.first) (seeking_begins (g.W.CellSource.held c.args.work.now) c.args.run.now c.args.next_len c.args.start c.args.key.now (g.W.CellSource.spent c.args.work.now) c.args.steps.now);
+    }
+
+pub loop-index-preserved : goal.loop-index-preserved
+loop-index-preserved g c =
+    let P : Held → Type 0 = λ h. Reads h (g.W.CellSource.spent c.loop-index.work) (g.W.CellSource.spent c.read.new.self) Search c.args.run.now.level c.args.run.now.slot c.loop-index.index (Ok c.in_ok-cell.cell) in
+    record {
+      held_is = c.in_ok-cell.ensures.cells_stay ∙ c.loop-index.invariant.held_is;
+      kept_is = c.in_ok-cell.ensures.kept ∙ c.loop-index.invariant.kept_is;
+      seeking = seeking_goes_on c.in_ok-cell.cell c.loop-index.invariant.seeking (omega arith) (omega arith) (subst P c.loop-index.invariant.held_is c.in_ok-cell.ensures.reads) (compared c.args.key.now c.key.result.now _ c.cmp.result c.is_lt.result _ c.key.ensures c.cmp.ensures c.is_lt.ensures c.if-not-is_lt.false) c.in_ok-cell.ensures.one_tick;
+    }
+
+pub returns-in_err-cell : goal.returns-in_err-cell
+returns-in_err-cell g c =
+    let P : Held → Type 0 = λ h. Reads h (g.W.CellSource.spent c.loop-index.work) (g.W.CellSource.spent c.read.new.self) Search c.args.run.now.level c.args.run.now.slot c.loop-index.index (Err c.in_err-cell.field-0.0) in
+    let s = sought_refused c.in_err-cell.field-0.0 c.from_residual.result c.loop-index.invariant.seeking (omega arith) (omega arith) (subst P c.loop-index.invariant.held_is c.in_err-cell.ensures.reads) c.in_err-cell.ensures.one_tick
+    (err_is c.from_residual.result c.in_err-cell.field-0.0 c.from_residual.ensures.1) in
+    record {
+      exact = s.exact;
+      told = s.told;
+      right = s.right;
+      cause = s.cause;
+      cells_stay = c.in_err-cell.ensures.cells_stay ∙ c.loop-index.invariant.held_is;
+      kept = c.in_err-cell.ensures.kept ∙ c.loop-index.invariant.kept_is;
+      calm = s.calm;
+      costs = s.costs;
+      others_stay = s.others_stay;
+    }
+
+pub returns-then-not-is_lt : goal.returns-then-not-is_lt
+returns-then-not-is_lt g c =
+    let P : Held → Type 0 = λ h. Reads h (g.W.CellSource.spent c.loop-index.work) (g.W.CellSource.spent c.read.new.self) Search c.args.run.now.level c.args.run.now.slot c.loop-index.index (Ok c.in_ok-cell.cell) in
+    let s = sought_found c.in_ok-cell.cell c.seat_at.result c.loop-index.invariant.seeking (omega arith) (omega arith) (subst P c.loop-index.invariant.held_is c.in_ok-cell.ensures.reads) c.in_ok-cell.ensures.one_tick (compared c.args.key.now c.key.result.now _ c.cmp.result c.is_lt.result _ c.key.ensures c.cmp.ensures c.is_lt.ensures c.if-not-is_lt.true) c.seat_at.ensures in
+    record {
+      exact = s.exact;
+      told = s.told;
+      right = s.right;
+      cause = s.cause;
+      cells_stay = c.in_ok-cell.ensures.cells_stay ∙ c.loop-index.invariant.held_is;
+      kept = c.in_ok-cell.ensures.kept ∙ c.loop-index.invariant.kept_is;
+      calm = s.calm;
+      costs = s.costs;
+      others_stay = s.others_stay;
+    }
+
+pub returns : goal.returns
+returns g c =
+    let s = sought_end (record { pos = c.args.run.now.len; hit = None; link = 8 * (c.args.next_len / 8) }) c.loop-index.invariant.seeking (omega arith) refl in
+    record {
+      exact = s.exact;
+      told = s.told;
+      right = s.right;
+      cause = s.cause;
+      cells_stay = c.loop-index.invariant.held_is;
+      kept = c.loop-index.invariant.kept_is;
+      calm = s.calm;
+      costs = s.costs;
+      others_stay = s.others_stay;
+    }

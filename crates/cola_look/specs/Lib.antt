@@ -1,0 +1,6 @@
+pub mod Order
+pub mod Outcome
+pub mod Runs
+pub mod Seek
+pub mod Stops
+pub mod Turns

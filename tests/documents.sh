@@ -1,0 +1,71 @@
+#!/usr/bin/env bash
+# The checks of the documents: each file and each name that they speak of exists, each crate has its lines, and the pages
+# are as short as they are meant to be. The last line is 'N passed, M failed', and the status is 0 only where none failed.
+set -u
+root=$(cd "$(dirname "$0")/.." && pwd -P) || exit 1
+cd "$root" || exit 1
+passed=0 failed=0
+
+# count WHAT STATUS: counts a check.
+count() {
+    if [ "$2" -eq 0 ]; then
+        passed=$((passed + 1))
+    else
+        failed=$((failed + 1))
+        printf 'FAILED: %s\n' "$1"
+    fi
+}
+
+crates=$(sed -n 's/#.*//; s/^\([a-z][a-z0-9_]*\)[^:]*:.*/\1/p' crates.txt)
+words=$(mktemp) || exit 1
+trap 'rm -f "$words"' EXIT
+# Every word of the code, of the launcher and of the scripts.
+cat crates.txt cola tests/*.sh bench/* $(find crates -path '*/out' -prune -o \( -name '*.rt' -o -name '*.antt' \) -print) |
+    tr -c 'A-Za-z0-9_' '\n' | sort -u >"$words"
+
+# spoken FILE: what stands in backquotes in a page, but for its indented examples.
+spoken() { grep -v '^    ' "$1" | grep -o '`[^`]*`' | tr -d '`' | sort -u; }
+
+# is_there FOLDER PATH: whether the path is that of a file, from the page's folder, the top, crates/ or a crate's folder.
+is_there() {
+    local at
+    case $2 in
+        out/* | */out/*) return 0 ;; # made by the toolchain
+    esac
+    for at in "$1" . crates "$1"/{src,specs,proofs} crates/* crates/*/{src,specs,proofs}; do
+        [ -e "$at/$2" ] && return 0
+    done
+    return 1
+}
+
+pages=$(git ls-files '*.md' 2>/dev/null) || pages=$(find . -name '*.md')
+for page in $pages; do
+    folder=$(dirname "$page")
+    while IFS= read -r it; do
+        case $it in
+            *[' <>*(){}=']* | '') continue ;;
+            */*.* | *.rt | *.antt | *.sh | *.md | */src | */specs | */proofs)
+                is_there "$folder" "${it#./}"
+                count "$page speaks of the file $it" $? ;;
+            *_* | *::* | *[a-z][A-Z]*)
+                for name in $(printf '%s' "$it" | tr -c 'A-Za-z0-9_' ' '); do
+                    grep -qx -- "$name" "$words" || [ -e "$folder/$name" ] || ls -d /opt/rattle/rlibs/"$name".rlib >/dev/null 2>&1
+                    count "$page speaks of $name ($it)" $?
+                done ;;
+        esac
+    done < <(spoken "$page")
+done
+
+for crate in $crates; do
+    grep -q "\`$crate\`" docs/MAP.md
+    count "docs/MAP.md names $crate" $?
+    grep -q "\`$crate\`" README.md
+    count "README.md says what is proved of $crate" $?
+done
+
+long=$(cat README.md docs/*.md bench/README.md | wc -w)
+[ "$long" -le 12000 ]
+count "the documents have $long words, of at most 12,000" $?
+
+echo "$passed passed, $failed failed"
+[ "$failed" -eq 0 ]
