@@ -1,0 +1,40 @@
+-- A walk over the rests of a list of runs, key by key.
+use Rattle.std.specs.Prelude.{◌≡◌, false, cond, List, [], ◌∷◌, map, ⊤, IsTrue}
+use Rattle.std.specs.declared.cmp.Ordering.{Ordering}
+use Rattle.std.specs.Ordering.{is_lt, is_eq}
+use Rattle.std.specs.declared.option.Option.{Option}
+use Rattle.std.specs.List.{AllByRecursion}
+use Rattle.cola_runs.specs.Cells.{Cell, key_of}
+use Rattle.cola_runs.specs.Seen.{answer}
+use Rattle.cola_pairs.specs.Live.{with_answer, below_end}
+
+module _ {K V : Type 0} where
+  -- where a run has a first cell, this holds of its key
+  abbrev pub AtHead : (K → Type 0) → List (Cell K V) → Type 0
+  AtHead P [] = ⊤
+  AtHead P (c ∷ cells) = P (key_of c)
+
+module _ {K V : Type 0} (cmp : K → K → Ordering) where
+  -- the run without the cells at its front that have this key
+  abbrev pub pass_key : K → List (Cell K V) → List (Cell K V)
+  pass_key k [] = []
+  pass_key k (c ∷ cells) = cond (is_eq (cmp k (key_of c))) (pass_key k cells) (c ∷ cells)
+
+  -- each run without the cells at its front that have this key
+  abbrev pub pass_keys : K → List (List (Cell K V)) → List (List (Cell K V))
+  pass_keys k = map (pass_key k)
+
+  -- no run begins with a key below k
+  abbrev pub HeadsFrom : K → List (List (Cell K V)) → Type 0
+  HeadsFrom k = AllByRecursion (AtHead (λ h. is_lt (cmp h k) ≡ false))
+
+  -- no run begins with a key below the upper end
+  abbrev pub HeadsPast : Option K → List (List (Cell K V)) → Type 0
+  HeadsPast hi = AllByRecursion (AtHead (λ h. below_end cmp hi h ≡ false))
+
+  -- a walk below the upper end gives these pairs: it ends where no run begins below the upper end; else it takes a key that
+  -- lies below it and below which no run begins, gives what the runs have of the key, and goes on behind its cells
+  pub data Walks (hi : Option K) : List (List (Cell K V)) → List (K × V) → Type 0 where
+    Ends : {rests : List (List (Cell K V))} → HeadsPast hi rests → Walks hi rests []
+    Takes : {rests : List (List (Cell K V))} {left : List (K × V)} {pairs : List (K × V)} (k : K) →
+        IsTrue (below_end cmp hi k) → HeadsFrom k rests → Walks hi (pass_keys k rests) left → pairs ≡ with_answer k (answer cmp k rests) left → Walks hi rests pairs
