@@ -1,6 +1,6 @@
 -- Runs by a script, request by request.
-use Rattle.std.proofs.Common.{ℕ, zero, suc, ◌≡◌, ◌<◌, ◌+◌, cond, refl, sym, ◌∙◌, ap, subst, List, [], ◌∷◌, ◌++◌, length, get_or, take, drop, map, Option, Some, None, IfOk, Result, option_map, option_to_list, is_some, unwrap_or, arith, add-one, append_assoc, drop-cons}
-use Rattle.std.proofs.lemmas.List.{get_or_default, drop_all, map-append}
+use Rattle.std.proofs.Common.{ℕ, zero, suc, ◌≡◌, ◌<◌, ◌+◌, cond, refl, sym, ◌∙◌, ap, subst, List, [], ◌∷◌, ◌++◌, length, get_or, take, drop, map, Option, Some, None, IfOk, OnErr, Result, Ok, Err, option_map, option_to_list, is_some, unwrap_or, arith, add-one, append_assoc, drop-cons}
+use Rattle.std.proofs.lemmas.List.{get_or_default, get_or-map, length-map, drop_all, map-append}
 use Rattle.std.specs.Borrow.{Bor}
 use Rattle.cola_spec.specs.Map.{Shape}
 use Rattle.cola_spec.specs.Lines.{line_of}
@@ -62,17 +62,40 @@ scripted_plainly choice shape middle after state request r none stands answered 
 pub record IsGoing (script : List Move) (shape : Shape) (state : State) (asked : List (Option plain.Command)) (turns : List Turn) (place : ℕ) (session : Session) : Type 0 where
   pub now : State
   pub stands : SessionStands session now
+  pub reached : now ≡ scripted_last script shape state (take place (map request_with asked))
   pub told : turns_with turns ++ scripted_turns (drop place script) shape now (map request_with (drop place asked)) ≡ scripted_turns script shape state (map request_with asked)
   pub left : scripted_last (drop place script) shape now (map request_with (drop place asked)) ≡ scripted_last script shape state (map request_with asked)
 
 going_first : (script : List Move) (shape : Shape) (state : State) (asked : List (Option plain.Command)) (session : Session) → SessionStands session state → IsGoing script shape state asked [] 0 session
-going_first script shape state asked session stands = record { now = state; stands = stands; told = refl; left = refl }
+going_first script shape state asked session stands = record { now = state; stands = stands; reached = refl; told = refl; left = refl }
 
 later_dropped : (place : ℕ) (script : List Move) → later_moves (drop place script) ≡ drop (suc place) script
 later_dropped zero [] = refl
 later_dropped zero (move ∷ moves) = refl
 later_dropped (suc place) [] = refl
 later_dropped (suc place) (move ∷ moves) = later_dropped place moves
+
+dropped_later : (place : ℕ) (script : List Move) → drop place (later_moves script) ≡ drop (suc place) script
+dropped_later zero [] = refl
+dropped_later (suc place) [] = refl
+dropped_later place (move ∷ moves) = refl
+
+-- the state after one more request
+last_step : (script : List Move) (shape : Shape) (state : State) (asked : List (Option Command)) (place : ℕ) (d : Option Command) → place < length asked
+    → scripted_last script shape state (take (suc place) asked) ≡ scripted_after (next_move (drop place script)).choice shape (scripted_last script shape state (take place asked)) (get_or asked place d)
+last_step script shape state [] place d within = absurd (omega arith)
+last_step script shape state (request ∷ asked) zero d within = refl
+last_step script shape state (request ∷ asked) (suc place) d within =
+    let after = scripted_after (next_move script).choice shape state request in
+    last_step (later_moves script) shape after asked place d (omega arith)
+    ∙ ap (λ moves. scripted_after (next_move moves).choice shape (scripted_last (later_moves script) shape after (take place asked)) (get_or asked place d)) (dropped_later place script)
+
+-- in terms of the requests of this crate
+step_reached : (script : List Move) (shape : Shape) (state : State) (asked : List (Option plain.Command)) (place : ℕ) (d : Option plain.Command) → place < length asked
+    → scripted_after (next_move (drop place script)).choice shape (scripted_last script shape state (take place (map request_with asked))) (request_with (get_or asked place d)) ≡ scripted_last script shape state (take (suc place) (map request_with asked))
+step_reached script shape state asked place d within =
+    sym (ap (scripted_after (next_move (drop place script)).choice shape (scripted_last script shape state (take place (map request_with asked)))) (get_or-map request_with asked place d (request_with d) within))
+    ∙ sym (last_step script shape state (map request_with asked) place (request_with d) (rw length-map within))
 
 going_on_by_move : (script : List Move) (shape : Shape) (state : State) (asked : List (Option plain.Command)) (turns : List Turn) (place : ℕ) (before after : Session) (d : Option plain.Command) (turn : Turn) → place < length asked
     → (going : IsGoing script shape state asked turns place before)
@@ -89,6 +112,7 @@ going_on_by_move script shape state asked turns place before after d turn within
     (record {
       now = then;
       stands = standing;
+      reached = ap (λ s. scripted_after next.choice shape s request) going.reached ∙ step_reached script shape state asked place d within;
       told = ap (λ ts. ts ++ scripted_turns (drop (suc place) script) shape then rest) (map-append turn_with turns (turn ∷ []))
           ∙ append_assoc (turns_with turns) (turn_with turn ∷ []) (scripted_turns (drop (suc place) script) shape then rest)
           ∙ ap (λ t. turns_with turns ++ t ∷ scripted_turns (drop (suc place) script) shape then rest) is
@@ -114,6 +138,16 @@ going_on script shape state asked turns place before after d turn next new withi
 
 pub going_begins : (script : List Move) (shape : Shape) (state : State) (asked : List (Option plain.Command)) (session : Session) (turns : List Turn) → turns ≡ [] → SessionStands session state → IsGoing script shape state asked turns 0 session
 going_begins script shape state asked session turns none stands = subst (λ ts. IsGoing script shape state asked ts 0 session) (sym none) (going_first script shape state asked session stands)
+
+pub on_err : {T E P : Type 0} (r : Result T E) → P → OnErr r P
+on_err (Ok x) h = tt
+on_err (Err e) h = h
+
+-- a run that stops at a place has made the steps before it
+pub going_stops : {T E : Type 0} (r : Result T E) (script : List Move) (shape : Shape) (state : State) (asked : List (Option plain.Command)) (turns : List Turn) (place : ℕ) (before session : Session) → (going : IsGoing script shape state asked turns place before)
+    → ((now : State) → SessionStands before now → SessionStands session now)
+    → OnErr r ((steps : ℕ) × SessionStands session (scripted_last script shape state (take steps (map request_with asked))))
+going_stops r script shape state asked turns place before session going kept = on_err r (place, subst (SessionStands session) going.reached (kept going.now going.stands))
 
 append_none : {Y : Type 0} (xs : List Y) → xs ++ [] ≡ xs
 append_none [] = refl

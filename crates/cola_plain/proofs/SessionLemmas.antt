@@ -1,6 +1,6 @@
 -- Runs over one list of requests after another.
-use Rattle.std.proofs.Common.{ℕ, ◌≡◌, false, refl, sym, ◌∙◌, ap, subst, Some, option_map, IfOk, Result, Ok, Err, List, [], ◌∷◌, ◌++◌, length, get_or, take, Option, append_assoc, ◌<◌, ◌+◌}
-use Rattle.std.proofs.lemmas.List.{get_or_default, take_more, map-append}
+use Rattle.std.proofs.Common.{ℕ, ◌≡◌, false, refl, sym, ◌∙◌, ap, subst, Some, option_map, IfOk, OnErr, ◌⊎◌, inl, inr, Result, Ok, Err, List, [], ◌∷◌, ◌++◌, length, get_or, take, Option, append_assoc, ◌<◌, ◌+◌}
+use Rattle.std.proofs.lemmas.List.{get_or_default, take_more, take-map, map-append}
 use Rattle.std.proofs.lemmas.List.Concat.{flat_map-append}
 use Rattle.std.specs.Borrow.{Bor}
 use Rattle.cola_spec.specs.Map.{Shape, Map}
@@ -79,6 +79,9 @@ pub ok_first : {A E : Type 0} (P Q : A → Type 0) (r : Result A E) → IfOk r (
 ok_first P Q (Ok x) h = h.0
 ok_first P Q (Err e) h = h
 
+first_lines : (lines : List (Bor (List ℕ))) (raws : List (List ℕ)) (n : ℕ) → texts lines ≡ raws → texts (take n lines) ≡ take n raws
+first_lines lines raws n same = sym (take-map (λ (x : Bor (List ℕ)). x.now) n lines) ∙ ap (take n) same
+
 pub turns_go_on : (shape : Shape) (state : State) (lines : List (Bor (List ℕ))) (i : ℕ) (d : Bor (List ℕ)) (text reply new : List ℕ) (after : Session) → i < length lines
     → text ≡ turns_text false (plain_turns shape state (requests shape (texts (take i lines))))
     → reply ≡ turns_text false (plain_turns shape (plain_last shape state (requests shape (texts (take i lines)))) (line_requests shape (line_of (get_or lines i d).now)))
@@ -90,6 +93,19 @@ turns_go_on shape state lines i d text reply new after within before here joined
     let same = get_or_default lines i d raw within in (
       joined ∙ ap (λ t. t ++ reply) before ∙ ap (λ r. turns_text false (plain_turns shape state (requests shape (texts (take i lines)))) ++ r) here ∙ sym (text_more shape state lines i raw within same),
       subst (SessionStands after) (sym (last_more shape state lines i raw within same)) standing,
+    )
+
+-- a run that stops at a line has carried out the lines before it, or that line too
+pub run_stops : {T E : Type 0} (r : Result T E) (shape : Shape) (state : State) (lines : List (Bor (List ℕ))) (raws : List (List ℕ)) (i : ℕ) (d : Bor (List ℕ)) (session : Session) → i < length lines → texts lines ≡ raws
+    → SessionStands session (plain_last shape state (requests shape (texts (take i lines)))) ⊎ SessionStands session (plain_last shape (plain_last shape state (requests shape (texts (take i lines)))) (line_requests shape (line_of (get_or lines i d).now)))
+    → OnErr r ((n : ℕ) × SessionStands session (plain_last shape state (requests shape (take n raws))))
+run_stops (Ok x) shape state lines raws i d session within same stands = tt
+run_stops (Err e) shape state lines raws i d session within same (inl stands) = (i, subst (λ rs. SessionStands session (plain_last shape state (requests shape rs))) (first_lines lines raws i same) stands)
+run_stops (Err e) shape state lines raws i d session within same (inr stands) =
+    let raw = get_or lines i d in (
+      i + 1,
+      subst (λ rs. SessionStands session (plain_last shape state (requests shape rs))) (first_lines lines raws (i + 1) same)
+          (subst (SessionStands session) (sym (last_more shape state lines i raw within (get_or_default lines i d raw within))) stands),
     )
 
 -- an answer by the stage alone, which keeps the map, is the answer by the state

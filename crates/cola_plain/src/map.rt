@@ -44,7 +44,7 @@ pub enum PutOutcome {
 const LAST_STAMP: u64 = 1 << 63;
 
 impl Map {
-    ghost use Rattle.std.specs.Prelude.{◌≡◌, ◌≢◌, ◌≤◌, ◌<◌, ◌+◌, ◌-◌, ◌^◌, ℕ, true, false, not, min, Some, None, IfOk, OnOk, MatchResult, option_map, option_copied, length, take, map, if◌then◌else◌};
+    ghost use Rattle.std.specs.Prelude.{◌≡◌, ◌≢◌, ◌≤◌, ◌<◌, ◌+◌, ◌-◌, ◌^◌, ℕ, true, false, not, min, Some, None, IfOk, OnErr, OnOk, MatchResult, option_map, option_copied, length, take, map, if◌then◌else◌};
     ghost use Rattle.std.specs.FinMap.Entries.{find, put, where_key};
     ghost use Rattle.std.specs.Ordering.{eq_by_cmp};
     ghost use Rattle.cola_spec.specs.Map.{after_delete, after_put, after_put_if, count, empty_map, is_worn, key_cmp, pairs_between, put_outcome, put_if_outcome, scan, settled, value_of, with_value, stamp_of, Map as SpecMap, Stored};
@@ -168,9 +168,11 @@ impl Map {
         Err(self.entries.len())
     }
 
-    /// Puts an entry in its place, or in place of the one that its key has.
+    /// Puts an entry in its place, or in place of the one that its key has. An error comes only for want of
+    /// memory, and changes nothing.
     fn store(&mut self, entry: Entry) -> Result<(), AllocError>
         ensures stored { OnOk result (listed self.new.entries.items ≡ put key_cmp entry.key.items (kept_in entry) (listed self.old.entries.items)) }
+        ensures kept { OnErr result (self.new.entries.items ≡ self.old.entries.items) }
         ensures last { self.new.last ≡ self.old.last }
     {
         match self.place(&entry.key) {
@@ -215,7 +217,8 @@ impl Map {
         key: &[u8],
         value: &[u8],
     ) -> Result<(), AllocError>
-        ensures { (m : SpecMap) → Stands self.old m → is_worn (shape_of shape.now) m ≡ false → OnOk result (Stands self.new (with_value (shape_of shape.now) m key.now value.now)) }
+        ensures given { (m : SpecMap) → Stands self.old m → is_worn (shape_of shape.now) m ≡ false → OnOk result (Stands self.new (with_value (shape_of shape.now) m key.now value.now)) }
+        ensures kept { (m : SpecMap) → Stands self.old m → OnErr result (Stands self.new m) }
     {
         let last = self.next_last(shape);
         let entry = Entry {
@@ -237,7 +240,8 @@ impl Map {
         key: &[u8],
         value: &[u8],
     ) -> Result<(), AllocError>
-        ensures { (m : SpecMap) → Stands self.old m → (is_accepted (outcome_with outcome.now) ≡ true → is_worn (shape_of shape.now) m ≡ false) → OnOk result (Stands self.new (settled (outcome_with outcome.now) m (with_value (shape_of shape.now) m key.now value.now))) }
+        ensures settled { (m : SpecMap) → Stands self.old m → (is_accepted (outcome_with outcome.now) ≡ true → is_worn (shape_of shape.now) m ≡ false) → OnOk result (Stands self.new (settled (outcome_with outcome.now) m (with_value (shape_of shape.now) m key.now value.now))) }
+        ensures kept { (m : SpecMap) → Stands self.old m → OnErr result (Stands self.new m) }
     {
         match outcome {
             PutOutcome::New => self.with_value(alloc, shape, key, value),
@@ -248,7 +252,7 @@ impl Map {
         }
     }
 
-    /// Puts a value under a key. An error comes only for want of memory, and the map is then of no use.
+    /// Puts a value under a key. An error comes only for want of memory, and changes nothing.
     pub fn put(
         &mut self,
         alloc: Global,
@@ -256,7 +260,8 @@ impl Map {
         key: &[u8],
         value: &[u8],
     ) -> Result<PutOutcome, AllocError>
-        ensures { (m : SpecMap) → Stands self.old m → IfOk result (λ outcome. (outcome_with outcome ≡ put_outcome (shape_of shape.now) m key.now) × Stands self.new (after_put (shape_of shape.now) m key.now value.now)) }
+        ensures put { (m : SpecMap) → Stands self.old m → IfOk result (λ outcome. (outcome_with outcome ≡ put_outcome (shape_of shape.now) m key.now) × Stands self.new (after_put (shape_of shape.now) m key.now value.now)) }
+        ensures kept { (m : SpecMap) → Stands self.old m → OnErr result (Stands self.new m) }
     {
         let outcome = self.put_outcome(alloc, shape, key)?;
         self.settle(alloc, shape, &outcome, key, value)?;
@@ -264,7 +269,7 @@ impl Map {
     }
 
     /// Puts a value under a key where the stamp seen is the one that the key has, and 0 where it has none.
-    /// An error comes only for want of memory, and the map is then of no use.
+    /// An error comes only for want of memory, and changes nothing.
     pub fn put_if(
         &mut self,
         alloc: Global,
@@ -273,7 +278,8 @@ impl Map {
         seen: u64,
         value: &[u8],
     ) -> Result<PutOutcome, AllocError>
-        ensures { (m : SpecMap) → Stands self.old m → IfOk result (λ outcome. (outcome_with outcome ≡ put_if_outcome (shape_of shape.now) m key.now seen) × Stands self.new (after_put_if (shape_of shape.now) m key.now seen value.now)) }
+        ensures put { (m : SpecMap) → Stands self.old m → IfOk result (λ outcome. (outcome_with outcome ≡ put_if_outcome (shape_of shape.now) m key.now seen) × Stands self.new (after_put_if (shape_of shape.now) m key.now seen value.now)) }
+        ensures kept { (m : SpecMap) → Stands self.old m → OnErr result (Stands self.new m) }
     {
         let outcome = self.put_if_outcome(alloc, shape, key, seen)?;
         self.settle(alloc, shape, &outcome, key, value)?;
@@ -297,7 +303,8 @@ impl Map {
     /// Removes a key, and gives the value that it had. An error comes only for want of memory, and changes
     /// nothing.
     pub fn delete(&mut self, alloc: Global, key: &[u8]) -> Result<Option<Vec<u8>>, AllocError>
-        ensures { (m : SpecMap) → Stands self.old m → IfOk result (λ value. (option_map (λ v. v.items) value ≡ value_of m key.now) × Stands self.new (after_delete m key.now)) }
+        ensures deleted { (m : SpecMap) → Stands self.old m → IfOk result (λ value. (option_map (λ v. v.items) value ≡ value_of m key.now) × Stands self.new (after_delete m key.now)) }
+        ensures kept { (m : SpecMap) → Stands self.old m → OnErr result (Stands self.new m) }
     {
         let old = self.get(alloc, key)?;
         self.entries = self.without(alloc, key)?;

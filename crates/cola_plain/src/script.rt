@@ -67,7 +67,7 @@ pub fn requests<'a>(
 }
 
 impl Session {
-    ghost use Rattle.std.specs.Prelude.{◌≡◌, ℕ, map, All, IfOk, option_map};
+    ghost use Rattle.std.specs.Prelude.{◌≡◌, ℕ, map, take, All, IfOk, OnErr, option_map};
     ghost use Rattle.cola_spec.specs.Machine.{State, Run};
     ghost use Rattle.cola_plain.specs.Command.{request_with, shape_of};
     ghost use Rattle.cola_plain.specs.Reply.{reply_with};
@@ -76,7 +76,7 @@ impl Session {
     ghost use Rattle.cola_plain.specs.Scripts.{IsChoice, chosen_after, chosen_reply, scripted_after, scripted_last, scripted_reply, scripted_turn, scripted_turns};
 
     /// The reply to a request whose step goes as chosen. `None`, and the state is kept, exactly where it
-    /// cannot go so. An error comes only for want of memory, and the session is then of no use.
+    /// cannot go so. An error comes only for want of memory, and changes nothing.
     pub fn chosen(
         &mut self,
         alloc: Global,
@@ -84,7 +84,8 @@ impl Session {
         request: Option<Command>,
         choice: Choice,
     ) -> Result<Option<Reply>, AllocError>
-        ensures { (state : State) → SessionStands self.old state → IfOk result (λ reply. (option_map reply_with reply ≡ chosen_reply choice (shape_of shape.now) state (request_with request.entry)) × SessionStands self.new (chosen_after choice (shape_of shape.now) state (request_with request.entry))) }
+        ensures answer { (state : State) → SessionStands self.old state → IfOk result (λ reply. (option_map reply_with reply ≡ chosen_reply choice (shape_of shape.now) state (request_with request.entry)) × SessionStands self.new (chosen_after choice (shape_of shape.now) state (request_with request.entry))) }
+        ensures kept { (state : State) → SessionStands self.old state → OnErr result (SessionStands self.new state) }
     {
         match choice {
             Choice::Plain => Ok(Some(self.answer(alloc, shape, request)?)),
@@ -94,7 +95,7 @@ impl Session {
     }
 
     /// The reply to a request whose step goes as chosen, or plainly where it cannot go so. An error comes
-    /// only for want of memory, and the session is then of no use.
+    /// only for want of memory, and changes nothing.
     pub fn scripted(
         &mut self,
         alloc: Global,
@@ -102,7 +103,8 @@ impl Session {
         request: Option<Command>,
         choice: Choice,
     ) -> Result<Reply, AllocError>
-        ensures { (state : State) → SessionStands self.old state → IfOk result (λ reply. (reply_with reply ≡ scripted_reply choice (shape_of shape.now) state (request_with request.entry)) × SessionStands self.new (scripted_after choice (shape_of shape.now) state (request_with request.entry))) }
+        ensures answer { (state : State) → SessionStands self.old state → IfOk result (λ reply. (reply_with reply ≡ scripted_reply choice (shape_of shape.now) state (request_with request.entry)) × SessionStands self.new (scripted_after choice (shape_of shape.now) state (request_with request.entry))) }
+        ensures kept { (state : State) → SessionStands self.old state → OnErr result (SessionStands self.new state) }
     {
         match self.chosen(alloc, shape, request, choice)? {
             Some(reply) => Ok(reply),
@@ -110,8 +112,8 @@ impl Session {
         }
     }
 
-    /// The turn of a request that goes as a move says. An error comes only for want of memory, and the
-    /// session is then of no use.
+    /// The turn of a request that goes as a move says. An error comes only for want of memory, and changes
+    /// nothing.
     fn scripted_turn<'a>(
         &mut self,
         alloc: Global,
@@ -119,7 +121,8 @@ impl Session {
         request: Option<Command<'a>>,
         next: Move,
     ) -> Result<Turn<'a>, AllocError>
-        ensures { (state : State) → SessionStands self.old state → IfOk result (λ turn. (turn_with turn ≡ scripted_turn next (shape_of shape.now) state (request_with request.entry)) × SessionStands self.new (scripted_after next.choice (shape_of shape.now) state (request_with request.entry))) }
+        ensures turn { (state : State) → SessionStands self.old state → IfOk result (λ turn. (turn_with turn ≡ scripted_turn next (shape_of shape.now) state (request_with request.entry)) × SessionStands self.new (scripted_after next.choice (shape_of shape.now) state (request_with request.entry))) }
+        ensures kept { (state : State) → SessionStands self.old state → OnErr result (SessionStands self.new state) }
     {
         let answer = self.scripted(alloc, shape, request, next.choice)?;
         Ok(Turn {
@@ -130,7 +133,8 @@ impl Session {
     }
 
     /// The turns of requests that go as a script says, move by move: plainly where a step cannot go so, and
-    /// behind the script's end. An error comes only for want of memory, and the session is then of no use.
+    /// behind the script's end. An error comes only for want of memory; some first steps are then made, and
+    /// the others are not.
     pub fn scripted_run<'a>(
         &mut self,
         alloc: Global,
@@ -139,6 +143,7 @@ impl Session {
         script: &[Move],
     ) -> Result<Vec<Turn<'a>>, AllocError>
         ensures turns { (state : State) → SessionStands self.old state → IfOk result (λ turns. (turns_with turns.items ≡ scripted_turns script.now (shape_of shape.now) state (map request_with requests.now)) × SessionStands self.new (scripted_last script.now (shape_of shape.now) state (map request_with requests.now))) }
+        ensures refused { (state : State) → SessionStands self.old state → OnErr result ((steps : ℕ) × SessionStands self.new (scripted_last script.now (shape_of shape.now) state (take steps (map request_with requests.now)))) }
         ensures run { (state : State) → SessionStands self.old state → All (λ move. IsChoice move.choice) script.now → IfOk result (λ turns. Run (shape_of shape.now) state (turns_with turns.items) (scripted_last script.now (shape_of shape.now) state (map request_with requests.now))) }
     {
         let mut turns = Vec::new(alloc);

@@ -149,7 +149,7 @@ fn closed_short(byte: u8, command: Command) -> Option<Reply>
 }
 
 impl Session {
-    ghost use Rattle.std.specs.Prelude.{◌≡◌, ℕ, true, false, IfOk};
+    ghost use Rattle.std.specs.Prelude.{◌≡◌, ◌⊎◌, ℕ, true, false, take, IfOk, OnErr};
     ghost use Rattle.cola_spec.specs.Map.{empty_map, Map as SpecMap, Shape as SpecShape};
     ghost use Rattle.cola_spec.specs.Lines.{line_of, raw_lines};
     ghost use Rattle.cola_spec.specs.Command.{line_requests, requests};
@@ -170,14 +170,16 @@ impl Session {
         }
     }
 
-    /// The reply to a command while the session is open.
+    /// The reply to a command while the session is open. An error comes only for want of memory, and changes
+    /// nothing.
     fn open_answer(
         &mut self,
         alloc: Global,
         shape: &Shape,
         command: Command,
     ) -> Result<Reply, AllocError>
-        ensures { (m : SpecMap) → Stands self.old.map m → self.old.stage ≡ stage.Open → IfOk result (λ reply. (reply_with reply ≡ command_reply (shape_of shape.now) (Open m) (command_with command.entry)) × SessionStands self.new (command_after (shape_of shape.now) (Open m) (command_with command.entry))) }
+        ensures answer { (m : SpecMap) → Stands self.old.map m → self.old.stage ≡ stage.Open → IfOk result (λ reply. (reply_with reply ≡ command_reply (shape_of shape.now) (Open m) (command_with command.entry)) × SessionStands self.new (command_after (shape_of shape.now) (Open m) (command_with command.entry))) }
+        ensures kept { (m : SpecMap) → Stands self.old.map m → OnErr result (Stands self.new.map m × (self.new.stage ≡ self.old.stage)) }
     {
         match command {
             Command::Put(key, value) => Ok(Reply::Put(self.map.put(alloc, shape, key, value)?)),
@@ -198,14 +200,15 @@ impl Session {
         }
     }
 
-    /// The reply to a request. An error comes only for want of memory, and the session is then of no use.
+    /// The reply to a request. An error comes only for want of memory, and changes nothing.
     pub fn answer(
         &mut self,
         alloc: Global,
         shape: &Shape,
         request: Option<Command>,
     ) -> Result<Reply, AllocError>
-        ensures { (state : State) → SessionStands self.old state → IfOk result (λ reply. (reply_with reply ≡ plain_reply (shape_of shape.now) state (request_with request.entry)) × SessionStands self.new (plain_after (shape_of shape.now) state (request_with request.entry))) }
+        ensures answer { (state : State) → SessionStands self.old state → IfOk result (λ reply. (reply_with reply ≡ plain_reply (shape_of shape.now) state (request_with request.entry)) × SessionStands self.new (plain_after (shape_of shape.now) state (request_with request.entry))) }
+        ensures kept { (state : State) → SessionStands self.old state → OnErr result (SessionStands self.new state) }
     {
         let Some(command) = request else {
             return Ok(Reply::Bad);
@@ -302,14 +305,16 @@ impl Session {
         }
     }
 
-    /// The text of the reply to a line, which is empty where the line is.
+    /// The text of the reply to a line, which is empty where the line is. An error comes only for want of
+    /// memory, with the line carried out or not.
     fn answer_line(
         &mut self,
         alloc: Global,
         shape: &Shape,
         raw: &[u8],
     ) -> Result<Vec<u8>, AllocError>
-        ensures { (state : State) → SessionStands self.old state → IfOk result (λ text. (text.items ≡ turns_text false (plain_turns (shape_of shape.now) state (line_requests (shape_of shape.now) (line_of raw.now)))) × SessionStands self.new (plain_last (shape_of shape.now) state (line_requests (shape_of shape.now) (line_of raw.now)))) }
+        ensures text { (state : State) → SessionStands self.old state → IfOk result (λ text. (text.items ≡ turns_text false (plain_turns (shape_of shape.now) state (line_requests (shape_of shape.now) (line_of raw.now)))) × SessionStands self.new (plain_last (shape_of shape.now) state (line_requests (shape_of shape.now) (line_of raw.now)))) }
+        ensures refused { (state : State) → SessionStands self.old state → OnErr result (SessionStands self.new state ⊎ SessionStands self.new (plain_last (shape_of shape.now) state (line_requests (shape_of shape.now) (line_of raw.now)))) }
     {
         match asked(alloc, shape, raw)? {
             Some(request) => {
@@ -320,10 +325,11 @@ impl Session {
         }
     }
 
-    /// The texts of the replies to the lines of a list of bytes. An error comes only for want of memory,
-    /// and the session is then of no use.
+    /// The texts of the replies to the lines of a list of bytes. An error comes only for want of memory;
+    /// some first lines are then carried out, and the others are not.
     pub fn run(&mut self, alloc: Global, shape: &Shape, bytes: &[u8]) -> Result<Vec<u8>, AllocError>
-        ensures { (state : State) → SessionStands self.old state → IfOk result (λ text. (text.items ≡ turns_text false (plain_turns (shape_of shape.now) state (requests (shape_of shape.now) (raw_lines bytes.now)))) × SessionStands self.new (plain_last (shape_of shape.now) state (requests (shape_of shape.now) (raw_lines bytes.now)))) }
+        ensures text { (state : State) → SessionStands self.old state → IfOk result (λ text. (text.items ≡ turns_text false (plain_turns (shape_of shape.now) state (requests (shape_of shape.now) (raw_lines bytes.now)))) × SessionStands self.new (plain_last (shape_of shape.now) state (requests (shape_of shape.now) (raw_lines bytes.now)))) }
+        ensures refused { (state : State) → SessionStands self.old state → OnErr result ((lines : ℕ) × SessionStands self.new (plain_last (shape_of shape.now) state (requests (shape_of shape.now) (take lines (raw_lines bytes.now))))) }
     {
         let lines = raw_lines(alloc, bytes)?;
         let mut text = Vec::new(alloc);
