@@ -98,8 +98,8 @@ impl BlockCells {
         self.level.device()
     }
 
-    /// The device, as it is kept. It tells the cells of level 3 to other cells that are made on it, where each
-    /// cell of the level's shadow was on it.
+    /// The device. Where the shadow of level 3 was saved, a new object on the same device reads the same cells
+    /// at that level.
     pub fn into_device(self) -> MemoryDevice
         ensures value { result ≡ self.level.device }
         ensures holds { 8192 ≤ length result.bytes }

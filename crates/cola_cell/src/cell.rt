@@ -11,9 +11,9 @@ pub enum Item {
     Tombstone,
 }
 
-/// A cell of a run. An item is young from the mutation that made it until it is merged as an
-/// incoming one. A lookahead cell has a key of the next level's run. The link is a place in that
-/// run, in cells.
+/// A cell of a run. An item is young where a merge in an even period of its level took it in from the
+/// level above; a merge marks every other item old. A lookahead cell has a key of the next level's run.
+/// The link is a place in that run, in cells.
 #[derive(Clone, Copy, Debug, PartialEq, Eq, Drop)]
 pub enum Cell {
     Item {

@@ -5,7 +5,7 @@
 pub enum ReadFault {
     /// The device failed.
     Device,
-    /// The bytes of the cell of this number are no spelling.
+    /// The bytes of the cell of this number are invalid: they spell no cell.
     BadCell(u64),
 }
 
@@ -23,7 +23,7 @@ pub enum PushFault {
 pub enum StepFault {
     /// The device failed.
     Device,
-    /// The bytes of the cell of this number are no spelling.
+    /// The bytes of the cell of this number are invalid: they spell no cell.
     BadCell(u64),
     /// The run that this level builds has no room left.
     Overfull(u8),

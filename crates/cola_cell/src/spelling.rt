@@ -19,7 +19,7 @@ const LAST_STAMP: u64 = 1 << 63;
 /// Zeros in the place of a value.
 static NO_VALUE: [u8; 72] = [0; 72];
 
-/// Writes the spelling of the cell in format One.
+/// Writes the cell in format One, in the one way that it has there.
 pub fn encode(cell: &Cell, into: &mut [u8; 64])
     requires { CellFits One cell.now }
     ensures { IsSpelling One cell.now into.new }
@@ -27,14 +27,14 @@ pub fn encode(cell: &Cell, into: &mut [u8; 64])
     encode_in(Format::One, cell, into);
 }
 
-/// The cell that the bytes spell in format One, or none exactly where they are no spelling.
+/// The cell that the bytes spell in format One; none exactly on invalid bytes.
 pub fn decode(bytes: &[u8; 64]) -> Option<Cell>
     ensures { Decodes One bytes.now result }
 {
     decode_in(Format::One, bytes)
 }
 
-/// Writes the spelling of the cell in format Two.
+/// Writes the cell in format Two, in the one way that it has there.
 pub fn encode_wide(cell: &Cell, into: &mut [u8; 128])
     requires { stamp_of cell.now ≤ 2 ^ 63 }
     ensures { IsSpelling Two cell.now into.new }
@@ -43,7 +43,7 @@ pub fn encode_wide(cell: &Cell, into: &mut [u8; 128])
     encode_in(Format::Two, cell, into);
 }
 
-/// The cell that the bytes spell in format Two, or none exactly where they are no spelling.
+/// The cell that the bytes spell in format Two; none exactly on invalid bytes.
 pub fn decode_wide(bytes: &[u8; 128]) -> Option<Cell>
     ensures { Decodes Two bytes.now result }
 {

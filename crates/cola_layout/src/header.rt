@@ -66,7 +66,7 @@ impl Header {
         write(self, into);
     }
 
-    /// The header that the bytes spell, in the format that their version says: none exactly where they are no spelling.
+    /// The header of the bytes, in the format that their version says; none exactly on invalid bytes.
     pub fn decode(bytes: &[u8; 512]) -> Option<Header>
         ensures { Decodes bytes.now result }
     {
