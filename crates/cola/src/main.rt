@@ -1,10 +1,15 @@
 //! The program `cola`: its words, standard input and standard output, and the exit status.
 #![tactic(auto)]
 
-use cola_command::run;
+ghost use Rattle.std.specs.Prelude.{◌≡◌, ◌<◌};
+
+use cola_command::serve;
 use cola_io::{StdSink, StdSource};
+use cola_outside::Steps;
+use std::marker::Brand;
 use std::process::ExitCode;
 use std::rt::Env;
+use std::sync::ledger::{Blank, Ledger};
 use std::{env, io};
 
 /// The words after the program's name; none where they cannot be taken.
@@ -16,11 +21,21 @@ fn take_words<R: Env + AllocGlobal>(rt: &R) -> Option<Vec<String>> {
     Some(words)
 }
 
+/// Serves the words over standard input and standard output, with steps on a ledger of their own.
+fn run<L: Ledger>(blank: Blank, rt: &HostRuntime, words: &[String]) -> u8
+    requires name { blank.name ≡ L.name }
+    requires parts { blank.parts ≡ L.parts }
+    requires some { 0 < L.parts }
+{
+    let mut source = StdSource::new(rt.reader());
+    let mut sink = StdSink::new(io::writer(rt));
+    let mut steps = Steps::<L>::begin(blank);
+    serve(rt.alloc(), words, &mut source, &mut sink, &mut steps)
+}
+
 fn main(rt: HostRuntime) -> ExitCode {
     let Some(words) = take_words(&rt) else {
         return ExitCode::from(1);
     };
-    let mut source = StdSource::new(rt.reader());
-    let mut sink = StdSink::new(io::writer(&rt));
-    ExitCode::from(run(rt.alloc(), words.as_slice(), &mut source, &mut sink))
+    ExitCode::from(run::<Brand>(Blank::new(1), &rt, words.as_slice()))
 }

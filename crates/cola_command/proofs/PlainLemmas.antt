@@ -1,5 +1,5 @@
 -- Where no fault can come, a turn is the plain one.
-use Rattle.std.proofs.Common.{◌≡◌, ℕ, false, List, [], ◌∷◌, ◌++◌, Option, Some, Result, refl, sym, ap, ◌∙◌, subst, arith, length, nat_eq}
+use Rattle.std.proofs.Common.{◌≡◌, ℕ, false, List, [], ◌∷◌, ◌++◌, Option, Some, Result, refl, sym, ap, ◌∙◌, subst, arith, length, nat_eq, sum_by, ◌+◌}
 use Rattle.std.specs.List.{flat_map}
 use Rattle.std.proofs.lemmas.Grind.{flat_map-append}
 use Rattle.std.proofs.lemmas.List.{append-nil}
@@ -13,8 +13,10 @@ use Rattle.cola_cell.specs.declared.format.Format.TheVariants.{One}
 use Rattle.cola_spec.specs.Lines.{Line, Text}
 use Rattle.cola_spec.specs.Command.{command_of, line_requests}
 use Rattle.cola_table.specs.Terms.{shape_of}
-use Rattle.cola_command.specs.Memory.{asked, state_after, replies_to}
-use Rattle.cola_line.specs.Replied.{Answered, StepsFrom, KindHasCause, Wrote}
+use Rattle.cola_command.specs.Memory.{asked, state_after, replies_to, lines_bound, StepsWithin}
+use Rattle.cola_spec.specs.Bounds.{request_bound, command_bound}
+use Rattle.std.proofs.lemmas.List.Sums.{sum_by-append}
+use Rattle.cola_line.specs.Replied.{StepsFrom, KindFaults, Wrote}
 
 -- with no cost asked for, the ticks do not show
 pub costless : (answer : Reply) (ticks : ℕ) → reply_text false ticks answer ≡ reply_text false 0 answer
@@ -38,21 +40,21 @@ costless reply.Shut ticks = refl
 costless reply.Bad ticks = refl
 
 -- a step of an open store whose count of faults stays 0 is plain
-plain_step : (shape : Shape) (m : Map) (turn : Turn) (next : State) (kind : Kind) → StepOf shape (Open m) turn next kind → KindHasCause kind 0 0 → (turn.answer ≡ plain_reply shape (Open m) turn.request) × (next ≡ plain_after shape (Open m) turn.request)
+plain_step : (shape : Shape) (m : Map) (turn : Turn) (next : State) (kind : Kind) → StepOf shape (Open m) turn next kind → KindFaults kind 0 0 → (turn.answer ≡ plain_reply shape (Open m) turn.request) × (next ≡ plain_after shape (Open m) turn.request)
 plain_step shape m turn next PlainStep step cause = step
 plain_step shape m turn next FaultedStep step cause = absurd (omega arith)
 plain_step shape m turn next ShortStep step cause = absurd step
 
 -- what was written is the text of the plain turn, and the map is the one after it
-pub plain_answer : {A E : Type 0} (shape : Shape) (m m' : Map) (command : Command) (result : Result A E) (w w' : Option (List ℕ)) (steps steps' : ℕ) (turn : Turn)
-    → Answered command false result w w' 0 0 steps steps' turn → StepsFrom shape m (λ held. held ≡ m') turn
+pub plain_answer : {A E : Type 0} (shape : Shape) (m m' : Map) (command : Command) (result : Result A E) (w w' : Option (List ℕ)) (turn : Turn)
+    → turn.request ≡ Some command → Wrote (turn_text false turn) result w w' → KindFaults (kind_of turn.answer) 0 0 → StepsFrom shape m (λ held. held ≡ m') turn
     → Wrote (turn_text false (plain_turn shape (Open m) (Some command))) result w w' × (Open m' ≡ plain_after shape (Open m) (Some command))
-plain_answer shape m m' command result w w' steps steps' turn answered from =
-    let plain = plain_step shape m turn (Open from.next) (kind_of turn.answer) from.step answered.cause in
-    let reply_is : turn.answer ≡ plain_reply shape (Open m) (Some command) = plain.0 ∙ ap (plain_reply shape (Open m)) answered.asked in
+plain_answer shape m m' command result w w' turn asked wrote faults from =
+    let plain = plain_step shape m turn (Open from.next) (kind_of turn.answer) from.step faults in
+    let reply_is : turn.answer ≡ plain_reply shape (Open m) (Some command) = plain.0 ∙ ap (plain_reply shape (Open m)) asked in
     let text_is : turn_text false turn ≡ turn_text false (plain_turn shape (Open m) (Some command)) = costless turn.answer turn.ticks ∙ ap (reply_text false 0) reply_is in (
-      subst (λ t. Wrote t result w w') text_is answered.wrote,
-      ap Open (sym from.holds) ∙ plain.1 ∙ ap (plain_after shape (Open m)) answered.asked,
+      subst (λ t. Wrote t result w w') text_is wrote,
+      ap Open (sym from.holds) ∙ plain.1 ∙ ap (plain_after shape (Open m)) asked,
     )
 
 -- Turns one after another
@@ -83,6 +85,12 @@ replies_one keys state lines request is =
 pub state_one : (keys : ℕ) (state : State) (lines : List Line) (request : Option Command) → flat_map (line_requests (shape_of One keys)) lines ≡ request ∷ [] → plain_after (shape_of One keys) state request ≡ state_after keys state lines
 state_one keys state lines request is = ap (plain_last (shape_of One keys) state) (sym is)
 
+-- and the most cell accesses are those of that one
+pub bound_one : (keys : ℕ) (lines : List Line) (command : Command) (steps steps' : ℕ) → flat_map (line_requests (shape_of One keys)) lines ≡ Some command ∷ [] → StepsWithin (command_bound 0 command) steps steps' → StepsWithin (lines_bound keys lines) steps steps'
+bound_one keys lines command steps steps' is made =
+    let same : lines_bound keys lines ≡ command_bound 0 command = ap (sum_by (request_bound 0)) is ∙ omega arith in
+    record { kept = made.kept; within = omega (arith, made.within, same) }
+
 -- More lines
 
 pub asked-append : (keys : ℕ) (a b : List Line) → asked keys (a ++ b) ≡ asked keys a ++ asked keys b
@@ -97,3 +105,6 @@ replies-append keys state a b =
 pub state_after-append : (keys : ℕ) (state : State) (a b : List Line) → state_after keys state (a ++ b) ≡ state_after keys (state_after keys state a) b
 state_after-append keys state a b =
     ap (plain_last (shape_of One keys) state) (asked-append keys a b) ∙ plain_last-append (shape_of One keys) state (asked keys a) (asked keys b)
+
+pub lines_bound-append : (keys : ℕ) (a b : List Line) → lines_bound keys (a ++ b) ≡ lines_bound keys a + lines_bound keys b
+lines_bound-append keys a b = ap (sum_by (request_bound 0)) (asked-append keys a b) ∙ sum_by-append (request_bound 0) (asked keys a) (asked keys b)

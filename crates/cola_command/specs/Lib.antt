@@ -1,2 +1,3 @@
 pub mod Memory
+pub mod Ends
 pub mod Words

@@ -1,16 +1,18 @@
--- A session over a table in memory.
-use Rattle.std.specs.Prelude.{ℕ, ◌≡◌, ◌≤◌, ◌^◌, ◌⊎◌, Bool, true, false, List, [], ◌∷◌, ◌++◌, length, take, Option, Some, None, IsSome, ⊤}
+-- A session over a table in memory: what it is asked and replies, and which reads it makes.
+use Rattle.std.specs.Prelude.{ℕ, ◌≡◌, ◌+◌, ◌≤◌, ◌^◌, ◌⊎◌, Bool, true, false, List, [], ◌∷◌, ◌++◌, length, sum_by, take, Option, Some, None, IsSome, ⊤}
 use Rattle.std.specs.List.{flat_map}
 use Rattle.std.specs.Io.KnownBytes.{IsAtEnd}
 use Rattle.cola_cell.specs.declared.format.Format.TheVariants.{One}
-use Rattle.cola_outside.specs.Faults.{Rose}
 use Rattle.cola_io.specs.Streams.{Taken, Appended}
+use Rattle.cola_io.specs.Reads.{Read, bytes_read, WasRead, AreDue, met_end}
+use Rattle.cola_io.specs.declared.source.Source as source
 use Rattle.cola_io.specs.declared.next.Next.{Next}
 use Rattle.cola_io.specs.declared.next.Next.TheVariants as next
 use Rattle.cola_io.specs.Law.{all_lines, all_ended_lines}
 use Rattle.cola_spec.specs.Map.{Map, empty_map}
 use Rattle.cola_spec.specs.Lines.{Line, Text, TooLong}
 use Rattle.cola_spec.specs.Command.{Command, line_requests}
+use Rattle.cola_spec.specs.Bounds.{request_bound}
 use Rattle.cola_spec.specs.Machine.{State, Open, Closed, plain_turns, plain_last, turns_text}
 use Rattle.cola_table.specs.Terms.{shape_of}
 
@@ -52,25 +54,36 @@ HoldsLine next.End held = ⊥
 HoldsLine next.Fault held = ⊥
 HoldsLine next.Budget held = ⊥
 
+-- Cell accesses
+
+-- the most cell accesses of what lines ask: a table in memory has no levels
+abbrev pub lines_bound : ℕ → List Line → ℕ
+lines_bound keys lines = sum_by (request_bound 0) (asked keys lines)
+
+-- so many cell accesses at most were made
+pub record StepsWithin (bound steps steps' : ℕ) : Type 0 where
+  pub kept : steps ≤ steps'
+  pub within : steps' ≤ steps + bound
+
+-- Reads
+
+-- each line that a line feed ends within the bytes was answered
+abbrev pub AllAnswered : List Line → List ℕ → Type 0
+AllAnswered answered bytes = length (all_ended_lines bytes) ≤ length answered
+
+-- the source was read for lines, of which these were answered: no read came where a line that had ended was not answered, none behind a refused one, none behind the end, and none for more than the limit
+pub record ReadFor {S : Type 0} (g : source.Ghosts S) (answered : List Line) (source : S) (reads : List Read) (source' : S) : Type 0 where
+  pub was_read : WasRead g source reads source'
+  pub due : AreDue (AllAnswered answered) input_limit reads
+  pub took : Taken (bytes_read reads) (g.left source) (g.left source')
+  pub at_end : met_end reads ≡ true → IsAtEnd (g.left source')
+
 -- these are first lines of the bytes taken, each of which a line feed ends, or all of their lines at the end of the source
-abbrev pub AreFirstLines : List Line → List ℕ → Option (List ℕ) → Type 0
-AreFirstLines lines taken left = ((rest : List Line) × (lines ++ rest ≡ all_ended_lines taken)) ⊎ (IsAtEnd left × (lines ≡ all_lines taken))
+abbrev pub AreFirstLines : List Line → List Read → Type 0
+AreFirstLines lines reads = ((rest : List Line) × (lines ++ rest ≡ all_ended_lines (bytes_read reads))) ⊎ ((met_end reads ≡ true) × (lines ≡ all_lines (bytes_read reads)))
 
 -- the replies to all lines but the last were written whole, and some front of the reply to the last
 pub record WroteFront (keys : ℕ) (before : List Line) (last : Line) (written written' : Option (List ℕ)) : Type 0 where
   pub size : ℕ
   pub least : length (replies keys before) ≤ size
   pub wrote : Appended (take size (replies keys (before ++ last ∷ []))) written written'
-
--- how a session over a table for so many keys ends, by its status
-pub data Ends (keys status : ℕ) (left left' written written' : Option (List ℕ)) (source_faults source_faults' sink_faults sink_faults' : ℕ) : Type 0 where
-  -- 0: the source was read to its end, and every line was answered
-  Whole : status ≡ 0 → (taken : List ℕ) → Taken taken left left' → IsAtEnd left' → Appended (replies keys (all_lines taken)) written written' → Ends keys status left left' written written' source_faults source_faults' sink_faults sink_faults'
-  -- 1: there was no memory for the table, and nothing was read or written
-  NoMemory : status ≡ 1 → left' ≡ left → written' ≡ written → Ends keys status left left' written written' source_faults source_faults' sink_faults sink_faults'
-  -- 3: the source failed, and every line that a line feed ends was answered
-  SourceFailed : status ≡ 3 → Rose source_faults source_faults' → (taken : List ℕ) → Taken taken left left' → Appended (replies keys (all_ended_lines taken)) written written' → Ends keys status left left' written written' source_faults source_faults' sink_faults sink_faults'
-  -- 4: the sink failed within the reply to a line, and every line before it was answered
-  SinkFailed : status ≡ 4 → Rose sink_faults sink_faults' → (taken : List ℕ) (before : List Line) (last : Line) → Taken taken left left' → AreFirstLines (before ++ last ∷ []) taken left' → WroteFront keys before last written written' → Ends keys status left left' written written' source_faults source_faults' sink_faults sink_faults'
-  -- 9: all the bytes that may be taken were taken, and every line that a line feed ends was answered
-  Spent : status ≡ 9 → (taken : List ℕ) → length taken ≡ input_limit → Taken taken left left' → Appended (replies keys (all_ended_lines taken)) written written' → Ends keys status left left' written written' source_faults source_faults' sink_faults sink_faults'

@@ -7,4 +7,4 @@ mod program;
 mod words;
 
 pub use laws::memory_sessions_complete;
-pub use program::{run, serve};
+pub use program::serve;

@@ -1,13 +1,13 @@
 //! A session over a table in memory.
-ghost use Rattle.std.specs.Prelude.{◌≡◌, ◌≤◌, ◌∷◌, [], ℕ, Option, Some, None, OnOk, OnErr, option_copied, true, false};
+ghost use Rattle.std.specs.Prelude.{◌≡◌, ◌∷◌, [], Some, option_copied, true, false};
 ghost use Rattle.cola_cell.specs.declared.format.Format.TheVariants.{One};
-ghost use Rattle.cola_outside.specs.Faults.{HasCause};
-ghost use Rattle.cola_spec.specs.Map.{empty_map};
+ghost use Rattle.cola_io.specs.Counted.{CountsFaults};
+ghost use Rattle.cola_spec.specs.Bounds.{command_bound};
 ghost use Rattle.cola_spec.specs.Machine.{plain_turn, plain_after, turn_text};
 ghost use Rattle.cola_table.specs.Terms.{shape_of};
 ghost use Rattle.cola_line.specs.Replied.{Wrote};
 ghost use Rattle.cola_line.specs.Spoken.{spoken, CommandFits};
-ghost use Rattle.cola_command.specs.Memory.{state_of, line_read, state_after, replies_to};
+ghost use Rattle.cola_command.specs.Memory.{state_of, line_read, state_after, replies_to, lines_bound, StepsWithin};
 
 use cola_cell::Format;
 use cola_io::{Sink, SinkFault};
@@ -46,8 +46,8 @@ impl MemorySession {
         ensures wrote { Wrote (turn_text false (plain_turn (shape_of One self.old.table.limit) (state_of self.old.is_open self.old.table.map) (Some (spoken command.now)))) result (K.written sink.old) (K.written sink.new) }
         ensures after { state_of self.new.is_open self.new.table.map ≡ plain_after (shape_of One self.old.table.limit) (state_of self.old.is_open self.old.table.map) (Some (spoken command.now)) }
         ensures limit { self.new.table.limit ≡ self.old.table.limit }
-        ensures cause { HasCause result (K.faults sink.old) (K.faults sink.new) }
-        ensures faults_kept { K.faults sink.old ≤ K.faults sink.new }
+        ensures faults_counted { CountsFaults result (K.faults sink.old) (K.faults sink.new) }
+        ensures cells { StepsWithin (command_bound 0 (spoken command.now)) steps.old steps.new }
     {
         match (command, self.is_open) {
             (Command::Close, true) => {
@@ -69,7 +69,7 @@ impl MemorySession {
     /// reply. An empty line has none. At a fault of the sink the line is carried out all the same, and
     /// some front of the reply was written.
     ///
-    /// An `Err` comes only where the sink's count of faults rose.
+    /// The sink's count of faults stays at `Ok`, and is one more at `Err`.
     pub fn line<K: Sink, L: Ledger>(
         &mut self,
         text: Option<&[u8]>,
@@ -79,8 +79,8 @@ impl MemorySession {
         ensures wrote { Wrote (replies_to self.old.table.limit (state_of self.old.is_open self.old.table.map) (line_read (option_copied text.entry) ∷ [])) result (K.written sink.old) (K.written sink.new) }
         ensures after { state_of self.new.is_open self.new.table.map ≡ state_after self.old.table.limit (state_of self.old.is_open self.old.table.map) (line_read (option_copied text.entry) ∷ []) }
         ensures limit { self.new.table.limit ≡ self.old.table.limit }
-        ensures cause { HasCause result (K.faults sink.old) (K.faults sink.new) }
-        ensures faults_kept { K.faults sink.old ≤ K.faults sink.new }
+        ensures faults_counted { CountsFaults result (K.faults sink.old) (K.faults sink.new) }
+        ensures cells { StepsWithin (lines_bound self.old.table.limit (line_read (option_copied text.entry) ∷ [])) steps.old steps.new }
     {
         let Some(text) = text else {
             return write_reply(&Reply::Bad, false, 0, sink);

@@ -1,8 +1,9 @@
 //! The one call that the program makes.
-ghost use Rattle.std.specs.Prelude.{◌≡◌, ◌≤◌, ◌<◌, ◌∷◌, [], ℕ, Option, Some, None, true, map, string_bytes, option_copied, IfNone, IfSome};
+ghost use Rattle.std.specs.Prelude.{◌≡◌, ◌∷◌, [], true, map, string_bytes, option_copied, IfNone, IfSome};
 ghost use Rattle.cola_spec.specs.Map.{empty_map};
 ghost use Rattle.cola_io.specs.Law.{line_told};
-ghost use Rattle.cola_command.specs.Memory.{Ends, HoldsLine, line_read};
+ghost use Rattle.cola_command.specs.Memory.{HoldsLine, line_read};
+ghost use Rattle.cola_command.specs.Ends.{Ends, Untouched};
 ghost use Rattle.cola_command.specs.Words.{memory_keys};
 
 use crate::memory::MemorySession;
@@ -11,8 +12,7 @@ use cola_io::{LineReader, Next, Sink, Source};
 use cola_outside::Steps;
 use cola_table::FlatTable;
 use std::alloc::Global;
-use std::marker::Brand;
-use std::sync::ledger::{Blank, Ledger};
+use std::sync::ledger::Ledger;
 
 /// The most bytes of input: 2^40.
 const INPUT_LIMIT: u64 = 1_099_511_627_776;
@@ -37,9 +37,7 @@ fn serve_lines<S: Source, K: Sink, L: Ledger>(
 ) -> u8
     requires open { session.old.is_open ≡ true }
     requires empty { session.old.table.map ≡ empty_map }
-    ensures ends { Ends session.old.table.limit result (S.left source.old) (S.left source.new) (K.written sink.old) (K.written sink.new) (S.faults source.old) (S.faults source.new) (K.faults sink.old) (K.faults sink.new) }
-    ensures source_kept { S.faults source.old ≤ S.faults source.new }
-    ensures sink_kept { K.faults sink.old ≤ K.faults sink.new }
+    ensures { Ends S.Source K.Sink session.old.table.limit source.old source.new sink.old sink.new steps.old steps.new result }
 {
     let mut reader = LineReader::new(INPUT_LIMIT);
     'lines: loop {
@@ -61,9 +59,14 @@ fn serve_lines<S: Source, K: Sink, L: Ledger>(
 /// The words are those after the program's name.
 ///
 /// Of the modes there is `mem N`: a session over a table in memory for N keys, from 1 to 65536. It
-/// ends with 0 where the source was read to its end, with 1 where there is no memory for the table,
-/// with 3 or 4 where the source or the sink failed, and with 9 where 2^40 bytes were taken. All other
-/// words end with 2, and nothing is touched. After the table is made no memory is taken.
+/// ends with 0 where the end of the source was met before 2^40 bytes were taken, with 1 where there is
+/// no memory for the table, with 3 or 4 where the source or the sink failed, and with 9 where 2^40
+/// bytes were taken. All other words end with 2, and nothing is touched.
+///
+/// The source is read only while every line that has ended is answered, for 512 bytes or for those
+/// that the limit still allows, and not again behind a refused read, its end, or a refused write. A
+/// range or a scan makes at most 4 steps, and no other line makes one. After the table is made no
+/// memory is taken.
 pub fn serve<S: Source, K: Sink, L: Ledger>(
     alloc: Global,
     words: &[String],
@@ -71,10 +74,8 @@ pub fn serve<S: Source, K: Sink, L: Ledger>(
     sink: &mut K,
     steps: &mut Steps<L>,
 ) -> u8
-    ensures words { IfNone (memory_keys (map string_bytes words.now)) ((result ≡ 2) × (source.new ≡ source.old) × (sink.new ≡ sink.old)) }
-    ensures memory { IfSome (memory_keys (map string_bytes words.now)) (λ keys. Ends keys result (S.left source.old) (S.left source.new) (K.written sink.old) (K.written sink.new) (S.faults source.old) (S.faults source.new) (K.faults sink.old) (K.faults sink.new)) }
-    ensures source_kept { S.faults source.old ≤ S.faults source.new }
-    ensures sink_kept { K.faults sink.old ≤ K.faults sink.new }
+    ensures words { IfNone (memory_keys (map string_bytes words.now)) ((result ≡ 2) × Untouched source.old source.new sink.old sink.new steps.old steps.new) }
+    ensures memory { IfSome (memory_keys (map string_bytes words.now)) (λ keys. Ends S.Source K.Sink keys source.old source.new sink.old sink.new steps.old steps.new result) }
 {
     let Some(keys) = memory_keys(words) else {
         return 2;
@@ -86,34 +87,4 @@ pub fn serve<S: Source, K: Sink, L: Ledger>(
         }
         Err(_) => 1,
     }
-}
-
-/// The same, with steps that begin on a ledger of their own.
-fn serve_from<S: Source, K: Sink, L: Ledger>(
-    blank: Blank,
-    alloc: Global,
-    words: &[String],
-    source: &mut S,
-    sink: &mut K,
-) -> u8
-    requires name { blank.name ≡ L.name }
-    requires parts { blank.parts ≡ L.parts }
-    requires some { 0 < L.parts }
-    ensures words { IfNone (memory_keys (map string_bytes words.now)) ((result ≡ 2) × (source.new ≡ source.old) × (sink.new ≡ sink.old)) }
-    ensures memory { IfSome (memory_keys (map string_bytes words.now)) (λ keys. Ends keys result (S.left source.old) (S.left source.new) (K.written sink.old) (K.written sink.new) (S.faults source.old) (S.faults source.new) (K.faults sink.old) (K.faults sink.new)) }
-    ensures source_kept { S.faults source.old ≤ S.faults source.new }
-    ensures sink_kept { K.faults sink.old ≤ K.faults sink.new }
-{
-    let mut steps = Steps::<L>::begin(blank);
-    serve(alloc, words, source, sink, &mut steps)
-}
-
-/// [`serve`] for a caller that counts no steps, as the program's `main`.
-pub fn run<S: Source, K: Sink>(alloc: Global, words: &[String], source: &mut S, sink: &mut K) -> u8
-    ensures words { IfNone (memory_keys (map string_bytes words.now)) ((result ≡ 2) × (source.new ≡ source.old) × (sink.new ≡ sink.old)) }
-    ensures memory { IfSome (memory_keys (map string_bytes words.now)) (λ keys. Ends keys result (S.left source.old) (S.left source.new) (K.written sink.old) (K.written sink.new) (S.faults source.old) (S.faults source.new) (K.faults sink.old) (K.faults sink.new)) }
-    ensures source_kept { S.faults source.old ≤ S.faults source.new }
-    ensures sink_kept { K.faults sink.old ≤ K.faults sink.new }
-{
-    serve_from::<S, K, Brand>(Blank::new(1), alloc, words, source, sink)
 }

@@ -1,12 +1,15 @@
 //! What no clause says: the replies of worked sessions.
-ghost use Rattle.std.specs.Prelude.{None};
+ghost use Rattle.std.specs.Prelude.{◌≡◌, ◌<◌, None};
 
 use super::made_lines;
-use cola_command::run;
-use cola_io::{MemorySink, MemorySource, Source, SourceFault};
+use cola_command::serve;
+use cola_io::{MemorySink, MemorySource, Sink, Source, SourceFault};
+use cola_outside::Steps;
 use cola_plain::session::mem_session;
 use std::alloc::{AllocError, Global};
+use std::marker::Brand;
 use std::process::Abort;
+use std::sync::ledger::{Blank, Ledger};
 use std::test::Fail;
 
 /// Gives at most `piece` bytes at a time.
@@ -47,6 +50,27 @@ fn words(alloc: Global, mode: &str, keys: &str) -> Result<Vec<String>, AllocErro
     words.push(String::from_str(alloc, mode)?)?;
     words.push(String::from_str(alloc, keys)?)?;
     Ok(words)
+}
+
+/// A session with steps on a ledger of their own, which the caller picks.
+fn run_on<S: Source, K: Sink, L: Ledger>(
+    blank: Blank,
+    alloc: Global,
+    words: &[String],
+    source: &mut S,
+    sink: &mut K,
+) -> u8
+    requires name { blank.name ≡ L.name }
+    requires parts { blank.parts ≡ L.parts }
+    requires some { 0 < L.parts }
+{
+    let mut steps = Steps::<L>::begin(blank);
+    serve(alloc, words, source, sink, &mut steps)
+}
+
+/// A session with steps of its own.
+fn run<S: Source, K: Sink>(alloc: Global, words: &[String], source: &mut S, sink: &mut K) -> u8 {
+    run_on::<S, K, Brand>(Blank::new(1), alloc, words, source, sink)
 }
 
 /// The output and the status of a session over a table for so many keys.

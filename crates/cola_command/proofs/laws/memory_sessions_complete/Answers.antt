@@ -2,4 +2,4 @@ use Rattle.cola_command.proofs.Served.{completes}
 use Rattle.cola_command.proofs.laws.memory_sessions_complete.Goals as goal
 
 pub returns : goal.returns
-returns c = completes
+returns g c = completes g.S.Source g.K.Sink

@@ -5,7 +5,7 @@ use Rattle.cola_table.specs.Terms.{shape_of}
 use Rattle.cola_line.specs.Spoken.{spoken}
 use Rattle.cola_line.specs.Replied.{Wrote}
 use Rattle.cola_command.specs.Memory.{state_of}
-use Rattle.cola_command.proofs.PlainLemmas.{asks_command, replies_one, state_one}
+use Rattle.cola_command.proofs.PlainLemmas.{asks_command, replies_one, state_one, bound_one}
 use Rattle.cola_command.proofs.memory.MemorySession.line.Goals as goal
 
 pub returns-in-Some-parse_line-clause-wrote : goal.returns-in-Some-parse_line-clause-wrote
@@ -20,6 +20,12 @@ returns-in-Some-parse_line-clause-after g c =
     let keys = c.args.self.now.table.limit in
     let asks = asks_command (shape_of One keys) c.in-Some.text.now (Some (spoken c.in-Some-parse_line.command)) (sym c.if-is_empty.ensures) (c.in-Some-parse_line.ensures.means keys) in
     rw c.in-Some.is (c.command.ensures.after ∙ state_one keys (state_of c.args.self.now.is_open c.args.self.now.table.map) (Text c.in-Some.text.now ∷ []) (Some (spoken c.in-Some-parse_line.command)) asks)
+
+pub returns-in-Some-parse_line-clause-cells : goal.returns-in-Some-parse_line-clause-cells
+returns-in-Some-parse_line-clause-cells g c =
+    let keys = c.args.self.now.table.limit in
+    let asks = asks_command (shape_of One keys) c.in-Some.text.now (Some (spoken c.in-Some-parse_line.command)) (sym c.if-is_empty.ensures) (c.in-Some-parse_line.ensures.means keys) in
+    rw c.in-Some.is (bound_one keys (Text c.in-Some.text.now ∷ []) (spoken c.in-Some-parse_line.command) c.args.steps.now c.command.new.steps asks c.command.ensures.cells)
 
 pub returns-in-None-clause-wrote : goal.returns-in-None-clause-wrote
 returns-in-None-clause-wrote g c =
