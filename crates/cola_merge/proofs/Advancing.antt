@@ -1,0 +1,279 @@
+-- What a call of a merge says, from the steps that it took.
+use Rattle.std.proofs.Common.{◌≡◌, ◌≢◌, ℕ, zero, suc, ◌+◌, ◌-◌, ◌*◌, ◌/◌, ◌^◌, ◌<◌, ◌≤◌, min, List, length, map, Option, Some, None, Result, Ok, Err, OnOk, refl, ap, sym, subst, ◌∙◌, arith}
+use Rattle.std.specs.Cmp.Lexicographic.{nat_list_cmp_total}
+use Rattle.std.specs.List.Sorted.{IsStrictlySortedBy}
+use Rattle.std.proofs.lemmas.List.{length-map}
+use Rattle.cola_runs.specs.Cells as laws
+use Rattle.cola_runs.specs.Cells.{IsRising}
+use Rattle.cola_runs.specs.Weave.{weave}
+use Rattle.cola_runs.specs.Steps as runs
+use Rattle.cola_runs.specs.Steps.{Action, Take, Ended, Build, steps, cells_left, IsUnderWay, IsAdvanced}
+use Rattle.cola_runs.proofs.Stepping.{steps_are_advanced}
+use Rattle.cola_runs.proofs.Builds.{used_up, has_room}
+use Rattle.cola_cell.specs.declared.cell.Cell.{Cell}
+use Rattle.cola_cell.specs.declared.cell.Reader.{Reader}
+use Rattle.cola_cell.specs.declared.cell.Reader.TheVariants.{Own, Incoming, Sample}
+use Rattle.cola_cell.specs.declared.fault.StepFault.{StepFault}
+use Rattle.cola_cell.specs.declared.fault.StepFault.TheVariants.{Device, BadCell, Overfull}
+use Rattle.cola_cell.specs.Places.{slot_size}
+use Rattle.cola_cell.specs.Held.{Held, Fixed, LawCell, Stamped, Told, IsTelling, span}
+use Rattle.cola_cell.specs.Spent.{Spent}
+use Rattle.cola_cell.proofs.RunLemmas.{telling_stays, told_is_good}
+use Rattle.cola_merge.specs.declared.aims.Feed.{Feed}
+use Rattle.cola_merge.specs.declared.aims.Feed.TheVariants as feed
+use Rattle.cola_merge.specs.declared.aims.Aim.{Aim}
+use Rattle.cola_merge.specs.declared.aims.Progress.{Progress}
+use Rattle.cola_merge.specs.declared.aims.Progress.TheVariants.{Done, More}
+use Rattle.cola_merge.specs.declared.merging.Merger.{Merger}
+use Rattle.cola_merge.specs.Cells.{cell_at, shadow_cells, IsShadowTold}
+use Rattle.cola_merge.specs.Feeds.{key_cmp, part_of, feed_of, feed_len, read_len, feed_spots, feed_cells, feed_keys, IsFeedTold, IsBadAt}
+use Rattle.cola_merge.specs.Heads.{fresh, fresh_head, head_of, consumed, missing_head, missing, fetched_of, fetched, IsReady, IsUsedUp, AreFeedsTold, build_of}
+use Rattle.cola_merge.specs.Rules.{next_action, Emits}
+use Rattle.cola_merge.specs.Blocks.{blocks_left}
+use Rattle.cola_merge.specs.States.{State, len_of, Goes, Took, Refused, IsOverfull, StepCause, HasRun}
+use Rattle.cola_merge.specs.Advance.{Consumes, whole_run, IsGoing, GoesBy, GoesFurther, Gone, IsWhole, HasStepCause, IsCalm, IsDeviceFault, cells_read, refused_push, IsThrifty, IsSavedByBlocks}
+use Rattle.cola_merge.proofs.CellLists.{length-cells}
+use Rattle.cola_merge.proofs.Kept.{feed_cells-stay, feeds_told-stay}
+use Rattle.cola_merge.proofs.Ruling.{action_of_heads}
+use Rattle.cola_merge.proofs.Stepping.{all_read}
+
+-- ---- whatever the answer
+
+pub goes_of : {aim : Aim} {s t : State} {quota : ℕ} (result : Result Progress StepFault) → HasRun aim s t quota result → (count : ℕ) × (count ≤ quota) × Goes aim s t count
+goes_of {quota = quota} (Ok More) r = (quota, omega arith, r.steps.0.goes)
+goes_of (Ok Done) r = (r.steps.0, r.steps.1, r.steps.2.goes)
+goes_of (Err fault) r = (r.steps.0, (let h = r.steps.1 in omega (arith, h)), r.steps.2.goes)
+
+pub consumes_of : {aim : Aim} {s t : State} {quota : ℕ} (result : Result Progress StepFault) → HasRun aim s t quota result → Consumes aim s.merger t.merger quota result
+consumes_of (Ok More) r = (r.steps.0.goes.consumes, r.steps.1)
+consumes_of (Ok Done) r = let h = r.steps.1 in let e = r.steps.2.goes.consumes in (omega (arith, e), omega (arith, h, e), r.steps.3)
+consumes_of (Err fault) r = let h = r.steps.1 in let e = r.steps.2.goes.consumes in (omega (arith, e), omega (arith, h, e))
+
+-- ---- a merge on its way
+
+feed_length : (held : Held) (f : Feed) → length (feed_cells held f) ≡ feed_len f
+feed_length held f = length-cells (feed_spots held f) 0 (feed_len f)
+
+keys_length : (held : Held) (f : Feed) → length (feed_keys held f) ≡ feed_len f
+keys_length held f = length-map (feed_cells held f) laws.key_of ∙ feed_length held f
+
+module _ {aim : Aim} (s t : State) (r : IsReady s.held aim s.merger) (going : IsGoing s.held aim s.merger) where
+  advanced : {count : ℕ} → Goes aim s t count → GoesBy s.held t.held aim s.merger t.merger count
+  advanced {count} g =
+      subst (λ (p : Build (List ℕ) Stamped). IsAdvanced key_cmp (part_of aim) (feed_cells s.held aim.own) (feed_cells s.held aim.incoming) (feed_keys s.held aim.sample) count (build_of s.held aim s.merger) p)
+      (sym (g.builds going.tells going.feeds))
+      (steps_are_advanced nat_list_cmp_total (part_of aim) (feed_cells s.held aim.own) (feed_cells s.held aim.incoming) (feed_keys s.held aim.sample) going.own_rises going.incoming_rises going.keys_rise
+      count (build_of s.held aim s.merger) going.under_way)
+
+  own_same : {count : ℕ} → Goes aim s t count → feed_cells t.held aim.own ≡ feed_cells s.held aim.own
+  own_same g = feed_cells-stay g.grows aim.slot r.slot_is aim.own r.own_apart
+
+  incoming_same : {count : ℕ} → Goes aim s t count → feed_cells t.held aim.incoming ≡ feed_cells s.held aim.incoming
+  incoming_same g = feed_cells-stay g.grows aim.slot r.slot_is aim.incoming r.incoming_apart
+
+  keys_same : {count : ℕ} → Goes aim s t count → feed_keys t.held aim.sample ≡ feed_keys s.held aim.sample
+  keys_same g = ap (λ (x : List LawCell). map laws.key_of x) (feed_cells-stay g.grows aim.slot r.slot_is aim.sample r.sample_apart)
+
+  goes_on : {count : ℕ} → Goes aim s t count → IsGoing t.held aim t.merger
+  goes_on g = record {
+    tells = telling_stays s.held t.held aim.level g.grows.around going.tells;
+    feeds = feeds_told-stay g.grows r going.feeds;
+    shadow = g.told going.tells going.shadow;
+    own_rises = subst (IsRising key_cmp) (sym (own_same g)) going.own_rises;
+    incoming_rises = subst (IsRising key_cmp) (sym (incoming_same g)) going.incoming_rises;
+    keys_rise = subst (IsStrictlySortedBy key_cmp) (sym (keys_same g)) going.keys_rise;
+    under_way =
+        subst (λ (x : List LawCell). IsUnderWay key_cmp (part_of aim) x (feed_cells t.held aim.incoming) (feed_keys t.held aim.sample) (build_of t.held aim t.merger)) (sym (own_same g))
+        (subst (λ (x : List LawCell). IsUnderWay key_cmp (part_of aim) (feed_cells s.held aim.own) x (feed_keys t.held aim.sample) (build_of t.held aim t.merger)) (sym (incoming_same g))
+        (subst (λ (x : List (List ℕ)). IsUnderWay key_cmp (part_of aim) (feed_cells s.held aim.own) (feed_cells s.held aim.incoming) x (build_of t.held aim t.merger)) (sym (keys_same g))
+        (advanced g).under_way));
+  }
+
+  -- no source cell is left
+  none_left : IsUsedUp aim t.merger → cells_left (feed_cells s.held aim.own) (feed_cells s.held aim.incoming) (feed_keys s.held aim.sample) (build_of t.held aim t.merger) ≡ 0
+  none_left u =
+      let a : length (feed_cells s.held aim.own) ≡ feed_len aim.own = feed_length s.held aim.own in
+      let b : length (feed_cells s.held aim.incoming) ≡ feed_len aim.incoming = feed_length s.held aim.incoming in
+      let c : length (feed_keys s.held aim.sample) ≡ feed_len aim.sample = keys_length s.held aim.sample in
+      zeros (length (feed_cells s.held aim.own)) (length (feed_cells s.held aim.incoming)) (length (feed_keys s.held aim.sample)) (feed_len aim.own) (feed_len aim.incoming) (feed_len aim.sample)
+      t.merger.own.at t.merger.incoming.at t.merger.sample.at a b c u.own u.incoming u.sample
+    where
+      zeros : (x y z a b c p q r : ℕ) → x ≡ a → y ≡ b → z ≡ c → a ≤ p → b ≤ q → c ≤ r → x - p + (y - q) + (z - r) ≡ 0
+      zeros x y z a b c p q r e f g h k l = omega (arith, e, f, g, h, k, l)
+
+  -- where it is done, it took as many steps as it could of any larger quota
+  done_advanced : {count quota : ℕ} → Goes aim s t count → count ≤ quota → IsUsedUp aim t.merger → GoesBy s.held t.held aim s.merger t.merger quota
+  done_advanced {count} {quota} g l u =
+      let a = advanced g in
+      let z = none_left u in
+      let left = cells_left (feed_cells s.held aim.own) (feed_cells s.held aim.incoming) (feed_keys s.held aim.sample) (build_of s.held aim s.merger) in
+      record {
+        under_way = a.under_way;
+        consumes = more (runs.consumed (build_of t.held aim t.merger)) (runs.consumed (build_of s.held aim s.merger)) count quota left _ a.consumes a.leaves z l;
+        leaves = less count quota left _ a.leaves z l;
+        emits = a.emits;
+        extends = a.extends;
+        own_rises = a.own_rises;
+        incoming_rises = a.incoming_rises;
+        sampled_rises = a.sampled_rises;
+      }
+    where
+      more : (x y n q l m : ℕ) → x ≡ y + min n l → m ≡ l - n → m ≡ 0 → n ≤ q → x ≡ y + min q l
+      more x y n q l m e f g h = omega (arith, e, f, g, h)
+
+      less : (n q l m : ℕ) → m ≡ l - n → m ≡ 0 → n ≤ q → m ≡ l - q
+      less n q l m f g h = omega (arith, f, g, h)
+
+  further : {quota : ℕ} (result : Result Progress StepFault) → HasRun aim s t quota result → GoesFurther s.held t.held aim s.merger t.merger quota result
+  further (Ok More) k = advanced k.steps.0.goes
+  further (Ok Done) k = done_advanced k.steps.2.goes k.steps.1 k.steps.3
+  further (Err fault) k = (k.steps.0, k.steps.1, advanced k.steps.2.goes)
+
+  pub gone_of : {quota : ℕ} (result : Result Progress StepFault) → HasRun aim s t quota result → Gone s.held t.held aim s.merger t.merger quota result
+  gone_of result k =
+      let g = (goes_of result k).2 in
+      record { going = goes_on g; own_stays = own_same g; incoming_stays = incoming_same g; keys_stay = keys_same g; further = further result k }
+
+  pub whole_of : {quota : ℕ} (result : Result Progress StepFault) → HasRun aim s t quota result → IsWhole s.held t.held aim result
+  whole_of (Ok More) k = tt
+  whole_of (Ok Done) k =
+      used_up key_cmp (part_of aim) (feed_cells s.held aim.own) (feed_cells s.held aim.incoming) (feed_keys s.held aim.sample) (build_of t.held aim t.merger) (advanced k.steps.2.goes).under_way (none_left k.steps.3)
+  whole_of (Err fault) k = tt
+
+  whole_same : {count : ℕ} → Goes aim s t count → whole_run t.held aim ≡ whole_run s.held aim
+  whole_same g =
+      ap (λ (x : List LawCell). weave key_cmp (part_of aim) x (feed_cells t.held aim.incoming) (feed_keys t.held aim.sample)) (own_same g)
+      ∙ ap (λ (x : List LawCell). weave key_cmp (part_of aim) (feed_cells s.held aim.own) x (feed_keys t.held aim.sample)) (incoming_same g)
+      ∙ ap (λ (x : List (List ℕ)). weave key_cmp (part_of aim) (feed_cells s.held aim.own) (feed_cells s.held aim.incoming) x) (keys_same g)
+
+-- ---- refusals
+
+-- a told cell is not bad
+never_bad : (held : Held) (f : Feed) (at number : ℕ) → IsFeedTold held f → IsBadAt held f at number → ⊥
+never_bad held (feed.Run run) at number t b = told_is_good (held.spots run.level run.slot at) (cell_at (held.spots run.level run.slot at)) (t at b.0) b.1.told
+never_bad held (feed.Sampled run) at number t b = told_is_good (held.spots run.level run.slot (8 * at + 7)) (cell_at (held.spots run.level run.slot (8 * at + 7))) (t at b.0) b.1.told
+never_bad held (feed.One c) at number t b = b
+never_bad held feed.Nothing at number t b = b
+
+told_feed : {held : Held} {aim : Aim} (reader : Reader) → AreFeedsTold held aim → IsFeedTold held (feed_of aim reader)
+told_feed Own t = t.own
+told_feed Incoming t = t.incoming
+told_feed Sample t = t.sample
+
+emits_is : (a : Action (List ℕ) Stamped) → Emits a → (head : runs.Head) × (c : LawCell) × (a ≡ Take head (Some c))
+emits_is (Take head None) e = absurd e
+emits_is (Take head (Some c)) e = (head, c, refl)
+emits_is Ended e = absurd e
+
+-- a run that fits its slot never overflows it
+never_overfull : {aim : Aim} {t : State} {level : ℕ} → IsReady t.held aim t.merger → IsGoing t.held aim t.merger → length (whole_run t.held aim) ≤ slot_size aim.level → IsOverfull aim t level → ⊥
+never_overfull {aim} {t} {level} r going fits o =
+    let e = emits_is (next_action aim t.merger) o.emits in
+    let room = has_room nat_list_cmp_total (part_of aim) (feed_cells t.held aim.own) (feed_cells t.held aim.incoming) (feed_keys t.held aim.sample) going.own_rises going.incoming_rises going.keys_rise
+    (build_of t.held aim t.merger) going.under_way e.0 e.1 (sym (action_of_heads t.held aim t.merger r o.fetched going.feeds) ∙ e.2) in
+    let len : length (shadow_cells t.held aim.level) ≡ (t.held.shadows aim.level).len = length-cells (t.held.spots aim.level (t.held.shadows aim.level).slot) 0 (t.held.shadows aim.level).len in
+    no_room (length (shadow_cells t.held aim.level)) (t.held.shadows aim.level).len (slot_size aim.level) (length (whole_run t.held aim)) len o.full room fits
+  where
+    no_room : (a b c d : ℕ) → a ≡ b → b ≡ c → a < d → d ≤ c → ⊥
+    no_room a b c d e f g h = omega (arith, e, f, g, h)
+
+pub cause_of : {aim : Aim} {s t : State} {quota : ℕ} (result : Result Progress StepFault) → HasRun aim s t quota result → HasStepCause aim s.spent.faults t result
+cause_of (Ok progress) k = tt
+cause_of (Err fault) k = k.steps.2.cause
+
+pub calm_of : {aim : Aim} {s t : State} {quota : ℕ} (result : Result Progress StepFault) → HasRun aim s t quota result → IsCalm s.spent.faults t.spent.faults result
+calm_of (Ok More) k = k.steps.0.calm
+calm_of (Ok Done) k = k.steps.2.calm
+calm_of (Err fault) k = k.steps.2.calm
+
+pub only_of : {aim : Aim} {s t : State} {quota : ℕ} (result : Result Progress StepFault) → IsReady s.held aim s.merger → HasRun aim s t quota result → IsGoing s.held aim s.merger →
+    length (whole_run s.held aim) ≤ slot_size aim.level → IsDeviceFault result
+only_of (Ok progress) r k going fits = tt
+only_of (Err Device) r k going fits = tt
+only_of {aim} {s} {t} (Err (BadCell number)) r k going fits =
+    let g = k.steps.2.goes in
+    let bad = k.steps.2.cause in
+    never_bad t.held (feed_of aim bad.reader) (head_of t.merger bad.reader).at number (told_feed bad.reader (feeds_told-stay g.grows r going.feeds)) bad.bad
+only_of {aim} {s} {t} (Err (Overfull level)) r k going fits =
+    let g = k.steps.2.goes in
+    never_overfull g.ready (goes_on s t r going g) (subst (λ (x : List LawCell). length x ≤ slot_size aim.level) (sym (whole_same s t r going g)) fits) k.steps.2.cause
+
+-- ---- costs
+
+missing_small : (m : Merger) → missing m ≤ 3
+missing_small m = three (missing_head m.own.cell) (missing_head m.incoming.cell) (missing_head m.sample.cell) (one m.own.cell) (one m.incoming.cell) (one m.sample.cell)
+  where
+    one : (c : Option Cell) → missing_head c ≤ 1
+    one None = omega arith
+    one (Some c) = omega arith
+
+    three : (x y z : ℕ) → x ≤ 1 → y ≤ 1 → z ≤ 1 → x + y + z ≤ 3
+    three x y z h k l = omega (arith, h, k, l)
+
+pub ticks_of : {aim : Aim} {s t : State} {quota : ℕ} (result : Result Progress StepFault) → HasRun aim s t quota result → t.steps ≤ s.steps + (3 + 2 * quota)
+ticks_of {s = s} {t = t} (Ok More) k = let m = missing_small s.merger in let h = k.steps.0.ticks in omega (arith, m, h)
+ticks_of {s = s} {t = t} (Ok Done) k = let m = missing_small s.merger in let h = k.steps.2.ticks in let l = k.steps.1 in omega (arith, m, h, l)
+ticks_of {s = s} {t = t} (Err fault) k = let m = missing_small s.merger in let h = k.steps.2.ticks in let l = k.steps.1 in omega (arith, m, h, l)
+
+fresh_of : (f : Feed) → fetched_of f fresh_head ≡ 0
+fresh_of (feed.Run run) = refl
+fresh_of (feed.Sampled run) = refl
+fresh_of (feed.One c) = refl
+fresh_of feed.Nothing = refl
+
+fresh_fetched : (aim : Aim) (m : Merger) → m ≡ fresh → fetched aim m ≡ 0
+fresh_fetched aim m e = ap (λ (x : Merger). fetched aim x) e ∙ none (fetched_of aim.own fresh_head) (fetched_of aim.incoming fresh_head) (fetched_of aim.sample fresh_head) (fresh_of aim.own) (fresh_of aim.incoming) (fresh_of aim.sample)
+  where
+    none : (x y z : ℕ) → x ≡ 0 → y ≡ 0 → z ≡ 0 → x + y + z ≡ 0
+    none x y z e f g = omega (arith, e, f, g)
+
+thrifty_ok : {aim : Aim} {s t : State} {count : ℕ} (result : Result Progress StepFault) → Took aim s t count → len_of aim s ≤ slot_size aim.level → s.merger ≡ fresh →
+    IsThrifty aim s.steps t.steps (len_of aim s) (len_of aim t) result
+thrifty_ok {aim} {s} {t} result k l e =
+    let none : fetched aim s.merger ≡ 0 = fresh_fetched aim s.merger e in
+    let all : fetched aim t.merger ≤ cells_read aim = all_read k.goes.ready in
+    record {
+      pushes = first t.steps s.steps (fetched aim s.merger) (fetched aim t.merger) (len_of aim s) (len_of aim t) (cells_read aim) (refused_push result) none all k.reads;
+      places = second t.steps s.steps (fetched aim s.merger) (fetched aim t.merger) (len_of aim s) (len_of aim t) (cells_read aim) (slot_size aim.level) none all k.reads (k.goes.grows.len_fits l);
+    }
+  where
+    first : (t s m n l k a x : ℕ) → m ≡ 0 → n ≤ a → t + m + l ≤ s + n + k → t + l ≤ s + a + (k + x)
+    first t s m n l k a x e h g = omega (arith, e, h, g)
+
+    second : (t s m n l k a z : ℕ) → m ≡ 0 → n ≤ a → t + m + l ≤ s + n + k → k ≤ z → t + l ≤ s + a + z
+    second t s m n l k a z e h g f = omega (arith, e, h, g, f)
+
+thrifty_err : {aim : Aim} {s t : State} {count : ℕ} (fault : StepFault) → Refused aim s t count fault → len_of aim s ≤ slot_size aim.level → s.merger ≡ fresh →
+    IsThrifty aim s.steps t.steps (len_of aim s) (len_of aim t) (Err fault)
+thrifty_err {aim} {s} {t} fault k l e =
+    let none : fetched aim s.merger ≡ 0 = fresh_fetched aim s.merger e in
+    record {
+      pushes = without t.steps (fetched aim s.merger) (len_of aim s) (s.steps + cells_read aim + (len_of aim t + refused_push (Err fault))) none k.pushes;
+      places = without t.steps (fetched aim s.merger) (len_of aim s) (s.steps + cells_read aim + slot_size aim.level) none (k.reads l);
+    }
+  where
+    without : (t m l a : ℕ) → m ≡ 0 → t + m + l ≤ a → t + l ≤ a
+    without t m l a e h = omega (arith, e, h)
+
+pub thrifty_of : {aim : Aim} {s t : State} {quota : ℕ} (result : Result Progress StepFault) → HasRun aim s t quota result → len_of aim s ≤ slot_size aim.level → s.merger ≡ fresh →
+    IsThrifty aim s.steps t.steps (len_of aim s) (len_of aim t) result
+thrifty_of (Ok More) k l e = thrifty_ok (Ok More) k.steps.0 l e
+thrifty_of (Ok Done) k l e = thrifty_ok (Ok Done) k.steps.2 l e
+thrifty_of (Err fault) k l e = thrifty_err fault k.steps.2 l e
+
+pub turned_of : {aim : Aim} {s t : State} {quota : ℕ} (result : Result Progress StepFault) → HasRun aim s t quota result →
+    OnOk result (t.spent.turned + blocks_left s.held.fixed.doublings t.spent.lasts aim t.merger ≤ s.spent.turned + blocks_left s.held.fixed.doublings s.spent.lasts aim s.merger)
+turned_of (Ok More) k = k.steps.0.turned
+turned_of (Ok Done) k = k.steps.2.turned
+turned_of (Err fault) k = tt
+
+pub written_of : {aim : Aim} {s t : State} {quota : ℕ} (result : Result Progress StepFault) → HasRun aim s t quota result →
+    OnOk result (t.spent.written + len_of aim s / span s.held ≤ s.spent.written + len_of aim t / span s.held)
+written_of (Ok More) k = k.steps.0.written
+written_of (Ok Done) k = k.steps.2.written
+written_of (Err fault) k = tt
+
+pub saved_of : {aim : Aim} {s t : State} {quota : ℕ} (result : Result Progress StepFault) → HasRun aim s t quota result → OnOk result (IsSavedByBlocks s.held t.held aim.level)
+saved_of (Ok More) k = record { still = k.steps.0.still; grew = k.steps.0.grew }
+saved_of (Ok Done) k = record { still = k.steps.2.still; grew = k.steps.2.grew }
+saved_of (Err fault) k = tt

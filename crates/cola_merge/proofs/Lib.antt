@@ -1,0 +1,10 @@
+pub mod CellLists
+pub mod Groups
+pub mod Kept
+pub mod Sums
+pub mod Reading
+pub mod Ruling
+pub mod Pushing
+pub mod Stepping
+pub mod Taking
+pub mod Advancing

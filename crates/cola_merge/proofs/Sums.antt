@@ -1,0 +1,196 @@
+-- How steps add up.
+use Rattle.std.proofs.Common.{◌≡◌, ◌≢◌, inl, inr, ℕ, zero, suc, ◌+◌, ◌*◌, ◌/◌, ◌%◌, ◌^◌, ◌<◌, ◌≤◌, ◌==◌, Bool, List, refl, ap, sym, subst, ◌∙◌, arith}
+use Rattle.std.specs.declared.cmp.Ordering.{Ordering}
+use Rattle.std.proofs.lemmas.Bool.Decides.{eqb_tells}
+use Rattle.cola_outside.specs.Faults.{Rose}
+use Rattle.cola_runs.specs.Weave.{Part}
+use Rattle.cola_runs.specs.Cells as laws
+use Rattle.cola_runs.specs.Steps.{Build, step, steps}
+use Rattle.cola_cell.specs.declared.cell.Reader.{Reader}
+use Rattle.cola_cell.specs.declared.sink.Shadow.{Shadow}
+use Rattle.cola_cell.specs.declared.fault.StepFault.{StepFault}
+use Rattle.cola_cell.specs.declared.fault.StepFault.TheVariants.{Device, BadCell, Overfull}
+use Rattle.cola_cell.specs.Places.{slot_size}
+use Rattle.cola_cell.specs.Held.{Held, Fixed, LawCell, Stamped, IsTelling}
+use Rattle.cola_cell.specs.Spent.{Spent}
+use Rattle.cola_cell.proofs.RunLemmas.{telling_stays}
+use Rattle.cola_merge.specs.declared.aims.Aim.{Aim}
+use Rattle.cola_merge.specs.Feeds.{key_cmp, part_of, read_len, feed_cells, feed_keys}
+use Rattle.cola_merge.specs.Heads.{head_of, consumed, IsReady, missing, fetched, AreFeedsTold, build_of}
+use Rattle.cola_merge.specs.Blocks.{blocks_left}
+use Rattle.cola_merge.specs.States.{Spends, State, len_of, Goes, Took, Refused, StepCause, StepCalm, failed_push}
+use Rattle.cola_merge.proofs.Kept.{grows_none, grows_then, feed_cells-stay, feeds_told-stay}
+use Rattle.std.proofs.Common.{map}
+
+-- ---- steps of the laws
+
+module _ {K V : Type 0} (cmp : K → K → Ordering) (part : Part) (own incoming : List (laws.Cell K V)) (keys : List K) where
+  pub steps-add : (a b : ℕ) (p : Build K V) → steps cmp part own incoming keys (a + b) p ≡ steps cmp part own incoming keys b (steps cmp part own incoming keys a p)
+  steps-add zero b p = ap (λ (n : ℕ). steps cmp part own incoming keys n p) (let e : 0 + b ≡ b = omega arith in e)
+  steps-add (suc a) b p =
+      ap (λ (n : ℕ). steps cmp part own incoming keys n p) (let e : suc a + b ≡ suc (a + b) = omega arith in e)
+      ∙ steps-add a b (step cmp part own incoming keys p)
+
+-- ---- what accesses cost
+
+pub spends_none : (spent : Spent) (n : ℕ) → Spends spent spent n n
+spends_none spent n = record {
+  steps_stay = omega arith;
+  ticked_is = omega arith;
+  turned_stays = omega arith;
+  written_stays = omega arith;
+  transfers = omega arith;
+  faults_stay = omega arith;
+}
+
+pub spends_then : {a b c : Spent} {i j k : ℕ} → Spends a b i j → Spends b c j k → Spends a c i k
+spends_then {a} {b} {c} {i} {j} {k} g h = record {
+  steps_stay = omega (arith, g.steps_stay, h.steps_stay);
+  ticked_is = omega (arith, g.ticked_is, h.ticked_is);
+  turned_stays = omega (arith, g.turned_stays, h.turned_stays);
+  written_stays = omega (arith, g.written_stays, h.written_stays);
+  transfers = omega (arith, g.transfers, h.transfers);
+  faults_stay = omega (arith, g.faults_stay, h.faults_stay);
+}
+
+-- ---- steps
+
+pub goes_none : {aim : Aim} (s : State) → IsReady s.held aim s.merger → Goes aim s s 0
+goes_none {aim} s r = record {
+  ready = r;
+  grows = grows_none s.held aim.level;
+  consumes = omega arith;
+  rises = λ reader. omega arith;
+  emits = omega arith;
+  samples = omega arith;
+  builds = λ _ _. refl;
+  told = λ _ h. h;
+  spends = spends_none s.spent s.steps;
+  lasts = λ buffer b l s k d. refl;
+}
+
+plus : (a b c m n : ℕ) → b ≡ a + m → c ≡ b + n → c ≡ a + (m + n)
+plus a b c m n e f = omega (arith, e, f)
+
+under : (a b c x y z : ℕ) → b + x ≤ a + y → c + y ≤ b + z → c + x ≤ a + z
+under a b c x y z e f = omega (arith, e, f)
+
+over : (a b c x y z : ℕ) → a + y ≤ b + x → b + z ≤ c + y → a + z ≤ c + x
+over a b c x y z e f = omega (arith, e, f)
+
+builds_then : {aim : Aim} {s t u : State} {m n : ℕ} → (g : Goes aim s t m) (h : Goes aim t u n) → IsReady s.held aim s.merger → IsTelling s.held → (f : AreFeedsTold s.held aim) →
+    build_of u.held aim u.merger ≡ steps key_cmp (part_of aim) (feed_cells s.held aim.own) (feed_cells s.held aim.incoming) (feed_keys s.held aim.sample) (m + n) (build_of s.held aim s.merger)
+builds_then {aim} {s} {t} {u} {m} {n} g h r tells f =
+    let own : List LawCell = feed_cells s.held aim.own in
+    let incoming : List LawCell = feed_cells s.held aim.incoming in
+    let keys : List (List ℕ) = feed_keys s.held aim.sample in
+    let stays = feed_cells-stay g.grows aim.slot r.slot_is in
+    let first : build_of t.held aim t.merger ≡ steps key_cmp (part_of aim) own incoming keys m (build_of s.held aim s.merger) = g.builds tells f in
+    h.builds (telling_stays s.held t.held aim.level g.grows.around tells) (feeds_told-stay g.grows r f)
+    ∙ ap (λ (x : List LawCell). steps key_cmp (part_of aim) x (feed_cells t.held aim.incoming) (feed_keys t.held aim.sample) n (build_of t.held aim t.merger)) (stays aim.own r.own_apart)
+    ∙ ap (λ (x : List LawCell). steps key_cmp (part_of aim) own x (feed_keys t.held aim.sample) n (build_of t.held aim t.merger)) (stays aim.incoming r.incoming_apart)
+    ∙ ap (λ (x : List LawCell). steps key_cmp (part_of aim) own incoming (map laws.key_of x) n (build_of t.held aim t.merger)) (stays aim.sample r.sample_apart)
+    ∙ ap (λ (p : Build (List ℕ) Stamped). steps key_cmp (part_of aim) own incoming keys n p) first
+    ∙ sym (steps-add key_cmp (part_of aim) own incoming keys m n (build_of s.held aim s.merger))
+
+pub goes_then : {aim : Aim} {s t u : State} {m n : ℕ} → IsReady s.held aim s.merger → Goes aim s t m → Goes aim t u n → Goes aim s u (m + n)
+goes_then {aim} {s} {t} {u} {m} {n} r g h = record {
+  ready = h.ready;
+  grows = grows_then g.grows h.grows;
+  consumes = plus (consumed s.merger) (consumed t.merger) (consumed u.merger) m n g.consumes h.consumes;
+  rises = λ reader. let a = g.rises reader in let b = h.rises reader in omega (arith, a, b);
+  emits = under (len_of aim s) (len_of aim t) (len_of aim u) (consumed s.merger) (consumed t.merger) (consumed u.merger) g.emits h.emits;
+  samples = over (len_of aim s) (len_of aim t) (len_of aim u) s.merger.sample.at t.merger.sample.at u.merger.sample.at g.samples h.samples;
+  builds = λ tells f. builds_then g h r tells f;
+  told = λ tells w. h.told (telling_stays s.held t.held aim.level g.grows.around tells) (g.told tells w);
+  spends = spends_then g.spends h.spends;
+  lasts = λ buffer b l q k d. h.lasts buffer b l q k d ∙ g.lasts buffer b l q k d;
+}
+
+pub took_none : {aim : Aim} (s : State) → IsReady s.held aim s.merger → Took aim s s 0
+took_none {aim} s r = record {
+  goes = goes_none s r;
+  ticks = omega arith;
+  reads = omega arith;
+  turned = omega arith;
+  written = omega arith;
+  still = λ _. refl;
+  grew = λ h. absurd (omega (arith, h));
+  calm = refl;
+}
+
+twice : (a b c x y z m n : ℕ) → b + y ≤ a + x + 2 * m → c + z ≤ b + y + 2 * n → c + z ≤ a + x + 2 * (m + n)
+twice a b c x y z m n e f = omega (arith, e, f)
+
+sums : (a b c p q r x y z : ℕ) → b + p + x ≤ a + q + y → c + q + y ≤ b + r + z → c + p + x ≤ a + r + z
+sums a b c p q r x y z e f = omega (arith, e, f)
+
+at_most : (a b c : ℕ) → b ≤ a → c ≤ b → c ≤ a
+at_most a b c e f = omega (arith, e, f)
+
+grew_then : (span x y z : ℕ) (t u : Shadow) → x ≤ y → y ≤ z → x < z → (z ≡ y → u ≡ t) → (x < y → t.saved ≡ (y % span == 0)) → (y < z → u.saved ≡ (z % span == 0)) → u.saved ≡ (z % span == 0)
+grew_then span x y z t u h k l same first second = elim (eqb_tells z y) [
+  | inl e ↦ ap (λ (s : Shadow). s.saved) (same e.1) ∙ first (let f : z ≡ y = e.1 in omega (arith, f, l)) ∙ ap (λ (n : ℕ). n % span == 0) (sym e.1)
+  | inr e ↦ second (let f : z ≢ y = e.1 in omega (arith, k, f))
+]
+
+pub took_then : {aim : Aim} {s t u : State} {m n : ℕ} → IsReady s.held aim s.merger → Took aim s t m → Took aim t u n → Took aim s u (m + n)
+took_then {aim} {s} {t} {u} {m} {n} r g h =
+    let e : t.held.fixed ≡ s.held.fixed = g.goes.grows.around.fixed_is in
+    let turned : u.spent.turned + blocks_left s.held.fixed.doublings u.spent.lasts aim u.merger ≤ t.spent.turned + blocks_left s.held.fixed.doublings t.spent.lasts aim t.merger =
+    subst (λ (f : Fixed). u.spent.turned + blocks_left f.doublings u.spent.lasts aim u.merger ≤ t.spent.turned + blocks_left f.doublings t.spent.lasts aim t.merger) e h.turned in
+    let written : u.spent.written + len_of aim t / (8 * 2 ^ s.held.fixed.doublings) ≤ t.spent.written + len_of aim u / (8 * 2 ^ s.held.fixed.doublings) =
+    subst (λ (f : Fixed). u.spent.written + len_of aim t / (8 * 2 ^ f.doublings) ≤ t.spent.written + len_of aim u / (8 * 2 ^ f.doublings)) e h.written in
+    let grew : len_of aim t < len_of aim u → (u.held.shadows aim.level).saved ≡ (len_of aim u % (8 * 2 ^ s.held.fixed.doublings) == 0) =
+    subst (λ (f : Fixed). len_of aim t < len_of aim u → (u.held.shadows aim.level).saved ≡ (len_of aim u % (8 * 2 ^ f.doublings) == 0)) e h.grew in
+    record {
+      goes = goes_then r g.goes h.goes;
+      ticks = twice s.steps t.steps u.steps (missing s.merger) (missing t.merger) (missing u.merger) m n g.ticks h.ticks;
+      reads = sums s.steps t.steps u.steps (fetched aim s.merger) (fetched aim t.merger) (fetched aim u.merger) (len_of aim s) (len_of aim t) (len_of aim u) g.reads h.reads;
+      turned = at_most _ _ _ g.turned turned;
+      written = under s.spent.written t.spent.written u.spent.written (len_of aim s / (8 * 2 ^ s.held.fixed.doublings)) (len_of aim t / (8 * 2 ^ s.held.fixed.doublings)) (len_of aim u / (8 * 2 ^ s.held.fixed.doublings)) g.written written;
+      still = λ f. both_still g.goes.grows.len_rises h.goes.grows.len_rises f;
+      grew = λ l. grew_then (8 * 2 ^ s.held.fixed.doublings) (len_of aim s) (len_of aim t) (len_of aim u) (t.held.shadows aim.level) (u.held.shadows aim.level)
+          g.goes.grows.len_rises h.goes.grows.len_rises l h.still g.grew grew;
+      calm = h.calm ∙ g.calm;
+    }
+  where
+    both_still : len_of aim s ≤ len_of aim t → len_of aim t ≤ len_of aim u → len_of aim u ≡ len_of aim s → u.held.shadows aim.level ≡ s.held.shadows aim.level
+    both_still a b f = h.still (omega (arith, a, b, f)) ∙ g.still (omega (arith, a, b, f))
+
+-- ---- a refused step
+
+cause_then : (aim : Aim) (before between : ℕ) (t : State) (fault : StepFault) → between ≡ before → StepCause aim between t fault → StepCause aim before t fault
+cause_then aim before between t Device e c = subst (λ (x : ℕ). Rose x t.spent.faults) e c
+cause_then aim before between t (BadCell number) e c = c
+cause_then aim before between t (Overfull level) e c = c
+
+calm_then : (before between now : ℕ) (fault : StepFault) → between ≡ before → StepCalm between now fault → StepCalm before now fault
+calm_then before between now Device e c = tt
+calm_then before between now (BadCell number) e c = c ∙ e
+calm_then before between now (Overfull level) e c = c ∙ e
+
+once_more : (a b c x y z m n : ℕ) → b + y ≤ a + x + 2 * m → c + z ≤ b + y + (2 * n + 1) → c + z ≤ a + x + (2 * (m + n) + 1)
+once_more a b c x y z m n e f = omega (arith, e, f)
+
+all_read : (a b c p q x y r z : ℕ) → b + p + x ≤ a + q + y → c + q + y ≤ b + r + z → c + p + x ≤ a + r + z
+all_read a b c p q x y r z e f = omega (arith, e, f)
+
+under_more : (a b c x y z : ℕ) → b + x ≤ a + y → c + y ≤ b + (z + 1) → c + x ≤ a + (z + 1)
+under_more a b c x y z e f = omega (arith, e, f)
+
+pub refused_then : {aim : Aim} {s t u : State} {m n : ℕ} {fault : StepFault} → IsReady s.held aim s.merger → Took aim s t m → Refused aim t u n fault → Refused aim s u (m + n) fault
+refused_then {aim} {s} {t} {u} {m} {n} {fault} r g h =
+    let e : t.held.fixed ≡ s.held.fixed = g.goes.grows.around.fixed_is in
+    let all : ℕ = read_len aim.own + read_len aim.incoming + read_len aim.sample in
+    let written : u.spent.written + len_of aim t / (8 * 2 ^ s.held.fixed.doublings) ≤ t.spent.written + (len_of aim u / (8 * 2 ^ s.held.fixed.doublings) + 1) =
+    subst (λ (f : Fixed). u.spent.written + len_of aim t / (8 * 2 ^ f.doublings) ≤ t.spent.written + (len_of aim u / (8 * 2 ^ f.doublings) + 1)) e h.written in
+    record {
+      goes = goes_then r g.goes h.goes;
+      ticks = once_more s.steps t.steps u.steps (missing s.merger) (missing t.merger) (missing u.merger) m n g.ticks h.ticks;
+      reads = λ l. all_read s.steps t.steps u.steps (fetched aim s.merger) (fetched aim t.merger) (len_of aim s) (len_of aim t) (read_len aim.own + read_len aim.incoming + read_len aim.sample) (slot_size aim.level) g.reads (h.reads (g.goes.grows.len_fits l));
+      pushes = all_read s.steps t.steps u.steps (fetched aim s.merger) (fetched aim t.merger) (len_of aim s) (len_of aim t) (read_len aim.own + read_len aim.incoming + read_len aim.sample) (len_of aim u + failed_push fault) g.reads h.pushes;
+      written = under_more s.spent.written t.spent.written u.spent.written (len_of aim s / (8 * 2 ^ s.held.fixed.doublings)) (len_of aim t / (8 * 2 ^ s.held.fixed.doublings)) (len_of aim u / (8 * 2 ^ s.held.fixed.doublings)) g.written written;
+      cause = cause_then aim s.spent.faults t.spent.faults u fault g.calm h.cause;
+      calm = calm_then s.spent.faults t.spent.faults u.spent.faults fault g.calm h.calm;
+    }

@@ -1,0 +1,7 @@
+pub mod Cells
+pub mod Feeds
+pub mod Heads
+pub mod Blocks
+pub mod Rules
+pub mod States
+pub mod Advance

@@ -1,0 +1,235 @@
+-- What steps of a merge do: to the object, to the merger, and what they spend.
+use Rattle.std.specs.Prelude.{◌≡◌, ◌≢◌, ◌⊎◌, ℕ, ◌+◌, ◌*◌, ◌/◌, ◌%◌, ◌^◌, ◌<◌, ◌≤◌, ◌==◌, ⊤, ◌++◌, Option, None, Some, IsSome, Result, Ok, Err}
+use Rattle.std.specs.Option.{option_map, option_to_list}
+use Rattle.cola_outside.specs.Faults.{Rose}
+use Rattle.cola_runs.specs.Steps.{steps}
+use Rattle.cola_cell.specs.declared.cell.Reader.{Reader}
+use Rattle.cola_cell.specs.declared.cell.Reader.TheVariants.{Own, Incoming, Sample}
+use Rattle.cola_cell.specs.declared.cell.Cell.{Cell}
+use Rattle.cola_cell.specs.declared.fault.ReadFault.{ReadFault}
+use Rattle.cola_cell.specs.declared.fault.ReadFault.TheVariants as read
+use Rattle.cola_cell.specs.declared.fault.PushFault.{PushFault}
+use Rattle.cola_cell.specs.declared.fault.PushFault.TheVariants as push
+use Rattle.cola_cell.specs.declared.fault.StepFault.{StepFault}
+use Rattle.cola_cell.specs.declared.fault.StepFault.TheVariants.{Device, BadCell, Overfull}
+use Rattle.cola_cell.specs.Fault.{step_of_push}
+use Rattle.cola_cell.specs.Places.{slot_size}
+use Rattle.cola_cell.specs.Held.{Held, IsTelling, span, as_cell}
+use Rattle.cola_cell.specs.Spent.{Buffer, By, Spent, ReadCalm}
+use Rattle.cola_cell.specs.Shadows.{StaysAround}
+use Rattle.cola_merge.specs.declared.aims.Feed.{Feed}
+use Rattle.cola_merge.specs.declared.aims.Feed.TheVariants as feed
+use Rattle.cola_merge.specs.declared.aims.Aim.{Aim}
+use Rattle.cola_merge.specs.declared.aims.Progress.{Progress}
+use Rattle.cola_merge.specs.declared.aims.Progress.TheVariants.{Done, More}
+use Rattle.cola_merge.specs.declared.heads.Head.{Head}
+use Rattle.cola_merge.specs.declared.merging.Merger.{Merger}
+use Rattle.cola_merge.specs.Cells.{shadow_cells, IsShadowTold}
+use Rattle.cola_merge.specs.Feeds.{key_cmp, part_of, feed_of, feed_len, read_len, feed_cells, feed_keys, IsFeed, IsBadAt}
+use Rattle.cola_merge.specs.Heads.{head_of, consumed, IsHead, IsReady, IsUsedUp, IsFetched, AreFetched, missing_head, missing, fetched_of, fetched, AreFeedsTold, build_of}
+use Rattle.cola_merge.specs.Blocks.{Lasts, is_last, feed_left, blocks_left}
+use Rattle.cola_merge.specs.Rules.{next_action, Emits}
+
+-- the shadow of the level only grew, in its slot; no place changed but those at and behind its end
+pub record Grows (old new : Held) (level : ℕ) : Type 0 where
+  pub around : StaysAround old new level
+  pub slot_is : (new.shadows level).slot ≡ (old.shadows level).slot
+  pub len_rises : (old.shadows level).len ≤ (new.shadows level).len
+  pub len_fits : (old.shadows level).len ≤ slot_size level → (new.shadows level).len ≤ slot_size level
+  pub others_stay : (l s i : ℕ) → (l ≢ level) ⊎ (s ≢ (old.shadows level).slot) ⊎ (i < (old.shadows level).len) → new.spots l s i ≡ old.spots l s i
+
+-- what accesses cost: the object counts their ticks too, each turns to or writes one block at most, and no count falls
+pub record Spends (old new : Spent) (before after : ℕ) : Type 0 where
+  pub steps_stay : before ≤ after
+  pub ticked_is : (new.ticked + before) % 2 ^ 64 ≡ (old.ticked + after) % 2 ^ 64
+  pub turned_stays : old.turned ≤ new.turned
+  pub written_stays : old.written ≤ new.written
+  pub transfers : new.turned + new.written + before ≤ old.turned + old.written + after
+  pub faults_stay : old.faults ≤ new.faults
+
+-- the buffer is not that by which this reader reads this feed
+abbrev pub IsOther : Reader → Feed → Buffer → Type 0
+IsOther reader (feed.Run run) buffer = buffer ≢ By reader run.level
+IsOther reader (feed.Sampled run) buffer = buffer ≢ By reader run.level
+IsOther reader (feed.One c) buffer = ⊤
+IsOther reader feed.Nothing buffer = ⊤
+
+-- the buffer is none of those by which the three feeds are read
+pub record IsBeside (aim : Aim) (buffer : Buffer) : Type 0 where
+  pub own : IsOther Own aim.own buffer
+  pub incoming : IsOther Incoming aim.incoming buffer
+  pub sample : IsOther Sample aim.sample buffer
+
+-- the buffer keeps what it held of each block outside this slot of this level
+abbrev pub KeepsBlocks : ℕ → ℕ → Buffer → Lasts → Lasts → Type 0
+KeepsBlocks level slot buffer old new = (l s k : ℕ) → (l ≢ level) ⊎ (s ≢ slot) → is_last (new buffer) l s k ≡ is_last (old buffer) l s k
+
+-- the cause of a refused read: the count of faults rose, or the cell of the feed at its cursor is bad
+abbrev pub ReadFailed : Held → ℕ → ℕ → Feed → ℕ → ReadFault → Type 0
+ReadFailed held before now feed at read.Device = Rose before now
+ReadFailed held before now feed at (read.BadCell number) = IsBadAt held feed at number
+
+-- a head was asked for: where it was accepted it is held, unless its feed is used up, by one read at most. Where it was refused nothing was held
+abbrev pub Fetches : {A : Type 0} → Held → Spent → Spent → Reader → Feed → Head → Head → ℕ → ℕ → Result A ReadFault → Type 0
+Fetches held old new reader feed before after from to (Ok a) =
+    IsFetched feed after
+    × (to + missing_head after.cell ≤ from + missing_head before.cell)
+    × (to + fetched_of feed before ≤ from + fetched_of feed after)
+    × (new.turned + feed_left held.fixed.doublings new.lasts reader feed after.at ≤ old.turned + feed_left held.fixed.doublings old.lasts reader feed before.at)
+Fetches held old new reader feed before after from to (Err fault) =
+    ReadFailed held old.faults new.faults feed before.at fault
+    × (after ≡ before)
+    × (to ≡ from + 1)
+    × (fetched_of feed before < read_len feed)
+
+-- what a fetch does, whatever the answer
+pub record Fetch {A : Type 0} (held : Held) (old new : Spent) (reader : Reader) (feed : Feed) (before after : Head) (from to : ℕ) (result : Result A ReadFault) : Type 0 where
+  pub at_is : after.at ≡ before.at
+  pub head : IsHead held feed after
+  pub spends : Spends old new from to
+  pub written_is : new.written ≡ old.written
+  pub others_stay : (buffer : Buffer) → IsOther reader feed buffer → new.lasts buffer ≡ old.lasts buffer
+  pub calm : ReadCalm old.faults new.faults result
+  pub fetches : Fetches held old new reader feed before after from to result
+
+-- 1 where there is a cell
+abbrev pub count_of : Option Cell → ℕ
+count_of None = 0
+count_of (Some c) = 1
+
+-- the cell, if there is one, was put behind the shadow
+pub record Emitted (old new : Held) (before now : Spent) (level : ℕ) (cell : Option Cell) (from to : ℕ) : Type 0 where
+  pub grows : Grows old new level
+  pub len_is : (new.shadows level).len ≡ (old.shadows level).len + count_of cell
+  pub done : IsTelling old → shadow_cells new level ≡ shadow_cells old level ++ option_to_list (option_map as_cell cell)
+  pub told : IsTelling old → IsShadowTold old level → IsShadowTold new level
+  pub spends : Spends before now from to
+  pub ticks : to ≡ from + count_of cell
+  pub turned_is : now.turned ≡ before.turned
+  pub keeps : (buffer : Buffer) → KeepsBlocks level (old.shadows level).slot buffer before.lasts now.lasts
+  pub written : now.written + (old.shadows level).len / span old ≤ before.written + (new.shadows level).len / span old
+  pub still : (new.shadows level).len ≡ (old.shadows level).len → new.shadows level ≡ old.shadows level
+  pub grew : (old.shadows level).len < (new.shadows level).len → (new.shadows level).saved ≡ ((new.shadows level).len % span old == 0)
+  pub calm : now.faults ≡ before.faults
+
+-- why a push was refused, and the ticks that it made
+abbrev pub PushFailed : ℕ → ℕ → ℕ → ℕ → ℕ → ℕ → PushFault → Type 0
+PushFailed len before now level from to push.Device = (len < slot_size level) × Rose before now × (to ≡ from + 1)
+PushFailed len before now level from to (push.Overfull number) = (len ≡ slot_size level) × (number ≡ level) × (now ≡ before) × (to ≡ from)
+
+-- there was a cell, and its push was refused: no cell changed
+pub record Unpushed (old new : Held) (before now : Spent) (level : ℕ) (cell : Option Cell) (from to : ℕ) (fault : PushFault) : Type 0 where
+  pub there : IsSome cell
+  pub grows : Grows old new level
+  pub len_is : (new.shadows level).len ≡ (old.shadows level).len
+  pub done : shadow_cells new level ≡ shadow_cells old level
+  pub told : IsShadowTold old level → IsShadowTold new level
+  pub spends : Spends before now from to
+  pub keeps : (buffer : Buffer) → KeepsBlocks level (old.shadows level).slot buffer before.lasts now.lasts
+  pub written : now.written ≤ before.written + 1
+  pub cause : PushFailed (old.shadows level).len before.faults now.faults level from to fault
+
+-- a cell was to be emitted, if there is one
+abbrev pub Emission : {A : Type 0} → Held → Held → Spent → Spent → ℕ → Option Cell → ℕ → ℕ → Result A PushFault → Type 0
+Emission old new before now level cell from to (Ok a) = Emitted old new before now level cell from to
+Emission old new before now level cell from to (Err fault) = Unpushed old new before now level cell from to fault
+
+-- the object with its counts, a merger, and how many ticks were made
+pub record State : Type 0 where
+  pub held : Held
+  pub spent : Spent
+  pub merger : Merger
+  pub steps : ℕ
+
+-- the shadow's length
+abbrev pub len_of : Aim → State → ℕ
+len_of aim s = (s.held.shadows aim.level).len
+
+-- what so many steps do, and a part of a step that was refused
+pub record Goes (aim : Aim) (s t : State) (count : ℕ) : Type 0 where
+  pub ready : IsReady t.held aim t.merger
+  pub grows : Grows s.held t.held aim.level
+  pub consumes : consumed t.merger ≡ consumed s.merger + count
+  pub rises : (reader : Reader) → (head_of s.merger reader).at ≤ (head_of t.merger reader).at
+  pub emits : len_of aim t + consumed s.merger ≤ len_of aim s + consumed t.merger
+  pub samples : len_of aim s + t.merger.sample.at ≤ len_of aim t + s.merger.sample.at
+  pub builds : IsTelling s.held → AreFeedsTold s.held aim →
+      build_of t.held aim t.merger ≡ steps key_cmp (part_of aim) (feed_cells s.held aim.own) (feed_cells s.held aim.incoming) (feed_keys s.held aim.sample) count (build_of s.held aim s.merger)
+  pub told : IsTelling s.held → IsShadowTold s.held aim.level → IsShadowTold t.held aim.level
+  pub spends : Spends s.spent t.spent s.steps t.steps
+  pub lasts : (buffer : Buffer) → IsBeside aim buffer → KeepsBlocks aim.level aim.slot buffer s.spent.lasts t.spent.lasts
+
+-- so many steps that were accepted
+pub record Took (aim : Aim) (s t : State) (count : ℕ) : Type 0 where
+  pub goes : Goes aim s t count
+  pub ticks : t.steps + missing t.merger ≤ s.steps + missing s.merger + 2 * count
+  pub reads : t.steps + fetched aim s.merger + len_of aim s ≤ s.steps + fetched aim t.merger + len_of aim t
+  pub turned : t.spent.turned + blocks_left s.held.fixed.doublings t.spent.lasts aim t.merger ≤ s.spent.turned + blocks_left s.held.fixed.doublings s.spent.lasts aim s.merger
+  pub written : t.spent.written + len_of aim s / span s.held ≤ s.spent.written + len_of aim t / span s.held
+  pub still : len_of aim t ≡ len_of aim s → t.held.shadows aim.level ≡ s.held.shadows aim.level
+  pub grew : len_of aim s < len_of aim t → (t.held.shadows aim.level).saved ≡ (len_of aim t % span s.held == 0)
+  pub calm : t.spent.faults ≡ s.spent.faults
+
+-- a step would emit a cell, and the shadow fills its slot
+pub record IsOverfull (aim : Aim) (t : State) (level : ℕ) : Type 0 where
+  pub level_is : level ≡ aim.level
+  pub full : len_of aim t ≡ slot_size aim.level
+  pub fetched : AreFetched aim t.merger
+  pub emits : Emits (next_action aim t.merger)
+
+-- a cell that the merge reads next is bad, and its number
+pub record HasBadHead (aim : Aim) (t : State) (number : ℕ) : Type 0 where
+  pub reader : Reader
+  pub bad : IsBadAt t.held (feed_of aim reader) (head_of t.merger reader).at number
+
+-- why a step was refused
+abbrev pub StepCause : Aim → ℕ → State → StepFault → Type 0
+StepCause aim before t Device = Rose before t.spent.faults
+StepCause aim before t (BadCell number) = HasBadHead aim t number
+StepCause aim before t (Overfull level) = IsOverfull aim t level
+
+-- no fault was counted, unless the answer is the device's fault
+abbrev pub StepCalm : ℕ → ℕ → StepFault → Type 0
+StepCalm before now Device = ⊤
+StepCalm before now (BadCell number) = now ≡ before
+StepCalm before now (Overfull level) = now ≡ before
+
+-- 1 where a push may have been refused by the device
+abbrev pub failed_push : StepFault → ℕ
+failed_push Device = 1
+failed_push (BadCell number) = 0
+failed_push (Overfull level) = 0
+
+-- so many steps that were accepted, and one that was refused
+pub record Refused (aim : Aim) (s t : State) (count : ℕ) (fault : StepFault) : Type 0 where
+  pub goes : Goes aim s t count
+  pub ticks : t.steps + missing t.merger ≤ s.steps + missing s.merger + (2 * count + 1)
+  pub reads : (len_of aim s ≤ slot_size aim.level) → t.steps + fetched aim s.merger + len_of aim s ≤ s.steps + (read_len aim.own + read_len aim.incoming + read_len aim.sample) + slot_size aim.level
+  pub pushes : t.steps + fetched aim s.merger + len_of aim s ≤ s.steps + (read_len aim.own + read_len aim.incoming + read_len aim.sample) + (len_of aim t + failed_push fault)
+  pub written : t.spent.written + len_of aim s / span s.held ≤ s.spent.written + (len_of aim t / span s.held + 1)
+  pub cause : StepCause aim s.spent.faults t fault
+  pub calm : StepCalm s.spent.faults t.spent.faults fault
+
+-- a state
+abbrev pub state : Held → Spent → Merger → ℕ → State
+state held spent merger steps = record { held = held; spent = spent; merger = merger; steps = steps }
+
+-- one step of the heads, accepted or refused
+abbrev pub Stepped : {A : Type 0} → Aim → State → State → Result A PushFault → Type 0
+Stepped aim s t (Ok a) = Took aim s t 1
+Stepped aim s t (Err fault) = Refused aim s t 0 (step_of_push fault)
+
+-- one step, accepted or refused
+abbrev pub Taken : {A : Type 0} → Aim → State → State → Result A StepFault → Type 0
+Taken aim s t (Ok a) = Took aim s t 1
+Taken aim s t (Err fault) = Refused aim s t 0 fault
+
+-- steps of a quota: all of it and source cells are left; or as many as there were source cells; or some, and one was refused
+abbrev pub Ran : Aim → State → State → ℕ → Result Progress StepFault → Type 0
+Ran aim s t quota (Ok More) = Took aim s t quota × (IsUsedUp aim t.merger → ⊥)
+Ran aim s t quota (Ok Done) = (count : ℕ) × (count ≤ quota) × Took aim s t count × IsUsedUp aim t.merger
+Ran aim s t quota (Err fault) = (count : ℕ) × (count < quota) × Refused aim s t count fault
+
+-- a call that took steps of a quota
+pub record HasRun (aim : Aim) (s t : State) (quota : ℕ) (result : Result Progress StepFault) : Type 0 where
+  pub steps : Ran aim s t quota result

@@ -1,0 +1,60 @@
+//! What a merge reads and builds.
+ghost use Rattle.std.specs.Prelude.{◌≡◌};
+
+use cola_cell::{Cell, Run};
+use cola_clock::Part;
+
+/// A source of a merge.
+#[derive(Clone, Copy, Debug, PartialEq, Eq, Drop)]
+pub enum Feed {
+    /// The cells of a run.
+    Run(Run),
+    /// Every eighth cell of a run: those at the indices 7, 15, 23 and so on.
+    Sampled(Run),
+    /// One cell, which no access is needed for.
+    One(Cell),
+    /// No cell.
+    Nothing,
+}
+
+/// A run that is to be built, in a slot of a level, and what it is built of: the level's own run, the run that comes in
+/// from above, and the run whose keys it samples.
+#[derive(Clone, Copy, Debug, PartialEq, Eq)]
+pub struct Aim {
+    pub level: u8,
+    pub slot: u8,
+    pub own: Feed,
+    pub incoming: Feed,
+    pub sample: Feed,
+    /// Which items of its own run are taken.
+    pub part: Part,
+    /// Whether incoming items are marked young. Own items are always marked old.
+    pub young: bool,
+    /// Whether tombstones are left out.
+    pub bottom: bool,
+}
+
+/// Whether a merge has emitted its whole run.
+#[derive(Clone, Copy, Debug, PartialEq, Eq, Drop)]
+pub enum Progress {
+    /// Each source cell was consumed.
+    Done,
+    /// The quota was taken, and source cells are left.
+    More,
+}
+
+impl Feed {
+    ghost use Rattle.cola_merge.specs.Feeds.{feed_len};
+
+    /// How many cells it has.
+    pub(crate) fn len(&self) -> u32
+        ensures { result ≡ feed_len self.now }
+    {
+        match self {
+            Feed::Run(run) => run.len,
+            Feed::Sampled(run) => run.len / 8,
+            Feed::One(_) => 1,
+            Feed::Nothing => 0,
+        }
+    }
+}

@@ -1,0 +1,256 @@
+//! The merger.
+ghost use Rattle.std.specs.Prelude.{◌≡◌, ◌+◌, ◌*◌, ◌/◌, ◌<◌, ◌≤◌, ◌^◌, ◌↔◌, IsTrue, OnOk, length};
+ghost use Rattle.cola_merge.specs.Rules.{HeadFits};
+ghost use Rattle.cola_merge.specs.States.{Emission};
+
+use crate::aims::{Aim, Progress};
+use crate::heads::Head;
+use crate::rules::{Choice, first_rule};
+use cola_cell::{Cell, CellSink, CellSource, PushFault, ReadFault, Reader, StepFault};
+use cola_outside::Steps;
+use std::sync::ledger::Ledger;
+
+/// A merge on its way: how many cells of each of its three sources were consumed, and the heads that were read already.
+#[derive(Clone, Copy, Debug)]
+pub struct Merger {
+    own: Head,
+    incoming: Head,
+    sample: Head,
+}
+
+/// Puts the cell, if there is one, behind the shadow.
+fn emit<W: CellSink, L: Ledger>(
+    work: &mut W,
+    level: u8,
+    slot: u8,
+    cell: &Option<Cell>,
+    steps: &mut Steps<L>,
+) -> Result<(), PushFault>
+    requires level_in { level < (W.CellSource.held work.old).fixed.levels }
+    requires in_slot { slot ≡ ((W.CellSource.held work.old).shadows level).slot }
+    requires slot_in { slot < 2 }
+    requires fits { HeadFits (W.CellSource.held work.old).fixed.format cell.now }
+    ensures kept { W.CellSource.kept work.new ≡ W.CellSource.kept work.old }
+    ensures emission { Emission (W.CellSource.held work.old) (W.CellSource.held work.new) (W.CellSource.spent work.old) (W.CellSource.spent work.new) level cell.now steps.old steps.new result }
+{
+    match cell {
+        None => Ok(()),
+        Some(cell) => work.push(level, slot, cell, steps),
+    }
+}
+
+impl Merger {
+    ghost use Rattle.cola_cell.specs.declared.format.Format.{Format};
+    ghost use Rattle.cola_merge.specs.Heads.{fresh, head_at, head_of, with_head, consumed, IsReady, AreFetched, IsUsedUp};
+    ghost use Rattle.cola_merge.specs.Rules.{as_action, next_action, HeadFits, ChoiceFits};
+    ghost use Rattle.cola_merge.specs.States.{state, Stepped, Taken, HasRun, Grows, IsBeside, KeepsBlocks, Spends};
+    ghost use Rattle.cola_merge.specs.Cells.{IsShadowTold};
+    ghost use Rattle.cola_merge.specs.Blocks.{blocks_left};
+    ghost use Rattle.cola_merge.specs.Advance.{Consumes, IsGoing, Gone, IsWhole, HasStepCause, IsCalm, IsDeviceFault, whole_run, IsThrifty, IsSavedByBlocks};
+    ghost use Rattle.cola_cell.specs.declared.cell.Reader.{Reader};
+    ghost use Rattle.cola_cell.specs.Places.{slot_size};
+    ghost use Rattle.cola_cell.specs.Held.{IsTelling, span};
+    ghost use Rattle.cola_cell.specs.Spent.{Buffer};
+
+    /// A merge that has consumed nothing.
+    pub fn begin() -> Merger
+        ensures { result ≡ fresh }
+    {
+        Merger::resume(0, 0, 0)
+    }
+
+    /// A merge that has consumed so many cells of its own run, of the incoming one and of the sample.
+    pub fn resume(own: u32, incoming: u32, sample: u32) -> Merger
+        ensures { result ≡ record { own = head_at own; incoming = head_at incoming; sample = head_at sample } }
+    {
+        Merger {
+            own: Head::behind(own),
+            incoming: Head::behind(incoming),
+            sample: Head::behind(sample),
+        }
+    }
+
+    /// How many cells of its own run were consumed.
+    pub fn own(&self) -> u32
+        ensures { result ≡ self.now.own.at }
+    {
+        self.own.at
+    }
+
+    /// How many cells of the incoming run were consumed.
+    pub fn incoming(&self) -> u32
+        ensures { result ≡ self.now.incoming.at }
+    {
+        self.incoming.at
+    }
+
+    /// How many cells of the sample were consumed.
+    pub fn sample(&self) -> u32
+        ensures { result ≡ self.now.sample.at }
+    {
+        self.sample.at
+    }
+
+    /// Whether each source cell was consumed.
+    pub fn is_done(&self, aim: &Aim) -> bool
+        ensures { IsTrue result ↔ IsUsedUp aim.now self.now }
+    {
+        self.own.at >= aim.own.len()
+            && self.incoming.at >= aim.incoming.len()
+            && self.sample.at >= aim.sample.len()
+    }
+
+    /// Takes steps of the merge until so many are taken or no source cell is left. What is under way stays under way, in
+    /// whatever quotas it is called and also after a refusal, which leaves the cursors before the step that failed.
+    /// Each source cell costs one step and at most two ticks: one to read it, none where the feed is one cell, and one
+    /// to push what it emits.
+    ///
+    /// It is refused where the device failed, where the cell that a feed reads next is bad, and as overfull where the
+    /// run fills its slot and a step would emit another cell.
+    pub fn advance<W: CellSink, L: Ledger>(
+        &mut self,
+        work: &mut W,
+        aim: &Aim,
+        quota: u32,
+        steps: &mut Steps<L>,
+    ) -> Result<Progress, StepFault>
+        requires { IsReady (W.CellSource.held work.old) aim.now self.old }
+        // it may be called again, and nothing changed but the end of the shadow
+        ensures ready { IsReady (W.CellSource.held work.new) aim.now self.new }
+        ensures kept { W.CellSource.kept work.new ≡ W.CellSource.kept work.old }
+        ensures frames { Grows (W.CellSource.held work.old) (W.CellSource.held work.new) aim.now.level }
+        ensures lasts { (buffer : Buffer) → IsBeside aim.now buffer →
+            KeepsBlocks aim.now.level aim.now.slot buffer (W.CellSource.spent work.old).lasts (W.CellSource.spent work.new).lasts }
+        ensures saved { OnOk result (IsSavedByBlocks (W.CellSource.held work.old) (W.CellSource.held work.new) aim.now.level) }
+        // how far it went
+        ensures consumes { Consumes aim.now self.old self.new quota result }
+        ensures rises { (reader : Reader) → (head_of self.old reader).at ≤ (head_of self.new reader).at }
+        ensures emits { ((W.CellSource.held work.new).shadows aim.now.level).len + consumed self.old
+            ≤ ((W.CellSource.held work.old).shadows aim.now.level).len + consumed self.new }
+        ensures samples { ((W.CellSource.held work.old).shadows aim.now.level).len + self.new.sample.at
+            ≤ ((W.CellSource.held work.new).shadows aim.now.level).len + self.old.sample.at }
+        ensures told { IsTelling (W.CellSource.held work.old) → IsShadowTold (W.CellSource.held work.old) aim.now.level → IsShadowTold (W.CellSource.held work.new) aim.now.level }
+        ensures cut { IsGoing (W.CellSource.held work.old) aim.now self.old →
+            Gone (W.CellSource.held work.old) (W.CellSource.held work.new) aim.now self.old self.new quota result }
+        ensures whole { IsGoing (W.CellSource.held work.old) aim.now self.old → IsWhole (W.CellSource.held work.old) (W.CellSource.held work.new) aim.now result }
+        // why it was refused
+        ensures cause { HasStepCause aim.now (W.CellSource.spent work.old).faults
+            (state (W.CellSource.held work.new) (W.CellSource.spent work.new) self.new steps.new) result }
+        ensures calm { IsCalm (W.CellSource.spent work.old).faults (W.CellSource.spent work.new).faults result }
+        ensures only { IsGoing (W.CellSource.held work.old) aim.now self.old →
+            length (whole_run (W.CellSource.held work.old) aim.now) ≤ slot_size aim.now.level → IsDeviceFault result }
+        // what it cost
+        ensures ticks { steps.new ≤ steps.old + (3 + 2 * quota) }
+        ensures begins { self.old ≡ fresh → IsThrifty aim.now steps.old steps.new
+            ((W.CellSource.held work.old).shadows aim.now.level).len ((W.CellSource.held work.new).shadows aim.now.level).len result }
+        ensures spends { Spends (W.CellSource.spent work.old) (W.CellSource.spent work.new) steps.old steps.new }
+        ensures turned { OnOk result ((W.CellSource.spent work.new).turned + blocks_left (W.CellSource.held work.old).fixed.doublings (W.CellSource.spent work.new).lasts aim.now self.new
+            ≤ (W.CellSource.spent work.old).turned + blocks_left (W.CellSource.held work.old).fixed.doublings (W.CellSource.spent work.old).lasts aim.now self.old) }
+        ensures written { OnOk result ((W.CellSource.spent work.new).written + ((W.CellSource.held work.old).shadows aim.now.level).len / span (W.CellSource.held work.old)
+            ≤ (W.CellSource.spent work.old).written + ((W.CellSource.held work.new).shadows aim.now.level).len / span (W.CellSource.held work.old)) }
+    {
+        // every object has at most 23 levels, and its shadows stand in slot 0 or 1 and fit it
+        let _ = work.ticked();
+        let _ = work.shadow_len(aim.level);
+        self.run(work, aim, quota, steps)
+    }
+
+    /// What the rules ask for by the heads that are held.
+    fn choice(&self, aim: &Aim) -> Option<Choice>
+        requires small { 8 * self.now.sample.at < 2 ^ 32 }
+        ensures choice { as_action result ≡ next_action aim.now self.now }
+        ensures fits { (format : Format) → HeadFits format self.now.own.cell → HeadFits format self.now.incoming.cell → HeadFits format self.now.sample.cell → ChoiceFits format result }
+    {
+        let link = 8 * self.sample.at;
+        first_rule(
+            aim,
+            link,
+            &self.own.cell,
+            &self.incoming.cell,
+            &self.sample.cell,
+        )
+    }
+
+    /// Consumes the head of this reader.
+    fn consume(&mut self, reader: Reader)
+        requires small { (head_of self.old reader).at + 1 < 2 ^ 32 }
+        ensures { self.new ≡ with_head self.old reader (head_at ((head_of self.old reader).at + 1)) }
+    {
+        match reader {
+            Reader::Own => self.own = Head::behind(self.own.at + 1),
+            Reader::Incoming => self.incoming = Head::behind(self.incoming.at + 1),
+            Reader::Sample => self.sample = Head::behind(self.sample.at + 1),
+        }
+    }
+
+    /// Takes the step that the three heads ask for, where they are held and one is left.
+    fn step<W: CellSink, L: Ledger>(
+        &mut self,
+        work: &mut W,
+        aim: &Aim,
+        steps: &mut Steps<L>,
+    ) -> Result<(), PushFault>
+        requires ready { IsReady (W.CellSource.held work.old) aim.now self.old }
+        requires fetched { AreFetched aim.now self.old }
+        requires left { IsUsedUp aim.now self.old → ⊥ }
+        requires levels { (W.CellSource.held work.old).fixed.levels ≤ 23 }
+        requires slot_in { ((W.CellSource.held work.old).shadows aim.now.level).slot < 2 }
+        ensures kept { W.CellSource.kept work.new ≡ W.CellSource.kept work.old }
+        ensures stepped { Stepped aim.now (state (W.CellSource.held work.old) (W.CellSource.spent work.old) self.old steps.old) (state (W.CellSource.held work.new) (W.CellSource.spent work.new) self.new steps.new) result }
+    {
+        let Some(choice) = self.choice(aim) else {
+            return Ok(());
+        };
+        emit(work, aim.level, aim.slot, &choice.cell, steps)?;
+        self.consume(choice.head);
+        Ok(())
+    }
+
+    /// Takes one step, where a source cell is left.
+    fn take<W: CellSink, L: Ledger>(
+        &mut self,
+        work: &mut W,
+        aim: &Aim,
+        steps: &mut Steps<L>,
+    ) -> Result<(), StepFault>
+        requires ready { IsReady (W.CellSource.held work.old) aim.now self.old }
+        requires left { IsUsedUp aim.now self.old → ⊥ }
+        requires levels { (W.CellSource.held work.old).fixed.levels ≤ 23 }
+        requires slot_in { ((W.CellSource.held work.old).shadows aim.now.level).slot < 2 }
+        ensures kept { W.CellSource.kept work.new ≡ W.CellSource.kept work.old }
+        ensures taken { Taken aim.now (state (W.CellSource.held work.old) (W.CellSource.spent work.old) self.old steps.old) (state (W.CellSource.held work.new) (W.CellSource.spent work.new) self.new steps.new) result }
+    {
+        self.own.fetch(Reader::Own, &aim.own, work, steps)?;
+        self.incoming
+            .fetch(Reader::Incoming, &aim.incoming, work, steps)?;
+        self.sample.fetch(Reader::Sample, &aim.sample, work, steps)?;
+        self.step(work, aim, steps)?;
+        Ok(())
+    }
+
+    /// Takes steps until so many are taken or no source cell is left.
+    fn run<W: CellSink, L: Ledger>(
+        &mut self,
+        work: &mut W,
+        aim: &Aim,
+        quota: u32,
+        steps: &mut Steps<L>,
+    ) -> Result<Progress, StepFault>
+        requires ready { IsReady (W.CellSource.held work.old) aim.now self.old }
+        requires levels { (W.CellSource.held work.old).fixed.levels ≤ 23 }
+        requires slot_in { ((W.CellSource.held work.old).shadows aim.now.level).slot < 2 }
+        ensures kept { W.CellSource.kept work.new ≡ W.CellSource.kept work.old }
+        ensures ran { HasRun aim.now (state (W.CellSource.held work.old) (W.CellSource.spent work.old) self.old steps.old) (state (W.CellSource.held work.new) (W.CellSource.spent work.new) self.new steps.new) quota result }
+    {
+        for _ in 0..quota {
+            if self.is_done(aim) {
+                return Ok(Progress::Done);
+            }
+            self.take(work, aim, steps)?;
+        }
+        if self.is_done(aim) {
+            return Ok(Progress::Done);
+        }
+        Ok(Progress::More)
+    }
+}
