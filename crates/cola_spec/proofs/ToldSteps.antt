@@ -9,6 +9,7 @@ use Rattle.cola_spec.specs.Told.{IsReadableTurn, told, told_turn}
 use Rattle.cola_spec.proofs.StepLaws.{answered_memory}
 use Rattle.cola_spec.proofs.ToldLaws.{told_by_texts}
 
+-- the reply to a delete, a stamp or a range that is told as another
 abbrev deleted : Reply → Reply
 deleted (Got None) = Deleted None
 deleted r = r

@@ -57,6 +57,7 @@ IsWritten number = number < 10 ^ 64
 abbrev pub IsRowLine : List ℕ × List ℕ → Type 0
 IsRowLine row = IsOneLine row.0 × All (λ byte. byte ≢ 32) row.0 × IsOneLine row.1
 
+-- what a put answers can be read back: its value has no line feed, and its stamp is written whole
 abbrev pub IsReadableOutcome : PutOutcome → Type 0
 IsReadableOutcome New = Unit {0}
 IsReadableOutcome (Old value) = IsOneLine value
@@ -64,14 +65,17 @@ IsReadableOutcome Full = Unit {0}
 IsReadableOutcome Worn = Unit {0}
 IsReadableOutcome (Other stamp) = IsWritten stamp
 
+-- a value, if there is one, has no line feed
 abbrev pub IsReadableValue : Option (List ℕ) → Type 0
 IsReadableValue None = Unit {0}
 IsReadableValue (Some value) = IsOneLine value
 
+-- a stamp, if there is one, is written whole
 abbrev pub IsReadableStamp : Option ℕ → Type 0
 IsReadableStamp None = Unit {0}
 IsReadableStamp (Some stamp) = IsWritten stamp
 
+-- the number that a failure tells is written whole
 abbrev pub IsReadableFailure : Failure → Type 0
 IsReadableFailure Fault = Unit {0}
 IsReadableFailure (Damaged cell) = IsWritten cell
