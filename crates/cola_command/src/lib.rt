@@ -6,5 +6,5 @@ mod memory;
 mod program;
 mod words;
 
-pub use laws::memory_sessions_complete;
+pub use laws::{memory_sessions_complete, session_limits};
 pub use program::serve;
