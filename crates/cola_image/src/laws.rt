@@ -6,8 +6,10 @@ ghost use Rattle.cola_cell.specs.Format.{width};
 ghost use Rattle.cola_cell.specs.Held.{Held, Spots};
 ghost use Rattle.cola_cell.specs.Listed.{IsRun};
 ghost use Rattle.cola_clock.specs.Marks.{Marks};
+ghost use Rattle.cola_layout.specs.Geometry.{IsBottom};
 ghost use Rattle.cola_layout.specs.Header.{Fields, IsSpelling};
 ghost use Rattle.cola_layout.specs.Marks.{no_marks};
+ghost use Rattle.cola_spec.specs.Bounds.{levels_of};
 ghost use Rattle.cola_spec.specs.Map.{Map, empty_map};
 ghost use Rattle.cola_image.specs.Cells.{slot_cells};
 ghost use Rattle.cola_image.specs.Standing.{IsSlotTold, AreRunsAlike, LevelsStandFor, HeaderStandsFor, FileStandsFor};
@@ -37,4 +39,10 @@ pub fn empty_file_stands()
     ensures { (header : Fields) (bytes : List ℕ) → IsSpelling header (take 512 bytes) → header.closed ≡ true →
         header.count ≡ 0 → header.clock ≡ 0 → header.last ≡ 0 → header.levels ≡ replicate (header.bottom + 1) no_marks →
         width header.format * 2 ^ (header.bottom + 4) ≤ length bytes → HeaderStandsFor header bytes empty_map }
+{}
+
+/// A store for so many keys has one level more than the number of its bottom: the levels by which the bounds on cell
+/// accesses are counted are those of its file.
+pub fn levels_are_counted()
+    ensures { (keys bottom : ℕ) → IsBottom keys bottom → levels_of keys ≡ bottom + 1 }
 {}
