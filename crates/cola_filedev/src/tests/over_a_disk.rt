@@ -42,7 +42,7 @@ fn call_each<R: Files>(
 fn asks_for_what_each_call_needs(rt: HostRuntime) -> Result<(), Fail> {
     let disk = Disk::new(rt.alloc(), b"abcdef", 2, "length")?;
     let mut into = [0; 3];
-    let answers = call_each(&Folder { disk: &disk }, true, 2, &mut into, b"xyz", 4);
+    let answers = call_each(&Folder { disk: &disk }, true, 2, &mut into, b"xyz", 0);
     assert_eq!(rt; answers, (Ok(6), [true, true, true, false], Ok(6)));
     assert_eq!(rt; into, *b"cde");
     assert_eq!(rt; disk.bytes(rt.alloc()).as_slice(), b"abxyzf".as_slice());
