@@ -54,13 +54,16 @@ module _ {T W K : Type 0} (t : table.Ghosts T W) (k : sink.Ghosts K) (low : List
   -- a range that was refused
   pub range_refused : {A E : Type 0} (result : Result A E) (fault : ReadFault) (failure : Failure) (new : T) (sink' : K) → failure ≡ read_failure fault → t.begins old low high (Err fault) new → ReadFaults {A = W} (Err fault) (t.faults old) (t.faults new) → ((m : Map) → t.holds old m → RangeAnswers m low high (t.holds new) (t.ahead new) (Err fault)) → Wrote (reply_text false 0 (Failed failure)) result (k.written sink) (k.written sink')
       → (m : Map) → (answer : Reply) × Listed t k m low high most result old new sink sink' answer
-  range_refused result fault failure new sink' is begins faults answer wrote m = (Cut [] failure, record {
-    wrote = wrote_cut result (k.written sink) (k.written sink) (k.written sink') 0 [] failure (start_listing (k.written sink)) wrote;
-    costless = λ cost ticks. refl;
-    faults = failure_faults W [] fault failure (t.faults old) (t.faults old) (t.faults new) is refl faults;
-    given = inl (record { fault = fault; begins = begins; answer_is = ap (Cut []) is });
-    rows = λ held. rows_cut most 0 [] (pairs_between m low high) (pairs_between m low high) fault failure is (answer m held).0 refl refl (start_within most);
-  })
+  range_refused result fault failure new sink' is begins faults answer wrote m = (
+    Cut [] failure,
+    record {
+      wrote = wrote_cut result (k.written sink) (k.written sink) (k.written sink') 0 [] failure (start_listing (k.written sink)) wrote;
+      costless = λ cost ticks. refl;
+      faults = failure_faults W [] fault failure (t.faults old) (t.faults old) (t.faults new) is refl faults;
+      given = inl (record { fault = fault; begins = begins; answer_is = ap (Cut []) is });
+      rows = λ held. rows_cut most 0 [] (pairs_between m low high) (pairs_between m low high) fault failure is (answer m held).0 refl refl (start_within most);
+    },
+  )
 
   module _ (rows : ℕ) (table : T) (walk : W) (sink' : K) (so_far : SoFar rows table walk sink') where
     -- one more pair was given, and its row was written
@@ -85,102 +88,113 @@ module _ {T W K : Type 0} (t : table.Ghosts T W) (k : sink.Ghosts K) (low : List
     -- no more rows were wanted
     pub enough : {A E : Type 0} (result : Result A E) (sink'' : K) → wants most rows ≡ false → Wrote (line (codes "end " ++ decimal rows)) result (k.written sink') (k.written sink'')
         → (m : Map) → (answer : Reply) × Listed t k m low high most result old table sink sink'' answer
-    enough result sink'' unwanted wrote m = (Rows so_far.done, record {
-      wrote = wrote_end result (k.written sink) (k.written sink') (k.written sink'') rows so_far.done so_far.listing wrote;
-      costless = λ cost ticks. refl;
-      faults = so_far.faults;
-      given = inr (record {
-        rows = so_far.done;
-        table = table;
-        walk = walk;
-        walked = so_far.walked;
-        ended = inr (inl (record { unwanted = subst (λ n. wants most n ≡ false) so_far.listing.number unwanted; table_stays = refl; answer_is = refl }));
-      });
-      rows = λ held. let s = so_far.sound m held in rows_enough most rows so_far.done s.pairs (pairs_between m low high) s.whole so_far.listing.number so_far.within unwanted;
-    })
+    enough result sink'' unwanted wrote m = (
+      Rows so_far.done,
+      record {
+        wrote = wrote_end result (k.written sink) (k.written sink') (k.written sink'') rows so_far.done so_far.listing wrote;
+        costless = λ cost ticks. refl;
+        faults = so_far.faults;
+        given = inr (record {
+          rows = so_far.done;
+          table = table;
+          walk = walk;
+          walked = so_far.walked;
+          ended = inr (inl (record { unwanted = subst (λ n. wants most n ≡ false) so_far.listing.number unwanted; table_stays = refl; answer_is = refl }));
+        });
+        rows = λ held. let s = so_far.sound m held in rows_enough most rows so_far.done s.pairs (pairs_between m low high) s.whole so_far.listing.number so_far.within unwanted;
+      },
+    )
 
     -- another was wanted, and none was left
     pub none_left : {A E : Type 0} (result : Result A E) (answer : Option Pair) (new : T) (walk' : W) (sink'' : K) → answer ≡ None → wants most rows ≡ true → t.goes table walk (Ok answer) new walk' → t.faults new ≡ t.faults table → ((m : Map) (pairs : List Pair) → t.holds table m → t.ahead table walk pairs → NextAnswers (t.ahead new walk') pairs (Ok answer)) → Wrote (line (codes "end " ++ decimal rows)) result (k.written sink') (k.written sink'')
         → (m : Map) → (answer : Reply) × Listed t k m low high most result old new sink sink'' answer
-    none_left result answer new walk' sink'' is wanted goes faults ahead wrote m = (Rows so_far.done, record {
-      wrote = wrote_end result (k.written sink) (k.written sink') (k.written sink'') rows so_far.done so_far.listing wrote;
-      costless = λ cost ticks. refl;
-      faults = faults ∙ so_far.faults;
-      given = inr (record {
-        rows = so_far.done;
-        table = table;
-        walk = walk;
-        walked = so_far.walked;
-        ended = inl (record {
-          wanted = subst (λ n. wants most n ≡ true) so_far.listing.number wanted;
-          after = walk';
-          goes = subst (λ a. t.goes table walk (Ok a) new walk') is goes;
-          answer_is = refl;
+    none_left result answer new walk' sink'' is wanted goes faults ahead wrote m = (
+      Rows so_far.done,
+      record {
+        wrote = wrote_end result (k.written sink) (k.written sink') (k.written sink'') rows so_far.done so_far.listing wrote;
+        costless = λ cost ticks. refl;
+        faults = faults ∙ so_far.faults;
+        given = inr (record {
+          rows = so_far.done;
+          table = table;
+          walk = walk;
+          walked = so_far.walked;
+          ended = inl (record {
+            wanted = subst (λ n. wants most n ≡ true) so_far.listing.number wanted;
+            after = walk';
+            goes = subst (λ a. t.goes table walk (Ok a) new walk') is goes;
+            answer_is = refl;
+          });
         });
-      });
-      rows = λ held.
-          let s = so_far.sound m held in
-          let none = next_none (t.ahead new walk') s.pairs answer is (ahead m s.pairs s.held s.ahead) in
-          rows_ended most rows so_far.done s.pairs (pairs_between m low high) none.0 s.whole so_far.listing.number so_far.within;
-    })
+        rows = λ held.
+            let s = so_far.sound m held in
+            let none = next_none (t.ahead new walk') s.pairs answer is (ahead m s.pairs s.held s.ahead) in
+            rows_ended most rows so_far.done s.pairs (pairs_between m low high) none.0 s.whole so_far.listing.number so_far.within;
+      },
+    )
 
     -- another was wanted, and was refused
     pub cut_short : {A E : Type 0} (result : Result A E) (fault : ReadFault) (failure : Failure) (new : T) (walk' : W) (sink'' : K) → failure ≡ read_failure fault → wants most rows ≡ true → t.goes table walk (Err fault) new walk' → ReadFaults {A = Option Pair} (Err fault) (t.faults table) (t.faults new) → ((m : Map) (pairs : List Pair) → t.holds table m → t.ahead table walk pairs → NextAnswers (t.ahead new walk') pairs (Err fault)) → Wrote (reply_text false 0 (Failed failure)) result (k.written sink') (k.written sink'')
         → (m : Map) → (answer : Reply) × Listed t k m low high most result old new sink sink'' answer
-    cut_short result fault failure new walk' sink'' is wanted goes faults ahead wrote m = (Cut so_far.done failure, record {
-      wrote = wrote_cut result (k.written sink) (k.written sink') (k.written sink'') rows so_far.done failure so_far.listing wrote;
-      costless = λ cost ticks. refl;
-      faults = failure_faults (Option Pair) so_far.done fault failure (t.faults old) (t.faults table) (t.faults new) is so_far.faults faults;
-      given = inr (record {
-        rows = so_far.done;
-        table = table;
-        walk = walk;
-        walked = so_far.walked;
-        ended = inr (inr (inl (record {
-          wanted = subst (λ n. wants most n ≡ true) so_far.listing.number wanted;
-          fault = fault;
-          after = walk';
-          goes = goes;
-          answer_is = ap (Cut so_far.done) is;
-        })));
-      });
-      rows = λ held.
-          let s = so_far.sound m held in
-          rows_cut most rows so_far.done s.pairs (pairs_between m low high) fault failure is (ahead m s.pairs s.held s.ahead).0 s.whole so_far.listing.number so_far.within;
-    })
+    cut_short result fault failure new walk' sink'' is wanted goes faults ahead wrote m = (
+      Cut so_far.done failure,
+      record {
+        wrote = wrote_cut result (k.written sink) (k.written sink') (k.written sink'') rows so_far.done failure so_far.listing wrote;
+        costless = λ cost ticks. refl;
+        faults = failure_faults (Option Pair) so_far.done fault failure (t.faults old) (t.faults table) (t.faults new) is so_far.faults faults;
+        given = inr (record {
+          rows = so_far.done;
+          table = table;
+          walk = walk;
+          walked = so_far.walked;
+          ended = inr (inr (inl (record {
+            wanted = subst (λ n. wants most n ≡ true) so_far.listing.number wanted;
+            fault = fault;
+            after = walk';
+            goes = goes;
+            answer_is = ap (Cut so_far.done) is;
+          })));
+        });
+        rows = λ held.
+            let s = so_far.sound m held in
+            rows_cut most rows so_far.done s.pairs (pairs_between m low high) fault failure is (ahead m s.pairs s.held s.ahead).0 s.whole so_far.listing.number so_far.within;
+      },
+    )
 
     -- one more pair was given, and the sink refused its row: the answer goes on with the other rows of the map
     pub broken_off : (A : Type 0) {E : Type 0} (e : E) (pair : Pair) (answer : Option Pair) (new : T) (walk' : W) (sink'' : K) → answer ≡ Some pair → wants most rows ≡ true → t.goes table walk (Ok answer) new walk' → t.faults new ≡ t.faults table → ((m : Map) (pairs : List Pair) → t.holds table m → t.ahead table walk pairs → NextAnswers (t.ahead new walk') pairs (Ok answer)) → Wrote {A = A} (row_text pair) (Err e) (k.written sink') (k.written sink'')
         → (m : Map) → (answer : Reply) × Listed {A = A} t k m low high most (Err e) old new sink sink'' answer
     broken_off A e pair answer new walk' sink'' is wanted goes faults ahead wrote m =
-        let rest : List Pair = drop (length (so_far.done ++ pair ∷ [])) (first_of most (pairs_between m low high)) in
-        (Rows (so_far.done ++ pair ∷ rest), record {
-          wrote = wrote_row A e (k.written sink) (k.written sink') (k.written sink'') rows so_far.done rest pair so_far.listing wrote;
-          costless = λ cost ticks. refl;
-          faults = faults ∙ so_far.faults;
-          given = inr (record {
-            rows = so_far.done ++ pair ∷ [];
-            table = new;
-            walk = walk';
-            walked = record {
-              begun = so_far.walked.begun;
-              first = so_far.walked.first;
-              begins = so_far.walked.begins;
-              gave = gave_more t so_far.walked.begun so_far.walked.first so_far.done table walk pair new walk' so_far.walked.gave (subst (λ a. t.goes table walk (Ok a) new walk') is goes);
-            };
-            ended = inr (inr (inr (record {
-              failed = refl;
-              table_stays = refl;
-              more = rest;
-              answer_is = ap Rows (one_more_done so_far.done rest (so_far.done ++ pair ∷ rest) (pair ∷ rest) pair refl refl);
-              wrote = wrote_some A e (k.written sink) (k.written sink') (k.written sink'') rows so_far.done pair so_far.listing wrote;
-            })));
-          });
-          rows = λ held.
-              let s = so_far.sound m held in
-              let next = next_some (t.ahead new walk') s.pairs answer pair is (ahead m s.pairs s.held s.ahead) in
-              rows_go_on most rows so_far.done next.0 (pairs_between m low high) pair (s.whole ∙ ap (λ p. so_far.done ++ p) next.1) so_far.listing.number wanted;
-        })
+        let rest : List Pair = drop (length (so_far.done ++ pair ∷ [])) (first_of most (pairs_between m low high)) in (
+          Rows (so_far.done ++ pair ∷ rest),
+          record {
+            wrote = wrote_row A e (k.written sink) (k.written sink') (k.written sink'') rows so_far.done rest pair so_far.listing wrote;
+            costless = λ cost ticks. refl;
+            faults = faults ∙ so_far.faults;
+            given = inr (record {
+              rows = so_far.done ++ pair ∷ [];
+              table = new;
+              walk = walk';
+              walked = record {
+                begun = so_far.walked.begun;
+                first = so_far.walked.first;
+                begins = so_far.walked.begins;
+                gave = gave_more t so_far.walked.begun so_far.walked.first so_far.done table walk pair new walk' so_far.walked.gave (subst (λ a. t.goes table walk (Ok a) new walk') is goes);
+              };
+              ended = inr (inr (inr (record {
+                failed = refl;
+                table_stays = refl;
+                more = rest;
+                answer_is = ap Rows (one_more_done so_far.done rest (so_far.done ++ pair ∷ rest) (pair ∷ rest) pair refl refl);
+                wrote = wrote_some A e (k.written sink) (k.written sink') (k.written sink'') rows so_far.done pair so_far.listing wrote;
+              })));
+            });
+            rows = λ held.
+                let s = so_far.sound m held in
+                let next = next_some (t.ahead new walk') s.pairs answer pair is (ahead m s.pairs s.held s.ahead) in
+                rows_go_on most rows so_far.done next.0 (pairs_between m low high) pair (s.whole ∙ ap (λ p. so_far.done ++ p) next.1) so_far.listing.number wanted;
+          },
+        )
 
 -- a command of the table that asks for no rows
 pub one_line : (command : Command) → IsOfTable command → ((low high : List ℕ) → command ≡ code.Range low high → ⊥) → ((low : List ℕ) (most : ℕ) → command ≡ code.Scan low most → ⊥) → IsOfOneLine command

@@ -1,5 +1,5 @@
 //! The reply that a table gives to a command.
-ghost use Rattle.std.specs.Prelude.{◌≡◌, ◌-◌, ◌≤◌, ℕ, Bool};
+ghost use Rattle.std.specs.Prelude.{◌≡◌, ◌-◌, ◌≤◌, Bool};
 ghost use Rattle.cola_io.specs.Counted.{CountsFaults};
 ghost use Rattle.cola_spec.specs.Map.{Map};
 ghost use Rattle.cola_spec.specs.Reply.{reply_text};

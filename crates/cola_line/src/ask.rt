@@ -1,5 +1,5 @@
 //! What a table answers to a command whose reply is one line.
-ghost use Rattle.std.specs.Prelude.{◌≡◌, ◌+◌, ◌-◌, ◌≤◌, ℕ, Bool, List, option_copied};
+ghost use Rattle.std.specs.Prelude.{◌≡◌, ◌-◌, Bool};
 ghost use Rattle.cola_cell.specs.declared.format.Format.TheVariants.{Two};
 ghost use Rattle.cola_cell.specs.Format.{KeyFits, ValueFits};
 ghost use Rattle.cola_spec.specs.Command as spec;

@@ -1,7 +1,6 @@
 //! The replies to ranges and scans, row by row.
-ghost use Rattle.std.specs.Prelude.{◌≡◌, ◌+◌, ◌-◌, ◌∷◌, ◌++◌, ◌≤◌, [], ℕ, Bool, List, Option, Some, None, Ok, length, option_copied, codes, decimal};
+ghost use Rattle.std.specs.Prelude.{◌≡◌, ◌+◌, ◌-◌, ◌++◌, ◌≤◌, Option, Some, None, Ok, option_copied, codes, decimal};
 ghost use Rattle.cola_io.specs.Counted.{CountsFaults};
-ghost use Rattle.cola_io.specs.Streams.{Appended};
 ghost use Rattle.cola_spec.specs.Map.{Map};
 ghost use Rattle.cola_spec.specs.Reply.{row_text, line, Reply as Answer};
 ghost use Rattle.cola_spec.specs.Bounds.{range_bound};

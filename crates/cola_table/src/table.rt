@@ -1,5 +1,5 @@
 //! The ordered map with a key limit, as a trait.
-ghost use Rattle.std.specs.Prelude.{◌≡◌, ◌+◌, ◌-◌, ◌^◌, ◌≤◌, ◌<◌, ℕ, List, Option, Result, IfOk, IfErr, OnOk, OnErr, option_map, option_copied, IsTrue, MatchResult, IfSome, OnSome};
+ghost use Rattle.std.specs.Prelude.{◌≡◌, ◌+◌, ◌-◌, ◌^◌, ◌≤◌, ◌<◌, ℕ, List, Option, Result, IfOk, OnOk, OnErr, option_copied, OnSome};
 ghost use Rattle.cola_cell.specs.declared.fault.ReadFault.{ReadFault};
 ghost use Rattle.cola_cell.specs.Format.{KeyFits, ValueFits};
 ghost use Rattle.cola_spec.specs.Map.{Map, IsMap, count};
