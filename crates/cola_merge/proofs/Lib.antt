@@ -8,3 +8,4 @@ pub mod Pushing
 pub mod Stepping
 pub mod Taking
 pub mod Advancing
+pub mod ToldRuns

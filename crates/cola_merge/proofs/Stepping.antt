@@ -194,6 +194,10 @@ module _ {aim : Aim} (s : State) (new : Held) (now : Spent) (to : ℕ) (reader :
       turned : (n o x y z : ℕ) → n ≡ o → x ≡ y → 0 + y ≤ 0 + z → n + x ≤ o + z
       turned n o x y z e f h = omega (arith, e, f, h)
 
+  -- the same, where the merger is named otherwise
+  pub took_step_as : (m : Merger) → m ≡ with_head s.merger reader (head_at ((head_of s.merger reader).at + 1)) → Took aim s (state new now m to) 1
+  took_step_as m k = subst (λ (x : Merger). Took aim s (state new now x to) 1) (sym k) took_step
+
 -- ---- a step that was refused
 
 pub all_read : {held : Held} {aim : Aim} {m : Merger} → IsReady held aim m → fetched aim m ≤ read_len aim.own + read_len aim.incoming + read_len aim.sample

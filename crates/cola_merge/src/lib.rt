@@ -7,8 +7,11 @@
 
 mod aims;
 mod heads;
+pub mod laws;
 mod merging;
 mod rules;
+#[cfg(test)]
+mod tests;
 
 pub use aims::{Aim, Feed, Progress};
 pub use merging::Merger;

@@ -6,7 +6,7 @@ use Rattle.cola_merge.specs.States.{state, Took, Stepped}
 use Rattle.cola_merge.specs.declared.merging.Merger.{Merger}
 use Rattle.cola_merge.proofs.Reading.{err_is}
 use Rattle.cola_merge.proofs.Ruling.{small_cursor, ended_is_used_up}
-use Rattle.cola_merge.proofs.Stepping.{took_step, refused_step, held_fits, small_after}
+use Rattle.cola_merge.proofs.Stepping.{took_step_as, refused_step, held_fits, small_after}
 use Rattle.cola_merge.proofs.merging.Merger.step.Goals as goal
 
 pub choice-requires : goal.choice-requires
@@ -42,5 +42,5 @@ returns-clause-stepped g c =
     let s = state (g.W.CellSource.held c.args.work.now) (g.W.CellSource.spent c.args.work.now) c.args.self.now c.args.steps.now in
     let new = g.W.CellSource.held c.emit.new.work in
     let now = g.W.CellSource.spent c.emit.new.work in
-    subst (λ (m : Merger). Took c.args.aim.now s (state new now m c.emit.new.steps) 1) (sym c.consume.ensures)
-    (took_step s new now c.emit.new.steps c.in-Some.choice.head c.in-Some.choice.cell c.requires.ready c.requires.fetched c.in-Some.ensures.choice c.in_ok-emit.ensures.emission)
+    took_step_as s new now c.emit.new.steps c.in-Some.choice.head c.in-Some.choice.cell c.requires.ready c.requires.fetched c.in-Some.ensures.choice c.in_ok-emit.ensures.emission
+    c.consume.new.self c.consume.ensures

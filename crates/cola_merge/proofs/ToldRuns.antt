@@ -1,0 +1,102 @@
+-- Feeds, runs and merges that begin.
+use Rattle.std.proofs.Common.{◌≡◌, ◌≢◌, ◌⊎◌, inl, inr, ℕ, zero, suc, ◌+◌, ◌*◌, ◌/◌, ◌<◌, ◌≤◌, List, [], ◌∷◌, length, map, Option, Some, None, refl, ap, sym, subst, ◌∙◌, arith}
+use Rattle.std.specs.Option.{option_map}
+use Rattle.std.specs.List.{slice_get}
+use Rattle.std.proofs.lemmas.Option.{slice_get-map, none-some}
+use Rattle.std.proofs.lemmas.Bool.Decides.{leb_tells}
+use Rattle.cola_runs.specs.Cells as laws
+use Rattle.cola_runs.specs.Cells.{sample}
+use Rattle.cola_runs.specs.Steps.{begun}
+use Rattle.cola_runs.proofs.Samples.{sample_at}
+use Rattle.cola_cell.specs.declared.cell.Run.{Run}
+use Rattle.cola_cell.specs.Held.{Held, Spot, Told, LawCell, Stamped}
+use Rattle.cola_cell.specs.Listed.{Stands, IsRun}
+use Rattle.cola_cell.proofs.RunLemmas.{run_stays}
+use Rattle.cola_merge.specs.declared.aims.Feed.TheVariants as feed
+use Rattle.cola_merge.specs.declared.aims.Aim.{Aim}
+use Rattle.cola_merge.specs.Cells.{cell_at, IsTold, cells, run_cells}
+use Rattle.cola_merge.specs.Feeds.{feed_keys, IsFeedTold}
+use Rattle.cola_merge.specs.Heads.{fresh, build_of}
+use Rattle.cola_merge.specs.States.{Grows}
+use Rattle.cola_merge.proofs.CellLists.{length-cells, get-cells, past-cells, told-stand}
+
+-- ---- the sample
+
+some_same : {X : Type 0} (x y : X) → Some x ≡ Some y → x ≡ y
+some_same x y e = cc
+
+same_lists : {X : Type 0} (xs ys : List X) → ((i : ℕ) → slice_get xs i ≡ slice_get ys i) → xs ≡ ys
+same_lists [] [] h = refl
+same_lists [] (y ∷ ys) h = absurd (none-some y (h 0))
+same_lists (x ∷ xs) [] h = absurd (none-some x (sym (h 0)))
+same_lists {X} (x ∷ xs) (y ∷ ys) h = ap (λ (z : X). z ∷ xs) (some_same x y (h 0)) ∙ ap (λ (zs : List X). y ∷ zs) (same_lists xs ys (λ i. h (suc i)))
+
+-- a cell of the sample, by where it stands
+sampled_cell : (spots : ℕ → Spot) (len i : ℕ) → (len / 8 ≤ i) ⊎ (i < len / 8) → slice_get (cells (λ k. spots (8 * k + 7)) 0 (len / 8)) i ≡ slice_get (cells spots 0 len) (8 * i + 7)
+sampled_cell spots len i (inl h) = past-cells (λ k. spots (8 * k + 7)) 0 (len / 8) i h ∙ sym (past-cells spots 0 len (8 * i + 7) (omega (arith, h)))
+sampled_cell spots len i (inr h) =
+    get-cells (λ k. spots (8 * k + 7)) 0 (len / 8) i h
+    ∙ ap (λ (n : ℕ). Some (cell_at (spots n))) (let e : 8 * (0 + i) + 7 ≡ 0 + (8 * i + 7) = omega arith in e)
+    ∙ sym (get-cells spots 0 len (8 * i + 7) (omega (arith, h)))
+
+or_below : (n i : ℕ) → (n ≤ i) ⊎ (i < n)
+or_below n i = elim (leb_tells n i) [ inl e ↦ inl e.1 | inr e ↦ inr (let h = e.1 in omega (arith, h)) ]
+
+pub sampled_feed : (held : Held) (run : Run) → feed_keys held (feed.Sampled run) ≡ sample (run_cells held run)
+sampled_feed held run =
+    let spots : ℕ → Spot = held.spots run.level run.slot in
+    let sampled : List LawCell = cells (λ k. held.spots run.level run.slot (8 * k + 7)) 0 (run.len / 8) in
+    same_lists (feed_keys held (feed.Sampled run)) (sample (run_cells held run))
+    (λ i. slice_get-map laws.key_of sampled i
+    ∙ ap (option_map laws.key_of) (sampled_cell (held.spots run.level run.slot) run.len i (or_below (run.len / 8) i))
+    ∙ sym (sample_at i (run_cells held run)))
+
+-- ---- told runs
+
+pub told_is : (held : Held) (run : Run) → IsFeedTold held (feed.Run run) → IsRun held run (run_cells held run)
+told_is held run t = record {
+  length_is = sym (length-cells (held.spots run.level run.slot) 0 run.len);
+  stands = told-stand (held.spots run.level run.slot) 0 run.len (λ k h. t k (omega (arith, h)));
+}
+
+stand_told : (spots : ℕ → Spot) (i : ℕ) (cs : List LawCell) → Stands spots i cs → (k : ℕ) → k < length cs → IsTold (spots (i + k))
+stand_told spots i [] h k l = absurd (omega (arith, l))
+stand_told spots i (c ∷ cs) h zero l =
+    let e : spots (i + 0) ≡ Told c = ap spots (let z : i + 0 ≡ i = omega arith in z) ∙ h.0 in subst (λ (x : Spot). x ≡ Told (cell_at x)) (sym e) refl
+stand_told spots i (c ∷ cs) h (suc k) l =
+    subst (λ (n : ℕ). IsTold (spots n)) (let z : suc i + k ≡ i + suc k = omega arith in z) (stand_told spots (suc i) cs h.1 k (omega (arith, l)))
+
+pub run_told : (held : Held) (run : Run) (cs : List LawCell) → IsRun held run cs → IsFeedTold held (feed.Run run)
+run_told held run cs h k l =
+    subst (λ (n : ℕ). IsTold (held.spots run.level run.slot n)) (let z : 0 + k ≡ k = omega arith in z)
+    (stand_told (held.spots run.level run.slot) 0 cs h.stands k (let e = h.length_is in omega (arith, e, l)))
+
+stand_same : (spots : ℕ → Spot) (i : ℕ) (cs : List LawCell) → Stands spots i cs → cells spots i (length cs) ≡ cs
+stand_same spots i [] h = refl
+stand_same spots i (c ∷ cs) h =
+    ap (λ (x : Spot). cell_at x ∷ cells spots (suc i) (length cs)) h.0 ∙ ap (λ (r : List LawCell). c ∷ r) (stand_same spots (suc i) cs h.1)
+
+pub run_same : (held : Held) (run : Run) (cs : List LawCell) → IsRun held run cs → run_cells held run ≡ cs
+run_same held run cs h = ap (λ (n : ℕ). cells (held.spots run.level run.slot) 0 n) h.length_is ∙ stand_same (held.spots run.level run.slot) 0 cs h.stands
+
+-- ---- a merge that begins
+
+pub fresh_begun : (held : Held) (aim : Aim) → (held.shadows aim.level).len ≡ 0 → build_of held aim fresh ≡ begun
+fresh_begun held aim e =
+    ap (λ (n : ℕ). record { own = 0; incoming = 0; sampled = 0; done = cells (held.spots aim.level (held.shadows aim.level).slot) 0 n }) e
+
+-- ---- a shadow that grows
+
+kept_place : (old new : Held) (level : ℕ) (run : Run) → Grows old new level → (run.level ≢ level) ⊎ (run.slot ≢ (old.shadows level).slot) ⊎ (run.len ≤ (old.shadows level).len) →
+    (i : ℕ) → i < run.len → new.spots run.level run.slot i ≡ old.spots run.level run.slot i
+kept_place old new level run g (inl d) i l = g.others_stay run.level run.slot i (inl d)
+kept_place old new level run g (inr (inl d)) i l = g.others_stay run.level run.slot i (inr (inl d))
+kept_place old new level run g (inr (inr d)) i l = g.others_stay run.level run.slot i (inr (inr (omega (arith, d, l))))
+
+pub grown_keeps : (old new : Held) (level : ℕ) (run : Run) (cs : List LawCell) → Grows old new level → (run.level ≢ level) ⊎ (run.slot ≢ (old.shadows level).slot) ⊎ (run.len ≤ (old.shadows level).len) →
+    IsRun old run cs → IsRun new run cs
+grown_keeps old new level run cs g d h = run_stays old new run cs (kept_place old new level run g d) h
+
+-- a run of another level
+pub beside_keeps : {old new : Held} {level : ℕ} {run : Run} {cs : List LawCell} → Grows old new level → run.level ≢ level → IsRun old run cs → IsRun new run cs
+beside_keeps {old} {new} {level} {run} {cs} g d h = grown_keeps old new level run cs g (inl d) h
