@@ -10,11 +10,11 @@ use Rattle.cola_runs.proofs.Builds.{front_of_weave, used_up, bottom_values, bott
 use Rattle.cola_cell.specs.declared.cell.Run.{Run}
 use Rattle.cola_cell.specs.Held.{Held, LawCell}
 use Rattle.cola_merge.specs.declared.merging.Merger.{Merger}
-use Rattle.cola_merge.specs.Cells.{run_cells, shadow_cells}
+use Rattle.cola_told.specs.Cells.{run_cells, shadow_cells}
 use Rattle.cola_merge.specs.Feeds.{key_cmp}
 use Rattle.cola_merge.specs.Heads.{IsUsedUp, build_of}
 use Rattle.cola_merge.specs.Advance.{IsGoing}
-use Rattle.cola_merge.proofs.CellLists.{length-cells}
+use Rattle.cola_told.proofs.CellLists.{length-cells}
 use Rattle.cola_bottom.specs.Bottom.{bottom_of}
 
 all_front : (P : LawCell → Type 0) (xs ys : List LawCell) → AllByRecursion P (xs ++ ys) → AllByRecursion P xs

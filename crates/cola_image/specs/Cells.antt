@@ -1,11 +1,11 @@
 -- The cells of a file as a function of its bytes, and the lists of cells that the laws of levels take of told places.
-use Rattle.std.specs.Prelude.{ℕ, zero, suc, ◌*◌, Bool, true, false, List, [], ◌∷◌, take, drop}
-use Rattle.cola_abstract.specs.Cell.{Look}
+use Rattle.std.specs.Prelude.{ℕ, ◌*◌, List, take, drop}
 use Rattle.cola_cell.specs.declared.format.Format.{Format}
 use Rattle.cola_cell.specs.Decoded.{spot_of_bytes}
 use Rattle.cola_cell.specs.Format.{width}
-use Rattle.cola_cell.specs.Held.{LawCell, Spot, Spots, Untold, Bad, Told}
+use Rattle.cola_cell.specs.Held.{LawCell, Spot, Spots}
 use Rattle.cola_cell.specs.Places.{number_of}
+use Rattle.cola_told.specs.Cells.{cells}
 
 -- the bytes of the cell with this number
 abbrev pub cell_bytes : Format → List ℕ → ℕ → List ℕ
@@ -19,23 +19,6 @@ spot_at format bytes number = spot_of_bytes format (cell_bytes format bytes numb
 abbrev pub file_spots : Format → List ℕ → Spots
 file_spots format bytes level slot index = spot_at format bytes (number_of level slot index)
 
--- a place's cell, and a cell without a key where none is told
-abbrev pub cell_or_blank : Spot → LawCell
-cell_or_blank Untold = Look [] 0
-cell_or_blank Bad = Look [] 0
-cell_or_blank (Told c) = c
-
--- so many cells, from an index of a slot on
-abbrev pub cells_from : (ℕ → Spot) → ℕ → ℕ → List LawCell
-cells_from spots index zero = []
-cells_from spots index (suc count) = cell_or_blank (spots index) ∷ cells_from spots (suc index) count
-
 -- the first cells of a slot, so many: as the laws of levels take them
 abbrev pub slot_cells : Spots → ℕ → ℕ → ℕ → List LawCell
-slot_cells spots level slot count = cells_from (spots level slot) 0 count
-
--- whether a place's cell is told
-abbrev pub is_told : Spot → Bool
-is_told Untold = false
-is_told Bad = false
-is_told (Told c) = true
+slot_cells spots level slot count = cells (spots level slot) 0 count

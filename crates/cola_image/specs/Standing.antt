@@ -12,21 +12,18 @@ use Rattle.cola_layout.specs.Marks.{all_numbers}
 use Rattle.cola_spec.specs.Map.{Map, Stored, IsMap, key_cmp, count}
 use Rattle.cola_table.specs.Stamps.{stamped_of}
 use Rattle.cola_table.specs.Terms.{shape_of}
-use Rattle.cola_image.specs.Cells.{slot_cells, is_told, file_spots}
+use Rattle.cola_told.specs.Cells.{AreTold}
+use Rattle.cola_image.specs.Cells.{slot_cells, file_spots}
 
 -- what a map has of a key, as the laws of levels have it
 abbrev pub found_in : Map → List ℕ → Option Stamped
 found_in m key = option_map stamped_of (finite.get m.entries key)
 
--- the first cells of a slot, so many, are told
-abbrev pub IsSlotTold : Spots → ℕ → ℕ → ℕ → Type 0
-IsSlotTold spots level slot count = (index : ℕ) → index < count → is_told (spots level slot index) ≡ true
-
 -- every cell of both runs of level j, and of all below it, is told
 abbrev pub AreRunsTold : Spots → ℕ → ℕ → List Marks → Type 0
 AreRunsTold spots t j [] = ⊤
 AreRunsTold spots t j (m ∷ below) =
-    IsSlotTold spots j (visible_slot t j) m.visible × IsSlotTold spots j (1 - visible_slot t j) m.shadow × AreRunsTold spots t (suc j) below
+    AreTold (spots j (visible_slot t j)) m.visible × AreTold (spots j (1 - visible_slot t j)) m.shadow × AreRunsTold spots t (suc j) below
 
 -- levels with these marks at a clock, whose cells are told so, stand for a map in a store for at most so many keys
 pub record LevelsStandFor (most t : ℕ) (marks : List Marks) (spots : Spots) (m : Map) : Type 0 where

@@ -1,18 +1,15 @@
 //! Laws of levels and files that stand for a map. Each function does nothing: its clauses are the law.
 
 ghost use Rattle.std.specs.Prelude.{◌≡◌, ℕ, ◌+◌, ◌*◌, ◌^◌, ◌≤◌, true, List, length, take, replicate};
-ghost use Rattle.cola_cell.specs.declared.cell.Run.{Run};
 ghost use Rattle.cola_cell.specs.Format.{width};
-ghost use Rattle.cola_cell.specs.Held.{Held, Spots};
-ghost use Rattle.cola_cell.specs.Listed.{IsRun};
+ghost use Rattle.cola_cell.specs.Held.{Spots};
 ghost use Rattle.cola_clock.specs.Marks.{Marks};
 ghost use Rattle.cola_layout.specs.Geometry.{IsBottom};
 ghost use Rattle.cola_layout.specs.Header.{Fields, IsSpelling};
 ghost use Rattle.cola_layout.specs.Marks.{no_marks};
 ghost use Rattle.cola_spec.specs.Bounds.{levels_of};
 ghost use Rattle.cola_spec.specs.Map.{Map, empty_map};
-ghost use Rattle.cola_image.specs.Cells.{slot_cells};
-ghost use Rattle.cola_image.specs.Standing.{IsSlotTold, AreRunsAlike, LevelsStandFor, HeaderStandsFor, FileStandsFor};
+ghost use Rattle.cola_image.specs.Standing.{AreRunsAlike, LevelsStandFor, HeaderStandsFor, FileStandsFor};
 
 /// A file stands for one map at most.
 pub fn one_map_of_a_file()
@@ -24,13 +21,6 @@ pub fn one_map_of_a_file()
 pub fn levels_stand_by_their_cells()
     ensures { (most t : ℕ) (marks : List Marks) (spots others : Spots) (m : Map) →
         AreRunsAlike spots others t 0 marks → LevelsStandFor most t marks spots m → LevelsStandFor most t marks others m }
-{}
-
-/// Where the cells of a run are told, the list that the laws of levels take of its slot is the run of the object. That
-/// list has always as many cells as it was asked for.
-pub fn told_cells_are_runs()
-    ensures run { (held : Held) (run : Run) → IsSlotTold held.spots run.level run.slot run.len → IsRun held run (slot_cells held.spots run.level run.slot run.len) }
-    ensures length { (spots : Spots) (level slot count : ℕ) → length (slot_cells spots level slot count) ≡ count }
 {}
 
 /// A closed file of a store with no keys, at clock 0 and with no runs, stands for the empty map, whatever the bytes

@@ -25,14 +25,14 @@ use Rattle.cola_merge.specs.declared.aims.Aim.{Aim}
 use Rattle.cola_merge.specs.declared.aims.Progress.{Progress}
 use Rattle.cola_merge.specs.declared.aims.Progress.TheVariants.{Done, More}
 use Rattle.cola_merge.specs.declared.merging.Merger.{Merger}
-use Rattle.cola_merge.specs.Cells.{cell_at, shadow_cells, IsShadowTold}
+use Rattle.cola_told.specs.Cells.{cell_at, shadow_cells, IsShadowTold}
 use Rattle.cola_merge.specs.Feeds.{key_cmp, part_of, feed_of, feed_len, read_len, feed_spots, feed_cells, feed_keys, IsFeedTold, IsBadAt}
 use Rattle.cola_merge.specs.Heads.{fresh, fresh_head, head_of, consumed, missing_head, missing, fetched_of, fetched, IsReady, IsUsedUp, AreFeedsTold, build_of}
 use Rattle.cola_merge.specs.Rules.{next_action, Emits}
 use Rattle.cola_merge.specs.Blocks.{blocks_left}
 use Rattle.cola_merge.specs.States.{State, len_of, Goes, Took, Refused, IsOverfull, StepCause, HasRun}
 use Rattle.cola_merge.specs.Advance.{Consumes, whole_run, IsGoing, GoesBy, GoesFurther, Gone, IsWhole, HasStepCause, IsCalm, IsDeviceFault, cells_read, refused_push, IsThrifty, IsSavedByBlocks}
-use Rattle.cola_merge.proofs.CellLists.{length-cells}
+use Rattle.cola_told.proofs.CellLists.{length-cells}
 use Rattle.cola_merge.proofs.Kept.{feed_cells-stay, feeds_told-stay}
 use Rattle.cola_merge.proofs.Ruling.{action_of_heads}
 use Rattle.cola_merge.proofs.Stepping.{all_read}

@@ -16,12 +16,12 @@ use Rattle.cola_merge.specs.declared.aims.Feed.TheVariants as feed
 use Rattle.cola_merge.specs.declared.aims.Aim.{Aim}
 use Rattle.cola_merge.specs.declared.heads.Head.{Head}
 use Rattle.cola_merge.specs.declared.merging.Merger.{Merger}
-use Rattle.cola_merge.specs.Cells.{cell_at, IsTold, cells, AreTold}
+use Rattle.cola_told.specs.Cells.{cell_at, IsTold, cells, AreTold}
 use Rattle.cola_merge.specs.Feeds.{feed_of, feed_len, feed_spots, feed_cells, feed_keys, IsFeedTold, IsFeed, IsApart}
 use Rattle.cola_merge.specs.Heads.{IsHeldCell, IsHead, IsReady, AreFeedsTold}
 use Rattle.cola_merge.specs.Blocks.{Lasts, is_last, run_left, feed_left}
 use Rattle.cola_merge.specs.States.{Grows, IsOther, KeepsBlocks}
-use Rattle.cola_merge.proofs.CellLists.{cells-same}
+use Rattle.cola_told.proofs.CellLists.{cells-same}
 use Rattle.cola_merge.proofs.Groups.{is_last-other, run_left-same}
 use Rattle.std.proofs.Common.{map}
 

@@ -1,4 +1,3 @@
-pub mod CellLists
 pub mod Groups
 pub mod Kept
 pub mod Sums

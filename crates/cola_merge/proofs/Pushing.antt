@@ -16,9 +16,9 @@ use Rattle.cola_cell.specs.Held.{Held, Spot, Told, LawCell, as_cell, span, IsTel
 use Rattle.cola_cell.specs.Spent.{Buffer, Spent}
 use Rattle.cola_cell.specs.Shadows.{Pushes, PushSpends, PushAnswers, WriteCalm, push_ticks, after_push}
 use Rattle.cola_cell.proofs.RunLemmas.{pushed_is_told, slot_stays}
-use Rattle.cola_merge.specs.Cells.{cell_at, IsTold, cells, shadow_cells, IsShadowTold}
+use Rattle.cola_told.specs.Cells.{cell_at, IsTold, cells, shadow_cells, IsShadowTold}
 use Rattle.cola_merge.specs.States.{Grows, Spends, KeepsBlocks, count_of, Emitted, PushFailed, Unpushed, Emission}
-use Rattle.cola_merge.proofs.CellLists.{cells-same, cells-more}
+use Rattle.cola_told.proofs.CellLists.{cells-same, cells-more}
 use Rattle.cola_merge.proofs.Kept.{grows_none, forgets_keeps}
 use Rattle.cola_merge.proofs.Groups.{div-next}
 use Rattle.cola_merge.proofs.Sums.{spends_none}

@@ -21,7 +21,7 @@ use Rattle.cola_merge.specs.declared.aims.Feed.TheVariants as feed
 use Rattle.cola_merge.specs.declared.aims.Aim.{Aim}
 use Rattle.cola_merge.specs.declared.heads.Head.{Head}
 use Rattle.cola_merge.specs.declared.merging.Merger.{Merger}
-use Rattle.cola_merge.specs.Cells.{shadow_cells}
+use Rattle.cola_told.specs.Cells.{shadow_cells}
 use Rattle.cola_merge.specs.Feeds.{feed_of, feed_len, read_len, IsBadAt}
 use Rattle.cola_merge.specs.Heads.{head_of, with_head, consumed, IsHeldCell, IsHead, IsReady, IsFetched, missing_head, missing, held_head, fetched_of, fetched, build_of}
 use Rattle.cola_merge.specs.Blocks.{Lasts, is_last, run_left, feed_left, blocks_left}

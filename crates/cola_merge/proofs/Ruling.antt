@@ -23,11 +23,11 @@ use Rattle.cola_merge.specs.declared.aims.Feed.TheVariants as feed
 use Rattle.cola_merge.specs.declared.aims.Aim.{Aim}
 use Rattle.cola_merge.specs.declared.heads.Head.{Head}
 use Rattle.cola_merge.specs.declared.merging.Merger.{Merger}
-use Rattle.cola_merge.specs.Cells.{cell_at}
+use Rattle.cola_told.specs.Cells.{cell_at}
 use Rattle.cola_merge.specs.Feeds.{key_cmp, part_of, feed_len, feed_spots, feed_cells, feed_keys, IsFeedTold, IsFeed}
 use Rattle.cola_merge.specs.Heads.{IsHeldCell, IsHead, IsReady, IsUsedUp, IsFetched, AreFetched, AreFeedsTold, build_of}
 use Rattle.cola_merge.specs.Rules.{next_action}
-use Rattle.cola_merge.proofs.CellLists.{get-cells, past-cells}
+use Rattle.cola_told.proofs.CellLists.{get-cells, past-cells}
 
 -- ---- what a rule takes is there
 

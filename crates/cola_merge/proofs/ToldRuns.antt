@@ -14,11 +14,11 @@ use Rattle.cola_cell.specs.Listed.{Stands, IsRun}
 use Rattle.cola_cell.proofs.RunLemmas.{run_stays}
 use Rattle.cola_merge.specs.declared.aims.Feed.TheVariants as feed
 use Rattle.cola_merge.specs.declared.aims.Aim.{Aim}
-use Rattle.cola_merge.specs.Cells.{cell_at, IsTold, cells, run_cells}
+use Rattle.cola_told.specs.Cells.{cell_at, IsTold, cells, run_cells}
 use Rattle.cola_merge.specs.Feeds.{feed_keys, IsFeedTold}
 use Rattle.cola_merge.specs.Heads.{fresh, build_of}
 use Rattle.cola_merge.specs.States.{Grows}
-use Rattle.cola_merge.proofs.CellLists.{length-cells, get-cells, past-cells, told-stand}
+use Rattle.cola_told.proofs.CellLists.{length-cells, get-cells, past-cells, told-stand}
 
 -- ---- the sample
 
@@ -50,34 +50,6 @@ sampled_feed held run =
     (λ i. slice_get-map laws.key_of sampled i
     ∙ ap (option_map laws.key_of) (sampled_cell (held.spots run.level run.slot) run.len i (or_below (run.len / 8) i))
     ∙ sym (sample_at i (run_cells held run)))
-
--- ---- told runs
-
-pub told_is : (held : Held) (run : Run) → IsFeedTold held (feed.Run run) → IsRun held run (run_cells held run)
-told_is held run t = record {
-  length_is = sym (length-cells (held.spots run.level run.slot) 0 run.len);
-  stands = told-stand (held.spots run.level run.slot) 0 run.len (λ k h. t k (omega (arith, h)));
-}
-
-stand_told : (spots : ℕ → Spot) (i : ℕ) (cs : List LawCell) → Stands spots i cs → (k : ℕ) → k < length cs → IsTold (spots (i + k))
-stand_told spots i [] h k l = absurd (omega (arith, l))
-stand_told spots i (c ∷ cs) h zero l =
-    let e : spots (i + 0) ≡ Told c = ap spots (let z : i + 0 ≡ i = omega arith in z) ∙ h.0 in subst (λ (x : Spot). x ≡ Told (cell_at x)) (sym e) refl
-stand_told spots i (c ∷ cs) h (suc k) l =
-    subst (λ (n : ℕ). IsTold (spots n)) (let z : suc i + k ≡ i + suc k = omega arith in z) (stand_told spots (suc i) cs h.1 k (omega (arith, l)))
-
-pub run_told : (held : Held) (run : Run) (cs : List LawCell) → IsRun held run cs → IsFeedTold held (feed.Run run)
-run_told held run cs h k l =
-    subst (λ (n : ℕ). IsTold (held.spots run.level run.slot n)) (let z : 0 + k ≡ k = omega arith in z)
-    (stand_told (held.spots run.level run.slot) 0 cs h.stands k (let e = h.length_is in omega (arith, e, l)))
-
-stand_same : (spots : ℕ → Spot) (i : ℕ) (cs : List LawCell) → Stands spots i cs → cells spots i (length cs) ≡ cs
-stand_same spots i [] h = refl
-stand_same spots i (c ∷ cs) h =
-    ap (λ (x : Spot). cell_at x ∷ cells spots (suc i) (length cs)) h.0 ∙ ap (λ (r : List LawCell). c ∷ r) (stand_same spots (suc i) cs h.1)
-
-pub run_same : (held : Held) (run : Run) (cs : List LawCell) → IsRun held run cs → run_cells held run ≡ cs
-run_same held run cs h = ap (λ (n : ℕ). cells (held.spots run.level run.slot) 0 n) h.length_is ∙ stand_same (held.spots run.level run.slot) 0 cs h.stands
 
 -- ---- a merge that begins
 

@@ -15,7 +15,7 @@ use Rattle.cola_merge.specs.declared.aims.Aim.{Aim}
 use Rattle.cola_merge.specs.declared.aims.Progress.{Progress}
 use Rattle.cola_merge.specs.declared.aims.Progress.TheVariants.{Done, More}
 use Rattle.cola_merge.specs.declared.merging.Merger.{Merger}
-use Rattle.cola_merge.specs.Cells.{shadow_cells, IsShadowTold}
+use Rattle.cola_told.specs.Cells.{shadow_cells, IsShadowTold}
 use Rattle.cola_merge.specs.Feeds.{key_cmp, part_of, read_len, feed_cells, feed_keys}
 use Rattle.cola_merge.specs.Heads.{consumed, IsUsedUp, AreFeedsTold, build_of}
 use Rattle.cola_merge.specs.Blocks.{blocks_left}

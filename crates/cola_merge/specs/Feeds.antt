@@ -17,7 +17,7 @@ use Rattle.cola_cell.specs.Spent.{IsBad}
 use Rattle.cola_merge.specs.declared.aims.Feed.{Feed}
 use Rattle.cola_merge.specs.declared.aims.Feed.TheVariants as feed
 use Rattle.cola_merge.specs.declared.aims.Aim.{Aim}
-use Rattle.cola_merge.specs.Cells.{cells, AreTold}
+use Rattle.cola_told.specs.Cells.{cells, AreTold}
 
 -- the order of keys
 abbrev pub key_cmp : List ℕ → List ℕ → Ordering

@@ -1,4 +1,3 @@
-pub mod Cells
 pub mod Feeds
 pub mod Heads
 pub mod Blocks

@@ -9,21 +9,14 @@ ghost use Rattle.cola_cell.specs.Held.{Held, LawCell};
 ghost use Rattle.cola_cell.specs.Listed.{IsRun};
 ghost use Rattle.cola_merge.specs.declared.aims.Feed.{Feed};
 ghost use Rattle.cola_merge.specs.declared.aims.Aim.{Aim};
-ghost use Rattle.cola_merge.specs.Cells.{run_cells};
-ghost use Rattle.cola_merge.specs.Feeds.{feed_keys, IsFeedTold};
+ghost use Rattle.cola_told.specs.Cells.{run_cells};
+ghost use Rattle.cola_merge.specs.Feeds.{feed_keys};
 ghost use Rattle.cola_merge.specs.Heads.{fresh, build_of};
 ghost use Rattle.cola_merge.specs.States.{Grows};
 
 /// The keys of a sampled feed are the sample of its run.
 pub fn sampled_feed_has_sample()
     ensures { (held : Held) (run : Run) → feed_keys held (Feed.Sampled run) ≡ sample (run_cells held run) }
-{}
-
-/// A run of which each cell is told is the list of its cells, and no other.
-pub fn told_run_is_its_cells()
-    ensures is { (held : Held) (run : Run) → IsFeedTold held (Feed.Run run) → IsRun held run (run_cells held run) }
-    ensures told { (held : Held) (run : Run) (cells : List LawCell) → IsRun held run cells → IsFeedTold held (Feed.Run run) }
-    ensures same { (held : Held) (run : Run) (cells : List LawCell) → IsRun held run cells → run_cells held run ≡ cells }
 {}
 
 /// The build of a merge that has not begun, over an empty shadow, has not begun.

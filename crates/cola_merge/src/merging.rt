@@ -44,7 +44,7 @@ impl Merger {
     ghost use Rattle.cola_merge.specs.Heads.{fresh, head_at, head_of, with_head, consumed, IsReady, AreFetched, IsUsedUp};
     ghost use Rattle.cola_merge.specs.Rules.{as_action, next_action, HeadFits, ChoiceFits};
     ghost use Rattle.cola_merge.specs.States.{state, Stepped, Taken, HasRun, Grows, IsBeside, KeepsBlocks, Spends};
-    ghost use Rattle.cola_merge.specs.Cells.{IsShadowTold};
+    ghost use Rattle.cola_told.specs.Cells.{IsShadowTold};
     ghost use Rattle.cola_merge.specs.Blocks.{blocks_left};
     ghost use Rattle.cola_merge.specs.Advance.{Consumes, IsGoing, Gone, IsWhole, HasStepCause, IsCalm, IsDeviceFault, whole_run, IsThrifty, IsSavedByBlocks};
     ghost use Rattle.cola_cell.specs.declared.cell.Reader.{Reader};

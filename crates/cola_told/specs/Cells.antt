@@ -1,6 +1,6 @@
 -- The cells of an object as lists of exact lengths, also where it tells none.
 use Rattle.std.specs.Prelude.{◌≡◌, ℕ, zero, suc, ◌<◌, List, [], ◌∷◌}
-use Rattle.cola_runs.specs.Cells as laws
+use Rattle.cola_abstract.specs.Cell as laws
 use Rattle.cola_cell.specs.declared.cell.Run.{Run}
 use Rattle.cola_cell.specs.Held.{Held, Spot, Untold, Bad, Told, LawCell}
 

@@ -1,5 +1,5 @@
-use Rattle.cola_merge.proofs.ToldRuns.{told_is, run_told, run_same}
-use Rattle.cola_merge.proofs.laws.told_run_is_its_cells.Goals as goal
+use Rattle.cola_told.proofs.ToldRuns.{told_is, run_told, run_same}
+use Rattle.cola_told.proofs.laws.told_run_is_its_cells.Goals as goal
 
 pub returns : goal.returns
 returns c = record {

@@ -4,7 +4,7 @@ use Rattle.std.specs.List.{slice_get}
 use Rattle.std.proofs.lemmas.Option.{slice_get_past}
 use Rattle.cola_cell.specs.Held.{Spot, Told, LawCell}
 use Rattle.cola_cell.specs.Listed.{Stands}
-use Rattle.cola_merge.specs.Cells.{cell_at, IsTold, cells, AreTold}
+use Rattle.cola_told.specs.Cells.{cell_at, IsTold, cells, AreTold}
 
 pub length-cells : (spots : ℕ → Spot) (i n : ℕ) → length (cells spots i n) ≡ n
 length-cells spots i zero = refl
