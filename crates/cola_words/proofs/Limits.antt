@@ -1,12 +1,12 @@
 -- The limit of a block, and the lowest level of a store.
-use Rattle.std.proofs.Common.{◌≡◌, ℕ, ◌+◌, ◌^◌, ◌<◌, ◌≤◌, min, true, false, Option, Some, None, refl, inl, inr, arith, ap, sym, ◌∙◌}
+use Rattle.std.proofs.Common.{◌≡◌, ℕ, ◌+◌, ◌^◌, ◌<◌, ◌≤◌, min, Some, None, inl, inr, arith}
 use Rattle.std.proofs.lemmas.Bool.{cases_lt}
 use Rattle.std.proofs.lemmas.Bool.Decides.{nat_tests}
 use Rattle.std.proofs.Math.Pow.{pow_mono}
 use Rattle.cola_layout.specs.Geometry.{IsBottom, AreKeys, IsBlock, Refuses}
 use Rattle.cola_layout.specs.declared.fault.LayoutFault.{LayoutFault}
 use Rattle.cola_layout.specs.declared.fault.LayoutFault.TheVariants.{Keys, Block}
-use Rattle.cola_words.specs.Sizes.{block_limit, are_sizes, block_exp_for}
+use Rattle.cola_words.specs.Sizes.{block_limit, block_exp_for}
 
 limit_5 : (keys : ℕ) → keys ≤ 32 → block_limit keys ≡ 5
 limit_5 keys most = grind (arith, nat_tests)

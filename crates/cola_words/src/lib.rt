@@ -2,6 +2,7 @@
 #![tactic(auto)]
 
 mod given;
+mod law;
 mod mode;
 mod modes;
 mod options;
@@ -10,6 +11,6 @@ mod sizes;
 mod tests;
 mod words;
 
+pub use law::{blocks_suit_levels, options_in_any_order};
 pub use mode::Mode;
 pub use modes::read_words;
-pub use sizes::blocks_suit_levels;

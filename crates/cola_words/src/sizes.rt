@@ -1,16 +1,10 @@
 //! The sizes of a new file, as its options say them.
-ghost use Rattle.std.specs.Prelude.{◌≡◌, ◌+◌, ◌≤◌, ◌^◌, ℕ, min, IfSome};
-ghost use Rattle.cola_layout.specs.Geometry.{IsBottom};
-ghost use Rattle.cola_words.specs.Sizes.{block_limit, block_exp_for, format_of, file_for, new_file_of};
+ghost use Rattle.std.specs.Prelude.{◌≡◌, ◌≤◌, ◌^◌, IfSome};
+ghost use Rattle.cola_words.specs.Sizes.{block_exp_for, format_of, file_for, new_file_of};
 
 use crate::options::{NewFile, Options};
 use cola_cell::Format;
 use cola_layout::Geometry;
-
-/// The limit of a block is the smaller of 9 and the number of the lowest level plus 2.
-pub fn blocks_suit_levels()
-    ensures { (keys bottom : ℕ) → IsBottom keys bottom → block_limit keys ≡ min 9 (bottom + 2) }
-{}
 
 /// The exponent of a block, where it suits a store for so many keys.
 fn block_exp_for(keys: u64, block: u64) -> Option<u8>

@@ -1,4 +1,4 @@
-use Rattle.std.proofs.Common.{◌≡◌, ◌+◌, ◌*◌, ◌≤◌, ℕ, map, length, string_bytes}
+use Rattle.std.proofs.Common.{◌≡◌, ◌+◌, ◌*◌, ◌≤◌, map, length, string_bytes}
 use Rattle.std.specs.Option.{option_and_then}
 use Rattle.cola_words.specs.Options.{options_of, with_all, options_in}
 use Rattle.cola_words.specs.Counts.{given_count}
