@@ -1,0 +1,4 @@
+pub mod Reading
+pub mod Limits
+mod Worked
+pub mod AnyOrder

@@ -1,0 +1,4 @@
+pub mod Options
+pub mod Sizes
+pub mod Modes
+pub mod Counts

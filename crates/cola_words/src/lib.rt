@@ -1,0 +1,16 @@
+//! The words of the command line, and the mode that they name.
+#![tactic(auto)]
+
+mod given;
+mod law;
+mod mode;
+mod modes;
+mod options;
+mod sizes;
+#[cfg(test)]
+mod tests;
+mod words;
+
+pub use law::{blocks_suit_levels, options_in_any_order};
+pub use mode::Mode;
+pub use modes::read_words;
