@@ -1,5 +1,5 @@
 -- What a call of a merge says, from the steps that it took.
-use Rattle.std.proofs.Common.{◌≡◌, ◌≢◌, ℕ, zero, suc, ◌+◌, ◌-◌, ◌*◌, ◌/◌, ◌^◌, ◌<◌, ◌≤◌, min, List, length, map, Option, Some, None, Result, Ok, Err, OnOk, refl, ap, sym, subst, ◌∙◌, arith}
+use Rattle.std.proofs.Common.{◌≡◌, ℕ, ◌+◌, ◌-◌, ◌*◌, ◌/◌, ◌<◌, ◌≤◌, min, List, length, map, Option, Some, None, Result, Ok, Err, OnOk, refl, ap, sym, subst, ◌∙◌, arith}
 use Rattle.std.specs.Cmp.Lexicographic.{nat_list_cmp_total}
 use Rattle.std.specs.List.Sorted.{IsStrictlySortedBy}
 use Rattle.std.proofs.lemmas.List.{length-map}
@@ -16,8 +16,7 @@ use Rattle.cola_cell.specs.declared.cell.Reader.TheVariants.{Own, Incoming, Samp
 use Rattle.cola_cell.specs.declared.fault.StepFault.{StepFault}
 use Rattle.cola_cell.specs.declared.fault.StepFault.TheVariants.{Device, BadCell, Overfull}
 use Rattle.cola_cell.specs.Places.{slot_size}
-use Rattle.cola_cell.specs.Held.{Held, Fixed, LawCell, Stamped, Told, IsTelling, span}
-use Rattle.cola_cell.specs.Spent.{Spent}
+use Rattle.cola_cell.specs.Held.{Held, LawCell, Stamped, span}
 use Rattle.cola_cell.proofs.RunLemmas.{telling_stays, told_is_good}
 use Rattle.cola_merge.specs.declared.aims.Feed.{Feed}
 use Rattle.cola_merge.specs.declared.aims.Feed.TheVariants as feed
@@ -25,12 +24,12 @@ use Rattle.cola_merge.specs.declared.aims.Aim.{Aim}
 use Rattle.cola_merge.specs.declared.aims.Progress.{Progress}
 use Rattle.cola_merge.specs.declared.aims.Progress.TheVariants.{Done, More}
 use Rattle.cola_merge.specs.declared.merging.Merger.{Merger}
-use Rattle.cola_told.specs.Cells.{cell_at, shadow_cells, IsShadowTold}
-use Rattle.cola_merge.specs.Feeds.{key_cmp, part_of, feed_of, feed_len, read_len, feed_spots, feed_cells, feed_keys, IsFeedTold, IsBadAt}
-use Rattle.cola_merge.specs.Heads.{fresh, fresh_head, head_of, consumed, missing_head, missing, fetched_of, fetched, IsReady, IsUsedUp, AreFeedsTold, build_of}
+use Rattle.cola_told.specs.Cells.{cell_at, shadow_cells}
+use Rattle.cola_merge.specs.Feeds.{key_cmp, part_of, feed_of, feed_len, feed_spots, feed_cells, feed_keys, IsFeedTold, IsBadAt}
+use Rattle.cola_merge.specs.Heads.{fresh, fresh_head, head_of, missing_head, missing, fetched_of, fetched, IsReady, IsUsedUp, AreFeedsTold, build_of}
 use Rattle.cola_merge.specs.Rules.{next_action, Emits}
 use Rattle.cola_merge.specs.Blocks.{blocks_left}
-use Rattle.cola_merge.specs.States.{State, len_of, Goes, Took, Refused, IsOverfull, StepCause, HasRun}
+use Rattle.cola_merge.specs.States.{State, len_of, Goes, Took, Refused, IsOverfull, HasRun}
 use Rattle.cola_merge.specs.Advance.{Consumes, whole_run, IsGoing, GoesBy, GoesFurther, Gone, IsWhole, HasStepCause, IsCalm, IsDeviceFault, cells_read, refused_push, IsThrifty, IsSavedByBlocks}
 use Rattle.cola_told.proofs.CellLists.{length-cells}
 use Rattle.cola_merge.proofs.Kept.{feed_cells-stay, feeds_told-stay}

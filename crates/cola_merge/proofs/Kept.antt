@@ -1,29 +1,24 @@
 -- What a growing shadow and the reads beside it leave as it was.
-use Rattle.std.proofs.Common.{◌≡◌, ◌≢◌, ◌⊎◌, inl, inr, ℕ, zero, suc, ◌+◌, ◌*◌, ◌/◌, ◌^◌, ◌<◌, ◌≤◌, false, List, Option, Some, None, refl, ap, sym, subst, ◌∙◌, arith}
-use Rattle.cola_cell.specs.declared.cell.Run.{Run}
+use Rattle.std.proofs.Common.{◌≡◌, ◌≢◌, ◌⊎◌, inl, inr, ℕ, ◌+◌, ◌*◌, ◌/◌, ◌^◌, ◌<◌, ◌≤◌, Option, Some, None, refl, ap, sym, subst, ◌∙◌, arith}
 use Rattle.cola_cell.specs.declared.cell.Reader.{Reader}
-use Rattle.cola_cell.specs.declared.cell.Reader.TheVariants.{Own, Incoming, Sample}
 use Rattle.cola_cell.specs.declared.cell.Cell.{Cell}
 use Rattle.cola_cell.specs.Format.{CellFits}
 use Rattle.cola_cell.specs.Places.{Block}
-use Rattle.cola_cell.specs.Held.{Held, Fixed, Spot, Told, Tells, LawCell, as_cell, IsTelling}
+use Rattle.cola_cell.specs.Held.{Held, Fixed, Spot, Told, Tells, as_cell}
 use Rattle.cola_cell.specs.Spent.{Buffer, By}
 use Rattle.cola_cell.specs.Shadows.{Forgets}
-use Rattle.cola_cell.proofs.RunLemmas.{telling_stays}
-use Rattle.cola_runs.specs.Cells.{key_of}
 use Rattle.cola_merge.specs.declared.aims.Feed.{Feed}
 use Rattle.cola_merge.specs.declared.aims.Feed.TheVariants as feed
 use Rattle.cola_merge.specs.declared.aims.Aim.{Aim}
 use Rattle.cola_merge.specs.declared.heads.Head.{Head}
 use Rattle.cola_merge.specs.declared.merging.Merger.{Merger}
-use Rattle.cola_told.specs.Cells.{cell_at, IsTold, cells, AreTold}
-use Rattle.cola_merge.specs.Feeds.{feed_of, feed_len, feed_spots, feed_cells, feed_keys, IsFeedTold, IsFeed, IsApart}
+use Rattle.cola_told.specs.Cells.{cell_at}
+use Rattle.cola_merge.specs.Feeds.{feed_len, feed_spots, feed_cells, IsFeedTold, IsFeed, IsApart}
 use Rattle.cola_merge.specs.Heads.{IsHeldCell, IsHead, IsReady, AreFeedsTold}
 use Rattle.cola_merge.specs.Blocks.{Lasts, is_last, run_left, feed_left}
 use Rattle.cola_merge.specs.States.{Grows, IsOther, KeepsBlocks}
 use Rattle.cola_told.proofs.CellLists.{cells-same}
 use Rattle.cola_merge.proofs.Groups.{is_last-other, run_left-same}
-use Rattle.std.proofs.Common.{map}
 
 -- ---- a shadow that grew
 

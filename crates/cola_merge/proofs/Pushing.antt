@@ -1,23 +1,20 @@
 -- What an emitted cell changes.
-use Rattle.std.proofs.Common.{◌≡◌, ◌≢◌, ◌⊎◌, inl, inr, ℕ, zero, suc, ◌+◌, ◌-◌, ◌*◌, ◌/◌, ◌%◌, ◌^◌, ◌<◌, ◌≤◌, ◌==◌, Bool, true, false, List, [], ◌∷◌, ◌++◌, Option, Some, None, IsSome, Result, Ok, Err, refl, ap, sym, subst, ◌∙◌, arith}
-use Rattle.std.specs.Option.{option_map, option_to_list}
-use Rattle.std.proofs.lemmas.Bool.{true≢false}
+use Rattle.std.proofs.Common.{◌≡◌, ◌≢◌, ◌⊎◌, inl, inr, ℕ, zero, suc, ◌+◌, ◌*◌, ◌/◌, ◌%◌, ◌^◌, ◌<◌, ◌≤◌, ◌==◌, List, [], ◌∷◌, ◌++◌, Option, Some, None, Result, Ok, Err, refl, ap, sym, subst, ◌∙◌, arith}
 use Rattle.std.proofs.lemmas.Bool.Decides.{eqb_tells}
 use Rattle.std.proofs.lemmas.Nat.{div_below}
 use Rattle.std.proofs.Math.Nat.{div-add-mod}
 use Rattle.std.proofs.Math.Pow.{pow_pos}
-use Rattle.cola_outside.specs.Faults.{Rose}
 use Rattle.cola_cell.specs.declared.cell.Cell.{Cell}
 use Rattle.cola_cell.specs.declared.sink.Shadow.{Shadow}
 use Rattle.cola_cell.specs.declared.fault.PushFault.{PushFault}
 use Rattle.cola_cell.specs.declared.fault.PushFault.TheVariants as push
-use Rattle.cola_cell.specs.Places.{slot_size, Block, block_of}
-use Rattle.cola_cell.specs.Held.{Held, Spot, Told, LawCell, as_cell, span, IsTelling, is_untold}
+use Rattle.cola_cell.specs.Places.{slot_size, block_of}
+use Rattle.cola_cell.specs.Held.{Held, Spot, Told, LawCell, as_cell, IsTelling}
 use Rattle.cola_cell.specs.Spent.{Buffer, Spent}
-use Rattle.cola_cell.specs.Shadows.{Pushes, PushSpends, PushAnswers, WriteCalm, push_ticks, after_push}
+use Rattle.cola_cell.specs.Shadows.{Pushes, PushSpends, PushAnswers, push_ticks, after_push}
 use Rattle.cola_cell.proofs.RunLemmas.{pushed_is_told, slot_stays}
 use Rattle.cola_told.specs.Cells.{cell_at, IsTold, cells, shadow_cells, IsShadowTold}
-use Rattle.cola_merge.specs.States.{Grows, Spends, KeepsBlocks, count_of, Emitted, PushFailed, Unpushed, Emission}
+use Rattle.cola_merge.specs.States.{Grows, Spends, KeepsBlocks, Emitted, PushFailed, Unpushed, Emission}
 use Rattle.cola_told.proofs.CellLists.{cells-same, cells-more}
 use Rattle.cola_merge.proofs.Kept.{grows_none, forgets_keeps}
 use Rattle.cola_merge.proofs.Groups.{div-next}

@@ -1,19 +1,17 @@
 -- Fetched heads.
-use Rattle.std.proofs.Common.{◌≡◌, ◌≢◌, ◌⊎◌, inl, inr, ℕ, zero, suc, ◌+◌, ◌-◌, ◌*◌, ◌/◌, ◌^◌, ◌<◌, ◌≤◌, Bool, true, false, List, Option, Some, None, IsSome, Result, Ok, Err, refl, ap, sym, subst, ◌∙◌, arith}
+use Rattle.std.proofs.Common.{◌≡◌, ℕ, ◌+◌, ◌*◌, ◌/◌, ◌^◌, ◌<◌, ◌≤◌, false, Option, Some, None, Result, Ok, Err, refl, ap, sym, subst, ◌∙◌, arith}
 use Rattle.std.specs.Option.{is_some}
 use Rattle.std.specs.Result.{IsErrAnd}
 use Rattle.std.proofs.lemmas.Bool.{true≢false}
-use Rattle.cola_outside.specs.Faults.{Rose}
 use Rattle.cola_cell.specs.declared.cell.Run.{Run}
 use Rattle.cola_cell.specs.declared.cell.Reader.{Reader}
 use Rattle.cola_cell.specs.declared.cell.Reader.TheVariants.{Own, Incoming, Sample}
 use Rattle.cola_cell.specs.declared.cell.Cell.{Cell}
 use Rattle.cola_cell.specs.declared.fault.ReadFault.{ReadFault}
 use Rattle.cola_cell.specs.declared.fault.ReadFault.TheVariants as read
-use Rattle.cola_cell.specs.declared.fault.StepFault.TheVariants.{Device, BadCell, Overfull}
 use Rattle.cola_cell.specs.Fault.{step_of_read}
 use Rattle.cola_cell.specs.Places.{slot_size, Block, block_of}
-use Rattle.cola_cell.specs.Held.{Held, Fixed}
+use Rattle.cola_cell.specs.Held.{Held}
 use Rattle.cola_cell.specs.Format.{CellFits}
 use Rattle.cola_cell.specs.Spent.{Buffer, By, Spent, Reads, ReadAnswers, ReadCalm}
 use Rattle.cola_merge.specs.declared.aims.Feed.{Feed}
@@ -25,10 +23,10 @@ use Rattle.cola_told.specs.Cells.{shadow_cells}
 use Rattle.cola_merge.specs.Feeds.{feed_of, feed_len, read_len, IsBadAt}
 use Rattle.cola_merge.specs.Heads.{head_of, with_head, consumed, IsHeldCell, IsHead, IsReady, IsFetched, missing_head, missing, held_head, fetched_of, fetched, build_of}
 use Rattle.cola_merge.specs.Blocks.{Lasts, is_last, run_left, feed_left, blocks_left}
-use Rattle.cola_merge.specs.States.{Spends, IsOther, IsBeside, ReadFailed, Fetch, Fetches, State, state, len_of, Goes, Took, Refused, StepCause, StepCalm, failed_push, HasBadHead}
+use Rattle.cola_merge.specs.States.{Spends, IsOther, IsBeside, ReadFailed, Fetch, State, state, len_of, Goes, Took, Refused, StepCause, StepCalm, failed_push}
 use Rattle.cola_merge.proofs.Groups.{read_left, sampled_block}
 use Rattle.cola_merge.proofs.Kept.{grows_none, left-beside}
-use Rattle.cola_merge.proofs.Sums.{spends_none, goes_none}
+use Rattle.cola_merge.proofs.Sums.{spends_none}
 
 -- ---- one read
 

@@ -1,5 +1,5 @@
 -- What the rules take of the heads that are held, and that it is the step of the laws.
-use Rattle.std.proofs.Common.{◌≡◌, ◌≢◌, ◌⊎◌, inl, inr, ℕ, zero, suc, ◌+◌, ◌*◌, ◌/◌, ◌^◌, ◌<◌, ◌≤◌, Bool, true, false, cond, List, map, Option, Some, None, IsSome, refl, ap, sym, subst, ◌∙◌, arith}
+use Rattle.std.proofs.Common.{◌≡◌, ℕ, ◌+◌, ◌*◌, ◌^◌, ◌<◌, ◌≤◌, Bool, true, false, cond, List, Option, Some, None, IsSome, refl, ap, sym, subst, ◌∙◌, arith}
 use Rattle.std.specs.declared.cmp.Ordering.{Ordering}
 use Rattle.std.specs.declared.cmp.Ordering.TheVariants.{Less, Equal, Greater}
 use Rattle.std.specs.Ordering.{is_gt, match_ordering}
@@ -21,11 +21,10 @@ use Rattle.cola_cell.proofs.PlaceNumbers.{slot_size-mono}
 use Rattle.cola_merge.specs.declared.aims.Feed.{Feed}
 use Rattle.cola_merge.specs.declared.aims.Feed.TheVariants as feed
 use Rattle.cola_merge.specs.declared.aims.Aim.{Aim}
-use Rattle.cola_merge.specs.declared.heads.Head.{Head}
 use Rattle.cola_merge.specs.declared.merging.Merger.{Merger}
 use Rattle.cola_told.specs.Cells.{cell_at}
 use Rattle.cola_merge.specs.Feeds.{key_cmp, part_of, feed_len, feed_spots, feed_cells, feed_keys, IsFeedTold, IsFeed}
-use Rattle.cola_merge.specs.Heads.{IsHeldCell, IsHead, IsReady, IsUsedUp, IsFetched, AreFetched, AreFeedsTold, build_of}
+use Rattle.cola_merge.specs.Heads.{IsHeldCell, IsReady, IsUsedUp, AreFetched, AreFeedsTold, build_of}
 use Rattle.cola_merge.specs.Rules.{next_action}
 use Rattle.cola_told.proofs.CellLists.{get-cells, past-cells}
 

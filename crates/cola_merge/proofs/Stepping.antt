@@ -1,11 +1,10 @@
 -- One step of the heads that are held.
-use Rattle.std.proofs.Common.{◌≡◌, ◌≢◌, ◌⊎◌, inl, inr, ℕ, zero, suc, ◌+◌, ◌*◌, ◌/◌, ◌%◌, ◌^◌, ◌<◌, ◌≤◌, ◌==◌, Bool, true, false, List, ◌++◌, Option, Some, None, IsSome, refl, ap, sym, subst, ◌∙◌, arith}
+use Rattle.std.proofs.Common.{◌≡◌, ℕ, suc, ◌+◌, ◌*◌, ◌/◌, ◌^◌, ◌<◌, ◌≤◌, List, ◌++◌, Option, Some, None, IsSome, refl, ap, sym, subst, ◌∙◌, arith}
 use Rattle.std.specs.Option.{option_map, option_to_list}
 use Rattle.std.proofs.lemmas.Bool.{true≢false}
 use Rattle.cola_runs.specs.Steps as runs
 use Rattle.cola_runs.specs.Steps.{Action, Take, Ended, Build, after, consumed_from, step, steps}
 use Rattle.cola_cell.specs.declared.cell.Cell.{Cell}
-use Rattle.cola_cell.specs.declared.cell.Run.{Run}
 use Rattle.cola_cell.specs.declared.cell.Reader.{Reader}
 use Rattle.cola_cell.specs.declared.cell.Reader.TheVariants.{Own, Incoming, Sample}
 use Rattle.cola_cell.specs.declared.fault.PushFault.{PushFault}
@@ -22,10 +21,10 @@ use Rattle.cola_merge.specs.declared.heads.Head.{Head}
 use Rattle.cola_merge.specs.declared.merging.Merger.{Merger}
 use Rattle.cola_told.specs.Cells.{shadow_cells}
 use Rattle.cola_merge.specs.Feeds.{key_cmp, part_of, feed_of, feed_len, read_len, feed_cells, feed_keys, IsFeed}
-use Rattle.cola_merge.specs.Heads.{head_at, head_of, with_head, consumed, IsHeldCell, IsHead, IsReady, IsFetched, AreFetched, missing_head, missing, held_head, fetched_of, fetched, AreFeedsTold, build_of}
+use Rattle.cola_merge.specs.Heads.{head_at, head_of, with_head, consumed, IsHeldCell, IsReady, AreFetched, missing_head, missing, held_head, fetched_of, fetched, AreFeedsTold, build_of}
 use Rattle.cola_merge.specs.Rules.{as_head, next_action, Emits, HeadFits}
 use Rattle.cola_merge.specs.Blocks.{Lasts, feed_left, blocks_left}
-use Rattle.cola_merge.specs.States.{Grows, KeepsBlocks, count_of, Emitted, PushFailed, Unpushed, State, state, len_of, Goes, Took, IsOverfull, StepCause, StepCalm, failed_push, Refused}
+use Rattle.cola_merge.specs.States.{KeepsBlocks, count_of, Emitted, PushFailed, Unpushed, State, state, len_of, Goes, Took, StepCause, StepCalm, failed_push, Refused}
 use Rattle.cola_merge.proofs.Groups.{run_left-next}
 use Rattle.cola_merge.proofs.Kept.{ready-stays, left-stays}
 use Rattle.cola_merge.proofs.Reading.{ready_with, ready_head, consumed-with, rises-with, missing-with, fetched-with, left-with, head_within}

@@ -1,22 +1,21 @@
 -- How steps add up.
-use Rattle.std.proofs.Common.{◌≡◌, ◌≢◌, inl, inr, ℕ, zero, suc, ◌+◌, ◌*◌, ◌/◌, ◌%◌, ◌^◌, ◌<◌, ◌≤◌, ◌==◌, Bool, List, refl, ap, sym, subst, ◌∙◌, arith}
+use Rattle.std.proofs.Common.{◌≡◌, ◌≢◌, inl, inr, ℕ, zero, suc, ◌+◌, ◌*◌, ◌/◌, ◌%◌, ◌^◌, ◌<◌, ◌≤◌, ◌==◌, List, refl, ap, sym, subst, ◌∙◌, arith}
 use Rattle.std.specs.declared.cmp.Ordering.{Ordering}
 use Rattle.std.proofs.lemmas.Bool.Decides.{eqb_tells}
 use Rattle.cola_outside.specs.Faults.{Rose}
 use Rattle.cola_runs.specs.Weave.{Part}
 use Rattle.cola_runs.specs.Cells as laws
 use Rattle.cola_runs.specs.Steps.{Build, step, steps}
-use Rattle.cola_cell.specs.declared.cell.Reader.{Reader}
 use Rattle.cola_cell.specs.declared.sink.Shadow.{Shadow}
 use Rattle.cola_cell.specs.declared.fault.StepFault.{StepFault}
 use Rattle.cola_cell.specs.declared.fault.StepFault.TheVariants.{Device, BadCell, Overfull}
 use Rattle.cola_cell.specs.Places.{slot_size}
-use Rattle.cola_cell.specs.Held.{Held, Fixed, LawCell, Stamped, IsTelling}
+use Rattle.cola_cell.specs.Held.{Fixed, LawCell, Stamped, IsTelling}
 use Rattle.cola_cell.specs.Spent.{Spent}
 use Rattle.cola_cell.proofs.RunLemmas.{telling_stays}
 use Rattle.cola_merge.specs.declared.aims.Aim.{Aim}
 use Rattle.cola_merge.specs.Feeds.{key_cmp, part_of, read_len, feed_cells, feed_keys}
-use Rattle.cola_merge.specs.Heads.{head_of, consumed, IsReady, missing, fetched, AreFeedsTold, build_of}
+use Rattle.cola_merge.specs.Heads.{consumed, IsReady, missing, fetched, AreFeedsTold, build_of}
 use Rattle.cola_merge.specs.Blocks.{blocks_left}
 use Rattle.cola_merge.specs.States.{Spends, State, len_of, Goes, Took, Refused, StepCause, StepCalm, failed_push}
 use Rattle.cola_merge.proofs.Kept.{grows_none, grows_then, feed_cells-stay, feeds_told-stay}

@@ -1,5 +1,5 @@
 -- The three fetches of a step.
-use Rattle.std.proofs.Common.{◌≡◌, ℕ, ◌+◌, Bool, true, false, ◌<◌, ◌≤◌, Result, Ok, Err, refl, ap, sym, subst, ◌∙◌, arith}
+use Rattle.std.proofs.Common.{◌≡◌, ℕ, ◌+◌, Bool, true, false, ◌<◌, ◌≤◌, Result, Ok, Err, sym, subst, ◌∙◌, arith}
 use Rattle.std.proofs.lemmas.Bool.{true≢false}
 use Rattle.cola_merge.specs.declared.aims.Progress.{Progress}
 use Rattle.cola_cell.specs.declared.cell.Reader.TheVariants.{Own, Incoming, Sample}
@@ -7,11 +7,10 @@ use Rattle.cola_cell.specs.declared.fault.StepFault.{StepFault}
 use Rattle.cola_cell.specs.Held.{Held}
 use Rattle.cola_cell.specs.Spent.{Spent}
 use Rattle.cola_merge.specs.declared.aims.Aim.{Aim}
-use Rattle.cola_merge.specs.declared.aims.Feed.{Feed}
 use Rattle.cola_merge.specs.declared.heads.Head.{Head}
 use Rattle.cola_merge.specs.declared.merging.Merger.{Merger}
 use Rattle.cola_merge.specs.Feeds.{feed_len}
-use Rattle.cola_merge.specs.Heads.{IsReady, IsFetched, AreFetched, IsUsedUp}
+use Rattle.cola_merge.specs.Heads.{IsReady, AreFetched, IsUsedUp}
 use Rattle.cola_merge.specs.States.{Fetch, State, state, Took, Refused, Taken, HasRun}
 use Rattle.cola_merge.proofs.Sums.{took_then, refused_then}
 use Rattle.cola_merge.proofs.Reading.{took_fetch_at}

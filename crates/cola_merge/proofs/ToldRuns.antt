@@ -1,5 +1,5 @@
 -- Feeds, runs and merges that begin.
-use Rattle.std.proofs.Common.{◌≡◌, ◌≢◌, ◌⊎◌, inl, inr, ℕ, zero, suc, ◌+◌, ◌*◌, ◌/◌, ◌<◌, ◌≤◌, List, [], ◌∷◌, length, map, Option, Some, None, refl, ap, sym, subst, ◌∙◌, arith}
+use Rattle.std.proofs.Common.{◌≡◌, ◌≢◌, ◌⊎◌, inl, inr, ℕ, zero, suc, ◌+◌, ◌*◌, ◌/◌, ◌<◌, ◌≤◌, List, [], ◌∷◌, length, Some, refl, ap, sym, subst, ◌∙◌, arith}
 use Rattle.std.specs.Option.{option_map}
 use Rattle.std.specs.List.{slice_get}
 use Rattle.std.proofs.lemmas.Option.{slice_get-map, none-some}
@@ -9,7 +9,7 @@ use Rattle.cola_runs.specs.Cells.{sample}
 use Rattle.cola_runs.specs.Steps.{begun}
 use Rattle.cola_runs.proofs.Samples.{sample_at}
 use Rattle.cola_cell.specs.declared.cell.Run.{Run}
-use Rattle.cola_cell.specs.Held.{Held, Spot, Told, LawCell, Stamped}
+use Rattle.cola_cell.specs.Held.{Held, Spot, Told, LawCell}
 use Rattle.cola_cell.specs.Listed.{Stands, IsRun}
 use Rattle.cola_cell.proofs.RunLemmas.{run_stays}
 use Rattle.cola_merge.specs.declared.aims.Feed.TheVariants as feed

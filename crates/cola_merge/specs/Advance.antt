@@ -1,16 +1,13 @@
 -- What a call of a merge says of its steps, beside what each of them keeps.
-use Rattle.std.specs.Prelude.{◌≡◌, ℕ, ◌+◌, ◌*◌, ◌/◌, ◌%◌, ◌<◌, ◌≤◌, ◌==◌, ⊤, List, length, Result, Ok, Err}
+use Rattle.std.specs.Prelude.{◌≡◌, ℕ, ◌+◌, ◌%◌, ◌<◌, ◌≤◌, ◌==◌, ⊤, List, Result, Ok, Err}
 use Rattle.std.specs.List.Sorted.{IsStrictlySortedBy}
-use Rattle.cola_outside.specs.Faults.{Rose}
 use Rattle.cola_runs.specs.Cells.{IsRising}
 use Rattle.cola_runs.specs.Weave.{weave}
 use Rattle.cola_runs.specs.Steps.{IsUnderWay, IsAdvanced}
 use Rattle.cola_cell.specs.declared.fault.StepFault.{StepFault}
 use Rattle.cola_cell.specs.declared.fault.StepFault.TheVariants.{Device, BadCell, Overfull}
-use Rattle.cola_cell.specs.declared.sink.Shadow.{Shadow}
 use Rattle.cola_cell.specs.Places.{slot_size}
-use Rattle.cola_cell.specs.Held.{Held, LawCell, Stamped, IsTelling, span}
-use Rattle.cola_cell.specs.Spent.{Spent}
+use Rattle.cola_cell.specs.Held.{Held, LawCell, IsTelling, span}
 use Rattle.cola_merge.specs.declared.aims.Aim.{Aim}
 use Rattle.cola_merge.specs.declared.aims.Progress.{Progress}
 use Rattle.cola_merge.specs.declared.aims.Progress.TheVariants.{Done, More}
@@ -18,8 +15,7 @@ use Rattle.cola_merge.specs.declared.merging.Merger.{Merger}
 use Rattle.cola_told.specs.Cells.{shadow_cells, IsShadowTold}
 use Rattle.cola_merge.specs.Feeds.{key_cmp, part_of, read_len, feed_cells, feed_keys}
 use Rattle.cola_merge.specs.Heads.{consumed, IsUsedUp, AreFeedsTold, build_of}
-use Rattle.cola_merge.specs.Blocks.{blocks_left}
-use Rattle.cola_merge.specs.States.{State, state, StepCause, StepCalm, failed_push}
+use Rattle.cola_merge.specs.States.{State, StepCause, StepCalm, failed_push}
 
 -- More exactly where the quota was taken and source cells are left; Done exactly where none is left; a refused call has taken fewer steps
 abbrev pub Consumes : Aim → Merger → Merger → ℕ → Result Progress StepFault → Type 0

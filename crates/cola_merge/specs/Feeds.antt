@@ -11,8 +11,8 @@ use Rattle.cola_cell.specs.declared.cell.Run.{Run}
 use Rattle.cola_cell.specs.declared.cell.Reader.{Reader}
 use Rattle.cola_cell.specs.declared.cell.Reader.TheVariants.{Own, Incoming, Sample}
 use Rattle.cola_cell.specs.Format.{CellFits}
-use Rattle.cola_cell.specs.Places.{slot_size, number_of}
-use Rattle.cola_cell.specs.Held.{Held, Fixed, Spot, Untold, Bad, Told, Tells, LawCell, as_cell}
+use Rattle.cola_cell.specs.Places.{slot_size}
+use Rattle.cola_cell.specs.Held.{Held, Fixed, Spot, Untold, Told, LawCell, as_cell}
 use Rattle.cola_cell.specs.Spent.{IsBad}
 use Rattle.cola_merge.specs.declared.aims.Feed.{Feed}
 use Rattle.cola_merge.specs.declared.aims.Feed.TheVariants as feed

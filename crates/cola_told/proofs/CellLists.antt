@@ -1,10 +1,10 @@
 -- Lists of the cells of an object.
-use Rattle.std.proofs.Common.{◌≡◌, ℕ, zero, suc, ◌+◌, ◌<◌, ◌≤◌, List, [], ◌∷◌, ◌++◌, length, Option, Some, None, refl, ap, sym, subst, ◌∙◌, arith}
+use Rattle.std.proofs.Common.{◌≡◌, ℕ, zero, suc, ◌+◌, ◌<◌, ◌≤◌, List, [], ◌∷◌, ◌++◌, length, Some, None, refl, ap, ◌∙◌, arith}
 use Rattle.std.specs.List.{slice_get}
 use Rattle.std.proofs.lemmas.Option.{slice_get_past}
-use Rattle.cola_cell.specs.Held.{Spot, Told, LawCell}
+use Rattle.cola_cell.specs.Held.{Spot, LawCell}
 use Rattle.cola_cell.specs.Listed.{Stands}
-use Rattle.cola_told.specs.Cells.{cell_at, IsTold, cells, AreTold}
+use Rattle.cola_told.specs.Cells.{cell_at, IsTold, cells}
 
 pub length-cells : (spots : ℕ → Spot) (i n : ℕ) → length (cells spots i n) ≡ n
 length-cells spots i zero = refl

@@ -1,7 +1,7 @@
 -- A head is fetched by one read at most.
-use Rattle.std.proofs.Common.{◌≡◌, ◌<◌, ◌/◌, sym, ap, subst, ◌∙◌, arith}
+use Rattle.std.proofs.Common.{◌≡◌, ◌/◌, sym, ap, ◌∙◌, arith}
 use Rattle.cola_merge.specs.Feeds.{feed_len}
-use Rattle.cola_merge.proofs.Reading.{fetch_run, fetch_sampled, fetch_run_refused, fetch_sampled_refused}
+use Rattle.cola_merge.proofs.Reading.{fetch_run, fetch_sampled}
 use Rattle.cola_merge.proofs.heads.Head.fetch.Goals as goal
 
 pub overflow_mul-index : goal.overflow_mul-index

@@ -1,5 +1,5 @@
 -- What the steps of a quota say to a caller.
-use Rattle.std.proofs.Common.{◌≡◌, ℕ, ◌<◌, ◌≤◌, subst, arith}
+use Rattle.std.proofs.Common.{◌≡◌, ℕ, ◌≤◌, subst}
 use Rattle.cola_merge.proofs.Advancing.{goes_of, consumes_of, gone_of, whole_of, cause_of, calm_of, only_of, ticks_of, thrifty_of, turned_of, written_of, saved_of}
 use Rattle.cola_merge.proofs.merging.Merger.advance.Goals as goal
 

@@ -1,9 +1,7 @@
 -- One step of the heads that are held.
-use Rattle.std.proofs.Common.{◌≡◌, Result, Ok, Err, Option, sym, ap, subst, ◌∙◌}
+use Rattle.std.proofs.Common.{Result, sym, subst}
 use Rattle.cola_cell.specs.declared.fault.PushFault.{PushFault}
-use Rattle.cola_merge.specs.Heads.{head_at, head_of, with_head}
-use Rattle.cola_merge.specs.States.{state, Took, Stepped}
-use Rattle.cola_merge.specs.declared.merging.Merger.{Merger}
+use Rattle.cola_merge.specs.States.{state, Stepped}
 use Rattle.cola_merge.proofs.Reading.{err_is}
 use Rattle.cola_merge.proofs.Ruling.{small_cursor, ended_is_used_up}
 use Rattle.cola_merge.proofs.Stepping.{took_step_as, refused_step, held_fits, small_after}

@@ -1,5 +1,5 @@
 -- One step: three fetches, and what the heads ask for.
-use Rattle.std.proofs.Common.{◌≡◌, ◌<◌, ◌≤◌, ap, sym, subst}
+use Rattle.std.proofs.Common.{◌<◌, ◌≤◌, sym, subst}
 use Rattle.cola_cell.specs.declared.cell.Reader.TheVariants.{Own, Incoming, Sample}
 use Rattle.cola_cell.specs.Fault.{step_of_read, step_of_push}
 use Rattle.cola_cell.specs.Held.{Held}
