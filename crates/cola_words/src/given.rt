@@ -1,5 +1,5 @@
 //! The options of the command line, read one after another.
-ghost use Rattle.std.specs.Prelude.{◌≡◌, ◌+◌, ◌*◌, ◌<◌, ◌≤◌, ℕ, map, length, string_bytes, IfSome, None, is_some};
+ghost use Rattle.std.specs.Prelude.{◌≡◌, ◌+◌, ◌<◌, ◌≤◌, map, length, string_bytes, IfSome};
 ghost use Rattle.std.specs.Option.{option_and_then};
 ghost use Rattle.cola_words.specs.Options.{given_of, before, options_of, no_options, with_given, options_in};
 ghost use Rattle.cola_words.specs.Counts.{given_count};

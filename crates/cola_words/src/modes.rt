@@ -1,5 +1,5 @@
 //! The mode that the words of the command line name.
-ghost use Rattle.std.specs.Prelude.{◌≡◌, ◌∷◌, map, string_bytes};
+ghost use Rattle.std.specs.Prelude.{◌≡◌, map, string_bytes};
 ghost use Rattle.cola_words.specs.Modes as spec;
 
 use crate::given::read_options;

@@ -1,5 +1,5 @@
 //! Words that name a file or spell a number.
-ghost use Rattle.std.specs.Prelude.{◌≡◌, ◌+◌, map, length, string_bytes, IfSome, option_map};
+ghost use Rattle.std.specs.Prelude.{◌≡◌, map, string_bytes, option_map};
 ghost use Rattle.cola_words.specs.Options.{is_path, number_in};
 ghost use Rattle.cola_words.specs.Modes.{behind_path};
 
