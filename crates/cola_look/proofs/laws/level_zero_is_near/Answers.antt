@@ -1,5 +1,4 @@
-use Rattle.std.proofs.Common.{◌≡◌, ◌≤◌, ◌+◌, ◌^◌, ℕ, length, refl, ap, arith}
-use Rattle.cola_runs.specs.Search.{place}
+use Rattle.std.proofs.Common.{◌≡◌, ap, arith}
 use Rattle.cola_runs.proofs.Searches.{place_in}
 use Rattle.cola_cell.specs.Places.{slot_size}
 use Rattle.cola_look.specs.Order.{key_cmp}
