@@ -299,10 +299,10 @@ tidy_next d t i above above_next old new m below keeps marks flipped others tidy
     ]
 
 pub flip-tidy : (d t i above above_next : ℕ) (old new : ℕ → Bool) (levels : List Marks) → (flips t i ≡ false → above_next ≡ above) → AreAllMarks merge_steps t (suc i) above levels →
-    ((l : ℕ) → suc i ≤ l → flips t l ≡ true → new l ≡ true) → ((l : ℕ) → suc i ≤ l → flips t l ≡ false → new l ≡ old l) →
+    ((l : ℕ) → l ≤ i + length levels → flips t l ≡ true → new l ≡ true) → ((l : ℕ) → l ≤ i + length levels → flips t l ≡ false → new l ≡ old l) →
     AreTidy d old t i above levels → AreTidy d new (suc t) i above_next (all_marks_after t (suc i) levels)
 flip-tidy d t i above above_next old new [] keeps marks flipped others tidy = tt
 flip-tidy d t i above above_next old new (m ∷ below) keeps marks flipped others tidy = (
   tidy_next d t i above above_next old new m below keeps marks.0 (flipped (suc i) (omega arith)) (others (suc i) (omega arith)) tidy.0,
-  flip-tidy d t (suc i) m.visible (marks_after t (suc i) m).visible old new below (after_visible t (suc i) m) marks.1 (λ l from. flipped l (omega arith)) (λ l from. others l (omega arith)) tidy.1,
+  flip-tidy d t (suc i) m.visible (marks_after t (suc i) m).visible old new below (after_visible t (suc i) m) marks.1 (λ l in_store. flipped l (omega arith)) (λ l in_store. others l (omega arith)) tidy.1,
 )

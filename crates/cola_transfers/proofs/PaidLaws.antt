@@ -47,9 +47,9 @@ new_writes d t i above (m ∷ below) =
     (working_paid (block_cells d) 4 (2 ^ suc i) _ (credit t (suc i)) (works t (suc i)) (credit-working t i) (shadow_few d t i above m below))
     (new_writes d t (suc i) m.visible below))
 
-new_tidy : (d t i above : ℕ) (kept : ℕ → Bool) (levels : List Marks) → ((l : ℕ) → kept l ≡ true) → AreTidy d kept t i above levels
+new_tidy : (d t i above : ℕ) (kept : ℕ → Bool) (levels : List Marks) → ((l : ℕ) → l ≤ i + length levels → kept l ≡ true) → AreTidy d kept t i above levels
 new_tidy d t i above kept [] all = tt
-new_tidy d t i above kept (m ∷ below) all = (record { whole = λ none. all (suc i); ended = λ work over. all (suc i) }, new_tidy d t (suc i) m.visible kept below all)
+new_tidy d t i above kept (m ∷ below) all = (record { whole = λ none. all (suc i) (omega arith); ended = λ work over. all (suc i) (omega arith) }, new_tidy d t (suc i) m.visible kept below (λ l in_store. all l (omega arith)))
 
 nothing_yet : (span rate left n c : ℕ) → span * left ≤ rate * c → span * (0 + left) ≤ rate * (0 * suc n + c)
 nothing_yet span rate left n c h =
@@ -57,11 +57,11 @@ nothing_yet span rate left n c h =
     let two : 0 * suc n + c ≡ c = omega arith in
     rw (one, two) h
 
-pub paid-new : (d t above : ℕ) (ahead : List Marks) (s : Transfers) → s.reads ≡ 0 → s.writes ≡ 0 → above ≤ slot_cells 0 → AreAllMarks 0 t 1 above ahead → ((l : ℕ) → s.kept l ≡ true) → IsPaid d 0 t above ahead s
+pub paid-new : (d t above : ℕ) (ahead : List Marks) (s : Transfers) → s.reads ≡ 0 → s.writes ≡ 0 → above ≤ slot_cells 0 → AreAllMarks 0 t 1 above ahead → ((l : ℕ) → l ≤ length ahead → s.kept l ≡ true) → IsPaid d 0 t above ahead s
 paid-new d t above ahead s reads writes fits marks kept = record {
   reads = rw reads (nothing_yet (block_cells d) 14 _ (length ahead) (credits t 0 (length ahead)) (new_reads d t 0 above s.readers ahead fits marks));
   writes = rw writes (nothing_yet (block_cells d) 4 _ (length ahead) (credits t 0 (length ahead)) (new_writes d t 0 above ahead));
-  tidy = new_tidy d t 0 above s.kept ahead kept;
+  tidy = new_tidy d t 0 above s.kept ahead (λ l in_store. kept l (omega arith));
 }
 
 -- ---- one mutation
@@ -147,7 +147,7 @@ paid-next d m t above above_next ahead worked old new fits marks h paid =
           (omega arith)
           (flip-writes d t 0 above above_next worked (never t _) marks)
           (subst (λ (x : ℕ). block_cells d * (old.writes + writes_left d t 0 above ahead) ≤ 4 * (m * suc x + credits t 0 x)) n paid.writes));
-      tidy = flip-tidy d t 0 above above_next h.after_top.kept new.kept worked (never t _) marks (λ l from. h.flips.flipped l) (λ l from. h.flips.others l)
+      tidy = flip-tidy d t 0 above above_next h.after_top.kept new.kept worked (never t _) marks (λ l in_store. h.flips.flipped l (omega arith)) (λ l in_store. h.flips.others l (omega arith))
           (tidy-same d t 0 above h.after_work.kept h.after_top.kept worked (λ l from. h.top.kept l (λ e. omega arith)) written.tidy);
     }
 

@@ -1,8 +1,8 @@
 -- The definitions, computed on worked clocks.
-use Rattle.std.proofs.Common.{◌≡◌, ℕ, ◌+◌, ◌*◌, ◌/◌, ◌^◌, true, false, List, [], ◌∷◌, refl}
+use Rattle.std.proofs.Common.{◌≡◌, ℕ, ◌+◌, ◌*◌, ◌/◌, ◌^◌, ◌≤◌, zero-le, true, false, List, [], ◌∷◌, refl, arith}
 use Rattle.std.specs.Prelude.{map}
-use Rattle.cola_clock.specs.Clock.{period, elapsed, is_odd, works, is_before, visible_slot}
-use Rattle.cola_clock.specs.Marks.{Marks}
+use Rattle.cola_clock.specs.Clock.{period, elapsed, is_odd, works, is_before, visible_slot, window_step}
+use Rattle.cola_clock.specs.Marks.{Marks, AreCursorsAtRest, AreLevelMarks, AreAllMarks}
 use Rattle.cola_transfers.specs.Credit.{credit, credits, begins, parts, file_cells}
 use Rattle.cola_transfers.specs.Blocks.{block_cells, groups, source_left, put_down, unwritten}
 use Rattle.cola_transfers.specs.Chain.{Readers, merge_left, shadow_left}
@@ -10,7 +10,7 @@ use Rattle.cola_transfers.specs.Chain.{Readers, merge_left, shadow_left}
 clocks : List ℕ
 clocks = 0 ∷ 1 ∷ 2 ∷ 3 ∷ 4 ∷ 5 ∷ 6 ∷ 7 ∷ 8 ∷ []
 
--- the windows of level 2 begin at the clocks 1 and 5, those of level 3 at the clock 2
+-- a window of level 2 begins with the clock after 0, 4 and 8
 begins_of_2 : map (λ t. begins t 2) clocks ≡ true ∷ false ∷ false ∷ false ∷ true ∷ false ∷ false ∷ false ∷ true ∷ []
 unfolding clocks begins works elapsed
 begins_of_2 = refl
@@ -49,18 +49,44 @@ down_of_eleven = (refl, refl, refl, refl)
 none : Readers
 none = record { own = λ l s n. false; incoming = λ l s n. false; sample = λ l s n. false }
 
-full : ℕ → Marks
+-- a full run, over an empty shadow
+abbrev full : ℕ → Marks
 full n = record { visible = n; shadow = 0; own = 0; incoming = 0; sampled = 0 }
 
 -- the 14 cannot be less: where all runs are full, the window of level 2 begins at clock 1 with 14 * 2^2 / 8 blocks left, and
 -- writes 4 * 2^2 / 8; with blocks of 16 cells the window of level 3 begins at clock 2 with 14 * 2^3 / 16
 tight : (begins 0 2 ≡ true) × (merge_left 0 none 1 1 8 (full 16) (full 32 ∷ []) ≡ 7) × (8 * 7 ≡ 14 * 2 ^ 2) × (shadow_left 0 1 1 8 (full 16) (full 32 ∷ []) ≡ 2) × (8 * 2 ≡ 4 * 2 ^ 2)
-unfolding begins works elapsed none full period is_odd visible_slot
+unfolding begins works elapsed none period is_odd visible_slot
 tight = (refl, refl, refl, refl, refl)
 
 tight_doubled : (begins 1 3 ≡ true) × (merge_left 1 none 2 2 16 (full 32) (full 64 ∷ []) ≡ 7) × (16 * 7 ≡ 14 * 2 ^ 3)
-unfolding begins works elapsed none full period is_odd visible_slot
+unfolding begins works elapsed none period is_odd visible_slot
 tight_doubled = (refl, refl, refl)
+
+-- and these are marks that the levels may have there
+full_rests : (n : ℕ) → AreCursorsAtRest (full n)
+full_rests n = record { own_rests = refl; incoming_rests = refl; sampled_rests = refl }
+
+full_may_be : (t j above n : ℕ) (below : List Marks) → 1 ≤ j → n ≤ 2 ^ (j + 2) → window_step t j ≡ 0 → AreLevelMarks 0 t j above (full n) below
+full_may_be t j above n below some fits first = record {
+  visible_fits = fits;
+  shadow_fits = zero-le;
+  first = λ none_above. absurd (omega arith);
+  before = λ early. record { empty = refl; at_rest = full_rests n };
+  inside = λ level work. record {
+    own_within = zero-le;
+    incoming_within = zero-le;
+    sampled_within = zero-le;
+    enough = omega arith;
+    sampled_done = zero-le;
+    done_consumed = zero-le;
+  };
+  after = λ over. full_rests n;
+}
+
+tight_may_be : AreAllMarks 0 1 2 8 (full 16 ∷ full 32 ∷ [])
+unfolding window_step elapsed
+tight_may_be = (full_may_be 1 2 8 16 (full 32 ∷ []) (omega arith) (omega arith) refl, (full_may_be 1 3 16 32 [] (omega arith) (omega arith) refl, tt))
 
 -- the bounds of a store with levels 0 to 3 and blocks of 8 cells after 100 mutations: 700 + 64 reads and 200 + 16 writes
 bounds_at_hundred : (parts (14 * (100 * 4)) (block_cells 0) + 4 * (file_cells 3 / block_cells 0) ≡ 764) × (parts (4 * (100 * 4)) (block_cells 0) + file_cells 3 / block_cells 0 ≡ 216)

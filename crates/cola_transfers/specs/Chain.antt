@@ -119,14 +119,14 @@ pub record IsTopBuilt (doublings t : ℕ) (worked : List Marks) (old new : Trans
   pub sample : (l s n : ℕ) → l ≢ 0 → l ≢ 1 → new.readers.sample l s n ≡ old.readers.sample l s n
   pub kept : (l : ℕ) → l ≢ 0 → new.kept l ≡ old.kept l
 
--- the flips at the end of a mutation read and write nothing: the readers hold what they held, the new, empty shadow of a
+-- the flips of the levels 0 to the lowest, at the end of a mutation, read and write nothing: the readers hold what they held, the new, empty shadow of a
 -- level that flips is kept, and the shadows of the others are kept where they were
-pub record AreFlipped (t : ℕ) (old new : Transfers) : Type 0 where
+pub record AreFlipped (t lowest : ℕ) (old new : Transfers) : Type 0 where
   pub reads : new.reads ≡ old.reads
   pub writes : new.writes ≡ old.writes
   pub readers : new.readers ≡ old.readers
-  pub flipped : (l : ℕ) → flips t l ≡ true → new.kept l ≡ true
-  pub others : (l : ℕ) → flips t l ≡ false → new.kept l ≡ old.kept l
+  pub flipped : (l : ℕ) → l ≤ lowest → flips t l ≡ true → new.kept l ≡ true
+  pub others : (l : ℕ) → l ≤ lowest → flips t l ≡ false → new.kept l ≡ old.kept l
 
 -- what one accepted mutation at clock t does to a chain's transfers, over levels 1 and more with these marks before and
 -- after their work: the levels have their turns, level 0 is built, and the levels flip
@@ -135,7 +135,7 @@ pub record IsMutated (doublings t above : ℕ) (ahead worked : List Marks) (old 
   pub after_top : Transfers
   pub levels : AreLevelsWorked doublings t 0 above ahead worked old after_work
   pub top : IsTopBuilt doublings t worked after_work after_top
-  pub flips : AreFlipped t after_top new
+  pub flips : AreFlipped t (length ahead) after_top new
 
 -- the same of a chain that counts its mutations, reads and writes by numbers which stop at the last value of 64 bits: its
 -- account holds as long as none of the three stands there

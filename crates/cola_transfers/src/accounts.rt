@@ -11,7 +11,7 @@ ghost use Rattle.cola_transfers.specs.Chain.{Transfers, IsPaid, IsPaidCounting, 
 /// hold, where each shadow is kept. The lemma is `paid-new` of `proofs/PaidLaws.antt`.
 pub fn new_chain_is_paid()
     ensures { (doublings t above : ℕ) (ahead : List Marks) (chain : Transfers) → chain.reads ≡ 0 → chain.writes ≡ 0 → above ≤ slot_cells 0 →
-        AreAllMarks 0 t 1 above ahead → ((level : ℕ) → chain.kept level ≡ true) → IsPaid doublings 0 t above ahead chain }
+        AreAllMarks 0 t 1 above ahead → ((level : ℕ) → level ≤ length ahead → chain.kept level ≡ true) → IsPaid doublings 0 t above ahead chain }
 {}
 
 /// One accepted mutation of a paid chain leaves it paid, at the next clock, and also where the clock counts modulo
