@@ -75,15 +75,16 @@ pub record IsPaid (doublings mutations t above : ℕ) (ahead : List Marks) (s : 
   pub writes : IsCovered 4 (block_cells doublings) mutations t (length ahead) (s.writes + writes_left doublings t 0 above ahead)
   pub tidy : AreTidy doublings s.kept t 0 above ahead
 
--- the work of level i + 1 at clock t moves no block of another level's readers, and keeps the shadows that were kept
+-- the work of level i + 1 leaves what the other levels' merges hold, and whether their shadows are kept: its own readers
+-- hold blocks of the levels i, i + 1 and i + 2, and it may give up blocks of its own slots
 pub record StaysBeside (i : ℕ) (old new : Transfers) : Type 0 where
   pub own : (l s n : ℕ) → l ≢ suc i → new.readers.own l s n ≡ old.readers.own l s n
   pub incoming : (l s n : ℕ) → l ≢ suc i → l ≢ i → new.readers.incoming l s n ≡ old.readers.incoming l s n
   pub sample : (l s n : ℕ) → l ≢ suc i → l ≢ suc (suc i) → new.readers.sample l s n ≡ old.readers.sample l s n
   pub kept : (l : ℕ) → l ≢ suc i → new.kept l ≡ old.kept l
 
--- what the work of level i + 1 does where it works: it reads no block that was not left, and writes none that its shadow
--- does not reach
+-- what the work of level i + 1 does where it works: the marks m become n, each cell that is emitted was consumed, it reads
+-- no block that was not left, and writes none that its shadow does not reach
 pub record IsLevelWorked (doublings t i above : ℕ) (m n : Marks) (below : List Marks) (old new : Transfers) : Type 0 where
   pub visible : n.visible ≡ m.visible
   pub goes_on : consumed m ≤ consumed n
@@ -119,8 +120,8 @@ pub record IsTopBuilt (doublings t : ℕ) (worked : List Marks) (old new : Trans
   pub sample : (l s n : ℕ) → l ≢ 0 → l ≢ 1 → new.readers.sample l s n ≡ old.readers.sample l s n
   pub kept : (l : ℕ) → l ≢ 0 → new.kept l ≡ old.kept l
 
--- the flips of the levels 0 to the lowest, at the end of a mutation, read and write nothing: the readers hold what they held, the new, empty shadow of a
--- level that flips is kept, and the shadows of the others are kept where they were
+-- the flips of the levels 0 to the lowest, at the end of a mutation, read and write nothing: the readers hold what they
+-- held, the new, empty shadow of a level that flips is kept, and the others are kept where they were
 pub record AreFlipped (t lowest : ℕ) (old new : Transfers) : Type 0 where
   pub reads : new.reads ≡ old.reads
   pub writes : new.writes ≡ old.writes
