@@ -1,11 +1,10 @@
 -- What a merge at the bottom has emitted.
-use Rattle.std.proofs.Common.{◌≡◌, ℕ, ◌+◌, ◌-◌, ◌≤◌, List, [], ◌∷◌, ◌++◌, length, refl, ap, sym, subst, ◌∙◌, arith}
+use Rattle.std.proofs.Common.{◌≡◌, ℕ, ◌+◌, ◌-◌, ◌≤◌, List, [], ◌∷◌, ◌++◌, length, ap, sym, subst, ◌∙◌, arith}
 use Rattle.std.specs.Cmp.Lexicographic.{nat_list_cmp_total}
 use Rattle.std.specs.List.{AllByRecursion}
 use Rattle.cola_runs.specs.Cells.{link_of, IsOldValue}
 use Rattle.cola_runs.specs.Seen.{seen, holds, answer}
 use Rattle.cola_runs.specs.Weave.{bottom_items, kept_or_none, weave}
-use Rattle.cola_runs.specs.Steps.{cells_left}
 use Rattle.cola_runs.proofs.Builds.{front_of_weave, used_up, bottom_values, bottom_answers}
 use Rattle.cola_cell.specs.declared.cell.Run.{Run}
 use Rattle.cola_cell.specs.Held.{Held, LawCell}
