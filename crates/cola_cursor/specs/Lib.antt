@@ -1,0 +1,4 @@
+pub mod Lines
+pub mod Passing
+pub mod Results
+pub mod Standing
