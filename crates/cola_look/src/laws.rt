@@ -10,6 +10,8 @@ ghost use Rattle.cola_cell.specs.Places.{Block, block_of};
 ghost use Rattle.cola_cell.specs.Held.{Held, LawCell, span};
 ghost use Rattle.cola_cell.specs.Spent.{Spent, Buffer, Reads};
 ghost use Rattle.cola_cell.specs.Listed.{IsRun};
+ghost use Rattle.cola_look.specs.Order.{key_cmp};
+ghost use Rattle.cola_look.specs.Runs.{HasRun};
 ghost use Rattle.cola_look.specs.Stops.{StopsAtPlaces};
 ghost use Rattle.cola_look.specs.Turns.{turns_left};
 
@@ -23,6 +25,12 @@ pub fn run_is_one()
 pub fn search_stops_at_places<K: Ord, V>()
     ensures { (q : K) (start : ℕ) (run : List (Cell K V)) (runs : List (List (Cell K V))) → AreSampled K.cmp (run ∷ runs) →
         start ≤ place K.cmp q run → place K.cmp q run ≤ start + 7 → StopsAtPlaces K.cmp q start (run ∷ runs) }
+{}
+
+/// A run of level 0, whose slots have four cells, may be searched from its first cell on for any key.
+pub fn level_zero_is_near()
+    ensures { (held : Held) (run : Run) (cells : List LawCell) (key : List ℕ) → HasRun held run → run.level ≡ 0 → IsRun held run cells →
+        place key_cmp key cells ≤ 7 }
 {}
 
 /// Well-formed runs, each with the sample of the next, rise.

@@ -7,3 +7,6 @@
 mod finding;
 
 pub use finding::find;
+
+#[cfg(test)]
+mod tests;

@@ -26,7 +26,7 @@ loop-index-preserved g c =
     record {
       held_is = c.in_ok-cell.ensures.cells_stay ∙ c.loop-index.invariant.held_is;
       kept_is = c.in_ok-cell.ensures.kept ∙ c.loop-index.invariant.kept_is;
-      seeking = seeking_goes_on c.in_ok-cell.cell c.loop-index.invariant.seeking (omega arith) (omega arith) (subst P c.loop-index.invariant.held_is c.in_ok-cell.ensures.reads) (compared c.args.key.now c.key.result.now _ c.cmp.result c.is_lt.result _ c.key.ensures c.cmp.ensures c.is_lt.ensures c.if-not-is_lt.false) c.in_ok-cell.ensures.one_tick;
+      seeking = seeking_goes_on {first = first_of c.args.start c.args.run.now.len} {last = last_of c.args.start c.args.run.now.len} c.in_ok-cell.cell c.loop-index.invariant.seeking (omega arith) (omega arith) (subst P c.loop-index.invariant.held_is c.in_ok-cell.ensures.reads) (compared c.args.key.now c.key.result.now _ c.cmp.result c.is_lt.result _ c.key.ensures c.cmp.ensures c.is_lt.ensures c.if-not-is_lt.false) c.in_ok-cell.ensures.one_tick;
     }
 
 pub returns-in_err-cell : goal.returns-in_err-cell
