@@ -245,6 +245,7 @@ pub record Seeking (held : Held) (run : Run) (next_len start : ℕ) (key : List 
   pub rest : GoesOn (found_in held run next_len start key) (found_from held run next_len key i (last - i))
   pub costs : Costs old now before after (i - first) (i - first)
   pub turned : now.turned + turns_left (now.lasts Search) (block_of (span held) run.level run.slot i) 8 i last ≤ old.turned + groups 8 first last
+  pub each : now.turned + before ≤ old.turned + after
   pub calm : now.faults ≡ old.faults
   pub others : (buffer : Buffer) → buffer ≢ Search → now.lasts buffer ≡ old.lasts buffer
 
@@ -255,6 +256,7 @@ seeking_begins held run next_len start key spent steps = record {
   rest = inr refl;
   costs = costs_within (costs_none spent steps) (omega arith) (omega arith);
   turned = omega arith;
+  each = omega arith;
   calm = refl;
   others = λ buffer d. refl;
 }
@@ -277,6 +279,7 @@ module _ {held : Held} {run : Run} {next_len start : ℕ} {key : List ℕ} {old 
         let u : new.turned + turns_left (new.lasts Search) (block_of (span held) run.level run.slot (i + 1)) 8 (i + 1) last ≤ mid.turned + turns_left (mid.lasts Search) (block_of (span held) run.level run.slot i) 8 i last =
         subst (λ j. new.turned + turns_left (new.lasts Search) (block_of (span held) run.level run.slot j) 8 j last ≤ mid.turned + turns_left (mid.lasts Search) (block_of (span held) run.level run.slot i) 8 i last) z t in
         le_then u s.turned);
+    each = (let t = r.turned_rises in let u = s.each in omega arith);
     calm = r.calm ∙ s.calm;
     others = λ buffer d. r.others_stay buffer d ∙ s.others buffer d;
   }

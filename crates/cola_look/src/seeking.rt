@@ -1,5 +1,5 @@
 //! The search of one run.
-ghost use Rattle.std.specs.Prelude.{◌≡◌, ◌≢◌, ℕ, ◌+◌, ◌≤◌, List, IfErr};
+ghost use Rattle.std.specs.Prelude.{◌≡◌, ◌≢◌, ℕ, ◌+◌, ◌≤◌, List, IfOk, IfErr};
 ghost use Rattle.cola_runs.specs.Cells.{IsWellFormed};
 ghost use Rattle.cola_runs.specs.Search as laws;
 ghost use Rattle.cola_cell.specs.Held.{LawCell, as_cell};
@@ -53,6 +53,9 @@ pub fn seek<W: CellSource, L: Ledger>(
     ensures kept { W.kept work.new ≡ W.kept work.old }
     ensures calm { ReadCalm (W.spent work.old).faults (W.spent work.new).faults result }
     ensures costs { Costs (W.spent work.old) (W.spent work.new) steps.old steps.new 8 (turns_from start) }
+    // On every object: it stops within the run, and turns to at most one block for each tick.
+    ensures within { IfOk result (λ seat. seat.pos ≤ run.now.len) }
+    ensures each_turn { (W.spent work.new).turned + steps.old ≤ (W.spent work.old).turned + steps.new }
     ensures others_stay { (buffer : Buffer) → buffer ≢ Search → (W.spent work.new).lasts buffer ≡ (W.spent work.old).lasts buffer }
 {
     let (first, last) = window(start, run.len);

@@ -1,9 +1,14 @@
-use Rattle.std.proofs.Common.{◌*◌, ◌/◌, ℕ, None, Ok, Err, refl, sym, subst, ◌∙◌, arith}
-use Rattle.cola_cell.specs.Held.{Held, HasPlace}
+use Rattle.std.proofs.Common.{◌≡◌, ◌≤◌, ◌*◌, Result, IfOk, IsErrAnd, ap, ◌/◌, ℕ, None, Ok, Err, refl, sym, subst, ◌∙◌, arith}
+use Rattle.cola_runs.specs.Search as laws
+use Rattle.cola_cell.specs.Held.{Held, HasPlace, Stamped}
 use Rattle.cola_cell.specs.Spent.{Search, Reads}
 use Rattle.cola_look.specs.Seek.{first_of, last_of}
 use Rattle.cola_look.proofs.SeekLemmas.{Seeking, seeking_begins, seeking_goes_on, err_is, compared, sought_refused, sought_found, sought_end}
 use Rattle.cola_look.proofs.seeking.seek.Goals as goal
+
+in_err_within : {T E : Type 0} (P : T → Type 0) (result : Result T E) (fault : E) → IsErrAnd result (λ e. e ≡ fault) → IfOk result P
+in_err_within P (Ok t) fault e = absurd e
+in_err_within P (Err f) fault e = tt
 
 pub read-requires : goal.read-requires
 read-requires g c =
@@ -43,6 +48,8 @@ returns-in_err-cell g c =
       kept = c.in_err-cell.ensures.kept ∙ c.loop-index.invariant.kept_is;
       calm = s.calm;
       costs = s.costs;
+      within = in_err_within (λ seat. seat.pos ≤ c.args.run.now.len) c.from_residual.result c.in_err-cell.field-0.0 c.from_residual.ensures.1;
+      each_turn = (let t = c.in_err-cell.ensures.reads.turned_rises in let u = c.loop-index.invariant.seeking.each in let v = c.in_err-cell.ensures.one_tick in omega arith);
       others_stay = s.others_stay;
     }
 
@@ -59,6 +66,8 @@ returns-then-not-is_lt g c =
       kept = c.in_ok-cell.ensures.kept ∙ c.loop-index.invariant.kept_is;
       calm = s.calm;
       costs = s.costs;
+      within = (let e = ap (λ (x : laws.Seat Stamped). x.pos) c.seat_at.ensures in omega arith);
+      each_turn = (let t = c.in_ok-cell.ensures.reads.turned_rises in let u = c.loop-index.invariant.seeking.each in let v = c.in_ok-cell.ensures.one_tick in omega arith);
       others_stay = s.others_stay;
     }
 
@@ -74,5 +83,7 @@ returns g c =
       kept = c.loop-index.invariant.kept_is;
       calm = s.calm;
       costs = s.costs;
+      within = omega arith;
+      each_turn = c.loop-index.invariant.seeking.each;
       others_stay = s.others_stay;
     }
