@@ -1,14 +1,14 @@
 -- The cells that lines pass, step by step.
-use Rattle.std.proofs.Common.{◌≡◌, ◌⊎◌, inl, inr, ℕ, ◌+◌, ◌≤◌, ◌<◌, Bool, true, false, List, [], ◌∷◌, Option, None, Some, IsTrue, is_some, refl, sym, ap, subst, ◌∙◌, arith}
+use Rattle.std.proofs.Common.{◌≡◌, ◌⊎◌, inl, inr, ℕ, ◌≤◌, ◌<◌, List, [], ◌∷◌, Option, None, Some, IsTrue, refl, sym, ap, subst, ◌∙◌, arith}
 use Rattle.std.specs.Option.{option_or}
 use Rattle.cola_runs.specs.Cells as laws
 use Rattle.cola_cell.specs.declared.cell.Item.{Item}
 use Rattle.cola_cell.specs.declared.cell.Item.TheVariants.{Value, Tombstone}
 use Rattle.cola_cell.specs.declared.cell.Run.{Run}
-use Rattle.cola_cell.specs.Held.{Held, Told, Tells, LawCell, as_item}
+use Rattle.cola_cell.specs.Held.{Held, Told, Tells, LawCell}
 use Rattle.cola_cursor.specs.declared.line.Line.{Line}
-use Rattle.cola_cursor.specs.Passing.{PassedAt, FoundItem, Passes, PassAll}
-use Rattle.cola_cursor.specs.Results.{Fetches, FetchAll}
+use Rattle.cola_cursor.specs.Passing.{Passes, PassAll}
+use Rattle.cola_cursor.specs.Results.{FetchAll}
 use Rattle.cola_cursor.specs.Standing.{HasTombstone, PassedCell, LinePassed, LinesPassed}
 
 module _ (held : Held) where

@@ -1,5 +1,5 @@
 -- The cells at the front of a line.
-use Rattle.std.proofs.Common.{◌≡◌, ◌⊎◌, inl, inr, ℕ, zero, suc, ◌+◌, ◌-◌, ◌≤◌, ◌<◌, Bool, true, false, cond, List, [], ◌∷◌, length, drop, get_or, Option, None, Some, IsTrue, option_map, is_some, refl, sym, ap, subst, ◌∙◌, arith}
+use Rattle.std.proofs.Common.{◌≡◌, ◌⊎◌, inl, inr, ℕ, zero, suc, ◌+◌, ◌≤◌, ◌<◌, true, false, cond, List, [], ◌∷◌, length, drop, get_or, Option, None, Some, IsTrue, option_map, is_some, refl, sym, ap, subst, ◌∙◌, arith}
 use Rattle.std.specs.Option.{option_or}
 use Rattle.std.specs.Ordering.{is_eq}
 use Rattle.std.proofs.Math.Seq.{drop-cons}
@@ -9,7 +9,7 @@ use Rattle.cola_cell.specs.declared.cell.Cell.TheVariants as cell
 use Rattle.cola_cell.specs.declared.cell.Item.{Item}
 use Rattle.cola_cell.specs.declared.cell.Run.{Run}
 use Rattle.cola_cell.specs.Cell.{key_of}
-use Rattle.cola_cell.specs.Held.{Held, Told, Tells, LawCell, Stamped, as_cell, as_item}
+use Rattle.cola_cell.specs.Held.{Held, Told, Tells, LawCell, as_cell, as_item}
 use Rattle.cola_cell.specs.Listed.{IsRun}
 use Rattle.cola_cell.proofs.RunLemmas.{run_tells, given_is_told}
 use Rattle.cola_look.specs.Order.{key_cmp}

@@ -1,5 +1,5 @@
 -- A cursor on its way to its next pair.
-use Rattle.std.proofs.Common.{◌≡◌, ◌⊎◌, inl, inr, ℕ, ◌+◌, ◌≤◌, ◌<◌, Bool, true, false, List, [], ◌∷◌, Option, None, Some, Result, Ok, Err, option_map, IsTrue, refl, sym, ap, subst, ◌∙◌, arith}
+use Rattle.std.proofs.Common.{◌≡◌, ◌⊎◌, inl, inr, ℕ, ◌+◌, ◌≤◌, true, List, [], ◌∷◌, Option, None, Some, Ok, option_map, sym, ap, subst, ◌∙◌}
 use Rattle.std.specs.List.{AllByRecursion}
 use Rattle.cola_runs.specs.Cells as laws
 use Rattle.cola_cell.specs.declared.cell.Cell.{Cell}
@@ -21,9 +21,9 @@ use Rattle.cola_cursor.specs.declared.cursor.Cursor.{Cursor}
 use Rattle.cola_cursor.specs.Lines.{LineFits, IsReady, all_left}
 use Rattle.cola_cursor.specs.Passing.{PassAll}
 use Rattle.cola_cursor.specs.Results.{FetchAll, HasBadLine, LinesCause, least_from}
-use Rattle.cola_cursor.specs.Standing.{runs_of, rests, befores, AreSearched, AreApart, Stands, Ahead, TakesNext, HeadEnds, LineEnds, LinesPassed, none_hidden}
-use Rattle.cola_cursor.proofs.Least.{HeadPast, HeadFrom, AnyHas, IsLeast, least_is, least_none}
-use Rattle.cola_cursor.proofs.Stepping.{fetch_runs, fetch_fit, fetch_ready, fetch_bad, fetch_rests, fetch_befores, pass_runs, pass_fit, pass_ready, pass_bad, pass_rests, heads_from, heads_past, rising_rests, step_lives, step_apart}
+use Rattle.cola_cursor.specs.Standing.{runs_of, rests, befores, AreSearched, AreApart, Stands, Ahead, TakesNext, TakesPair, unstamped, answered_key, pair_key, HeadEnds, LineEnds, LinesPassed, none_hidden}
+use Rattle.cola_cursor.proofs.Least.{HeadPast, AnyHas, IsLeast, least_is, least_none}
+use Rattle.cola_cursor.proofs.Stepping.{fetch_runs, fetch_fit, fetch_ready, fetch_bad, fetch_rests, fetch_befores, pass_runs, pass_fit, pass_ready, pass_bad, heads_from, heads_past, rising_rests, step_lives, step_apart}
 use Rattle.cola_cursor.proofs.Behind.{fetch_passes, passes_then, look_passes, tombstone_passes, answer_passes}
 
 -- what a cursor has passed on its way from some lines to others: no pair, and no key is left between
@@ -198,3 +198,14 @@ step_cause {held} {object} {end} {olds} {news} {xs} before between now fault e f
 -- a bound on the lines of an equal list
 pub left_same : (after before whole : ℕ) (xs ys : List Line) → xs ≡ ys → after + before ≤ whole + all_left xs → after + before ≤ whole + all_left ys
 left_same after before whole xs ys e h = subst (λ (z : List Line). after + before ≤ whole + all_left z) e h
+
+-- ---- an answer without its stamp
+
+pub takes_unstamped : (ahead : List (List ℕ × Stamped) → Type 0) (pairs : List (List ℕ × Stamped)) (found : Option (List ℕ × List ℕ × ℕ)) (answer : Option (List ℕ × List ℕ)) → answer ≡ option_map unstamped found →
+    TakesNext ahead pairs (Ok found) → TakesPair ahead pairs (Ok answer)
+takes_unstamped ahead pairs None answer e h = subst (λ (x : Option (List ℕ × List ℕ)). TakesPair ahead pairs (Ok x)) (sym e) h
+takes_unstamped ahead pairs (Some pair) answer e h = subst (λ (x : Option (List ℕ × List ℕ)). TakesPair ahead pairs (Ok x)) (sym e) (pair.2, h.0, h.1, h.2)
+
+pub unstamped_key : (found : Option (List ℕ × List ℕ × ℕ)) (answer : Option (List ℕ × List ℕ)) → answer ≡ option_map unstamped found → answered_key found ≡ pair_key answer
+unstamped_key None answer e = sym (ap pair_key e)
+unstamped_key (Some pair) answer e = sym (ap pair_key e)

@@ -1,6 +1,6 @@
 -- The order of keys, and the keys of cells.
 use Rattle.std.proofs.Common.{◌≡◌, ℕ, List, true, refl, Less, Equal, Greater, Ordering}
-use Rattle.std.specs.Ordering.{nat_cmp, is_eq}
+use Rattle.std.specs.Ordering.{is_eq}
 use Rattle.std.specs.FinMap.{IsAntisymmetric, slice_cmp-IsAntisymmetric, nat_cmp-IsAntisymmetric}
 use Rattle.cola_runs.specs.Cells as laws
 use Rattle.cola_cell.specs.declared.cell.Cell.{Cell}

@@ -1,9 +1,9 @@
 -- How much of lines is left.
-use Rattle.std.proofs.Common.{◌≡◌, ℕ, ◌+◌, ◌-◌, ◌≤◌, ◌<◌, Option, None, Some, List, [], ◌∷◌, refl, sym, ap, subst, ◌∙◌, arith}
+use Rattle.std.proofs.Common.{◌≡◌, ◌+◌, ◌≤◌, Option, None, Some, ap, arith}
 use Rattle.cola_cell.specs.declared.cell.Cell.{Cell}
 use Rattle.cola_cell.specs.declared.cell.Run.{Run}
 use Rattle.cola_cursor.specs.declared.line.Line.{Line}
-use Rattle.cola_cursor.specs.Lines.{heads_of, left_of, ahead_of}
+use Rattle.cola_cursor.specs.Lines.{heads_of, left_of}
 
 at_most_one : (head : Option Cell) → heads_of head ≤ 1
 at_most_one None = omega arith

@@ -7,3 +7,6 @@ pub mod Least
 pub mod Stepping
 pub mod Behind
 pub mod Going
+pub mod Beginning
+pub mod Places
+pub mod Staying

@@ -1,5 +1,5 @@
 -- Lists of lines, line by line.
-use Rattle.std.proofs.Common.{◌≡◌, ◌⊎◌, inl, inr, ℕ, zero, suc, ◌+◌, ◌-◌, ◌≤◌, ◌<◌, Bool, true, false, List, [], ◌∷◌, ◌++◌, length, drop, take, get_or, Option, None, Some, Result, Ok, Err, IfErr, IsErrAnd, refl, sym, ap, subst, ◌∙◌, arith, length-append}
+use Rattle.std.proofs.Common.{◌≡◌, inl, inr, ℕ, zero, suc, ◌+◌, ◌≤◌, ◌<◌, List, [], ◌∷◌, ◌++◌, length, drop, take, get_or, Option, None, Some, Result, Ok, Err, IfErr, IsErrAnd, refl, sym, ap, subst, ◌∙◌, arith, length-append}
 use Rattle.std.specs.Option.{option_or}
 use Rattle.std.specs.List.{AllByRecursion}
 use Rattle.cola_cell.specs.declared.cell.Item.{Item}
@@ -7,7 +7,7 @@ use Rattle.cola_cell.specs.declared.fault.ReadFault.{ReadFault}
 use Rattle.cola_cell.specs.declared.fault.ReadFault.TheVariants.{Device, BadCell}
 use Rattle.cola_cell.specs.Held.{Held}
 use Rattle.cola_cursor.specs.declared.line.Line.{Line}
-use Rattle.cola_cursor.specs.Lines.{LineFits, IsReady, left_of, ahead_of, all_left, all_ahead, LineCause}
+use Rattle.cola_cursor.specs.Lines.{left_of, all_left, LineCause}
 use Rattle.cola_cursor.specs.Passing.{Passes, PassAll}
 use Rattle.cola_cursor.specs.Results.{Fetches, FetchAll, HasBadLine, LinesCause}
 

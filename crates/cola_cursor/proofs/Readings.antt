@@ -1,5 +1,5 @@
 -- What calls that read spend, one after another.
-use Rattle.std.proofs.Common.{◌≡◌, ℕ, ◌+◌, ◌-◌, ◌≤◌, Result, ◌∙◌, refl, arith}
+use Rattle.std.proofs.Common.{ℕ, ◌∙◌, refl, arith}
 use Rattle.cola_cell.specs.Spent.{Spent}
 use Rattle.cola_cell.proofs.CostsLemmas.{costs_none, costs_then, costs_within}
 use Rattle.cola_cursor.specs.Lines.{Reading}

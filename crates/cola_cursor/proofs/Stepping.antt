@@ -1,28 +1,26 @@
 -- A step of a cursor: what it keeps, and what it does to the rests of told runs.
-use Rattle.std.proofs.Common.{◌≡◌, ◌⊎◌, inl, inr, ℕ, zero, suc, ◌+◌, ◌-◌, ◌≤◌, ◌<◌, Bool, true, false, cond, List, [], ◌∷◌, map, length, take, drop, Option, None, Some, option_map, IsTrue, refl, sym, ap, subst, ◌∙◌, arith, length-drop, Less, Ordering}
+use Rattle.std.proofs.Common.{◌≡◌, inl, inr, ℕ, zero, suc, ◌+◌, ◌≤◌, ◌<◌, true, false, cond, List, [], ◌∷◌, length, take, drop, Option, None, Some, option_map, refl, sym, ap, subst, ◌∙◌, arith, length-drop, Less}
 use Rattle.std.specs.Option.{option_or}
 use Rattle.std.specs.Ordering.{is_lt, is_eq}
 use Rattle.std.specs.List.{AllByRecursion}
 use Rattle.std.specs.List.Sorted.{IsStrictlySortedBy}
 use Rattle.std.specs.Cmp.Lexicographic.{nat_list_cmp_total}
 use Rattle.cola_runs.specs.Cells as laws
-use Rattle.cola_runs.specs.Seen.{answer}
 use Rattle.cola_cell.specs.declared.cell.Cell.{Cell}
 use Rattle.cola_cell.specs.declared.cell.Item.{Item}
 use Rattle.cola_cell.specs.declared.cell.Run.{Run}
 use Rattle.cola_cell.specs.Cell.{key_of}
-use Rattle.cola_cell.specs.Held.{Held, LawCell, Stamped, as_cell, as_item}
+use Rattle.cola_cell.specs.Held.{Held, LawCell, as_cell, as_item}
 use Rattle.cola_cell.specs.Spent.{IsBad}
-use Rattle.cola_cell.specs.Listed.{IsRun}
 use Rattle.cola_look.specs.Order.{key_cmp}
 use Rattle.cola_look.specs.Runs.{AreRuns}
 use Rattle.cola_pairs.specs.Live.{live, with_answer, below_end}
 use Rattle.cola_pairs.specs.Walk.{AtHead, pass_key, pass_keys, first_passed, HeadsFrom, HeadsPast}
 use Rattle.cola_pairs.proofs.Steps.{live_step, first_is_answer, passed_above}
 use Rattle.cola_cursor.specs.declared.line.Line.{Line}
-use Rattle.cola_cursor.specs.Lines.{LineFits, IsReady, HasBadAhead, ahead_of, all_ahead}
-use Rattle.cola_cursor.specs.Passing.{has_key, Passes, PassAll}
-use Rattle.cola_cursor.specs.Results.{Fetches, FetchAll, HasBadLine}
+use Rattle.cola_cursor.specs.Lines.{LineFits, IsReady, HasBadAhead, all_ahead}
+use Rattle.cola_cursor.specs.Passing.{PassAll}
+use Rattle.cola_cursor.specs.Results.{FetchAll, HasBadLine}
 use Rattle.cola_cursor.specs.Standing.{runs_of, rests, befores, AreApart}
 use Rattle.cola_cursor.proofs.Keys.{key_same, keys_alike, same_key}
 use Rattle.cola_cursor.proofs.Fronts.{ready_front}

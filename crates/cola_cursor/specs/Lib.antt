@@ -2,3 +2,4 @@ pub mod Lines
 pub mod Passing
 pub mod Results
 pub mod Standing
+pub mod Seeking

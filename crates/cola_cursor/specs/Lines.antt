@@ -1,12 +1,11 @@
 -- Lines of a cursor: how a line stands in its run, and how much of it is left.
-use Rattle.std.specs.Prelude.{◌≡◌, ℕ, ◌+◌, ◌-◌, ◌≤◌, ◌<◌, List, [], ◌∷◌, drop, Option, None, Some, Result, Ok, Err, ⊤}
+use Rattle.std.specs.Prelude.{◌≡◌, ℕ, ◌+◌, ◌-◌, ◌≤◌, ◌<◌, List, [], ◌∷◌, Option, None, Some, ⊤}
 use Rattle.cola_outside.specs.Faults.{Rose}
 use Rattle.cola_cell.specs.declared.cell.Cell.{Cell}
 use Rattle.cola_cell.specs.declared.cell.Run.{Run}
 use Rattle.cola_cell.specs.declared.fault.ReadFault.{ReadFault}
 use Rattle.cola_cell.specs.declared.fault.ReadFault.TheVariants.{Device, BadCell}
-use Rattle.cola_cell.specs.Cell.{key_of}
-use Rattle.cola_cell.specs.Held.{Held, Told, Tells, LawCell, as_cell}
+use Rattle.cola_cell.specs.Held.{Held, Told, Tells, as_cell}
 use Rattle.cola_cell.specs.Spent.{Buffer, Search, Spent, IsBad}
 use Rattle.cola_cell.specs.Costs.{Costs}
 use Rattle.cola_look.specs.Runs.{HasRun}

@@ -1,12 +1,10 @@
 -- What is passed of lines.
-use Rattle.std.specs.Prelude.{◌≡◌, ◌⊎◌, ℕ, ◌+◌, ◌-◌, ◌≤◌, ◌<◌, Bool, false, cond, List, [], ◌∷◌, drop, Option, None, Some, Result, Ok, Err, option_map, ⊤, IsTrue, is_some}
-use Rattle.std.specs.declared.cmp.Ordering.{Ordering}
+use Rattle.std.specs.Prelude.{◌≡◌, ℕ, ◌≤◌, ◌<◌, Bool, false, List, [], ◌∷◌, drop, Option, None, Some, option_map, IsTrue, is_some}
 use Rattle.std.specs.Ordering.{is_eq}
 use Rattle.std.specs.Option.{option_or}
 use Rattle.cola_runs.specs.Cells as laws
 use Rattle.cola_cell.specs.declared.cell.Cell.{Cell}
 use Rattle.cola_cell.specs.declared.cell.Item.{Item}
-use Rattle.cola_cell.specs.declared.fault.ReadFault.{ReadFault}
 use Rattle.cola_cell.specs.Cell.{key_of}
 use Rattle.cola_cell.specs.Held.{Held, Told, Tells, LawCell, as_item}
 use Rattle.cola_cell.specs.Listed.{IsRun}

@@ -1,6 +1,5 @@
 -- What calls on lines answer, seen as numbers and facts.
 use Rattle.std.specs.Prelude.{◌≡◌, ◌⊎◌, ℕ, cond, List, [], ◌∷◌, Option, None, Some, Result, Ok, Err, ⊤}
-use Rattle.std.specs.Global.{Global}
 use Rattle.std.specs.Ordering.{is_lt}
 use Rattle.arrayvec.specs.declared.array_vec.ArrayVec.{ArrayVec}
 use Rattle.cola_outside.specs.Faults.{Rose}

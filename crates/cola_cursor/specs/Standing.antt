@@ -62,6 +62,13 @@ TakesNext ahead pairs (Ok (Some pair)) =
     (others : List (List ℕ × Stamped)) × (pairs ≡ (pair.0, record { value = pair.1; stamp = pair.2 }) ∷ others) × ahead others
 TakesNext ahead pairs (Err fault) = ahead pairs
 
+-- the same of an answer without the stamp
+abbrev pub TakesPair : (List (List ℕ × Stamped) → Type 0) → List (List ℕ × Stamped) → Result (Option (List ℕ × List ℕ)) ReadFault → Type 0
+TakesPair ahead pairs (Ok None) = (pairs ≡ []) × ahead []
+TakesPair ahead pairs (Ok (Some pair)) =
+    (stamp : ℕ) × (others : List (List ℕ × Stamped)) × (pairs ≡ (pair.0, record { value = pair.1; stamp = stamp }) ∷ others) × ahead others
+TakesPair ahead pairs (Err fault) = ahead pairs
+
 -- the head of a line is at or past the upper end, or there is none
 abbrev pub HeadEnds : Option (List ℕ) → ℕ → ℕ → Option Cell → Type 0
 HeadEnds end place len None = place ≡ len
@@ -71,10 +78,10 @@ HeadEnds end place len (Some cell) = below_end key_cmp end (key_of cell) ≡ fal
 abbrev pub LineEnds : Option (List ℕ) → Line → Type 0
 LineEnds end line = HeadEnds end line.place line.run.len line.head
 
--- the answer's cause: none comes where every line ends, and a pair's key is below the upper end
-abbrev pub AnswerCause : Cursor → Option (List ℕ × List ℕ × ℕ) → Type 0
+-- the cause of an answer, by its key: none comes where every line ends, and a key is below the upper end
+abbrev pub AnswerCause : Cursor → Option (List ℕ) → Type 0
 AnswerCause cursor None = AllByRecursion (LineEnds cursor.end) cursor.lines.items
-AnswerCause cursor (Some pair) = IsTrue (below_end key_cmp cursor.end pair.0)
+AnswerCause cursor (Some key) = IsTrue (below_end key_cmp cursor.end key)
 
 -- a tombstone of this key that a line passed from one place to another
 pub record HasTombstone (held : Held) (old new : Line) (key : List ℕ) : Type 0 where
@@ -113,3 +120,16 @@ none_hidden k = ⊥
 abbrev pub answered_key : Option (List ℕ × List ℕ × ℕ) → Option (List ℕ)
 answered_key None = None
 answered_key (Some pair) = Some pair.0
+
+-- a pair without its stamp
+abbrev pub unstamped : List ℕ × List ℕ × ℕ → List ℕ × List ℕ
+unstamped pair = (pair.0, pair.1)
+
+-- the key of an answer without the stamp
+abbrev pub pair_key : Option (List ℕ × List ℕ) → Option (List ℕ)
+pair_key None = None
+pair_key (Some pair) = Some pair.0
+
+-- the cells of each line's run stay from one object to another
+abbrev pub RunsStay : Held → Held → List Line → Type 0
+RunsStay old new = AllByRecursion (λ line. (i : ℕ) → i < line.run.len → new.spots line.run.level line.run.slot i ≡ old.spots line.run.level line.run.slot i)

@@ -1,10 +1,12 @@
 //! Cursors.
-ghost use Rattle.std.specs.Prelude.{◌≡◌};
+ghost use Rattle.std.specs.Prelude.{◌≡◌, option_map};
+ghost use Rattle.cola_cursor.specs.Standing.{unstamped};
 
 use crate::line::Line;
 use crate::lines::{Step, least_key, pass_all, with_heads};
+use crate::starts::seek_lines;
 use arrayvec::ArrayVec;
-use cola_cell::{CellSource, Item, Key, ReadFault, Value};
+use cola_cell::{CellSource, Item, Key, ReadFault, Run, Value};
 use cola_outside::Steps;
 use std::sync::ledger::Ledger;
 
@@ -16,13 +18,60 @@ pub struct Cursor {
     pub end: Option<Key>,
 }
 
+/// A pair without its stamp.
+fn without_stamp(found: Option<(Key, Value, u64)>) -> Option<(Key, Value)>
+    ensures { result ≡ option_map unstamped found }
+{
+    match found {
+        Some((key, value, _)) => Some((key, value)),
+        None => None,
+    }
+}
+
 impl Cursor {
-    ghost use Rattle.std.specs.Prelude.{◌≡◌, ◌+◌, ◌≤◌, ℕ, List, None, IfOk, IfErr, OnOk, OnErr};
-    ghost use Rattle.cola_cell.specs.Held.{Stamped};
+    ghost use Rattle.std.specs.Prelude.{◌≡◌, ◌+◌, ◌≤◌, ℕ, List, map, All, None, IfOk, IfErr, OnOk, OnErr, option_copied};
+    ghost use Rattle.cola_cell.specs.Held.{LawCell, Stamped};
+    ghost use Rattle.cola_look.specs.Order.{key_cmp};
+    ghost use Rattle.cola_look.specs.Runs.{HasRun, AreRuns};
+    ghost use Rattle.cola_pairs.specs.Live.{live, between};
     ghost use Rattle.cola_cell.specs.Spent.{ReadCalm};
     ghost use Rattle.cola_cursor.specs.Lines.{all_left, Reading};
     ghost use Rattle.cola_cursor.specs.Results.{LinesCause};
-    ghost use Rattle.cola_cursor.specs.Standing.{Stands, Ahead, TakesNext, AnswerCause, LinesPassed, none_hidden, answered_key};
+    ghost use Rattle.cola_cursor.specs.Seeking.{LevelsRise, places_from, range_ticks, left_sought, RunsCause};
+    ghost use Rattle.cola_cursor.specs.Standing.{runs_of, AreSearched, Stands, Ahead, TakesNext, TakesPair, AnswerCause, LinesPassed, none_hidden, answered_key, pair_key};
+
+    /// A cursor over the runs, the newest first, at the first key that is at least `lo`; its pairs end below `hi`,
+    /// where there is one. It searches each run from the link of the run above it, as a look-up does, in at most
+    /// 8 ticks for each run.
+    pub fn seek<W: CellSource, L: Ledger>(
+        work: &mut W,
+        runs: &ArrayVec<Run, 23>,
+        lo: &Key,
+        hi: Option<&Key>,
+        steps: &mut Steps<L>,
+    ) -> Result<Cursor, ReadFault>
+        requires runs { All (HasRun (W.held work.old)) runs.now.items }
+        requires levels { LevelsRise 0 runs.now.items }
+
+        // On runs as a search wants them the live pairs of the interval are ahead.
+        ensures ahead { (lists : List (List LawCell)) → AreRuns (W.held work.old) runs.now.items lists → AreSearched lists →
+            IfOk result (λ cursor. Ahead (W.held work.old) cursor (live key_cmp (between key_cmp lo.now (option_copied hi.entry)) lists)) }
+        // On all told runs, in order or not, each place is where the search of its run stops.
+        ensures places { (lists : List (List LawCell)) → AreRuns (W.held work.old) runs.now.items lists →
+            IfOk result (λ cursor. map (λ line. line.place) cursor.lines.items ≡ places_from lo.now 0 lists) }
+        ensures begins { IfOk result (λ cursor. (runs_of cursor.lines.items ≡ runs.now.items) × (cursor.end ≡ option_copied hi.entry)) }
+        ensures stands { IfOk result (Stands (W.held work.new)) }
+        ensures left { steps.new + left_sought result ≤ steps.old + range_ticks (W.held work.old).fixed.levels }
+        ensures reading { Reading (W.spent work.old) (W.spent work.new) steps.old steps.new }
+        ensures cause { IfErr result (RunsCause (W.held work.old) runs.now.items (W.spent work.old).faults (W.spent work.new).faults) }
+        ensures cells_stay { W.held work.new ≡ W.held work.old }
+        ensures kept { W.kept work.new ≡ W.kept work.old }
+        ensures calm { ReadCalm (W.spent work.old).faults (W.spent work.new).faults result }
+    {
+        let lines = seek_lines(work, runs.as_slice(), lo, steps)?;
+        let end = hi.copied();
+        Ok(Cursor { lines, end })
+    }
 
     /// The next pair of the interval, with its stamp, by rising keys; none where no pair is left. After a
     /// refusal the cursor stands where it was. It makes a tick for each cell that it reads.
@@ -36,7 +85,7 @@ impl Cursor {
         // The pair is the first of those ahead, and the others are ahead then; none comes where there is none.
         ensures takes { (pairs : List (List ℕ × Stamped)) → Ahead (W.held work.old) self.old pairs → TakesNext (Ahead (W.held work.new) self.new) pairs result }
         // On all runs, in order or not: where none comes, and which cells are passed.
-        ensures answers { IfOk result (AnswerCause self.new) }
+        ensures answers { IfOk result (λ answer. AnswerCause self.new (answered_key answer)) }
         ensures passes { IfOk result (λ answer. LinesPassed (W.held work.old) (answered_key answer) none_hidden self.old.lines.items self.new.lines.items) }
         ensures stands { Stands (W.held work.new) self.new }
         ensures end_stays { self.new.end ≡ self.old.end }
@@ -69,5 +118,30 @@ impl Cursor {
         }
         self.lines = lines;
         Ok(None)
+    }
+
+    /// The next pair of the interval, as `next_stamped` gives it, without its stamp.
+    pub fn next<W: CellSource, L: Ledger>(
+        &mut self,
+        work: &mut W,
+        steps: &mut Steps<L>,
+    ) -> Result<Option<(Key, Value)>, ReadFault>
+        requires { Stands (W.held work.old) self.old }
+        ensures takes { (pairs : List (List ℕ × Stamped)) → Ahead (W.held work.old) self.old pairs → TakesPair (Ahead (W.held work.new) self.new) pairs result }
+        ensures answers { IfOk result (λ answer. AnswerCause self.new (pair_key answer)) }
+        ensures passes { IfOk result (λ answer. LinesPassed (W.held work.old) (pair_key answer) none_hidden self.old.lines.items self.new.lines.items) }
+        ensures stands { Stands (W.held work.new) self.new }
+        ensures end_stays { self.new.end ≡ self.old.end }
+        ensures refused { OnErr result (self.new ≡ self.old) }
+        ensures left { OnOk result (steps.new + all_left self.new.lines.items ≤ steps.old + all_left self.old.lines.items) }
+        ensures at_most { steps.new ≤ steps.old + all_left self.old.lines.items }
+        ensures reading { Reading (W.spent work.old) (W.spent work.new) steps.old steps.new }
+        ensures cause { IfErr result (LinesCause (W.held work.old) self.old.lines.items (W.spent work.old).faults (W.spent work.new).faults) }
+        ensures cells_stay { W.held work.new ≡ W.held work.old }
+        ensures kept { W.kept work.new ≡ W.kept work.old }
+        ensures calm { ReadCalm (W.spent work.old).faults (W.spent work.new).faults result }
+    {
+        let found = self.next_stamped(work, steps)?;
+        Ok(without_stamp(found))
     }
 }

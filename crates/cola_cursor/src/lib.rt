@@ -6,8 +6,10 @@
 #![tactic(auto)]
 
 mod cursor;
+pub mod laws;
 mod line;
 mod lines;
+mod starts;
 
 pub use cursor::Cursor;
 pub use line::Line;

@@ -1,4 +1,4 @@
-use Rattle.std.proofs.Common.{List, ◌++◌, ◌∷◌, [], take, Option, sym, subst, ◌∙◌, arith}
+use Rattle.std.proofs.Common.{List, ◌++◌, ◌∷◌, [], take, Option, sym, subst, ◌∙◌}
 use Rattle.std.specs.Option.{option_or}
 use Rattle.cola_cell.specs.declared.cell.Item.{Item}
 use Rattle.cola_cell.specs.Held.{Held}

@@ -1,4 +1,4 @@
-use Rattle.std.proofs.Common.{◌≡◌, ◌+◌, ◌≤◌, length}
+use Rattle.std.proofs.Common.{◌≡◌, ◌+◌, ◌≤◌}
 use Rattle.cola_cursor.specs.Lines.{Reading, all_left, all_ahead}
 use Rattle.cola_cursor.proofs.Going.{Quiet}
 use Rattle.cola_cursor.proofs.cursor.Cursor.next_stamped.Given as goal

@@ -1,10 +1,10 @@
-use Rattle.std.proofs.Common.{◌+◌, ◌≤◌, Option, refl, sym, ap, subst, ◌∙◌, arith}
+use Rattle.std.proofs.Common.{◌≤◌, Option, sym, ap, subst, ◌∙◌, arith}
 use Rattle.cola_cell.specs.declared.cell.Item.{Item}
 use Rattle.std.specs.Option.{option_or}
 use Rattle.cola_cell.specs.Held.{Held}
 use Rattle.cola_cursor.specs.Lines.{left_of}
-use Rattle.cola_cursor.specs.Results.{Fetches, item_of}
-use Rattle.cola_cursor.proofs.Fronts.{Passing, has_room, passing_goes_on, passing_ends}
+use Rattle.cola_cursor.specs.Results.{Fetches}
+use Rattle.cola_cursor.proofs.Fronts.{Passing, passing_goes_on, passing_ends}
 use Rattle.cola_cursor.proofs.Readings.{reading_then}
 use Rattle.cola_cursor.proofs.Lefts.{left_behind}
 use Rattle.cola_cursor.proofs.line.Line.passed.Goals as goal
