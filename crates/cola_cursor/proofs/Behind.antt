@@ -9,7 +9,7 @@ use Rattle.cola_cell.specs.Held.{Held, Told, Tells, LawCell}
 use Rattle.cola_cursor.specs.declared.line.Line.{Line}
 use Rattle.cola_cursor.specs.Passing.{Passes, PassAll}
 use Rattle.cola_cursor.specs.Results.{FetchAll}
-use Rattle.cola_cursor.specs.Standing.{HasTombstone, PassedCell, LinePassed, LinesPassed}
+use Rattle.cola_cursor.specs.Standing.{HasTombstone, PassedCell, LinePassed, LinesPassed, AnyHasValue}
 
 module _ (held : Held) where
   -- ---- reading passes nothing
@@ -154,3 +154,38 @@ module _ (held : Held) where
             let t = tombstone_line hidden o n p in
             (t.0, hidden_passes (λ k. hidden k ⊎ HasTombstone held o n k) olds news rest (inr t.1) q)
         go more (Some (Value v s)) rest p q f = cc
+
+-- ---- the value that is answered
+
+module _ (held : Held) (key value : List ℕ) (stamp : ℕ) where
+  -- a step that finds it passes it
+  pub value_passes : (olds news : List Line) (item : Option Item) → item ≡ Some (Value value stamp) → PassAll held key olds news item → AnyHasValue held key value stamp olds news
+  value_passes [] [] item e h = let f = sym h ∙ e in cc
+  value_passes [] (n ∷ news) item e h = absurd h
+  value_passes (o ∷ olds) [] item e h = absurd h
+  value_passes (o ∷ olds) (n ∷ news) item e h = go (λ rest f q. value_passes olds news rest f q) h.0 h.1 h.2 h.3 (sym h.4 ∙ e)
+    where
+      go : ((rest : Option Item) → rest ≡ Some (Value value stamp) → PassAll held key olds news rest → AnyHasValue held key value stamp olds news) →
+          (first rest : Option Item) → Passes held key o n first → PassAll held key olds news rest → option_or first rest ≡ Some (Value value stamp) → AnyHasValue held key value stamp (o ∷ olds) (n ∷ news)
+      go more None rest p q f = inr (more rest f q)
+      go more (Some i) rest p q f =
+          let x = p.found (Value value stamp) f in
+          inl (record { index = x.index; from = x.from; before = x.before; young = x.young; link = x.link; told = x.told })
+
+  -- and so does a call that came there before
+  pub value_later : (olds mids news : List Line) (answered : Option (List ℕ)) (hidden : List ℕ → Type 0) → LinesPassed held answered hidden olds mids → AnyHasValue held key value stamp mids news → AnyHasValue held key value stamp olds news
+  value_later [] [] news answered hidden h a = a
+  value_later [] (m ∷ mids) news answered hidden h a = absurd h
+  value_later (o ∷ olds) [] news answered hidden h a = absurd h
+  value_later (o ∷ olds) (m ∷ mids) [] answered hidden h a = a
+  value_later (o ∷ olds) (m ∷ mids) (n ∷ news) answered hidden h (inl a) =
+      let g = h.0.goes in
+      inl (record {
+        index = a.index;
+        from = (let b = a.from in omega arith);
+        before = a.before;
+        young = a.young;
+        link = a.link;
+        told = subst (λ (r : Run). Tells (held.spots r.level r.slot a.index) (Told (laws.Entry key (laws.Value (record { value = value; stamp = stamp })) a.young a.link))) h.0.run_is a.told;
+      })
+  value_later (o ∷ olds) (m ∷ mids) (n ∷ news) answered hidden h (inr a) = inr (value_later olds mids news answered (λ k. hidden k ⊎ HasTombstone held o m k) h.1 a)

@@ -21,7 +21,7 @@ use Rattle.cola_cursor.specs.declared.cursor.Cursor.{Cursor}
 use Rattle.cola_cursor.specs.Lines.{LineFits, IsReady, all_left}
 use Rattle.cola_cursor.specs.Passing.{PassAll}
 use Rattle.cola_cursor.specs.Results.{FetchAll, HasBadLine, LinesCause, least_from}
-use Rattle.cola_cursor.specs.Standing.{runs_of, rests, befores, AreSearched, AreApart, Stands, Ahead, TakesNext, TakesPair, unstamped, answered_key, pair_key, HeadEnds, LineEnds, LinesPassed, none_hidden}
+use Rattle.cola_cursor.specs.Standing.{runs_of, rests, befores, AreSearched, AreApart, Stands, Ahead, TakesNext, TakesPair, unstamped, answered_key, pair_key, IsPassed, IsPairPassed, HeadEnds, LineEnds, LinesPassed, none_hidden}
 use Rattle.cola_cursor.proofs.Least.{HeadPast, AnyHas, IsLeast, least_is, least_none}
 use Rattle.cola_cursor.proofs.Stepping.{fetch_runs, fetch_fit, fetch_ready, fetch_bad, fetch_rests, fetch_befores, pass_runs, pass_fit, pass_ready, pass_bad, heads_from, heads_past, rising_rests, step_lives, step_apart}
 use Rattle.cola_cursor.proofs.Behind.{fetch_passes, passes_then, look_passes, tombstone_passes, answer_passes}
@@ -209,3 +209,8 @@ takes_unstamped ahead pairs (Some pair) answer e h = subst (λ (x : Option (List
 pub unstamped_key : (found : Option (List ℕ × List ℕ × ℕ)) (answer : Option (List ℕ × List ℕ)) → answer ≡ option_map unstamped found → answered_key found ≡ pair_key answer
 unstamped_key None answer e = sym (ap pair_key e)
 unstamped_key (Some pair) answer e = sym (ap pair_key e)
+
+-- the pair of an answer without its stamp was passed
+pub pair_passed : (held : Held) (olds news : List Line) (found : Option (List ℕ × List ℕ × ℕ)) (answer : Option (List ℕ × List ℕ)) → answer ≡ option_map unstamped found → IsPassed held olds news found → IsPairPassed held olds news answer
+pair_passed held olds news None answer e h = subst (IsPairPassed held olds news) (sym e) tt
+pair_passed held olds news (Some pair) answer e h = subst (IsPairPassed held olds news) (sym e) (pair.2, h)

@@ -112,6 +112,31 @@ LinesPassed held answered hidden (old ∷ olds) [] = ⊥
 LinesPassed held answered hidden (old ∷ olds) (new ∷ news) =
     LinePassed held old new answered hidden × LinesPassed held answered (λ k. hidden k ⊎ HasTombstone held old new k) olds news
 
+-- a value of this key that a line passed from one place to another
+pub record HasValue (held : Held) (old new : Line) (key value : List ℕ) (stamp : ℕ) : Type 0 where
+  pub index : ℕ
+  pub from : old.place ≤ index
+  pub before : index < new.place
+  pub young : Bool
+  pub link : ℕ
+  pub told : Tells (held.spots old.run.level old.run.slot index) (Told (laws.Entry key (laws.Value (record { value = value; stamp = stamp })) young link))
+
+-- the same of one of the lines
+abbrev pub AnyHasValue : Held → List ℕ → List ℕ → ℕ → List Line → List Line → Type 0
+AnyHasValue held key value stamp [] news = ⊥
+AnyHasValue held key value stamp (old ∷ olds) [] = ⊥
+AnyHasValue held key value stamp (old ∷ olds) (new ∷ news) = HasValue held old new key value stamp ⊎ AnyHasValue held key value stamp olds news
+
+-- an answered pair is a value that was passed
+abbrev pub IsPassed : Held → List Line → List Line → Option (List ℕ × List ℕ × ℕ) → Type 0
+IsPassed held olds news None = ⊤
+IsPassed held olds news (Some pair) = AnyHasValue held pair.0 pair.1 pair.2 olds news
+
+-- the same of an answer without the stamp
+abbrev pub IsPairPassed : Held → List Line → List Line → Option (List ℕ × List ℕ) → Type 0
+IsPairPassed held olds news None = ⊤
+IsPairPassed held olds news (Some pair) = (stamp : ℕ) × AnyHasValue held pair.0 pair.1 stamp olds news
+
 -- no key is hidden
 abbrev pub none_hidden : List ℕ → Type 0
 none_hidden k = ⊥

@@ -38,7 +38,7 @@ impl Cursor {
     ghost use Rattle.cola_cursor.specs.Lines.{all_left, Reading};
     ghost use Rattle.cola_cursor.specs.Results.{LinesCause};
     ghost use Rattle.cola_cursor.specs.Seeking.{LevelsRise, places_from, range_ticks, left_sought, RunsCause};
-    ghost use Rattle.cola_cursor.specs.Standing.{runs_of, AreSearched, Stands, Ahead, TakesNext, TakesPair, AnswerCause, LinesPassed, none_hidden, answered_key, pair_key};
+    ghost use Rattle.cola_cursor.specs.Standing.{runs_of, AreSearched, Stands, Ahead, TakesNext, TakesPair, AnswerCause, LinesPassed, IsPassed, IsPairPassed, none_hidden, answered_key, pair_key};
 
     /// A cursor over the runs, the newest first, at the first key that is at least `lo`; its pairs end below `hi`,
     /// where there is one. It searches each run from the link of the run above it, as a look-up does, in at most
@@ -84,8 +84,9 @@ impl Cursor {
 
         // The pair is the first of those ahead, and the others are ahead then; none comes where there is none.
         ensures takes { (pairs : List (List ℕ × Stamped)) → Ahead (W.held work.old) self.old pairs → TakesNext (Ahead (W.held work.new) self.new) pairs result }
-        // On all runs, in order or not: where none comes, and which cells are passed.
+        // On all runs, in order or not: where none comes, that a pair is a value that was passed, and which cells are passed.
         ensures answers { IfOk result (λ answer. AnswerCause self.new (answered_key answer)) }
+        ensures pair { IfOk result (IsPassed (W.held work.old) self.old.lines.items self.new.lines.items) }
         ensures passes { IfOk result (λ answer. LinesPassed (W.held work.old) (answered_key answer) none_hidden self.old.lines.items self.new.lines.items) }
         ensures stands { Stands (W.held work.new) self.new }
         ensures end_stays { self.new.end ≡ self.old.end }
@@ -129,6 +130,7 @@ impl Cursor {
         requires { Stands (W.held work.old) self.old }
         ensures takes { (pairs : List (List ℕ × Stamped)) → Ahead (W.held work.old) self.old pairs → TakesPair (Ahead (W.held work.new) self.new) pairs result }
         ensures answers { IfOk result (λ answer. AnswerCause self.new (pair_key answer)) }
+        ensures pair { IfOk result (IsPairPassed (W.held work.old) self.old.lines.items self.new.lines.items) }
         ensures passes { IfOk result (λ answer. LinesPassed (W.held work.old) (pair_key answer) none_hidden self.old.lines.items self.new.lines.items) }
         ensures stands { Stands (W.held work.new) self.new }
         ensures end_stays { self.new.end ≡ self.old.end }

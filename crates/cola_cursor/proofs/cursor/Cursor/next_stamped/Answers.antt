@@ -7,10 +7,11 @@ use Rattle.cola_cursor.specs.declared.line.Line.{Line}
 use Rattle.cola_cursor.specs.declared.cursor.Cursor.{Cursor}
 use Rattle.cola_cursor.specs.Lines.{all_left}
 use Rattle.cola_cursor.specs.Results.{FetchAll, LinesCause}
-use Rattle.cola_cursor.specs.Standing.{Stands, Ahead, TakesNext, LineEnds}
+use Rattle.cola_cursor.specs.Standing.{Stands, Ahead, TakesNext, LineEnds, none_hidden}
 use Rattle.cola_cursor.proofs.Lists.{refused}
 use Rattle.cola_cursor.proofs.Readings.{reading_then}
 use Rattle.cola_cursor.proofs.Going.{quiet_begins, same_pass, same_least, same_end, value_there, left_same, key_below, key_there, quiet_none, quiet_tombstone, answer_going, takes_pair, takes_none, stands_then, all_end, step_cause}
+use Rattle.cola_cursor.proofs.Behind.{value_passes, value_later}
 use Rattle.cola_cursor.proofs.Stepping.{pass_less}
 use Rattle.cola_cursor.proofs.Least.{least_none}
 use Rattle.cola_cursor.proofs.cursor.Cursor.next_stamped.Goals as goal
@@ -127,3 +128,12 @@ loop-key-preserved g c =
       cursor_is = i.cursor_is;
       quiet = quiet_none i.quiet c.in-Some.key l c.in_ok-passed.field-0.lines.items c.in_ok-passed.field-0.item p c.in-None.is;
     }
+
+pub returns-in-Value-clause-pair : goal.returns-in-Value-clause-pair
+returns-in-Value-clause-pair g c =
+    let i = c.loop-key.invariant in
+    let held : Held = g.W.CellSource.held c.args.work.now in
+    let p = same_pass c.in-Some.key c.in_ok-passed.field-0.lines.items c.in_ok-passed.field-0.item i.held_is c.as_slice-in-Some.ensures.value c.in_ok-passed.ensures.passes in
+    value_later held c.in-Some.key c.in-Value.value c.in-Value.stamp c.args.self.now.lines.items c.loop-key.lines.items c.in_ok-passed.field-0.lines.items None none_hidden i.quiet.going.passed
+    (value_passes held c.in-Some.key c.in-Value.value c.in-Value.stamp c.loop-key.lines.items c.in_ok-passed.field-0.lines.items c.in_ok-passed.field-0.item
+    (value_there c.in_ok-passed.field-0.item c.in-Some-item.item c.in-Value.value c.in-Value.stamp c.in-Some-item.is c.in-Value.is) p)
