@@ -11,9 +11,9 @@ use Rattle.std.specs.List.Sorted.{IsStrictlySortedBy}
 use Rattle.cola_runs.specs.Cells.{Cell, Entry, Look, key_of, is_look, place_cmp, IsRising}
 use Rattle.cola_runs.specs.Seen.{Nothing, seen, holds, flagged, answer, value_of}
 use Rattle.cola_pairs.specs.Live.{items, entries, values, placed, with_answer, live, below_end}
-use Rattle.cola_pairs.specs.Walk.{AtHead, pass_key, pass_keys, HeadsFrom, HeadsPast, Walks, Ends, Takes}
+use Rattle.cola_pairs.specs.Walk.{AtHead, passed_item, first_passed, pass_key, pass_keys, HeadsFrom, HeadsPast, Walks, Ends, Takes}
 use Rattle.cola_pairs.proofs.Order.{by_bool, by_ordering, tied_alike, turned_greater, above, all_change, is_less, equal, not_below_on, not_below_after}
-use Rattle.cola_pairs.proofs.Entries.{find_with, sorted_with, below_found}
+use Rattle.cola_pairs.proofs.Entries.{holds_flagged, find_with, sorted_with, below_found}
 use Rattle.cola_pairs.proofs.LivePairs.{none_below, live_find, live_rises, keeps_ties}
 
 module _ {K : Type 0} {cmp : K → K → Ordering} (o : IsTotalOrder cmp) where
@@ -29,6 +29,9 @@ module _ {K : Type 0} {cmp : K → K → Ordering} (o : IsTotalOrder cmp) where
   past_on : (hi : Option K) (x y : K) → below_end cmp hi x ≡ false → is_eq (cmp x y) ≡ true → below_end cmp hi y ≡ false
   past_on None x y e l = cc
   past_on (Some h) x y e l = not_below_on o x y h e l
+
+  pub not_below_itself : (k : K) → cmp k k ≡ Less → ⊥
+  not_below_itself k l = let h = ap is_lt l in let i = ap is_lt (tied_itself o k) in cc
 
 module _ {K V : Type 0} {cmp : K → K → Ordering} (o : IsTotalOrder cmp) where
   -- ---- what is passed leaves all that the runs have of other keys
@@ -138,6 +141,28 @@ module _ {K V : Type 0} {cmp : K → K → Ordering} (o : IsTotalOrder cmp) wher
 
     pub live_step : IsTrue (below_end cmp hi k) → live cmp (below_end cmp hi) rests ≡ with_answer k (answer cmp k rests) behind
     live_step b = same_entries cmp o same (live cmp (below_end cmp hi) rests) (with_answer k (answer cmp k rests) behind) (live_rises o (below_end cmp hi) rests) stepped_rises (stepped_find b)
+
+  -- ---- what a step passes
+
+  -- the item of the key stands at the front, or nowhere
+  pub front_is_seen : (k : K) (run : List (Cell K V)) → IsRising cmp run → AtHead (λ h. is_lt (cmp h k) ≡ false) run → passed_item cmp k run ≡ holds (seen cmp k run)
+  unfolding IsStrictlySortedBy
+  front_is_seen k [] h p = refl
+  front_is_seen k (Entry x i y l ∷ cells) h p =
+      by_bool (λ b. is_eq (cmp k x) ≡ b → cond b (Some i) None ≡ holds (cond b (flagged y i) (seen cmp k cells)))
+      (λ e. sym (holds_flagged y i))
+      (λ e. ap holds (sym (unseen_above k k (not_below_itself o k) cells (all_above k (Entry x i y l) cells (above_head o k x p e) h).1)))
+      (is_eq (cmp k x)) refl
+  front_is_seen k (Look x l ∷ cells) h p =
+      by_bool (λ b. is_eq (cmp k x) ≡ b → cond b (passed_item cmp k cells) None ≡ holds (seen cmp k cells))
+      (λ e. front_is_seen k cells h.1 (head_behind k (Look x l) cells (none_below o k (Look x l) cells p h).1))
+      (λ e. ap holds (sym (unseen_above k k (not_below_itself o k) cells (all_above k (Look x l) cells (above_head o k x p e) h).1)))
+      (is_eq (cmp k x)) refl
+
+  pub first_is_answer : (k : K) (rests : List (List (Cell K V))) → AllByRecursion (IsRising cmp) rests → HeadsFrom cmp k rests → first_passed cmp k rests ≡ answer cmp k rests
+  first_is_answer k [] h p = refl
+  first_is_answer k (run ∷ runs) h p =
+      ap (λ x. option_or x (first_passed cmp k runs)) (front_is_seen k run h.0 p.0) ∙ ap (option_or (holds (seen cmp k run))) (first_is_answer k runs h.1 p.1)
 
   -- ---- the end
 

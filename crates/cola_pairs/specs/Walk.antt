@@ -4,7 +4,9 @@ use Rattle.std.specs.declared.cmp.Ordering.{Ordering}
 use Rattle.std.specs.Ordering.{is_lt, is_eq}
 use Rattle.std.specs.declared.option.Option.{Option}
 use Rattle.std.specs.List.{AllByRecursion}
-use Rattle.cola_runs.specs.Cells.{Cell, key_of}
+use Rattle.std.specs.declared.option.Option.TheVariants.{None, Some}
+use Rattle.std.specs.Option.{option_or}
+use Rattle.cola_runs.specs.Cells.{Item, Cell, Entry, Look, key_of}
 use Rattle.cola_runs.specs.Seen.{answer}
 use Rattle.cola_pairs.specs.Live.{with_answer, below_end}
 
@@ -23,6 +25,17 @@ module _ {K V : Type 0} (cmp : K → K → Ordering) where
   -- each run without the cells at its front that have this key
   abbrev pub pass_keys : K → List (List (Cell K V)) → List (List (Cell K V))
   pass_keys k = map (pass_key k)
+
+  -- the first item among the cells at the front of a run that have this key
+  abbrev pub passed_item : K → List (Cell K V) → Option (Item V)
+  passed_item k [] = None
+  passed_item k (Entry x i y l ∷ cells) = cond (is_eq (cmp k x)) (Some i) None
+  passed_item k (Look x l ∷ cells) = cond (is_eq (cmp k x)) (passed_item k cells) None
+
+  -- the same of the first of the runs that has one
+  abbrev pub first_passed : K → List (List (Cell K V)) → Option (Item V)
+  first_passed k [] = None
+  first_passed k (run ∷ runs) = option_or (passed_item k run) (first_passed k runs)
 
   -- no run begins with a key below k
   abbrev pub HeadsFrom : K → List (List (Cell K V)) → Type 0

@@ -1,0 +1,216 @@
+-- A cursor on its way to its next pair.
+use Rattle.std.proofs.Common.{◌≡◌, ◌⊎◌, inl, inr, ℕ, ◌+◌, ◌≤◌, true, List, [], ◌∷◌, Option, None, Some, Ok, option_map, sym, ap, subst, ◌∙◌}
+use Rattle.std.specs.List.{AllByRecursion}
+use Rattle.cola_runs.specs.Cells as laws
+use Rattle.cola_cell.specs.declared.cell.Cell.{Cell}
+use Rattle.cola_cell.specs.declared.cell.Item.{Item}
+use Rattle.cola_cell.specs.declared.cell.Item.TheVariants.{Value, Tombstone}
+use Rattle.cola_cell.specs.declared.cell.Run.{Run}
+use Rattle.cola_cell.specs.declared.fault.ReadFault.{ReadFault}
+use Rattle.cola_cell.specs.declared.fault.ReadFault.TheVariants.{Device, BadCell}
+use Rattle.cola_cell.specs.Held.{Held, LawCell, Stamped, as_item}
+use Rattle.cola_look.specs.Order.{key_cmp}
+use Rattle.cola_look.specs.Runs.{AreRuns}
+use Rattle.cola_look.proofs.RunLists.{sampled_rise}
+use Rattle.cola_pairs.specs.Live.{live, with_answer, below_end}
+use Rattle.cola_pairs.specs.Walk.{HeadsFrom}
+use Rattle.cola_pairs.proofs.Steps.{live_ends}
+use Rattle.std.specs.Cmp.Lexicographic.{nat_list_cmp_total}
+use Rattle.cola_cursor.specs.declared.line.Line.{Line}
+use Rattle.cola_cursor.specs.declared.cursor.Cursor.{Cursor}
+use Rattle.cola_cursor.specs.Lines.{LineFits, IsReady, all_left}
+use Rattle.cola_cursor.specs.Passing.{PassAll}
+use Rattle.cola_cursor.specs.Results.{FetchAll, HasBadLine, LinesCause, least_from}
+use Rattle.cola_cursor.specs.Standing.{runs_of, rests, befores, AreSearched, AreApart, Stands, Ahead, TakesNext, TakesPair, unstamped, answered_key, pair_key, IsPassed, IsPairPassed, HeadEnds, LineEnds, LinesPassed, none_hidden}
+use Rattle.cola_cursor.proofs.Least.{HeadPast, AnyHas, IsLeast, least_is, least_none}
+use Rattle.cola_cursor.proofs.Stepping.{fetch_runs, fetch_fit, fetch_ready, fetch_bad, fetch_rests, fetch_befores, pass_runs, pass_fit, pass_ready, pass_bad, heads_from, heads_past, rising_rests, step_lives, step_apart}
+use Rattle.cola_cursor.proofs.Behind.{fetch_passes, passes_then, look_passes, tombstone_passes, answer_passes}
+
+-- what a cursor has passed on its way from some lines to others: no pair, and no key is left between
+pub record Going (held : Held) (end : Option (List ℕ)) (olds news : List Line) (answered : Option (List ℕ)) : Type 0 where
+  pub fit : AllByRecursion (LineFits held) news
+  pub ready : AllByRecursion IsReady news
+  pub runs_are : runs_of news ≡ runs_of olds
+  pub bad : (number : ℕ) → HasBadLine held number news → HasBadLine held number olds
+  pub apart : (lists : List (List LawCell)) → AreRuns held (runs_of olds) lists → AreSearched lists → AreApart (befores news lists) (rests news lists)
+  pub passed : LinesPassed held answered none_hidden olds news
+
+-- and no live pair was passed
+pub record Quiet (held : Held) (end : Option (List ℕ)) (olds news : List Line) : Type 0 where
+  pub going : Going held end olds news None
+  pub lives : (lists : List (List LawCell)) → AreRuns held (runs_of olds) lists → AllByRecursion (laws.IsRising key_cmp) lists →
+      live key_cmp (below_end key_cmp end) (rests olds lists) ≡ live key_cmp (below_end key_cmp end) (rests news lists)
+
+module _ (held : Held) (cursor : Cursor) (s : Stands held cursor) where
+  pub quiet_begins : (news : List Line) → FetchAll held cursor.lines.items news → Quiet held cursor.end cursor.lines.items news
+  quiet_begins news f = record {
+    going = record {
+      fit = fetch_fit held cursor.lines.items news f;
+      ready = fetch_ready held cursor.lines.items news f;
+      runs_are = fetch_runs held cursor.lines.items news f;
+      bad = λ number b. fetch_bad held cursor.lines.items news number f b;
+      apart = λ lists r a. apart_of lists (s.apart lists r a);
+      passed = fetch_passes held None none_hidden cursor.lines.items news f;
+    };
+    lives = λ lists r h. ap (live key_cmp (below_end key_cmp cursor.end)) (sym (fetch_rests held cursor.lines.items news lists f));
+  }
+    where
+      apart_of : (lists : List (List LawCell)) → AreApart (befores cursor.lines.items lists) (rests cursor.lines.items lists) → AreApart (befores news lists) (rests news lists)
+      apart_of lists a =
+          subst (λ (x : List (List LawCell)). AreApart x (rests news lists)) (sym (fetch_befores held cursor.lines.items news lists f))
+          (subst (λ (x : List (List LawCell)). AreApart (befores cursor.lines.items lists) x) (sym (fetch_rests held cursor.lines.items news lists f)) a)
+
+no_key : (k : List ℕ) → None ≡ Some k → ⊥
+no_key k e = cc
+
+any_of : (k : List ℕ) (lines : List Line) → (None ≡ Some k) ⊎ AnyHas k lines → AnyHas k lines
+any_of k lines (inl e) = absurd (no_key k e)
+any_of k lines (inr a) = a
+
+module _ {held : Held} {end : Option (List ℕ)} {olds mids : List Line} (q : Quiet held end olds mids) (k : List ℕ) (least : least_from end None mids ≡ Some k) where
+  least_fact : IsLeast end None mids k
+  least_fact = least_is end None mids k least
+
+  -- the key is below the upper end, and some head has it
+  pub key_below : below_end key_cmp end k ≡ true
+  key_below = least_fact.below (λ a e. absurd (no_key a e))
+
+  pub key_there : AnyHas k mids
+  key_there = any_of k mids least_fact.any
+
+  in_mids : (lists : List (List LawCell)) → AreRuns held (runs_of olds) lists → AreRuns held (runs_of mids) lists
+  in_mids lists r = subst (λ (x : List Run). AreRuns held x lists) (sym q.going.runs_are) r
+
+  heads : (lists : List (List LawCell)) → AreRuns held (runs_of olds) lists → HeadsFrom key_cmp k (rests mids lists)
+  heads lists r = heads_from held end k mids lists q.going.fit q.going.ready (in_mids lists r) key_below least_fact.from
+
+  -- a step over the key
+  pub going_on : (answered : Option (List ℕ)) (news : List Line) (item : Option Item) → PassAll held k mids news item → LinesPassed held answered none_hidden mids news → Going held end olds news answered
+  going_on answered news item p l = record {
+    fit = pass_fit held k mids news item p;
+    ready = pass_ready held k mids news item p;
+    runs_are = pass_runs held k mids news item p ∙ q.going.runs_are;
+    bad = λ number b. q.going.bad number (pass_bad held k mids news item number p b);
+    apart = λ lists r a. step_apart k held mids news item lists p (in_mids lists r) (sampled_rise key_cmp lists a.sampled) (heads lists r) (q.going.apart lists r a);
+    passed = passes_then held answered none_hidden none_hidden none_hidden olds mids news q.going.passed l (λ x y. y) (λ x y. y);
+  }
+
+  step_live : (news : List Line) (item : Option Item) → PassAll held k mids news item → (lists : List (List LawCell)) → AreRuns held (runs_of olds) lists → AllByRecursion (laws.IsRising key_cmp) lists →
+      live key_cmp (below_end key_cmp end) (rests olds lists) ≡ with_answer k (option_map as_item item) (live key_cmp (below_end key_cmp end) (rests news lists))
+  step_live news item p lists r h = q.lives lists r h ∙ step_lives held end k mids news item lists p (in_mids lists r) h key_below (heads lists r)
+
+  -- no item, or a tombstone
+  pub quiet_none : (news : List Line) (item : Option Item) → PassAll held k mids news item → item ≡ None → Quiet held end olds news
+  quiet_none news item p e = record {
+    going = going_on None news item p (look_passes held k none_hidden mids news item e p);
+    lives = λ lists r h. step_live news item p lists r h ∙ ap (λ x. with_answer k (option_map as_item x) (live key_cmp (below_end key_cmp end) (rests news lists))) e;
+  }
+
+  pub quiet_tombstone : (news : List Line) (item : Option Item) → PassAll held k mids news item → item ≡ Some Tombstone → Quiet held end olds news
+  quiet_tombstone news item p e = record {
+    going = going_on None news item p (tombstone_passes held k none_hidden mids news item e p);
+    lives = λ lists r h. step_live news item p lists r h ∙ ap (λ x. with_answer k (option_map as_item x) (live key_cmp (below_end key_cmp end) (rests news lists))) e;
+  }
+
+  -- a value: the answer
+  pub answer_going : (news : List Line) (item : Option Item) → PassAll held k mids news item → Going held end olds news (Some k)
+  answer_going news item p = going_on (Some k) news item p (answer_passes held k none_hidden mids news item p)
+
+  pub answer_lives : (news : List Line) (item : Option Item) (value : List ℕ) (stamp : ℕ) → PassAll held k mids news item → item ≡ Some (Value value stamp) →
+      (lists : List (List LawCell)) → AreRuns held (runs_of olds) lists → AllByRecursion (laws.IsRising key_cmp) lists →
+      live key_cmp (below_end key_cmp end) (rests olds lists) ≡ (k, record { value = value; stamp = stamp }) ∷ live key_cmp (below_end key_cmp end) (rests news lists)
+  answer_lives news item value stamp p e lists r h = step_live news item p lists r h ∙ ap (λ x. with_answer k (option_map as_item x) (live key_cmp (below_end key_cmp end) (rests news lists))) e
+
+-- where a cursor stands then
+pub stands_then : {held : Held} {end answered : Option (List ℕ)} {olds : List Line} (cursor : Cursor) → Going held end olds cursor.lines.items answered → Stands held cursor
+stands_then {held} {end} {answered} {olds} cursor g = record {
+  fit = g.fit;
+  apart = λ lists r a. g.apart lists (subst (λ (x : List Run). AreRuns held x lists) g.runs_are r) a;
+}
+
+-- the pair that is taken
+pub takes_pair : {held : Held} {mids : List Line} (old new : Cursor) (q : Quiet held old.end old.lines.items mids) (k : List ℕ) (least : least_from old.end None mids ≡ Some k) (item : Option Item) (value : List ℕ) (stamp : ℕ) →
+    new.end ≡ old.end → PassAll held k mids new.lines.items item → item ≡ Some (Value value stamp) →
+    (pairs : List (List ℕ × Stamped)) → Ahead held old pairs → TakesNext (Ahead held new) pairs (Ok (Some (k, value, stamp)))
+takes_pair {held} old new q k least item value stamp e p i pairs a = (
+  live key_cmp (below_end key_cmp old.end) (rests new.lines.items a.lists),
+  a.pairs_are ∙ answer_lives q k least new.lines.items item value stamp p i a.lists a.told a.rising,
+  record {
+    lists = a.lists;
+    told = subst (λ (x : List Run). AreRuns held x a.lists) (sym (going_on q k least (Some k) new.lines.items item p (answer_passes held k none_hidden _ new.lines.items item p)).runs_are) a.told;
+    rising = a.rising;
+    pairs_are = ap (λ x. live key_cmp (below_end key_cmp x) (rests new.lines.items a.lists)) (sym e);
+  },
+)
+
+pub takes_none : {held : Held} (old new : Cursor) (q : Quiet held old.end old.lines.items new.lines.items) → new.end ≡ old.end → least_from old.end None new.lines.items ≡ None →
+    (pairs : List (List ℕ × Stamped)) → Ahead held old pairs → TakesNext (Ahead held new) pairs (Ok None)
+takes_none {held} old new q e l pairs a =
+    let told : AreRuns held (runs_of new.lines.items) a.lists = subst (λ (x : List Run). AreRuns held x a.lists) (sym q.going.runs_are) a.told in
+    let none : live key_cmp (below_end key_cmp old.end) (rests new.lines.items a.lists) ≡ [] =
+    live_ends nat_list_cmp_total old.end (rests new.lines.items a.lists) (rising_rests new.lines.items a.lists a.rising)
+    (heads_past held old.end new.lines.items a.lists q.going.fit q.going.ready told (least_none old.end None new.lines.items l).1) in (
+      a.pairs_are ∙ q.lives a.lists a.told a.rising ∙ none,
+      record { lists = a.lists; told = told; rising = a.rising; pairs_are = sym none ∙ ap (λ x. live key_cmp (below_end key_cmp x) (rests new.lines.items a.lists)) (sym e) },
+    )
+
+-- none is left
+ends_at : (end : Option (List ℕ)) (line : Line) → IsReady line → HeadPast end line.head → LineEnds end line
+ends_at end line r h = go line.head r h
+  where
+    go : (x : Option Cell) → Rattle.cola_cursor.specs.Lines.HeadIsRead line.place line.run.len x → HeadPast end x → HeadEnds end line.place line.run.len x
+    go None r h = r
+    go (Some c) r h = h
+
+pub all_end : (end : Option (List ℕ)) (lines : List Line) → AllByRecursion IsReady lines → AllByRecursion (λ line. HeadPast end line.head) lines → AllByRecursion (LineEnds end) lines
+all_end end [] r h = tt
+all_end end (line ∷ lines) r h = (ends_at end line r.0 h.0, all_end end lines r.1 h.1)
+
+-- a refusal on the way
+pub cause_on_way : {held : Held} {end answered : Option (List ℕ)} {olds news : List Line} (before now : ℕ) (fault : ReadFault) → Going held end olds news answered → LinesCause held news before now fault → LinesCause held olds before now fault
+cause_on_way before now Device g c = c
+cause_on_way before now (BadCell number) g c = g.bad number c
+
+-- ---- the same over an equal object, list and end
+
+pub same_pass : {held object : Held} (key : List ℕ) {xs ys : List Line} (news : List Line) (item : Option Item) → held ≡ object → xs ≡ ys → PassAll held key xs news item → PassAll object key ys news item
+same_pass {held} {object} key {xs} {ys} news item e f h =
+    subst (λ (x : Held). PassAll x key ys news item) e (subst (λ (z : List Line). PassAll held key z news item) f h)
+
+pub same_least : (old now : Cursor) (xs ys : List Line) (answer wanted : Option (List ℕ)) → now ≡ old → xs ≡ ys → answer ≡ least_from now.end None xs → answer ≡ wanted → least_from old.end None ys ≡ wanted
+same_least old now xs ys answer wanted e f g h =
+    sym (ap (λ (x : Cursor). least_from x.end None ys) e) ∙ sym (ap (least_from now.end None) f) ∙ sym g ∙ h
+
+pub value_there : (item : Option Item) (i : Item) (value : List ℕ) (stamp : ℕ) → item ≡ Some i → i ≡ Value value stamp → item ≡ Some (Value value stamp)
+value_there item i value stamp e f = e ∙ ap Some f
+
+pub same_end : (old now : Cursor) → now ≡ old → now.end ≡ old.end
+same_end old now e = ap (λ (x : Cursor). x.end) e
+
+-- what a refused step says of the lines of the cursor
+pub step_cause : {held object : Held} {end : Option (List ℕ)} {olds news xs : List Line} (before between now : ℕ) (fault : ReadFault) → held ≡ object → xs ≡ news → between ≡ before → Quiet object end olds news →
+    LinesCause held xs between now fault → LinesCause object olds before now fault
+step_cause {held} {object} {end} {olds} {news} {xs} before between now fault e f c q h =
+    let a : LinesCause object xs between now fault = subst (λ (x : Held). LinesCause x xs between now fault) e h in
+    let b : LinesCause object news between now fault = subst (λ (x : List Line). LinesCause object x between now fault) f a in
+    cause_on_way before now fault q.going (subst (λ n. LinesCause object news n now fault) c b)
+
+-- a bound on the lines of an equal list
+pub left_same : (after before whole : ℕ) (xs ys : List Line) → xs ≡ ys → after + before ≤ whole + all_left xs → after + before ≤ whole + all_left ys
+left_same after before whole xs ys e h = subst (λ (z : List Line). after + before ≤ whole + all_left z) e h
+
+-- ---- an answer without its stamp
+
+pub takes_unstamped : (ahead : List (List ℕ × Stamped) → Type 0) (pairs : List (List ℕ × Stamped)) (found : Option (List ℕ × List ℕ × ℕ)) (answer : Option (List ℕ × List ℕ)) → answer ≡ option_map unstamped found →
+    TakesNext ahead pairs (Ok found) → TakesPair ahead pairs (Ok answer)
+takes_unstamped ahead pairs None answer e h = subst (λ (x : Option (List ℕ × List ℕ)). TakesPair ahead pairs (Ok x)) (sym e) h
+takes_unstamped ahead pairs (Some pair) answer e h = subst (λ (x : Option (List ℕ × List ℕ)). TakesPair ahead pairs (Ok x)) (sym e) (pair.2, h.0, h.1, h.2)
+
+pub unstamped_key : (found : Option (List ℕ × List ℕ × ℕ)) (answer : Option (List ℕ × List ℕ)) → answer ≡ option_map unstamped found → answered_key found ≡ pair_key answer
+unstamped_key None answer e = sym (ap pair_key e)
+unstamped_key (Some pair) answer e = sym (ap pair_key e)
+
+-- the pair of an answer without its stamp was passed
+pub pair_passed : (held : Held) (olds news : List Line) (found : Option (List ℕ × List ℕ × ℕ)) (answer : Option (List ℕ × List ℕ)) → answer ≡ option_map unstamped found → IsPassed held olds news found → IsPairPassed held olds news answer
+pair_passed held olds news None answer e h = subst (IsPairPassed held olds news) (sym e) tt
+pair_passed held olds news (Some pair) answer e h = subst (IsPairPassed held olds news) (sym e) (pair.2, h)

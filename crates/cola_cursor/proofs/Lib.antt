@@ -1,0 +1,12 @@
+pub mod Keys
+pub mod Fronts
+pub mod Readings
+pub mod Lefts
+pub mod Lists
+pub mod Least
+pub mod Stepping
+pub mod Behind
+pub mod Going
+pub mod Beginning
+pub mod Places
+pub mod Staying

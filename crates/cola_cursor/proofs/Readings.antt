@@ -1,0 +1,17 @@
+-- What calls that read spend, one after another.
+use Rattle.std.proofs.Common.{ℕ, ◌∙◌, refl, arith}
+use Rattle.cola_cell.specs.Spent.{Spent}
+use Rattle.cola_cell.proofs.CostsLemmas.{costs_none, costs_then, costs_within}
+use Rattle.cola_cursor.specs.Lines.{Reading}
+
+pub reading_none : (spent : Spent) (steps : ℕ) → Reading spent spent steps steps
+reading_none spent steps = record { costs = costs_within (costs_none spent steps) (omega arith) (omega arith); others_stay = λ b n. refl }
+
+pub reading_then : {a b c : Spent} {s t u : ℕ} → Reading a b s t → Reading b c t u → Reading a c s u
+reading_then {a} {b} {c} {s} {t} {u} h k =
+    let x = h.costs.steps_stay in
+    let y = k.costs.steps_stay in
+    record {
+      costs = costs_within (costs_then h.costs k.costs) (omega arith) (omega arith);
+      others_stay = λ b n. k.others_stay b n ∙ h.others_stay b n;
+    }

@@ -1,0 +1,52 @@
+use Rattle.std.proofs.Common.{List, ◌∷◌, [], ◌++◌, map, get_or, None, Ok, refl, sym, ap, subst, ◌∙◌, arith}
+use Rattle.std.specs.List.{AllByRecursion}
+use Rattle.cola_cell.specs.declared.cell.Run.{Run}
+use Rattle.cola_cell.specs.Held.{Held, LawCell}
+use Rattle.cola_cell.specs.Listed.{IsRun}
+use Rattle.cola_look.specs.Order.{key_cmp}
+use Rattle.cola_look.specs.Outcome.{Found, Answers}
+use Rattle.cola_look.specs.Runs.{HasRun}
+use Rattle.cola_look.specs.Seek.{as_seat}
+use Rattle.cola_runs.specs.Search as laws
+use Rattle.cola_cursor.specs.declared.line.Line.{Line}
+use Rattle.cola_cursor.specs.Lines.{LineFits}
+use Rattle.cola_cursor.specs.Standing.{runs_of}
+use Rattle.cola_cursor.specs.Seeking.{RunsCause}
+use Rattle.cola_cursor.proofs.Lists.{refused, length_push, all_at}
+use Rattle.cola_cursor.proofs.Readings.{reading_then}
+use Rattle.cola_cursor.proofs.Beginning.{reading_of, line_fits, all_append, map_append, places_next, places_whole, left_more, taken_more, bad_run}
+use Rattle.cola_cursor.proofs.starts.seek_lines.Goals as goal
+
+pub loop-i-preserved : goal.loop-i-preserved
+loop-i-preserved g c =
+    let i = c.loop-i.invariant in
+    let held : Held = g.W.CellSource.held c.args.work.now in
+    let runs = c.args.runs.now in
+    let n = c.loop-i.i in
+    let d : Run = record { level = 0; slot = 0; len = 0 } in
+    let line : Line = record { run = get_or runs n d; place = c.in_ok-seat.seat.pos; head = None } in
+    let ens = c.in_ok-seat.ensures in
+    let T : Held → Type 0 = λ h. (cells : List LawCell) → IsRun h (get_or runs n d) cells → Answers (Found (laws.seek key_cmp c.args.key.now c.loop-i.start cells c.length_at.result)) as_seat (Ok c.in_ok-seat.seat) in
+    let told : T held = subst T i.held_is ens.told in
+    let A : List Line → Type 0 = λ x. AllByRecursion (LineFits held) x in
+    record {
+      held_is = ens.cells_stay ∙ i.held_is;
+      kept_is = ens.kept ∙ i.kept_is;
+      calm = ens.calm ∙ i.calm;
+      reading = reading_then i.reading (reading_of ens.costs ens.each_turn ens.others_stay);
+      left = left_more runs n d c.loop-i.lines.items c.push.new.self.items line c.args.steps.now c.loop-i.steps c.seek.new.steps c.loop-i-test.true c.push.ensures.items refl ens.costs.steps_rise i.left;
+      count = length_push c.loop-i.lines.items c.push.new.self.items line n c.push.ensures.items i.count;
+      begins = ap runs_of c.push.ensures.items ∙ map_append (λ (x : Line). x.run) c.loop-i.lines.items line ∙ ap (λ z. z ++ get_or runs n d ∷ []) i.begins ∙ sym (taken_more runs n d c.loop-i-test.true);
+      fit = subst A (sym c.push.ensures.items) (all_append (LineFits held) c.loop-i.lines.items line i.fit (line_fits held line (all_at (HasRun held) runs n d c.loop-i-test.true c.requires.runs) ens.within refl));
+      places = λ lists r. places_next held runs lists n d c.args.key.now c.loop-i.start c.in_ok-seat.seat c.length_at.result (map (λ x. x.place) c.loop-i.lines.items) (map (λ x. x.place) c.push.new.self.items) _ r c.loop-i-test.true c.length_at.ensures told
+          (ap (map (λ (x : Line). x.place)) c.push.ensures.items ∙ map_append (λ (x : Line). x.place) c.loop-i.lines.items line) (i.places lists r);
+    }
+
+pub returns-in_err-seat-clause-cause : goal.returns-in_err-seat-clause-cause
+returns-in_err-seat-clause-cause g c =
+    refused c.from_residual.result c.in_err-seat.field-0.0 (RunsCause (g.W.CellSource.held c.args.work.now) c.args.runs.now (g.W.CellSource.spent c.args.work.now).faults (g.W.CellSource.spent c.seek.new.work).faults) c.from_residual.ensures.1
+    (bad_run (g.W.CellSource.held c.loop-i.work) (g.W.CellSource.held c.args.work.now) c.args.runs.now c.loop-i.i (record { level = 0; slot = 0; len = 0 }) c.loop-i.start (g.W.CellSource.spent c.args.work.now).faults (g.W.CellSource.spent c.loop-i.work).faults (g.W.CellSource.spent c.seek.new.work).faults c.in_err-seat.field-0.0
+    c.loop-i.invariant.held_is c.loop-i.invariant.calm c.loop-i-test.true c.in_err-seat.ensures.cause)
+
+pub returns-clause-places : goal.returns-clause-places
+returns-clause-places g c = λ lists r. places_whole (g.W.CellSource.held c.args.work.now) c.args.runs.now lists c.loop-i.i c.args.key.now c.loop-i.start (map (λ x. x.place) c.loop-i.lines.items) _ r (omega arith) (c.loop-i.invariant.places lists r)

@@ -1,0 +1,5 @@
+pub mod Lines
+pub mod Passing
+pub mod Results
+pub mod Standing
+pub mod Seeking

@@ -1,0 +1,81 @@
+-- What calls on lines answer, seen as numbers and facts.
+use Rattle.std.specs.Prelude.{◌≡◌, ◌⊎◌, ℕ, cond, List, [], ◌∷◌, Option, None, Some, Result, Ok, Err, ⊤}
+use Rattle.std.specs.Ordering.{is_lt}
+use Rattle.arrayvec.specs.declared.array_vec.ArrayVec.{ArrayVec}
+use Rattle.cola_outside.specs.Faults.{Rose}
+use Rattle.cola_look.specs.Order.{key_cmp}
+use Rattle.cola_pairs.specs.Live.{below_end}
+use Rattle.cola_cell.specs.Cell.{key_of}
+use Rattle.cola_cell.specs.declared.fault.ReadFault.TheVariants.{Device, BadCell}
+use Rattle.cola_cursor.specs.declared.lines.Step.{Step}
+use Rattle.cola_cell.specs.declared.cell.Cell.{Cell}
+use Rattle.cola_cell.specs.declared.cell.Cell.TheVariants as cell
+use Rattle.cola_cell.specs.declared.cell.Item.{Item}
+use Rattle.cola_cell.specs.declared.fault.ReadFault.{ReadFault}
+use Rattle.cola_cell.specs.Held.{Held}
+use Rattle.cola_cursor.specs.declared.line.Line.{Line}
+use Rattle.cola_cursor.specs.declared.line.Passed.{Passed}
+use Rattle.cola_cursor.specs.Lines.{LineFits, IsReady, left_of, all_left, HasBadAhead}
+
+-- a line with its next cell read
+pub record Fetches (held : Held) (old new : Line) : Type 0 where
+  pub run_is : new.run ≡ old.run
+  pub place_is : new.place ≡ old.place
+  pub keeps : (cell : Cell) → old.head ≡ Some cell → new.head ≡ Some cell
+  pub fits : LineFits held new
+  pub ready : IsReady new
+
+-- what a line has still to read after a call: nothing is asked of a refused one
+abbrev pub left_after : Result Line ReadFault → ℕ
+left_after (Ok line) = left_of line
+left_after (Err fault) = 0
+
+abbrev pub left_passed : Result Passed ReadFault → ℕ
+left_passed (Ok passed) = left_of passed.line
+left_passed (Err fault) = 0
+
+-- the item of a head
+abbrev pub item_of : Option Cell → Option Item
+item_of None = None
+item_of (Some (cell.Item key item young link)) = Some item
+item_of (Some (cell.Look key link)) = None
+
+-- lines with their next cells read, one by one
+abbrev pub FetchAll : Held → List Line → List Line → Type 0
+FetchAll held [] [] = ⊤
+FetchAll held [] (new ∷ news) = ⊥
+FetchAll held (old ∷ olds) [] = ⊥
+FetchAll held (old ∷ olds) (new ∷ news) = Fetches held old new × FetchAll held olds news
+
+abbrev pub left_fetched : Result (ArrayVec Line 23 Unit) ReadFault → ℕ
+left_fetched (Ok lines) = all_left lines.items
+left_fetched (Err fault) = 0
+
+abbrev pub left_stepped : Result Step ReadFault → ℕ
+left_stepped (Ok step) = all_left step.lines.items
+left_stepped (Err fault) = 0
+
+-- a cell that one of the lines has still to read whose bytes spell none, and its number
+abbrev pub HasBadLine : Held → ℕ → List Line → Type 0
+HasBadLine held number [] = ⊥
+HasBadLine held number (line ∷ lines) = HasBadAhead held line number ⊎ HasBadLine held number lines
+
+-- the cause of a refused call on lines: the count of faults rose, or a cell ahead is bad
+abbrev pub LinesCause : Held → List Line → ℕ → ℕ → ReadFault → Type 0
+LinesCause held lines before now Device = Rose before now
+LinesCause held lines before now (BadCell number) = HasBadLine held number lines
+
+-- the lesser of two keys, where there is a first
+abbrev pub lesser : Option (List ℕ) → List ℕ → Option (List ℕ)
+lesser None k = Some k
+lesser (Some l) k = cond (is_lt (key_cmp k l)) (Some k) (Some l)
+
+-- the same with the key of a head, where that is below the upper end
+abbrev pub lowered : Option (List ℕ) → Option (List ℕ) → Option Cell → Option (List ℕ)
+lowered end least None = least
+lowered end least (Some cell) = cond (below_end key_cmp end (key_of cell)) (lesser least (key_of cell)) least
+
+-- the least key of the heads below the upper end, if there is one, and of one more key
+abbrev pub least_from : Option (List ℕ) → Option (List ℕ) → List Line → Option (List ℕ)
+least_from end least [] = least
+least_from end least (line ∷ lines) = least_from end (lowered end least line.head) lines
