@@ -7,7 +7,7 @@ ghost use Rattle.cola_device.specs.Bytes.{HasRange, Wrote};
 ghost use Rattle.cola_device.specs.Counts.{Called};
 ghost use Rattle.cola_front.specs.Front.{FrontCells, IsFront, SameShape, IsLoaded, cell_at, cell_bytes, block_size, image, InOrder, new_front, stored_all, second_block};
 
-use crate::block::{know_spelling, take_cells};
+use crate::block::{know_spelling, put_cells, put_header, take_cells};
 use cola_cell::{Cell, Format, Item};
 use cola_device::{Device, DeviceFault, MAX_TRANSFER};
 use std::alloc::{AllocError, Global};
@@ -164,5 +164,49 @@ impl Front {
     {
         know_spelling(self.format, cell);
         self.cells[place as usize] = Some(*cell);
+    }
+
+    /// Fills a block with the bytes of block 1.
+    fn put_second(&self, block: &mut [u8])
+        requires { length block.old ≡ block_size self.now }
+        ensures put { block.new ≡ second_block self.now }
+        ensures many { length block.new ≡ block_size self.now }
+        ensures sound { IsFront self.now }
+    {
+        put_cells(self.format, block, &self.cells, self.block, self.block);
+    }
+
+    /// Fills a block with the bytes of block 0: the header, and what stands behind it.
+    fn put_first(&self, header: &[u8; 512], block: &mut [u8])
+        requires { length block.old ≡ block_size self.now }
+        ensures put { block.new ≡ header.now ++ drop 512 (stored_all self.now.format (take self.now.block self.now.cells)) }
+        ensures many { length block.new ≡ block_size self.now }
+    {
+        put_cells(self.format, block, &self.cells, 0, self.block);
+        put_header(block, header);
+    }
+
+    /// Writes block 1, then block 0 with the header as its first 512 bytes. Places without a cell are stored as zeros,
+    /// and so are the bytes between the header and cell 8. After a refusal both blocks may have any bytes, but block 0
+    /// stays where block 1 was not written.
+    pub fn store<D: Device>(&self, device: &mut D, header: &[u8; 512]) -> Result<(), DeviceFault>
+        requires { HasRange (D.bytes device.old) 0 (2 * block_size self.now) }
+        ensures wrote { Wrote result 0 (image self.now header.now) (D.bytes device.old) (D.bytes device.new) }
+        ensures in_order { Both (D.bytes device.old) (D.bytes device.new) (InOrder result self.now) }
+        ensures kept { D.kept device.new ≡ D.kept device.old }
+        ensures counts { Called (D.counts device.old) (D.counts device.new) 0 2 result }
+        ensures sound { IsFront self.now }
+    {
+        let size = self.block_bytes();
+        let mut room = [0u8; MAX_TRANSFER];
+        let block = &mut room[..size];
+        self.put_second(block);
+        match device.write(size as u64, block) {
+            Ok(()) => {
+                self.put_first(header, block);
+                device.write(0, block)
+            }
+            Err(fault) => Err(fault),
+        }
     }
 }

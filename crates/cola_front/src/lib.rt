@@ -3,5 +3,6 @@
 
 mod block;
 mod front;
+pub mod laws;
 
 pub use front::Front;
