@@ -1,0 +1,4 @@
+pub mod FrontLemmas
+pub mod Stored
+pub mod Image
+pub mod Writes

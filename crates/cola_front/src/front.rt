@@ -1,0 +1,212 @@
+//! The front of a store: its blocks 0 and 1 in memory.
+ghost use Rattle.std.specs.Prelude.{◌≡◌, ◌⊎◌, ℕ, ◌+◌, ◌*◌, ◌^◌, ◌≤◌, ◌<◌, Option, None, Some, IfOk, IfSome, OnOk, OnErr, slice_set, length, take, drop, replicate, ◌++◌};
+ghost use Rattle.cola_outside.specs.Told.{Both};
+ghost use Rattle.cola_cell.specs.Format.{CellFits};
+ghost use Rattle.cola_cell.specs.Decoded.{decoded};
+ghost use Rattle.cola_device.specs.Bytes.{HasRange, Wrote};
+ghost use Rattle.cola_device.specs.Counts.{Called};
+ghost use Rattle.cola_front.specs.Front.{FrontCells, IsFront, SameShape, IsLoaded, cell_at, cell_bytes, block_size, image, InOrder, new_front, stored_all, second_block};
+
+use crate::block::{know_spelling, put_cells, put_header, take_cells};
+use cola_cell::{Cell, Format, Item};
+use cola_device::{Device, DeviceFault, MAX_TRANSFER};
+use std::alloc::{AllocError, Global};
+use std::marker::Model;
+
+/// Blocks 0 and 1 of a store in memory: what stands at each place behind the header, by the number of the cell. Reads
+/// and writes of cells make no call of a device; `load` and `store` go block by block.
+#[derive(Drop)]
+pub struct Front {
+    format: Format,
+    block: usize,
+    cells: Vec<Option<Cell>>,
+}
+
+impl Model for Front {
+    ghost use Rattle.cola_front.specs.Front.{FrontCells, IsFront};
+
+    ghost Value = { FrontCells };
+
+    ghost view = { λ f. record {
+      format = f.format;
+      block = f.block;
+      cells = f.cells.items;
+    } };
+
+    ghost invariant = { λ f. IsFront (record {
+      format = f.format;
+      block = f.block;
+      cells = f.cells.items;
+    }) };
+}
+
+/// The number of cells of a block.
+fn cells_of_block(block_exp: u8) -> usize
+    requires least { 3 ≤ block_exp }
+    requires most { block_exp ≤ 9 }
+    ensures value { result ≡ 2 ^ block_exp }
+    ensures some { 8 ≤ result }
+    ensures few { result ≤ 512 }
+{
+    1 << block_exp
+}
+
+/// So many places without a cell.
+fn no_cells(alloc: Global, many: usize) -> Result<Vec<Option<Cell>>, AllocError>
+    ensures { IfOk result (λ cells. cells.items ≡ replicate many None) }
+{
+    let _item: Option<Item> = None;
+    let none: Option<Cell> = None;
+    vec![in alloc; none; many]
+}
+
+impl Front {
+    /// A front without a cell, of two blocks of `2^block_exp` cells. An error comes only for want of memory, and no
+    /// other call takes memory.
+    pub fn new(alloc: Global, block_exp: u8, format: Format) -> Result<Front, AllocError>
+        requires least { 3 ≤ block_exp }
+        requires most { block_exp ≤ 9 }
+        ensures { IfOk result (λ front. front ≡ new_front block_exp format) }
+    {
+        let block = cells_of_block(block_exp);
+        let cells = no_cells(alloc, 2 * block)?;
+        Ok(Front {
+            format,
+            block,
+            cells,
+        })
+    }
+
+    /// The size of a block, in bytes.
+    fn block_bytes(&self) -> usize
+        ensures value { result ≡ block_size self.now }
+        ensures most { result ≤ MAX_TRANSFER }
+        ensures least { 512 ≤ result }
+        ensures sound { IsFront self.now }
+    {
+        self.format.width() * self.block
+    }
+
+    /// Reads one of the two blocks, and takes the places from `from` on that lie in it.
+    fn load_block<D: Device>(
+        &mut self,
+        device: &mut D,
+        first: usize,
+        from: usize,
+    ) -> Result<(), DeviceFault>
+        requires inside { HasRange (D.bytes device.old) 0 (2 * block_size self.old) }
+        requires begin { first ≤ from }
+        requires behind { 8 ≤ from }
+        requires number { first ≡ 0 ⊎ first ≡ self.old.block }
+        requires end { from ≤ first + self.old.block }
+        ensures taken { OnOk result (IfSome (D.bytes device.old) (λ bytes. (place : ℕ) → from ≤ place → place < first + self.old.block → cell_at self.new place ≡ decoded self.old.format (cell_bytes self.old.format bytes place))) }
+        ensures below { (place : ℕ) → place < from → cell_at self.new place ≡ cell_at self.old place }
+        ensures stays { OnErr result (self.new ≡ self.old) }
+        ensures shape { SameShape self.old self.new }
+        ensures bytes_stay { D.bytes device.new ≡ D.bytes device.old }
+        ensures kept { D.kept device.new ≡ D.kept device.old }
+        ensures counts { Called (D.counts device.old) (D.counts device.new) 1 0 result }
+    {
+        let size = self.block_bytes();
+        let at = self.format.width() * first;
+        let to = first + self.block;
+        let mut room = [0u8; MAX_TRANSFER];
+        let block = &mut room[..size];
+        match device.read(at as u64, block) {
+            Ok(()) => {
+                take_cells(self.format, &mut self.cells, block, first, from, to);
+                Ok(())
+            }
+            Err(fault) => Err(fault),
+        }
+    }
+
+    /// Reads block 0, then block 1. Each place behind the header then has the cell that its bytes spell, or none where
+    /// they spell none. After a refusal nothing is said of the cells.
+    pub fn load<D: Device>(&mut self, device: &mut D) -> Result<(), DeviceFault>
+        requires { HasRange (D.bytes device.old) 0 (2 * block_size self.old) }
+        ensures loaded { OnOk result (IfSome (D.bytes device.old) (λ bytes. IsLoaded bytes self.new)) }
+        ensures shape { SameShape self.old self.new }
+        ensures bytes_stay { D.bytes device.new ≡ D.bytes device.old }
+        ensures kept { D.kept device.new ≡ D.kept device.old }
+        ensures counts { Called (D.counts device.old) (D.counts device.new) 2 0 result }
+    {
+        // It says that a block has the header's eight cells at least.
+        let _ = self.block_bytes();
+        match self.load_block(device, 0, 8) {
+            Ok(()) => {
+                let second = self.block;
+                self.load_block(device, second, second)
+            }
+            Err(fault) => Err(fault),
+        }
+    }
+
+    /// What stands at a place, which is the number of a cell behind the header: none exactly where its bytes spell no
+    /// cell.
+    pub fn read(&self, place: u64) -> Option<Cell>
+        requires behind_header { 8 ≤ place }
+        requires within { place < 2 * self.now.block }
+        ensures value { result ≡ cell_at self.now place }
+        ensures sound { IsFront self.now }
+    {
+        let _item: Option<Item> = None;
+        self.cells[place as usize]
+    }
+
+    /// Puts a cell at a place behind the header. The device has it after the next `store`.
+    pub fn write(&mut self, place: u64, cell: &Cell)
+        requires behind_header { 8 ≤ place }
+        requires within { place < 2 * self.old.block }
+        requires fits { CellFits self.old.format cell.now }
+        ensures after { self.new ≡ record self.old { cells = slice_set self.old.cells place (Some cell.now) } }
+        ensures sound { IsFront self.old }
+    {
+        know_spelling(self.format, cell);
+        self.cells[place as usize] = Some(*cell);
+    }
+
+    /// Fills a block with the bytes of block 1.
+    fn put_second(&self, block: &mut [u8])
+        requires { length block.old ≡ block_size self.now }
+        ensures put { block.new ≡ second_block self.now }
+        ensures many { length block.new ≡ block_size self.now }
+        ensures sound { IsFront self.now }
+    {
+        put_cells(self.format, block, &self.cells, self.block, self.block);
+    }
+
+    /// Fills a block with the bytes of block 0: the header, and what stands behind it.
+    fn put_first(&self, header: &[u8; 512], block: &mut [u8])
+        requires { length block.old ≡ block_size self.now }
+        ensures put { block.new ≡ header.now ++ drop 512 (stored_all self.now.format (take self.now.block self.now.cells)) }
+        ensures many { length block.new ≡ block_size self.now }
+    {
+        put_cells(self.format, block, &self.cells, 0, self.block);
+        put_header(block, header);
+    }
+
+    /// Writes block 1, then block 0 with the header as its first 512 bytes. Places without a cell are stored as zeros,
+    /// and so are the bytes between the header and cell 8. After a refusal both blocks may have any bytes, but block 0
+    /// stays where block 1 was not written.
+    pub fn store<D: Device>(&self, device: &mut D, header: &[u8; 512]) -> Result<(), DeviceFault>
+        requires { HasRange (D.bytes device.old) 0 (2 * block_size self.now) }
+        ensures wrote { Wrote result 0 (image self.now header.now) (D.bytes device.old) (D.bytes device.new) }
+        ensures in_order { Both (D.bytes device.old) (D.bytes device.new) (InOrder result self.now) }
+        ensures kept { D.kept device.new ≡ D.kept device.old }
+        ensures counts { Called (D.counts device.old) (D.counts device.new) 0 2 result }
+        ensures sound { IsFront self.now }
+    {
+        let size = self.block_bytes();
+        let mut room = [0u8; MAX_TRANSFER];
+        let block = &mut room[..size];
+        self.put_second(block);
+        match device.write(size as u64, block) {
+            Ok(()) => {
+                self.put_first(header, block);
+                device.write(0, block)
+            }
+            Err(fault) => Err(fault),
+        }
+    }
+}
