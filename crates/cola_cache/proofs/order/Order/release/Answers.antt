@@ -1,0 +1,12 @@
+use Rattle.std.proofs.Common.{refl, subst}
+use Rattle.cola_cache.specs.Order.{Holds}
+use Rattle.cola_cache.proofs.OrderLemmas.{holds-one}
+use Rattle.cola_cache.proofs.order.Order.release.Goals as goal
+
+pub returns-in-Some-clause-gone : goal.returns-in-Some-clause-gone
+returns-in-Some-clause-gone c = λ other held now.
+    let before = c.empty.ensures.same other held now in
+    (before.0, λ same. before.1 (holds-one c.args.buffer held c.in-Some.block c.args.self.now (subst (λ number. Holds c.args.self.now number held) same before.0) c.in-Some.ensures.some))
+
+pub returns-in-None-clause-gone : goal.returns-in-None-clause-gone
+returns-in-None-clause-gone c = λ other held now. (now, λ same. c.in-None.ensures.none refl held (subst (λ number. Holds c.args.self.now number held) same now))
