@@ -280,7 +280,16 @@ fn compare_all<W: CellSource, L: Ledger>(
     for low in 0..6u8 {
         compare(rt, alloc, work, runs, lists, 14 * low, None, steps)?;
         for high in 0..6u8 {
-            compare(rt, alloc, work, runs, lists, 14 * low, Some(14 * high), steps)?;
+            compare(
+                rt,
+                alloc,
+                work,
+                runs,
+                lists,
+                14 * low,
+                Some(14 * high),
+                steps,
+            )?;
         }
     }
     Ok(())
@@ -377,8 +386,26 @@ fn worked<L: Ledger>(rt: &impl Abort, alloc: Global, blank: Blank) -> Result<(),
     let pairs = [(22, 54), (23, 55), (24, 24)];
     gives_from(rt, &mut cells, &runs, 22, Some(25), &pairs, &mut steps)?;
     assert!(rt; cells.ticked() <= 100);
-    compare(rt, alloc, &mut cells, &runs, lists.as_slice(), 33, None, &mut steps)?;
-    compare(rt, alloc, &mut cells, &runs, lists.as_slice(), 9, Some(3), &mut steps)
+    compare(
+        rt,
+        alloc,
+        &mut cells,
+        &runs,
+        lists.as_slice(),
+        33,
+        None,
+        &mut steps,
+    )?;
+    compare(
+        rt,
+        alloc,
+        &mut cells,
+        &runs,
+        lists.as_slice(),
+        9,
+        Some(3),
+        &mut steps,
+    )
 }
 
 #[test]
