@@ -2,3 +2,4 @@ pub mod FrontLemmas
 pub mod Stored
 pub mod Image
 pub mod Writes
+pub mod Rooms

@@ -4,5 +4,7 @@
 mod block;
 mod front;
 pub mod laws;
+#[cfg(test)]
+mod tests;
 
 pub use front::Front;
