@@ -2,6 +2,8 @@
 #![tactic(auto)]
 
 mod order;
+#[cfg(test)]
+mod tests;
 
 pub use cached::Cached;
 
