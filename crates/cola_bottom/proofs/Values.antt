@@ -10,7 +10,7 @@ use Rattle.cola_cell.specs.declared.cell.Run.{Run}
 use Rattle.cola_cell.specs.Held.{Held, LawCell}
 use Rattle.cola_merge.specs.declared.merging.Merger.{Merger}
 use Rattle.cola_told.specs.Cells.{run_cells, shadow_cells}
-use Rattle.cola_merge.specs.Feeds.{key_cmp}
+use Rattle.cola_cell.specs.Order.{key_cmp}
 use Rattle.cola_merge.specs.Heads.{IsUsedUp, build_of}
 use Rattle.cola_merge.specs.Advance.{IsGoing}
 use Rattle.cola_told.proofs.CellLists.{length-cells}

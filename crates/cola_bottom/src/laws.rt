@@ -8,7 +8,7 @@ ghost use Rattle.cola_cell.specs.declared.cell.Run.{Run};
 ghost use Rattle.cola_cell.specs.Held.{Held};
 ghost use Rattle.cola_merge.specs.declared.merging.Merger.{Merger};
 ghost use Rattle.cola_told.specs.Cells.{run_cells, shadow_cells};
-ghost use Rattle.cola_merge.specs.Feeds.{key_cmp};
+ghost use Rattle.cola_cell.specs.Order.{key_cmp};
 ghost use Rattle.cola_merge.specs.Heads.{IsUsedUp};
 ghost use Rattle.cola_merge.specs.Advance.{IsGoing, whole_run};
 ghost use Rattle.cola_bottom.specs.Bottom.{bottom_of};

@@ -2,6 +2,7 @@ pub mod Bytes
 pub mod Cell
 pub mod Fault
 pub mod Format
+pub mod Order
 pub mod Spelling
 pub mod Places
 pub mod Held

@@ -29,7 +29,7 @@ pub enum Cell {
 }
 
 /// The run of the first `len` cells of a level's slot. A level has slots 0 and 1.
-#[derive(Clone, Copy, Debug, PartialEq, Eq, Drop)]
+#[derive(Clone, Copy, Debug, Default, PartialEq, Eq, Drop)]
 pub struct Run {
     pub level: u8,
     pub slot: u8,

@@ -10,7 +10,7 @@ use Rattle.cola_cell.specs.Spent.{Buffer, Search, Spent}
 use Rattle.cola_cell.specs.Listed.{IsRun}
 use Rattle.cola_cell.specs.Costs.{Costs}
 use Rattle.cola_look.specs.declared.seeking.Seat.{Seat}
-use Rattle.cola_look.specs.Order.{key_cmp}
+use Rattle.cola_cell.specs.Order.{key_cmp}
 use Rattle.cola_look.specs.Outcome.{Found, Answers}
 use Rattle.cola_look.specs.Runs.{HasRun, AreRuns}
 use Rattle.cola_look.specs.Seek.{as_seat, SeekCause}

@@ -9,7 +9,7 @@ use Rattle.cola_cell.specs.declared.cell.Run.{Run}
 use Rattle.cola_cell.specs.declared.fault.ReadFault.{ReadFault}
 use Rattle.cola_cell.specs.declared.fault.ReadFault.TheVariants.{Device, BadCell}
 use Rattle.cola_cell.specs.Held.{Held, LawCell, Stamped, as_item}
-use Rattle.cola_look.specs.Order.{key_cmp}
+use Rattle.cola_cell.specs.Order.{key_cmp}
 use Rattle.cola_look.specs.Runs.{AreRuns}
 use Rattle.cola_look.proofs.RunLists.{sampled_rise}
 use Rattle.cola_pairs.specs.Live.{live, with_answer, below_end}

@@ -7,7 +7,7 @@ use Rattle.cola_cell.specs.declared.cell.Cell.{Cell}
 use Rattle.cola_cell.specs.declared.cell.Cell.TheVariants as cell
 use Rattle.cola_cell.specs.Cell.{key_of}
 use Rattle.cola_cell.specs.Held.{as_cell}
-use Rattle.cola_look.specs.Order.{key_cmp}
+use Rattle.cola_cell.specs.Order.{key_cmp}
 
 pub key_same : (c : Cell) → laws.key_of (as_cell c) ≡ key_of c
 key_same (cell.Item key item young link) = refl

@@ -12,7 +12,7 @@ use Rattle.cola_cell.specs.declared.cell.Run.{Run}
 use Rattle.cola_cell.specs.Cell.{key_of}
 use Rattle.cola_cell.specs.Held.{Held, LawCell, as_cell, as_item}
 use Rattle.cola_cell.specs.Spent.{IsBad}
-use Rattle.cola_look.specs.Order.{key_cmp}
+use Rattle.cola_cell.specs.Order.{key_cmp}
 use Rattle.cola_look.specs.Runs.{AreRuns}
 use Rattle.cola_pairs.specs.Live.{live, with_answer, below_end}
 use Rattle.cola_pairs.specs.Walk.{AtHead, pass_key, pass_keys, first_passed, HeadsFrom, HeadsPast}

@@ -31,7 +31,7 @@ fn without_stamp(found: Option<(Key, Value, u64)>) -> Option<(Key, Value)>
 impl Cursor {
     ghost use Rattle.std.specs.Prelude.{◌≡◌, ◌+◌, ◌≤◌, ℕ, List, map, All, None, IfOk, IfErr, OnOk, OnErr, option_copied};
     ghost use Rattle.cola_cell.specs.Held.{LawCell, Stamped};
-    ghost use Rattle.cola_look.specs.Order.{key_cmp};
+    ghost use Rattle.cola_cell.specs.Order.{key_cmp};
     ghost use Rattle.cola_look.specs.Runs.{HasRun, AreRuns};
     ghost use Rattle.cola_pairs.specs.Live.{live, between};
     ghost use Rattle.cola_cell.specs.Spent.{ReadCalm};

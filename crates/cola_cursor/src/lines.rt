@@ -2,7 +2,7 @@
 ghost use Rattle.std.specs.Prelude.{◌≡◌, ◌+◌, ◌≤◌, length, None, IfOk, IfErr};
 ghost use Rattle.std.specs.List.{AllByRecursion};
 ghost use Rattle.cola_cell.specs.Spent.{ReadCalm};
-ghost use Rattle.cola_look.specs.Order.{key_cmp};
+ghost use Rattle.cola_cell.specs.Order.{key_cmp};
 ghost use Rattle.cola_pairs.specs.Live.{below_end};
 ghost use Rattle.cola_cursor.specs.Lines.{LineFits, IsReady, all_left, Reading};
 ghost use Rattle.cola_cursor.specs.Passing.{PassAll};

@@ -9,7 +9,6 @@ ghost use Rattle.cola_look.specs.Runs.{HasRun};
 ghost use Rattle.cola_cursor.specs.Standing.{Stands};
 
 use crate::cursor::Cursor;
-use crate::starts::seek_lines;
 use cola_cell::{Cell, CellSource, FlatCells, Item, Key, ReadFault, Run, Value};
 use cola_outside::Steps;
 use cola_pairs::plain::live_pairs;
@@ -183,24 +182,6 @@ fn lists_of(rt: &impl Abort, alloc: Global, seed: u32) -> Result<Vec<List>, Allo
     Ok(lists)
 }
 
-// A cursor as `Cursor::seek` begins it, over a list of runs that may be shorter than its own.
-fn begin<W: CellSource, L: Ledger>(
-    work: &mut W,
-    runs: &[Run],
-    lo: &Key,
-    hi: Option<&Key>,
-    steps: &mut Steps<L>,
-) -> Result<Cursor, ReadFault>
-    requires runs { AllByRecursion (HasRun (W.held work.old)) runs.now }
-    requires few { length runs.now ≤ 23 }
-    ensures stands { IfOk result (Stands (W.held work.new)) }
-    ensures cells_stay { W.held work.new ≡ W.held work.old }
-{
-    let lines = seek_lines(work, runs, lo, steps)?;
-    let end = hi.copied();
-    Ok(Cursor { lines, end })
-}
-
 // The cursor gives these pairs, one after the other, and then none.
 fn gives<W: CellSource, L: Ledger>(
     rt: &impl Abort,
@@ -226,14 +207,13 @@ fn gives<W: CellSource, L: Ledger>(
 fn gives_from<W: CellSource, L: Ledger>(
     rt: &impl Abort,
     work: &mut W,
-    runs: &[Run],
+    runs: &ArrayVec<Run, 23>,
     low: u8,
     high: Option<u8>,
     pairs: &[(u8, u8)],
     steps: &mut Steps<L>,
 ) -> Result<(), Fail>
-    requires runs { AllByRecursion (HasRun (W.held work.old)) runs.now }
-    requires few { length runs.now ≤ 23 }
+    requires runs { AllByRecursion (HasRun (W.held work.old)) runs.now.items }
     ensures { W.held work.new ≡ W.held work.old }
 {
     let lo = key_of(low).ok_or("no key")?;
@@ -241,7 +221,7 @@ fn gives_from<W: CellSource, L: Ledger>(
         Some(high) => key_of(high),
         None => None,
     };
-    let sought = begin(work, runs, &lo, hi.as_ref(), steps);
+    let sought = Cursor::seek(work, runs, &lo, hi.as_ref(), steps);
     let mut cursor = sought.ok().ok_or("refused")?;
     gives(rt, work, &mut cursor, pairs, steps)
 }
@@ -251,14 +231,13 @@ fn compare<W: CellSource, L: Ledger>(
     rt: &impl Abort,
     alloc: Global,
     work: &mut W,
-    runs: &[Run],
+    runs: &ArrayVec<Run, 23>,
     lists: &[List],
     low: u8,
     high: Option<u8>,
     steps: &mut Steps<L>,
 ) -> Result<(), Fail>
-    requires runs { AllByRecursion (HasRun (W.held work.old)) runs.now }
-    requires few { length runs.now ≤ 23 }
+    requires runs { AllByRecursion (HasRun (W.held work.old)) runs.now.items }
     ensures { W.held work.new ≡ W.held work.old }
 {
     let pairs = live_pairs(alloc, lists, &low, &high)?;
@@ -271,13 +250,12 @@ fn compare_all<W: CellSource, L: Ledger>(
     rt: &impl Abort,
     alloc: Global,
     work: &mut W,
-    runs: &[Run],
+    runs: &ArrayVec<Run, 23>,
     lists: &[List],
     seed: u8,
     steps: &mut Steps<L>,
 ) -> Result<(), Fail>
-    requires runs { AllByRecursion (HasRun (W.held work.old)) runs.now }
-    requires few { length runs.now ≤ 23 }
+    requires runs { AllByRecursion (HasRun (W.held work.old)) runs.now.items }
 {
     let below = seed % 14;
     let above = 2 * (seed / 14 % 7);

@@ -27,7 +27,7 @@ use Rattle.cola_cell.specs.Costs.{Costs}
 use Rattle.cola_cell.proofs.CostsLemmas.{costs_none, costs_read_then, costs_within}
 use Rattle.cola_cell.proofs.RunLemmas.{told_same}
 use Rattle.cola_look.specs.declared.seeking.Seat.{Seat}
-use Rattle.cola_look.specs.Order.{key_cmp}
+use Rattle.cola_cell.specs.Order.{key_cmp}
 use Rattle.cola_look.specs.Outcome.{Outcome, Found, BadAt, Open, Answers}
 use Rattle.cola_look.specs.Seek.{first_of, last_of, is_passed, first_stop, seat_at, found_at, found_end, found_from, found_in, seat_of_key, as_seat, SeekCause, turns_from}
 use Rattle.cola_look.specs.Turns.{groups, turns_left}

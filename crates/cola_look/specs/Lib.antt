@@ -1,4 +1,3 @@
-pub mod Order
 pub mod Outcome
 pub mod Runs
 pub mod Seek

@@ -15,7 +15,7 @@ use Rattle.cola_cell.specs.Places.{number_of}
 use Rattle.cola_cell.specs.Held.{Held, Spot, Untold, Bad, Told, LawCell, Stamped, as_item}
 use Rattle.cola_cell.specs.Spent.{IsBad}
 use Rattle.cola_look.specs.declared.seeking.Seat.{Seat}
-use Rattle.cola_look.specs.Order.{key_cmp}
+use Rattle.cola_cell.specs.Order.{key_cmp}
 use Rattle.cola_look.specs.Outcome.{Outcome, Found, BadAt, Open}
 
 -- the first index that a search may read, and the index after the last: at most 8 cells, and none past the length

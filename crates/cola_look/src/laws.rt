@@ -10,7 +10,7 @@ ghost use Rattle.cola_cell.specs.Places.{Block, block_of};
 ghost use Rattle.cola_cell.specs.Held.{Held, LawCell, span};
 ghost use Rattle.cola_cell.specs.Spent.{Spent, Buffer, Reads};
 ghost use Rattle.cola_cell.specs.Listed.{IsRun};
-ghost use Rattle.cola_look.specs.Order.{key_cmp};
+ghost use Rattle.cola_cell.specs.Order.{key_cmp};
 ghost use Rattle.cola_look.specs.Runs.{HasRun};
 ghost use Rattle.cola_look.specs.Stops.{StopsAtPlaces};
 ghost use Rattle.cola_look.specs.Turns.{turns_left};

@@ -6,7 +6,7 @@ ghost use Rattle.cola_cell.specs.Held.{LawCell, as_cell};
 ghost use Rattle.cola_cell.specs.Listed.{IsRun};
 ghost use Rattle.cola_cell.specs.Spent.{Buffer, Search, ReadCalm};
 ghost use Rattle.cola_cell.specs.Costs.{Costs};
-ghost use Rattle.cola_look.specs.Order.{key_cmp};
+ghost use Rattle.cola_cell.specs.Order.{key_cmp};
 ghost use Rattle.cola_look.specs.Outcome.{Found, Answers};
 ghost use Rattle.cola_look.specs.Runs.{HasRun};
 ghost use Rattle.cola_look.specs.Seek.{found_in, seat_at, seat_of_key, as_seat, SeekCause, turns_from};

@@ -25,7 +25,8 @@ use Rattle.cola_merge.specs.declared.aims.Progress.{Progress}
 use Rattle.cola_merge.specs.declared.aims.Progress.TheVariants.{Done, More}
 use Rattle.cola_merge.specs.declared.merging.Merger.{Merger}
 use Rattle.cola_told.specs.Cells.{cell_at, shadow_cells}
-use Rattle.cola_merge.specs.Feeds.{key_cmp, part_of, feed_of, feed_len, feed_spots, feed_cells, feed_keys, IsFeedTold, IsBadAt}
+use Rattle.cola_cell.specs.Order.{key_cmp}
+use Rattle.cola_merge.specs.Feeds.{part_of, feed_of, feed_len, feed_spots, feed_cells, feed_keys, IsFeedTold, IsBadAt}
 use Rattle.cola_merge.specs.Heads.{fresh, fresh_head, head_of, missing_head, missing, fetched_of, fetched, IsReady, IsUsedUp, AreFeedsTold, build_of}
 use Rattle.cola_merge.specs.Rules.{next_action, Emits}
 use Rattle.cola_merge.specs.Blocks.{blocks_left}

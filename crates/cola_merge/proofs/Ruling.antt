@@ -23,7 +23,8 @@ use Rattle.cola_merge.specs.declared.aims.Feed.TheVariants as feed
 use Rattle.cola_merge.specs.declared.aims.Aim.{Aim}
 use Rattle.cola_merge.specs.declared.merging.Merger.{Merger}
 use Rattle.cola_told.specs.Cells.{cell_at}
-use Rattle.cola_merge.specs.Feeds.{key_cmp, part_of, feed_len, feed_spots, feed_cells, feed_keys, IsFeedTold, IsFeed}
+use Rattle.cola_cell.specs.Order.{key_cmp}
+use Rattle.cola_merge.specs.Feeds.{part_of, feed_len, feed_spots, feed_cells, feed_keys, IsFeedTold, IsFeed}
 use Rattle.cola_merge.specs.Heads.{IsHeldCell, IsReady, IsUsedUp, AreFetched, AreFeedsTold, build_of}
 use Rattle.cola_merge.specs.Rules.{next_action}
 use Rattle.cola_told.proofs.CellLists.{get-cells, past-cells}

@@ -20,7 +20,8 @@ use Rattle.cola_merge.specs.declared.aims.Aim.{Aim}
 use Rattle.cola_merge.specs.declared.heads.Head.{Head}
 use Rattle.cola_merge.specs.declared.merging.Merger.{Merger}
 use Rattle.cola_told.specs.Cells.{shadow_cells}
-use Rattle.cola_merge.specs.Feeds.{key_cmp, part_of, feed_of, feed_len, read_len, feed_cells, feed_keys, IsFeed}
+use Rattle.cola_cell.specs.Order.{key_cmp}
+use Rattle.cola_merge.specs.Feeds.{part_of, feed_of, feed_len, read_len, feed_cells, feed_keys, IsFeed}
 use Rattle.cola_merge.specs.Heads.{head_at, head_of, with_head, consumed, IsHeldCell, IsReady, AreFetched, missing_head, missing, held_head, fetched_of, fetched, AreFeedsTold, build_of}
 use Rattle.cola_merge.specs.Rules.{as_head, next_action, Emits, HeadFits}
 use Rattle.cola_merge.specs.Blocks.{Lasts, feed_left, blocks_left}

@@ -14,7 +14,8 @@ use Rattle.cola_cell.specs.Held.{Fixed, LawCell, Stamped, IsTelling}
 use Rattle.cola_cell.specs.Spent.{Spent}
 use Rattle.cola_cell.proofs.RunLemmas.{telling_stays}
 use Rattle.cola_merge.specs.declared.aims.Aim.{Aim}
-use Rattle.cola_merge.specs.Feeds.{key_cmp, part_of, read_len, feed_cells, feed_keys}
+use Rattle.cola_cell.specs.Order.{key_cmp}
+use Rattle.cola_merge.specs.Feeds.{part_of, read_len, feed_cells, feed_keys}
 use Rattle.cola_merge.specs.Heads.{consumed, IsReady, missing, fetched, AreFeedsTold, build_of}
 use Rattle.cola_merge.specs.Blocks.{blocks_left}
 use Rattle.cola_merge.specs.States.{Spends, State, len_of, Goes, Took, Refused, StepCause, StepCalm, failed_push}

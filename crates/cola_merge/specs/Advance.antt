@@ -13,7 +13,8 @@ use Rattle.cola_merge.specs.declared.aims.Progress.{Progress}
 use Rattle.cola_merge.specs.declared.aims.Progress.TheVariants.{Done, More}
 use Rattle.cola_merge.specs.declared.merging.Merger.{Merger}
 use Rattle.cola_told.specs.Cells.{shadow_cells, IsShadowTold}
-use Rattle.cola_merge.specs.Feeds.{key_cmp, part_of, read_len, feed_cells, feed_keys}
+use Rattle.cola_cell.specs.Order.{key_cmp}
+use Rattle.cola_merge.specs.Feeds.{part_of, read_len, feed_cells, feed_keys}
 use Rattle.cola_merge.specs.Heads.{consumed, IsUsedUp, AreFeedsTold, build_of}
 use Rattle.cola_merge.specs.States.{State, StepCause, StepCalm, failed_push}
 

@@ -1,8 +1,5 @@
 -- What the feeds of a merge are, and which part it builds.
 use Rattle.std.specs.Prelude.{ℕ, ◌≢◌, ◌⊎◌, ◌+◌, ◌*◌, ◌/◌, ◌<◌, ◌≤◌, Bool, true, false, List, map, ⊤}
-use Rattle.std.specs.declared.cmp.Ordering.{Ordering}
-use Rattle.std.specs.Ordering.{nat_cmp}
-use Rattle.std.specs.Cmp.Lexicographic.{slice_cmp}
 use Rattle.cola_clock.specs.declared.state.Part as clock
 use Rattle.cola_clock.specs.declared.state.Part.TheVariants.{All, Young}
 use Rattle.cola_runs.specs.Cells.{key_of}
@@ -18,10 +15,6 @@ use Rattle.cola_merge.specs.declared.aims.Feed.{Feed}
 use Rattle.cola_merge.specs.declared.aims.Feed.TheVariants as feed
 use Rattle.cola_merge.specs.declared.aims.Aim.{Aim}
 use Rattle.cola_told.specs.Cells.{cells, AreTold}
-
--- the order of keys
-abbrev pub key_cmp : List ℕ → List ℕ → Ordering
-key_cmp = slice_cmp nat_cmp
 
 -- only the young items are taken
 abbrev pub takes_young : clock.Part → Bool

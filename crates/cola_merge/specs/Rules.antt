@@ -13,7 +13,8 @@ use Rattle.cola_cell.specs.Held.{Stamped, as_cell}
 use Rattle.cola_merge.specs.declared.aims.Aim.{Aim}
 use Rattle.cola_merge.specs.declared.rules.Choice.{Choice}
 use Rattle.cola_merge.specs.declared.merging.Merger.{Merger}
-use Rattle.cola_merge.specs.Feeds.{key_cmp, part_of}
+use Rattle.cola_cell.specs.Order.{key_cmp}
+use Rattle.cola_merge.specs.Feeds.{part_of}
 
 -- the head that a reader reads
 abbrev pub as_head : Reader → laws.Head

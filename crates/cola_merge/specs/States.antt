@@ -25,7 +25,8 @@ use Rattle.cola_merge.specs.declared.aims.Progress.TheVariants.{Done, More}
 use Rattle.cola_merge.specs.declared.heads.Head.{Head}
 use Rattle.cola_merge.specs.declared.merging.Merger.{Merger}
 use Rattle.cola_told.specs.Cells.{shadow_cells, IsShadowTold}
-use Rattle.cola_merge.specs.Feeds.{key_cmp, part_of, feed_of, read_len, feed_cells, feed_keys, IsBadAt}
+use Rattle.cola_cell.specs.Order.{key_cmp}
+use Rattle.cola_merge.specs.Feeds.{part_of, feed_of, read_len, feed_cells, feed_keys, IsBadAt}
 use Rattle.cola_merge.specs.Heads.{head_of, consumed, IsHead, IsReady, IsUsedUp, IsFetched, AreFetched, missing_head, missing, fetched_of, fetched, AreFeedsTold, build_of}
 use Rattle.cola_merge.specs.Blocks.{Lasts, is_last, feed_left, blocks_left}
 use Rattle.cola_merge.specs.Rules.{next_action, Emits}

@@ -8,7 +8,8 @@ ghost use Rattle.cola_cell.specs.Cell.{key_of};
 ghost use Rattle.cola_cell.specs.declared.cell.Cell.{Cell};
 ghost use Rattle.cola_cell.specs.declared.cell.Reader.{Reader};
 ghost use Rattle.cola_cell.specs.Held.{as_cell};
-ghost use Rattle.cola_merge.specs.Feeds.{key_cmp, part_of};
+ghost use Rattle.cola_cell.specs.Order.{key_cmp};
+ghost use Rattle.cola_merge.specs.Feeds.{part_of};
 ghost use Rattle.cola_merge.specs.Rules.{as_head, as_action, HeadFits, ChoiceFits};
 
 use crate::aims::Aim;

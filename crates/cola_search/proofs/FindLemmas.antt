@@ -19,7 +19,7 @@ use Rattle.cola_cell.specs.Listed.{IsRun}
 use Rattle.cola_cell.specs.Costs.{Costs}
 use Rattle.cola_cell.proofs.CostsLemmas.{costs_none, costs_then, costs_within}
 use Rattle.cola_look.specs.declared.seeking.Seat.{Seat}
-use Rattle.cola_look.specs.Order.{key_cmp}
+use Rattle.cola_cell.specs.Order.{key_cmp}
 use Rattle.cola_look.specs.Outcome.{Outcome, Found, BadAt, Open, and_then, Answers}
 use Rattle.cola_look.specs.Runs.{AreRuns}
 use Rattle.cola_look.specs.Seek.{found_in, as_seat, SeekCause, turns_from}

@@ -6,7 +6,7 @@ ghost use Rattle.cola_runs.specs.Seen.{answer};
 ghost use Rattle.cola_cell.specs.Held.{LawCell, as_item};
 ghost use Rattle.cola_cell.specs.Spent.{Buffer, Search, ReadCalm};
 ghost use Rattle.cola_cell.specs.Costs.{Costs};
-ghost use Rattle.cola_look.specs.Order.{key_cmp};
+ghost use Rattle.cola_cell.specs.Order.{key_cmp};
 ghost use Rattle.cola_look.specs.Outcome.{Found, Answers};
 ghost use Rattle.cola_look.specs.Runs.{HasRun, AreRuns};
 ghost use Rattle.cola_search.specs.Find.{length_of_first, found_in_runs, BeginsNear, FindCause};

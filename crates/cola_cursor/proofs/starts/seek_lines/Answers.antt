@@ -3,7 +3,7 @@ use Rattle.std.specs.List.{AllByRecursion}
 use Rattle.cola_cell.specs.declared.cell.Run.{Run}
 use Rattle.cola_cell.specs.Held.{Held, LawCell}
 use Rattle.cola_cell.specs.Listed.{IsRun}
-use Rattle.cola_look.specs.Order.{key_cmp}
+use Rattle.cola_cell.specs.Order.{key_cmp}
 use Rattle.cola_look.specs.Outcome.{Found, Answers}
 use Rattle.cola_look.specs.Runs.{HasRun}
 use Rattle.cola_look.specs.Seek.{as_seat}

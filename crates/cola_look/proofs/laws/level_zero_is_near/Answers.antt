@@ -1,7 +1,7 @@
 use Rattle.std.proofs.Common.{◌≡◌, ap, arith}
 use Rattle.cola_runs.proofs.Searches.{place_in}
 use Rattle.cola_cell.specs.Places.{slot_size}
-use Rattle.cola_look.specs.Order.{key_cmp}
+use Rattle.cola_cell.specs.Order.{key_cmp}
 use Rattle.cola_look.proofs.laws.level_zero_is_near.Goals as goal
 
 pub returns : goal.returns

@@ -1,7 +1,7 @@
 use Rattle.std.proofs.Common.{ℕ, List, Option, sym, subst, ◌+◌, ◌*◌, ◌≤◌, ◌∙◌, length}
 use Rattle.cola_cell.specs.declared.cell.Run.{Run}
 use Rattle.cola_cell.specs.Held.{Held}
-use Rattle.cola_look.specs.Order.{key_cmp}
+use Rattle.cola_cell.specs.Order.{key_cmp}
 use Rattle.cola_look.specs.Runs.{HasRun, AreRuns}
 use Rattle.cola_pairs.specs.Live.{live, between}
 use Rattle.cola_cursor.specs.declared.cursor.Cursor.{Cursor}
