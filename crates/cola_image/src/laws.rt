@@ -6,10 +6,12 @@ ghost use Rattle.cola_cell.specs.Held.{Spots};
 ghost use Rattle.cola_clock.specs.Marks.{Marks};
 ghost use Rattle.cola_layout.specs.Geometry.{IsBottom};
 ghost use Rattle.cola_layout.specs.Header.{Fields, IsSpelling};
-ghost use Rattle.cola_layout.specs.Marks.{no_marks};
+ghost use Rattle.cola_layout.specs.Marks.{all_numbers, no_marks};
 ghost use Rattle.cola_spec.specs.Bounds.{levels_of};
 ghost use Rattle.cola_spec.specs.Map.{Map, empty_map};
-ghost use Rattle.cola_image.specs.Standing.{AreRunsAlike, LevelsStandFor, HeaderStandsFor, FileStandsFor};
+ghost use Rattle.cola_image.specs.Cells.{file_spots};
+ghost use Rattle.cola_image.specs.Standing.{AreRunsAlike, AreRunsTold, LevelsStandFor, HeaderStandsFor, FileStandsFor};
+ghost use Rattle.cola_image.specs.Worked.{file_of_four, map_of_four, crowded_file, crowded_header};
 
 /// A file stands for one map at most.
 pub fn one_map_of_a_file()
@@ -35,4 +37,19 @@ pub fn empty_file_stands()
 /// accesses are counted are those of its file.
 pub fn levels_are_counted()
     ensures { (keys bottom : ℕ) → IsBottom keys bottom → levels_of keys ≡ bottom + 1 }
+{}
+
+/// A worked file, byte by byte: of a store for 32 keys after four puts, of the keys k01 to k04 with the values 1 to 4. It
+/// stands for the map of these four.
+pub fn worked_file_stands()
+    ensures { FileStandsFor file_of_four map_of_four }
+{}
+
+/// A worked file that stands for no map, though its first 512 bytes spell the header of a closed file, and it is as long
+/// as that says: its level 0 is full of old items at clock 0.
+pub fn full_top_stands_for_nothing()
+    ensures spelled { IsSpelling crowded_header (take 512 crowded_file) }
+    ensures whole { width crowded_header.format * 2 ^ (crowded_header.bottom + 4) ≤ length crowded_file }
+    ensures told { AreRunsTold (file_spots crowded_header.format crowded_file) crowded_header.clock 0 (all_numbers crowded_header.levels) }
+    ensures none { (m : Map) → ¬ FileStandsFor crowded_file m }
 {}
