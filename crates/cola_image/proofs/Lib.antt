@@ -1,6 +1,6 @@
 pub mod CellsLemmas
 pub mod PlainLemmas
 pub mod StandingLemmas
-pub mod WorkedHeaders
+pub mod WorkedNothing
 pub mod WorkedMaps
 pub mod WorkedFiles

@@ -1,92 +1,211 @@
--- The worked files: which cells they tell, and which maps they stand for.
-use Rattle.std.proofs.Common.{◌≡◌, ℕ, zero, suc, ◌+◌, ◌-◌, ◌*◌, ◌^◌, ◌≤◌, ◌<◌, true, false, List, [], ◌∷◌, length, take, Option, None, refl, sym, subst, arith}
-use Rattle.cola_cell.specs.Format.{width}
+-- The worked files after four, eight and eleven puts: their headers, the cells that they tell, and the levels that these
+-- make are those of the plain program of the laws, which is sound for the map after the puts.
+use Rattle.std.proofs.Common.{◌≡◌, ℕ, zero, suc, ◌+◌, ◌-◌, ◌*◌, ◌^◌, ◌≤◌, ◌<◌, inl, inr, Bool, true, false, ◌&&◌, List, [], ◌∷◌, length, take, map, Option, None, refl, sym, ap, subst, ◌∙◌, arith}
 use Rattle.std.specs.Cmp.Lexicographic.{nat_list_cmp_total}
-use Rattle.cola_cell.specs.Held.{Spot, Stamped}
+use Rattle.std.proofs.lemmas.Bool.{cases_lt}
+use Rattle.cola_cell.specs.declared.format.Format.TheVariants.{One}
+use Rattle.cola_cell.specs.Held.{Spot, Spots, Untold, Bad, Told, Stamped}
 use Rattle.cola_clock.specs.Clock.{period, is_odd, visible_slot, works, flips, ends, elapsed, window_step, window_length}
+use Rattle.cola_clock.specs.Marks.{Marks, AreChainMarks}
 use Rattle.cola_runs.specs.Weave.{weave, unlinked}
 use Rattle.cola_runs.specs.Steps.{step}
 use Rattle.cola_laws.specs.Chain.{Level}
-use Rattle.cola_laws.specs.Plain.{empty_levels, worked, built, all_mutated, all_updated, IsSoundChain}
-use Rattle.cola_laws.specs.Slots.{levels_of}
+use Rattle.cola_laws.specs.Plain.{empty_levels, worked, built, all_mutated, all_updated, clock_after, IsSoundChain}
+use Rattle.cola_laws.specs.Slots.{levels_of, all_marks_of}
 use Rattle.cola_laws.proofs.Empty.{empty-sound}
+use Rattle.cola_laws.proofs.InSlots.{sound-marks}
 use Rattle.cola_laws.proofs.Programs.{runs-sound}
-use Rattle.cola_layout.specs.Header.{Fields}
-use Rattle.cola_layout.specs.Marks.{all_numbers}
-use Rattle.cola_layout.proofs.Refusing.{spelling-one}
-use Rattle.cola_spec.specs.Map.{Map, key_cmp}
+use Rattle.cola_layout.specs.declared.marks.Marks as layout
+use Rattle.cola_layout.specs.Header.{Fields, IsSpelling, IsSound, header_bytes, head_bytes, marks_bytes}
+use Rattle.cola_layout.specs.Marks.{all_numbers, no_marks}
+use Rattle.cola_spec.specs.Map.{key_cmp}
 use Rattle.cola_told.specs.Cells.{IsTold, AreTold}
 use Rattle.cola_image.specs.Cells.{file_spots, slot_cells}
-use Rattle.cola_image.specs.Standing.{found_in, AreRunsTold, HeaderStandsFor, FileStandsFor}
-use Rattle.cola_image.specs.Worked.{file_of_four, header_of_four, map_of_four, crowded_file, crowded_header}
-use Rattle.cola_image.proofs.WorkedHeaders.{crowded-spelled, four-spelled}
-use Rattle.cola_image.proofs.WorkedMaps.{four_changes, four-found, four-count, four-is_map, four-few}
+use Rattle.cola_image.specs.Standing.{found_in, AreRunsTold, FileStandsFor}
+use Rattle.cola_image.specs.Worked.{marks, header_of, puts_to, map_after, file_of_four, file_of_eight, file_of_eleven}
+use Rattle.cola_image.proofs.WorkedMaps.{and-both, change_of, found-is, all-put, all-fit, all-rise, keys-of, count-is, is-map, stays-few}
 
--- a file has all its cells
-pub crowded-whole : width crowded_header.format * 2 ^ (crowded_header.bottom + 4) ≤ length crowded_file
-crowded-whole = let long : length crowded_file ≡ 8192 = refl in omega (arith, long)
+-- ---- a test of told cells
 
--- no cell
-none-told : (spots : ℕ → Spot) → AreTold spots 0
-none-told spots i h = absurd (omega (arith, h))
+is-told : Spot → Bool
+is-told Untold = false
+is-told Bad = false
+is-told (Told c) = true
 
-crowded-told-top : AreTold (file_spots crowded_header.format crowded_file 0 0) 4
-crowded-told-top zero h = refl
-crowded-told-top (suc zero) h = refl
-crowded-told-top (suc (suc zero)) h = refl
-crowded-told-top (suc (suc (suc zero))) h = refl
-crowded-told-top (suc (suc (suc (suc i)))) h = absurd (omega (arith, h))
+told-by-test : (s : Spot) → is-told s ≡ true → IsTold s
+unfolding is-told
+told-by-test Untold h = cc
+told-by-test Bad h = cc
+told-by-test (Told c) h = refl
 
-pub crowded-told : AreRunsTold (file_spots crowded_header.format crowded_file) crowded_header.clock 0 (all_numbers crowded_header.levels)
-unfolding visible_slot period
-crowded-told = (crowded-told-top, none-told _, (none-told _, none-told _, (none-told _, none-told _, (none-told _, none-told _, tt))))
+slot-told : (ℕ → Spot) → ℕ → Bool
+slot-told spots zero = true
+slot-told spots (suc n) = is-told (spots n) && slot-told spots n
 
--- a full level 0 at clock 0 has more items than it may
-crowded-unsound : (m : Map) → ¬ IsSoundChain key_cmp 32 0 (found_in m) (levels_of (slot_cells (file_spots crowded_header.format crowded_file)) 0 0 (all_numbers crowded_header.levels))
-unfolding visible_slot period is_odd
-crowded-unsound m s = let many : 4 ≤ 2 = s.sound.visible.0.few_items in omega (arith, many)
+slot-by-test : (spots : ℕ → Spot) (n : ℕ) → slot-told spots n ≡ true → AreTold spots n
+unfolding slot-told
+slot-by-test spots zero h i below = absurd (omega (arith, below))
+slot-by-test spots (suc n) h i below =
+    let both = and-both (is-told (spots n)) (slot-told spots n) h in
+    elim (cases_lt i n) [
+      | inl before ↦ slot-by-test spots n both.1 i before
+      | inr last ↦ let here : n ≡ i = omega (arith, last, below) in subst (λ (k : ℕ). IsTold (spots k)) here (told-by-test (spots n) both.0)
+    ]
 
-pub crowded-none : (m : Map) → ¬ FileStandsFor crowded_file m
-crowded-none m stands =
-    let here : HeaderStandsFor crowded_header crowded_file m =
-    subst (λ (header : Fields). HeaderStandsFor header crowded_file m) (spelling-one stands.0 crowded_header (take 512 crowded_file) stands.1.spelled crowded-spelled) stands.1 in
-    crowded-unsound m here.levels.sound
+runs-told : Spots → ℕ → ℕ → List Marks → Bool
+runs-told spots t j [] = true
+runs-told spots t j (m ∷ below) = slot-told (spots j (visible_slot t j)) m.visible && slot-told (spots j (1 - visible_slot t j)) m.shadow && runs-told spots t (suc j) below
 
--- ---- the file after four puts
+runs-by-test : (spots : Spots) (t j : ℕ) (ms : List Marks) → runs-told spots t j ms ≡ true → AreRunsTold spots t j ms
+unfolding runs-told
+runs-by-test spots t j [] h = tt
+runs-by-test spots t j (m ∷ below) h =
+    let rest = and-both (slot-told (spots j (visible_slot t j)) m.visible && slot-told (spots j (1 - visible_slot t j)) m.shadow) (runs-told spots t (suc j) below) h in
+    let both = and-both (slot-told (spots j (visible_slot t j)) m.visible) (slot-told (spots j (1 - visible_slot t j)) m.shadow) rest.0 in (
+      slot-by-test (spots j (visible_slot t j)) m.visible both.0,
+      slot-by-test (spots j (1 - visible_slot t j)) m.shadow both.1,
+      runs-by-test spots t (suc j) below rest.1,
+    )
 
-pub four-whole : width header_of_four.format * 2 ^ (header_of_four.bottom + 4) ≤ length file_of_four
-four-whole = let long : length file_of_four ≡ 8192 = refl in omega (arith, long)
+-- ---- a file that tells the levels of the plain program
 
-two-told : (spots : ℕ → Spot) → IsTold (spots 0) → IsTold (spots 1) → AreTold spots 2
-two-told spots first second zero h = first
-two-told spots first second (suc zero) h = second
-two-told spots first second (suc (suc i)) h = absurd (omega (arith, h))
+-- the levels after puts
+abbrev levels-after : List (List ℕ × List ℕ) → List (Level (List ℕ) Stamped)
+levels-after puts = all_mutated key_cmp 0 (map change_of puts) (empty_levels 4)
 
-four-told : AreRunsTold (file_spots header_of_four.format file_of_four) header_of_four.clock 0 (all_numbers header_of_four.levels)
-unfolding visible_slot period
-four-told = (two-told _ refl refl, none-told _, (two-told _ refl refl, none-told _, (none-told _, none-told _, (none-told _, none-told _, tt))))
+-- what is computed of a file with so many keys at this clock, whose levels have these marks, and of the puts that made it
+record IsComputed (count clock : ℕ) (levels : List layout.Marks) (bytes : List ℕ) (puts : List (List ℕ × List ℕ)) : Type 0 where
+  text : take 512 bytes ≡ header_bytes (header_of count clock levels)
+  long : length bytes ≡ 8192
+  one_each : length levels ≡ 4
+  few : count ≤ 32
+  clock_is : clock_after 4 0 (map change_of puts) ≡ clock
+  clock_fits : clock < 16
+  counted : count ≡ length (all-put puts [])
+  fit : all-fit (all-put puts []) ≡ true
+  rise : all-rise (keys-of puts) ≡ true
+  few_puts : length puts ≤ 32
+  told : runs-told (file_spots One bytes) clock 0 (all_numbers levels) ≡ true
+  made : levels_of (slot_cells (file_spots One bytes)) clock 0 (all_numbers levels) ≡ levels-after puts
+  marked : all_marks_of (levels-after puts) ≡ all_numbers levels
 
--- the levels that its cells make are those that the plain program computes
-four-levels : levels_of (slot_cells (file_spots header_of_four.format file_of_four)) 4 0 (all_numbers header_of_four.levels) ≡ all_mutated key_cmp 0 four_changes (empty_levels 4)
-unfolding visible_slot period worked built works flips ends elapsed window_step window_length is_odd step weave unlinked
-four-levels = refl
+-- the plain program is sound for the map after the puts
+program-sound : (puts : List (List ℕ × List ℕ)) → all-rise (keys-of puts) ≡ true → length puts ≤ 32 →
+    IsSoundChain key_cmp 32 (clock_after 4 0 (map change_of puts)) (found_in (map_after puts)) (levels-after puts)
+program-sound puts rise few =
+    subst (λ (f : List ℕ → Option Stamped). IsSoundChain key_cmp 32 (clock_after 4 0 (map change_of puts)) f (levels-after puts)) (found-is puts)
+    (runs-sound nat_list_cmp_total 32 (map change_of puts) 0 (λ (q : List ℕ). None) (empty_levels 4) (empty-sound Stamped key_cmp 32 3) (omega arith) (stays-few puts rise few))
 
--- which are sound for what the puts leave
-four-program : IsSoundChain key_cmp 32 4 (all_updated key_cmp four_changes (λ (q : List ℕ). None)) (all_mutated key_cmp 0 four_changes (empty_levels 4))
-four-program = runs-sound nat_list_cmp_total 32 four_changes 0 (λ (q : List ℕ). None) (empty_levels 4) (empty-sound Stamped key_cmp 32 3) (omega arith) four-few
+-- a sound chain of four levels meets the rules on marks
+chain-marks : (t : ℕ) (f : List ℕ → Option Stamped) (ls : List (Level (List ℕ) Stamped)) → IsSoundChain key_cmp 32 t f ls → 32 ≤ 2 ^ (length ls + 1) → AreChainMarks t (all_marks_of ls)
+chain-marks t f [] s room = absurd s
+chain-marks t f (top ∷ below) s room =
+    let e : suc (length below) + 1 ≡ length below + 2 = omega arith in
+    sound-marks nat_list_cmp_total 32 t f top below s (subst (λ (x : ℕ). 32 ≤ 2 ^ x) e room)
 
-four-sound : IsSoundChain key_cmp 32 4 (found_in map_of_four) (levels_of (slot_cells (file_spots header_of_four.format file_of_four)) 4 0 (all_numbers header_of_four.levels))
-four-sound =
-    subst (λ (f : List ℕ → Option Stamped). IsSoundChain key_cmp 32 4 f (levels_of (slot_cells (file_spots header_of_four.format file_of_four)) 4 0 (all_numbers header_of_four.levels))) four-found
-    (subst (λ (ls : List (Level (List ℕ) Stamped)). IsSoundChain key_cmp 32 4 (all_updated key_cmp four_changes (λ (q : List ℕ). None)) ls) (sym four-levels) four-program)
+marks-length : (ls : List (Level (List ℕ) Stamped)) → length (all_marks_of ls) ≡ length ls
+marks-length [] = refl
+marks-length (l ∷ ls) = ap suc (marks-length ls)
 
-pub four-stands : FileStandsFor file_of_four map_of_four
-four-stands = (header_of_four, record {
-  spelled = four-spelled;
-  closed = refl;
-  whole = four-whole;
-  counted = sym four-count;
-  numbered = refl;
-  is_map = four-is_map;
-  levels = record { told = four-told; sound = four-sound };
-})
+numbers-length : (levels : List layout.Marks) → length (all_numbers levels) ≡ length levels
+numbers-length [] = refl
+numbers-length (m ∷ levels) = ap suc (numbers-length levels)
+
+stands : (count clock : ℕ) (levels : List layout.Marks) (bytes : List ℕ) (puts : List (List ℕ × List ℕ)) → IsComputed count clock levels bytes puts → FileStandsFor bytes (map_after puts)
+stands count clock levels bytes puts is =
+    let sound : IsSoundChain key_cmp 32 clock (found_in (map_after puts)) (levels-after puts) =
+    subst (λ (t : ℕ). IsSoundChain key_cmp 32 t (found_in (map_after puts)) (levels-after puts)) is.clock_is (program-sound puts is.rise is.few_puts) in
+    let four : length (levels-after puts) ≡ 4 = sym (marks-length (levels-after puts)) ∙ ap (λ (ms : List Marks). length ms) is.marked ∙ numbers-length levels ∙ is.one_each in
+    let fit : AreChainMarks clock (all_numbers levels) =
+    subst (AreChainMarks clock) is.marked (chain-marks clock (found_in (map_after puts)) (levels-after puts) sound (rw four (omega arith))) in (
+      header_of count clock levels,
+      record {
+        spelled = record {
+          text = is.text;
+          sound = record {
+            keys_in_range = record { some = omega arith; few = omega arith };
+            bottom_fits = record { three = omega arith; holds = omega arith; least = λ h. absurd (omega (arith, h)) };
+            block_fits = record { group = omega arith; fits = omega arith };
+            count_fits = is.few;
+            clock_fits = is.clock_fits;
+            last_fits = omega arith;
+            one_each = is.one_each;
+            marks_fit = fit;
+          };
+        };
+        closed = refl;
+        whole = omega (arith, is.long);
+        counted = is.counted ∙ sym (count-is puts);
+        numbered = refl;
+        is_map = is-map puts (omega (arith, is.few, is.counted)) is.fit;
+        levels = record {
+          told = runs-by-test (file_spots One bytes) clock 0 (all_numbers levels) is.told;
+          sound = subst (λ (ls : List (Level (List ℕ) Stamped)). IsSoundChain key_cmp 32 clock (found_in (map_after puts)) ls) (sym is.made) sound;
+        };
+      },
+    )
+
+-- ---- the three files
+
+four-computed : IsComputed 4 4 (marks 2 0 0 0 0 ∷ marks 2 0 0 0 0 ∷ no_marks ∷ no_marks ∷ []) file_of_four (puts_to 4)
+unfolding head_bytes marks_bytes is-told slot-told runs-told visible_slot period worked built works flips ends elapsed window_step window_length is_odd step weave unlinked
+four-computed = record {
+  text = refl;
+  long = refl;
+  one_each = refl;
+  few = omega arith;
+  clock_is = refl;
+  clock_fits = omega arith;
+  counted = refl;
+  fit = refl;
+  rise = refl;
+  few_puts = omega arith;
+  told = refl;
+  made = refl;
+  marked = refl;
+}
+
+pub four-stands : FileStandsFor file_of_four (map_after (puts_to 4))
+four-stands = stands 4 4 (marks 2 0 0 0 0 ∷ marks 2 0 0 0 0 ∷ no_marks ∷ no_marks ∷ []) file_of_four (puts_to 4) four-computed
+
+eight-computed : IsComputed 8 8 (marks 2 0 0 0 0 ∷ marks 4 0 0 0 0 ∷ marks 2 0 0 0 0 ∷ no_marks ∷ []) file_of_eight (puts_to 8)
+unfolding head_bytes marks_bytes is-told slot-told runs-told visible_slot period worked built works flips ends elapsed window_step window_length is_odd step weave unlinked
+eight-computed = record {
+  text = refl;
+  long = refl;
+  one_each = refl;
+  few = omega arith;
+  clock_is = refl;
+  clock_fits = omega arith;
+  counted = refl;
+  fit = refl;
+  rise = refl;
+  few_puts = omega arith;
+  told = refl;
+  made = refl;
+  marked = refl;
+}
+
+pub eight-stands : FileStandsFor file_of_eight (map_after (puts_to 8))
+eight-stands = stands 8 8 (marks 2 0 0 0 0 ∷ marks 4 0 0 0 0 ∷ marks 2 0 0 0 0 ∷ no_marks ∷ []) file_of_eight (puts_to 8) eight-computed
+
+eleven-computed : IsComputed 11 11 (marks 3 0 0 0 0 ∷ marks 6 4 0 0 0 ∷ marks 2 6 0 0 0 ∷ marks 0 2 0 2 0 ∷ []) file_of_eleven (puts_to 11)
+unfolding head_bytes marks_bytes is-told slot-told runs-told visible_slot period worked built works flips ends elapsed window_step window_length is_odd step weave unlinked
+eleven-computed = record {
+  text = refl;
+  long = refl;
+  one_each = refl;
+  few = omega arith;
+  clock_is = refl;
+  clock_fits = omega arith;
+  counted = refl;
+  fit = refl;
+  rise = refl;
+  few_puts = omega arith;
+  told = refl;
+  made = refl;
+  marked = refl;
+}
+
+pub eleven-stands : FileStandsFor file_of_eleven (map_after (puts_to 11))
+eleven-stands = stands 11 11 (marks 3 0 0 0 0 ∷ marks 6 4 0 0 0 ∷ marks 2 6 0 0 0 ∷ marks 0 2 0 2 0 ∷ []) file_of_eleven (puts_to 11) eleven-computed

@@ -1,5 +1,5 @@
 -- Files of a store for 32 keys in format One, in blocks of 32 cells, written out byte by byte.
-use Rattle.std.specs.Prelude.{ℕ, ◌*◌, false, true, List, [], ◌∷◌, ◌++◌, map, length, replicate}
+use Rattle.std.specs.Prelude.{ℕ, zero, suc, ◌+◌, ◌*◌, ◌/◌, ◌%◌, nat_lt, if◌then◌else◌, true, List, [], ◌∷◌, ◌++◌, length, replicate}
 use Rattle.std.specs.FinMap as finite
 use Rattle.std.specs.FinMap.{FinMap}
 use Rattle.cola_cell.specs.declared.format.Format.TheVariants.{One}
@@ -24,64 +24,114 @@ head count clock =
     (67 ∷ 79 ∷ 76 ∷ 65 ∷ 83 ∷ 84 ∷ 79 ∷ 82 ∷ 1 ∷ 0 ∷ 0 ∷ 0 ∷ 5 ∷ 3 ∷ 0 ∷ 0 ∷ [])
     ++ eight_bytes 32 ++ eight_bytes count ++ eight_bytes clock ++ eight_bytes 0
 
--- the 20 bytes of the marks of a level with a visible run of so many cells, no shadow and no cursor moved
-abbrev pub marks_row : ℕ → List ℕ
-marks_row visible = four_bytes visible ++ four_bytes 0 ++ four_bytes 0 ++ four_bytes 0 ++ four_bytes 0
-
--- the 64 bytes of an old value with link 0: kind, young, the two lengths, link, key and value
-abbrev pub cell_row : List ℕ → List ℕ → List ℕ
-cell_row key value = (0 ∷ 0 ∷ length key ∷ length value ∷ []) ++ four_bytes 0 ++ padded 24 key ++ padded 32 value
-
--- so many cells of zeros
-abbrev pub zero_cells : ℕ → List ℕ
-zero_cells n = replicate (64 * n) 0
+-- the 20 bytes of a level's marks: the lengths of its visible run and its shadow, and the cursors of its own run, of what
+-- comes in and of the sample
+abbrev pub marks_row : (visible shadow own incoming sample : ℕ) → List ℕ
+marks_row visible shadow own incoming sample = four_bytes visible ++ four_bytes shadow ++ four_bytes own ++ four_bytes incoming ++ four_bytes sample
 
 -- the bytes 128 to 511 of a header of four levels
 abbrev pub behind_marks : List ℕ
 behind_marks = replicate 384 0
 
--- the file after four puts, of the keys k01 to k04 with the values 1 to 4: clock 4, k03 and k04 in cells 8 and 9, k01 and
--- k02 in cells 16 and 17
-abbrev pub file_of_four : List ℕ
-file_of_four =
-    (head 4 4 ++ marks_row 2 ++ marks_row 2 ++ marks_row 0 ++ marks_row 0 ++ behind_marks)
-    ++ cell_row (107 ∷ 48 ∷ 51 ∷ []) (51 ∷ []) ++ cell_row (107 ∷ 48 ∷ 52 ∷ []) (52 ∷ []) ++ zero_cells 6
-    ++ cell_row (107 ∷ 48 ∷ 49 ∷ []) (49 ∷ []) ++ cell_row (107 ∷ 48 ∷ 50 ∷ []) (50 ∷ []) ++ zero_cells 110
+-- a number below 100 in two digits, and in one where that is enough
+abbrev pub two_digits : ℕ → List ℕ
+two_digits n = (48 + n / 10) ∷ (48 + n % 10) ∷ []
 
--- the four puts: each key with its value
-abbrev pub four_puts : List (List ℕ × List ℕ)
-four_puts =
-    (107 ∷ 48 ∷ 49 ∷ [], 49 ∷ []) ∷ (107 ∷ 48 ∷ 50 ∷ [], 50 ∷ []) ∷ (107 ∷ 48 ∷ 51 ∷ [], 51 ∷ []) ∷ (107 ∷ 48 ∷ 52 ∷ [], 52 ∷ []) ∷ []
+abbrev pub digits : ℕ → List ℕ
+digits n = if nat_lt n 10 then (48 + n) ∷ [] else two_digits n
+
+-- the key of the put with this number, as k03, and its value, as 3
+abbrev pub key_of_put : ℕ → List ℕ
+key_of_put n = 107 ∷ two_digits n
+
+-- the 64 bytes of a value with link 0: kind, young, the two lengths, link, key and value
+abbrev pub cell_row : (young : ℕ) (key value : List ℕ) → List ℕ
+cell_row young key value = (0 ∷ young ∷ length key ∷ length value ∷ []) ++ four_bytes 0 ++ padded 24 key ++ padded 32 value
+
+-- the cell of the put with this number, old or young
+abbrev pub old : ℕ → List ℕ
+old n = cell_row 0 (key_of_put n) (digits n)
+
+abbrev pub young : ℕ → List ℕ
+young n = cell_row 1 (key_of_put n) (digits n)
+
+-- so many cells of zeros
+abbrev pub zero_cells : ℕ → List ℕ
+zero_cells n = replicate (64 * n) 0
+
+-- the first puts, so many: each key with its value
+abbrev pub puts_to : ℕ → List (List ℕ × List ℕ)
+puts_to zero = []
+puts_to (suc n) = puts_to n ++ (key_of_put (suc n), digits (suc n)) ∷ []
 
 -- the entries after puts in turn, none of which takes a stamp
 abbrev pub after_puts : List (List ℕ × List ℕ) → FinMap key_cmp Stored → FinMap key_cmp Stored
 after_puts [] entries = entries
 after_puts (put ∷ puts) entries = after_puts puts (finite.insert entries put.0 (record { value = put.1; stamp = 0 }))
 
--- the map after the four puts
-abbrev pub map_of_four : Map
-map_of_four = record { entries = after_puts four_puts finite.empty; last = 0 }
+-- the map after them
+abbrev pub map_after : List (List ℕ × List ℕ) → Map
+map_after puts = record { entries = after_puts puts finite.empty; last = 0 }
 
--- the marks of a level with a visible run of so many cells, no shadow and no cursor moved
-abbrev pub showing_marks : ℕ → Marks
-showing_marks visible = record { visible = visible; shadow = 0; own = 0; incoming = 0; sample = 0 }
+-- the marks of a level
+abbrev pub marks : (visible shadow own incoming sample : ℕ) → Marks
+marks visible shadow own incoming sample = record { visible = visible; shadow = shadow; own = own; incoming = incoming; sample = sample }
 
--- a header of such a store
+-- the header of such a file
 abbrev pub header_of : ℕ → ℕ → List Marks → Fields
 header_of count clock levels =
     record { format = One; block_exp = 5; bottom = 3; closed = true; keys = 32; count = count; clock = clock; last = 0; levels = levels }
 
--- the header of the file after four puts
-abbrev pub header_of_four : Fields
-header_of_four = header_of 4 4 (showing_marks 2 ∷ showing_marks 2 ∷ no_marks ∷ no_marks ∷ [])
+-- after four puts: k03 and k04 in level 0, k01 and k02 in level 1
+abbrev pub file_of_four : List ℕ
+file_of_four =
+    (head 4 4 ++ marks_row 2 0 0 0 0 ++ marks_row 2 0 0 0 0 ++ marks_row 0 0 0 0 0 ++ marks_row 0 0 0 0 0 ++ behind_marks)
+    -- cells 8 to 15
+    ++ old 3 ++ old 4 ++ zero_cells 6
+    -- cells 16 to 31
+    ++ old 1 ++ old 2 ++ zero_cells 14
+    -- cells 32 to 127
+    ++ zero_cells 96
+
+-- after eight: k07 and k08 in level 0, k03 to k06 in level 1, k01 and k02 in level 2
+abbrev pub file_of_eight : List ℕ
+file_of_eight =
+    (head 8 8 ++ marks_row 2 0 0 0 0 ++ marks_row 4 0 0 0 0 ++ marks_row 2 0 0 0 0 ++ marks_row 0 0 0 0 0 ++ behind_marks)
+    -- cells 8 to 15
+    ++ old 7 ++ old 8 ++ zero_cells 6
+    -- cells 16 to 31
+    ++ old 3 ++ old 4 ++ old 5 ++ old 6 ++ zero_cells 12
+    -- cells 32 to 63
+    ++ old 1 ++ old 2 ++ zero_cells 30
+    -- cells 64 to 127
+    ++ zero_cells 64
+
+-- after eleven, with finished shadows of levels 1 and 2, and one of the bottom that is under way
+abbrev pub file_of_eleven : List ℕ
+file_of_eleven =
+    (head 11 11 ++ marks_row 3 0 0 0 0 ++ marks_row 6 4 0 0 0 ++ marks_row 2 6 0 0 0 ++ marks_row 0 2 0 2 0 ++ behind_marks)
+    -- cells 8 to 15: level 0's visible run from cell 12 on
+    ++ zero_cells 4 ++ old 9 ++ old 10 ++ young 11 ++ zero_cells 1
+    -- cells 16 to 23: level 1's shadow
+    ++ old 7 ++ old 8 ++ old 9 ++ old 10 ++ zero_cells 4
+    -- cells 24 to 31: level 1's visible run
+    ++ old 3 ++ old 4 ++ old 5 ++ old 6 ++ young 7 ++ young 8 ++ zero_cells 2
+    -- cells 32 to 47: level 2's visible run
+    ++ old 1 ++ old 2 ++ zero_cells 14
+    -- cells 48 to 63: level 2's shadow
+    ++ old 1 ++ old 2 ++ young 3 ++ young 4 ++ young 5 ++ young 6 ++ zero_cells 10
+    -- cells 64 to 95: the bottom's shadow
+    ++ old 1 ++ old 2 ++ zero_cells 30
+    -- cells 96 to 127
+    ++ zero_cells 32
 
 -- a file whose level 0 has the four old values a, b, c and d at clock 0, in cells 8 to 11
 abbrev pub crowded_file : List ℕ
 crowded_file =
-    (head 4 0 ++ marks_row 4 ++ marks_row 0 ++ marks_row 0 ++ marks_row 0 ++ behind_marks)
-    ++ cell_row (97 ∷ []) (49 ∷ []) ++ cell_row (98 ∷ []) (50 ∷ []) ++ cell_row (99 ∷ []) (51 ∷ []) ++ cell_row (100 ∷ []) (52 ∷ [])
+    (head 4 0 ++ marks_row 4 0 0 0 0 ++ marks_row 0 0 0 0 0 ++ marks_row 0 0 0 0 0 ++ marks_row 0 0 0 0 0 ++ behind_marks)
+    ++ cell_row 0 (97 ∷ []) (49 ∷ []) ++ cell_row 0 (98 ∷ []) (50 ∷ []) ++ cell_row 0 (99 ∷ []) (51 ∷ []) ++ cell_row 0 (100 ∷ []) (52 ∷ [])
     ++ zero_cells 116
 
 -- its header
 abbrev pub crowded_header : Fields
-crowded_header = header_of 4 0 (showing_marks 4 ∷ no_marks ∷ no_marks ∷ no_marks ∷ [])
+crowded_header = header_of 4 0 (marks 4 0 0 0 0 ∷ no_marks ∷ no_marks ∷ no_marks ∷ [])

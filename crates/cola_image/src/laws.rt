@@ -11,7 +11,7 @@ ghost use Rattle.cola_spec.specs.Bounds.{levels_of};
 ghost use Rattle.cola_spec.specs.Map.{Map, empty_map};
 ghost use Rattle.cola_image.specs.Cells.{file_spots};
 ghost use Rattle.cola_image.specs.Standing.{AreRunsAlike, AreRunsTold, LevelsStandFor, HeaderStandsFor, FileStandsFor};
-ghost use Rattle.cola_image.specs.Worked.{file_of_four, map_of_four, crowded_file, crowded_header};
+ghost use Rattle.cola_image.specs.Worked.{puts_to, map_after, file_of_four, file_of_eight, file_of_eleven, crowded_file, crowded_header};
 
 /// A file stands for one map at most.
 pub fn one_map_of_a_file()
@@ -39,10 +39,12 @@ pub fn levels_are_counted()
     ensures { (keys bottom : ℕ) → IsBottom keys bottom → levels_of keys ≡ bottom + 1 }
 {}
 
-/// A worked file, byte by byte: of a store for 32 keys after four puts, of the keys k01 to k04 with the values 1 to 4. It
-/// stands for the map of these four.
-pub fn worked_file_stands()
-    ensures { FileStandsFor file_of_four map_of_four }
+/// Worked files, byte by byte, of a store for 32 keys: after four, eight and eleven puts, of the keys k01 to k04, k08 and
+/// k11 with the values 1, 2 and so on, each stands for the map after these puts.
+pub fn worked_files_stand()
+    ensures four { FileStandsFor file_of_four (map_after (puts_to 4)) }
+    ensures eight { FileStandsFor file_of_eight (map_after (puts_to 8)) }
+    ensures eleven { FileStandsFor file_of_eleven (map_after (puts_to 11)) }
 {}
 
 /// A worked file that stands for no map, though its first 512 bytes spell the header of a closed file, and it is as long

@@ -6,3 +6,5 @@
 
 pub mod laws;
 pub mod plain;
+#[cfg(test)]
+mod tests;

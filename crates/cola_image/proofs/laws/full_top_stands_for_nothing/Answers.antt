@@ -1,5 +1,4 @@
-use Rattle.cola_image.proofs.WorkedHeaders.{crowded-spelled}
-use Rattle.cola_image.proofs.WorkedFiles.{crowded-whole, crowded-told, crowded-none}
+use Rattle.cola_image.proofs.WorkedNothing.{crowded-spelled, crowded-whole, crowded-told, crowded-none}
 use Rattle.cola_image.proofs.laws.full_top_stands_for_nothing.Goals as goal
 
 pub returns-clause-spelled : goal.returns-clause-spelled
