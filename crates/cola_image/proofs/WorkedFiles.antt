@@ -1,6 +1,6 @@
 -- The worked files after four, eight and eleven puts: their headers, the cells that they tell, and the levels that these
 -- make are those of the plain program of the laws, which is sound for the map after the puts.
-use Rattle.std.proofs.Common.{◌≡◌, ℕ, zero, suc, ◌+◌, ◌-◌, ◌*◌, ◌^◌, ◌≤◌, ◌<◌, inl, inr, Bool, true, false, ◌&&◌, List, [], ◌∷◌, length, take, map, Option, None, refl, sym, ap, subst, ◌∙◌, arith}
+use Rattle.std.proofs.Common.{◌≡◌, ℕ, zero, suc, ◌+◌, ◌-◌, ◌^◌, ◌≤◌, ◌<◌, inl, inr, Bool, true, false, ◌&&◌, List, [], ◌∷◌, length, take, map, Option, None, refl, sym, ap, subst, ◌∙◌, arith}
 use Rattle.std.specs.Cmp.Lexicographic.{nat_list_cmp_total}
 use Rattle.std.proofs.lemmas.Bool.{cases_lt}
 use Rattle.cola_cell.specs.declared.format.Format.TheVariants.{One}
@@ -10,13 +10,13 @@ use Rattle.cola_clock.specs.Marks.{Marks, AreChainMarks}
 use Rattle.cola_runs.specs.Weave.{weave, unlinked}
 use Rattle.cola_runs.specs.Steps.{step}
 use Rattle.cola_laws.specs.Chain.{Level}
-use Rattle.cola_laws.specs.Plain.{empty_levels, worked, built, all_mutated, all_updated, clock_after, IsSoundChain}
+use Rattle.cola_laws.specs.Plain.{empty_levels, worked, built, all_mutated, clock_after, IsSoundChain}
 use Rattle.cola_laws.specs.Slots.{levels_of, all_marks_of}
 use Rattle.cola_laws.proofs.Empty.{empty-sound}
 use Rattle.cola_laws.proofs.InSlots.{sound-marks}
 use Rattle.cola_laws.proofs.Programs.{runs-sound}
 use Rattle.cola_layout.specs.declared.marks.Marks as layout
-use Rattle.cola_layout.specs.Header.{Fields, IsSpelling, IsSound, header_bytes, head_bytes, marks_bytes}
+use Rattle.cola_layout.specs.Header.{header_bytes, head_bytes, marks_bytes}
 use Rattle.cola_layout.specs.Marks.{all_numbers, no_marks}
 use Rattle.cola_spec.specs.Map.{key_cmp}
 use Rattle.cola_told.specs.Cells.{IsTold, AreTold}

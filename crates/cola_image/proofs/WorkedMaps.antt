@@ -1,9 +1,9 @@
 -- The map after worked puts, as the map of a finite list and as the laws of levels have it.
-use Rattle.std.proofs.Common.{◌≡◌, ◌⊎◌, inl, inr, ℕ, zero, suc, ◌+◌, ◌≤◌, Bool, true, false, cond, List, [], ◌∷◌, ◌++◌, length, map, Option, Some, None, option_map, IsSome, All, ◌&&◌, append_assoc, length-append, refl, sym, ap, subst, ◌∙◌, arith}
+use Rattle.std.proofs.Common.{◌≡◌, inl, inr, ℕ, ◌+◌, ◌≤◌, Bool, true, false, cond, List, [], ◌∷◌, ◌++◌, length, map, Option, Some, None, option_map, IsSome, All, ◌&&◌, append_assoc, length-append, refl, sym, ap, subst, ◌∙◌, arith}
 use Rattle.std.specs.declared.cmp.Ordering.{Ordering}
 use Rattle.std.specs.declared.cmp.Ordering.TheVariants.{Less, Equal, Greater}
 use Rattle.std.specs.Ordering.{is_eq, is_lt}
-use Rattle.std.specs.Cmp.{IsTotalOrder, tied_itself}
+use Rattle.std.specs.Cmp.{tied_itself}
 use Rattle.std.specs.Cmp.Lexicographic.{nat_list_cmp_total}
 use Rattle.std.specs.List.{AllByRecursion}
 use Rattle.std.specs.List.Sorted.{IsStrictlySortedBy}
@@ -21,7 +21,7 @@ use Rattle.cola_laws.specs.Chain.{updated}
 use Rattle.cola_laws.specs.Plain.{all_updated, StayWithin}
 use Rattle.cola_laws.specs.Sound.{HasAtMost, IsAmong}
 use Rattle.cola_laws.proofs.Facts.{few-keys}
-use Rattle.cola_spec.specs.Map.{Map, Stored, EntryFits, IsMap, is_key, is_value, key_cmp, count}
+use Rattle.cola_spec.specs.Map.{Stored, EntryFits, IsMap, is_key, is_value, key_cmp, count}
 use Rattle.cola_spec.proofs.Entries.{same_key, entries_empty, entries_insert}
 use Rattle.cola_table.specs.Stamps.{stamped_of}
 use Rattle.cola_table.specs.Terms.{shape_of}

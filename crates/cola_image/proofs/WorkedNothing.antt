@@ -1,16 +1,16 @@
 -- A worked file that stands for no map: its header is a spelling, and its cells are told, but level 0 is too full.
-use Rattle.std.proofs.Common.{◌≡◌, ℕ, zero, suc, ◌+◌, ◌-◌, ◌*◌, ◌^◌, ◌%◌, ◌/◌, ◌≤◌, ◌<◌, true, false, min, List, [], ◌∷◌, length, take, refl, subst, arith}
+use Rattle.std.proofs.Common.{◌≡◌, ℕ, zero, suc, ◌+◌, ◌*◌, ◌^◌, ◌≤◌, min, List, length, take, refl, subst, arith}
 use Rattle.cola_cell.specs.Format.{width}
 use Rattle.cola_cell.specs.Held.{Spot}
-use Rattle.cola_clock.specs.Clock.{period, is_odd, works, elapsed, window_step, visible_slot}
-use Rattle.cola_clock.specs.Marks.{Marks, AreLevelMarks, AreMarksInside, AreCursorsAtRest, AreMarksIdle, sample_end}
+use Rattle.cola_clock.specs.Clock.{period, is_odd, elapsed, window_step, visible_slot}
+use Rattle.cola_clock.specs.Marks.{Marks, AreLevelMarks, sample_end}
 use Rattle.cola_laws.specs.Plain.{IsSoundChain}
 use Rattle.cola_laws.specs.Slots.{levels_of}
-use Rattle.cola_layout.specs.Header.{Fields, IsSpelling, IsSound, head_bytes, marks_bytes}
+use Rattle.cola_layout.specs.Header.{Fields, IsSpelling, head_bytes, marks_bytes}
 use Rattle.cola_layout.specs.Marks.{all_numbers}
 use Rattle.cola_layout.proofs.Refusing.{spelling-one}
 use Rattle.cola_spec.specs.Map.{Map, key_cmp}
-use Rattle.cola_told.specs.Cells.{IsTold, AreTold}
+use Rattle.cola_told.specs.Cells.{AreTold}
 use Rattle.cola_image.specs.Cells.{file_spots, slot_cells}
 use Rattle.cola_image.specs.Standing.{found_in, AreRunsTold, HeaderStandsFor, FileStandsFor}
 use Rattle.cola_image.specs.Worked.{crowded_file, crowded_header}

@@ -1,8 +1,6 @@
-use Rattle.std.proofs.Common.{◌≡◌, ◌*◌, ◌/◌, ◌≤◌, List, ℕ, length, None, Option, ap, sym, ◌∙◌, arith}
-use Rattle.cola_cell.specs.declared.cell.Cell.{Cell}
+use Rattle.std.proofs.Common.{List, ℕ, ap, sym, ◌∙◌, arith}
 use Rattle.cola_cell.specs.Decoded.{decoded}
 use Rattle.cola_cell.specs.Flat.{spot_of}
-use Rattle.cola_image.specs.Cells.{cell_bytes}
 use Rattle.cola_image.proofs.PlainLemmas.{beyond-none, cell-between}
 use Rattle.cola_image.proofs.plain.cell_of_file.Goals as goal
 

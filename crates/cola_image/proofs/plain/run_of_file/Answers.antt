@@ -1,10 +1,9 @@
-use Rattle.std.proofs.Common.{◌≡◌, ◌+◌, ◌<◌, List, ℕ, map, length, get_or, None, Option, ap, sym, subst, ◌∙◌, arith}
-use Rattle.cola_cell.specs.declared.cell.Cell.{Cell}
+use Rattle.std.proofs.Common.{◌≡◌, ◌+◌, ℕ, length, ap, sym, subst, ◌∙◌, arith}
 use Rattle.cola_cell.specs.Decoded.{decoded}
 use Rattle.cola_cell.specs.Flat.{spot_of}
 use Rattle.cola_cell.specs.Places.{number_of}
 use Rattle.cola_told.specs.Cells.{cells}
-use Rattle.cola_image.specs.Cells.{cell_bytes, file_spots, law_cell_of}
+use Rattle.cola_image.specs.Cells.{cell_bytes, file_spots}
 use Rattle.cola_image.proofs.PlainLemmas.{AreSpelled, spelled-more, listed}
 use Rattle.cola_image.proofs.plain.run_of_file.Goals as goal
 
