@@ -1,4 +1,4 @@
--- The worked files after four, eight and eleven puts: their headers, the cells that they tell, and the levels that these
+-- The worked files after four, eight, eleven and sixteen puts: their headers, the cells that they tell, and the levels that these
 -- make are those of the plain program of the laws, which is sound for the map after the puts.
 use Rattle.std.proofs.Common.{◌≡◌, ℕ, zero, suc, ◌+◌, ◌-◌, ◌^◌, ◌≤◌, ◌<◌, inl, inr, Bool, true, false, ◌&&◌, List, [], ◌∷◌, length, take, map, Option, None, refl, sym, ap, subst, ◌∙◌, arith}
 use Rattle.std.specs.Cmp.Lexicographic.{nat_list_cmp_total}
@@ -22,7 +22,7 @@ use Rattle.cola_spec.specs.Map.{key_cmp}
 use Rattle.cola_told.specs.Cells.{IsTold, AreTold}
 use Rattle.cola_image.specs.Cells.{file_spots, slot_cells}
 use Rattle.cola_image.specs.Standing.{found_in, AreRunsTold, FileStandsFor}
-use Rattle.cola_image.specs.Worked.{marks, header_of, puts_to, map_after, file_of_four, file_of_eight, file_of_eleven}
+use Rattle.cola_image.specs.Worked.{marks, header_of, puts_to, map_after, file_of_four, file_of_eight, file_of_eleven, file_of_sixteen}
 use Rattle.cola_image.proofs.WorkedMaps.{and-both, change_of, found-is, all-put, all-fit, all-rise, keys-of, count-is, is-map, stays-few}
 
 -- ---- a test of told cells
@@ -145,7 +145,7 @@ stands count clock levels bytes puts is =
       },
     )
 
--- ---- the three files
+-- ---- the four files
 
 four-computed : IsComputed 4 4 (marks 2 0 0 0 0 ∷ marks 2 0 0 0 0 ∷ no_marks ∷ no_marks ∷ []) file_of_four (puts_to 4)
 unfolding head_bytes marks_bytes is-told slot-told runs-told visible_slot period worked built works flips ends elapsed window_step window_length is_odd step weave unlinked
@@ -209,3 +209,24 @@ eleven-computed = record {
 
 pub eleven-stands : FileStandsFor file_of_eleven (map_after (puts_to 11))
 eleven-stands = stands 11 11 (marks 3 0 0 0 0 ∷ marks 6 4 0 0 0 ∷ marks 2 6 0 0 0 ∷ marks 0 2 0 2 0 ∷ []) file_of_eleven (puts_to 11) eleven-computed
+
+sixteen-computed : IsComputed 16 0 (marks 2 0 0 0 0 ∷ marks 5 0 0 0 0 ∷ marks 8 0 0 0 0 ∷ marks 2 0 0 0 0 ∷ []) file_of_sixteen (puts_to 16)
+unfolding head_bytes marks_bytes is-told slot-told runs-told visible_slot period worked built works flips ends elapsed window_step window_length is_odd step weave unlinked
+sixteen-computed = record {
+  text = refl;
+  long = refl;
+  one_each = refl;
+  few = omega arith;
+  clock_is = refl;
+  clock_fits = omega arith;
+  counted = refl;
+  fit = refl;
+  rise = refl;
+  few_puts = omega arith;
+  told = refl;
+  made = refl;
+  marked = refl;
+}
+
+pub sixteen-stands : FileStandsFor file_of_sixteen (map_after (puts_to 16))
+sixteen-stands = stands 16 0 (marks 2 0 0 0 0 ∷ marks 5 0 0 0 0 ∷ marks 8 0 0 0 0 ∷ marks 2 0 0 0 0 ∷ []) file_of_sixteen (puts_to 16) sixteen-computed

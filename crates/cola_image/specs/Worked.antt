@@ -44,16 +44,25 @@ digits n = if nat_lt n 10 then (48 + n) ∷ [] else two_digits n
 abbrev pub key_of_put : ℕ → List ℕ
 key_of_put n = 107 ∷ two_digits n
 
--- the 64 bytes of a value with link 0: kind, young, the two lengths, link, key and value
-abbrev pub cell_row : (young : ℕ) (key value : List ℕ) → List ℕ
-cell_row young key value = (0 ∷ young ∷ length key ∷ length value ∷ []) ++ four_bytes 0 ++ padded 24 key ++ padded 32 value
+-- the 64 bytes of a cell: kind, young, the two lengths, link, key and value
+abbrev pub cell_row : (kind young link : ℕ) (key value : List ℕ) → List ℕ
+cell_row kind young link key value = (kind ∷ young ∷ length key ∷ length value ∷ []) ++ four_bytes link ++ padded 24 key ++ padded 32 value
 
--- the cell of the put with this number, old or young
+-- the cell of the put with this number, old with link 0
 abbrev pub old : ℕ → List ℕ
-old n = cell_row 0 (key_of_put n) (digits n)
+old n = cell_row 0 0 0 (key_of_put n) (digits n)
 
+-- the same, young
 abbrev pub young : ℕ → List ℕ
-young n = cell_row 1 (key_of_put n) (digits n)
+young n = cell_row 0 1 0 (key_of_put n) (digits n)
+
+-- the same, old, behind the first lookahead cell: with link 8
+abbrev pub behind_look : ℕ → List ℕ
+behind_look n = cell_row 0 0 8 (key_of_put n) (digits n)
+
+-- the first lookahead cell, of the key of this put
+abbrev pub look : ℕ → List ℕ
+look n = cell_row 2 0 0 (key_of_put n) []
 
 -- so many cells of zeros
 abbrev pub zero_cells : ℕ → List ℕ
@@ -125,11 +134,24 @@ file_of_eleven =
     -- cells 96 to 127
     ++ zero_cells 32
 
+-- after sixteen, at clock 0 again: level 1 has a lookahead cell of the eighth cell of level 2, and links behind it
+abbrev pub file_of_sixteen : List ℕ
+file_of_sixteen =
+    (head 16 0 ++ marks_row 2 0 0 0 0 ++ marks_row 5 0 0 0 0 ++ marks_row 8 0 0 0 0 ++ marks_row 2 0 0 0 0 ++ behind_marks)
+    -- cells 8 to 15
+    ++ old 15 ++ old 16 ++ zero_cells 6
+    -- cells 16 to 31
+    ++ look 10 ++ behind_look 11 ++ behind_look 12 ++ behind_look 13 ++ behind_look 14 ++ zero_cells 11
+    -- cells 32 to 63
+    ++ old 3 ++ old 4 ++ old 5 ++ old 6 ++ old 7 ++ old 8 ++ old 9 ++ old 10 ++ zero_cells 24
+    -- cells 64 to 127
+    ++ old 1 ++ old 2 ++ zero_cells 62
+
 -- a file whose level 0 has the four old values a, b, c and d at clock 0, in cells 8 to 11
 abbrev pub crowded_file : List ℕ
 crowded_file =
     (head 4 0 ++ marks_row 4 0 0 0 0 ++ marks_row 0 0 0 0 0 ++ marks_row 0 0 0 0 0 ++ marks_row 0 0 0 0 0 ++ behind_marks)
-    ++ cell_row 0 (97 ∷ []) (49 ∷ []) ++ cell_row 0 (98 ∷ []) (50 ∷ []) ++ cell_row 0 (99 ∷ []) (51 ∷ []) ++ cell_row 0 (100 ∷ []) (52 ∷ [])
+    ++ cell_row 0 0 0 (97 ∷ []) (49 ∷ []) ++ cell_row 0 0 0 (98 ∷ []) (50 ∷ []) ++ cell_row 0 0 0 (99 ∷ []) (51 ∷ []) ++ cell_row 0 0 0 (100 ∷ []) (52 ∷ [])
     ++ zero_cells 116
 
 -- its header

@@ -11,7 +11,7 @@ ghost use Rattle.cola_spec.specs.Bounds.{levels_of};
 ghost use Rattle.cola_spec.specs.Map.{Map, empty_map};
 ghost use Rattle.cola_image.specs.Cells.{file_spots};
 ghost use Rattle.cola_image.specs.Standing.{AreRunsAlike, AreRunsTold, LevelsStandFor, HeaderStandsFor, FileStandsFor};
-ghost use Rattle.cola_image.specs.Worked.{puts_to, map_after, file_of_four, file_of_eight, file_of_eleven, crowded_file, crowded_header};
+ghost use Rattle.cola_image.specs.Worked.{puts_to, map_after, file_of_four, file_of_eight, file_of_eleven, file_of_sixteen, crowded_file, crowded_header};
 
 /// A file stands for one map at most.
 pub fn one_map_of_a_file()
@@ -39,12 +39,13 @@ pub fn levels_are_counted()
     ensures { (keys bottom : ℕ) → IsBottom keys bottom → levels_of keys ≡ bottom + 1 }
 {}
 
-/// Worked files, byte by byte, of a store for 32 keys: after four, eight and eleven puts, of the keys k01 to k04, k08 and
-/// k11 with the values 1, 2 and so on, each stands for the map after these puts.
+/// Worked files, byte by byte, of a store for 32 keys: after four, eight, eleven and sixteen puts, of the keys k01 and so on
+/// with the values 1 and so on, each stands for the map after these puts.
 pub fn worked_files_stand()
     ensures four { FileStandsFor file_of_four (map_after (puts_to 4)) }
     ensures eight { FileStandsFor file_of_eight (map_after (puts_to 8)) }
     ensures eleven { FileStandsFor file_of_eleven (map_after (puts_to 11)) }
+    ensures sixteen { FileStandsFor file_of_sixteen (map_after (puts_to 16)) }
 {}
 
 /// A worked file that stands for no map, though its first 512 bytes spell the header of a closed file, and it is as long

@@ -119,6 +119,46 @@ static RUNS_OF_ELEVEN: [Shown; 7] = [
     (3, 0, 2, b"k01=1 k02=2 "),
 ];
 
+/// The marks after sixteen puts.
+const MARKS_OF_SIXTEEN: [[u8; 5]; 4] = [
+    [2, 0, 0, 0, 0],
+    [5, 0, 0, 0, 0],
+    [8, 0, 0, 0, 0],
+    [2, 0, 0, 0, 0],
+];
+
+static ROWS_OF_SIXTEEN: [Row; 17] = [
+    (8, OLD_OF_TWO, b"k15", b"15"),
+    (9, OLD_OF_TWO, b"k16", b"16"),
+    (16, [2, 0, 3, 0, 0, 0, 0, 0], b"k10", b""),
+    (17, [0, 0, 3, 2, 8, 0, 0, 0], b"k11", b"11"),
+    (18, [0, 0, 3, 2, 8, 0, 0, 0], b"k12", b"12"),
+    (19, [0, 0, 3, 2, 8, 0, 0, 0], b"k13", b"13"),
+    (20, [0, 0, 3, 2, 8, 0, 0, 0], b"k14", b"14"),
+    (32, OLD, b"k03", b"3"),
+    (33, OLD, b"k04", b"4"),
+    (34, OLD, b"k05", b"5"),
+    (35, OLD, b"k06", b"6"),
+    (36, OLD, b"k07", b"7"),
+    (37, OLD, b"k08", b"8"),
+    (38, OLD, b"k09", b"9"),
+    (39, OLD_OF_TWO, b"k10", b"10"),
+    (64, OLD, b"k01", b"1"),
+    (65, OLD, b"k02", b"2"),
+];
+
+static RUNS_OF_SIXTEEN: [Shown; 4] = [
+    (0, 0, 2, b"k15=15 k16=16 "),
+    (1, 0, 5, b"k10> k11=11@1 k12=12@1 k13=13@1 k14=14@1 "),
+    (
+        2,
+        0,
+        8,
+        b"k03=3 k04=4 k05=5 k06=6 k07=7 k08=8 k09=9 k10=10 ",
+    ),
+    (3, 0, 2, b"k01=1 k02=2 "),
+];
+
 /// After four puts in format Two, the stamps being 1 to 4; they stand behind the link, so that the keys here follow them.
 static WIDE_ROWS: [Row; 4] = [
     (8, OLD, b"\x03\0\0\0\0\0\0\0k03", b"3"),
@@ -306,6 +346,15 @@ fn a_file_after_eleven_puts(rt: HostRuntime) -> Result<(), Fail> {
     says(&rt, &header, (11, 11, 0), &MARKS_OF_ELEVEN)?;
     let file = file_of(rt.alloc(), Format::One, &bytes, &ROWS_OF_ELEVEN)?;
     has_runs(&rt, rt.alloc(), Format::One, &file, &RUNS_OF_ELEVEN)
+}
+
+#[test]
+fn a_file_after_sixteen_puts(rt: HostRuntime) -> Result<(), Fail> {
+    let bytes = header_bytes(1, 16, 0, 0, &MARKS_OF_SIXTEEN);
+    let header = Header::decode(&bytes).ok_or("no header")?;
+    says(&rt, &header, (16, 0, 0), &MARKS_OF_SIXTEEN)?;
+    let file = file_of(rt.alloc(), Format::One, &bytes, &ROWS_OF_SIXTEEN)?;
+    has_runs(&rt, rt.alloc(), Format::One, &file, &RUNS_OF_SIXTEEN)
 }
 
 #[test]

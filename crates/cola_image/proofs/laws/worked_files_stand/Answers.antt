@@ -1,4 +1,4 @@
-use Rattle.cola_image.proofs.WorkedFiles.{four-stands, eight-stands, eleven-stands}
+use Rattle.cola_image.proofs.WorkedFiles.{four-stands, eight-stands, eleven-stands, sixteen-stands}
 use Rattle.cola_image.proofs.laws.worked_files_stand.Goals as goal
 
 pub returns-clause-four : goal.returns-clause-four
@@ -9,3 +9,6 @@ returns-clause-eight c = eight-stands
 
 pub returns-clause-eleven : goal.returns-clause-eleven
 returns-clause-eleven c = eleven-stands
+
+pub returns-clause-sixteen : goal.returns-clause-sixteen
+returns-clause-sixteen c = sixteen-stands
