@@ -1,0 +1,78 @@
+-- What a tally counts: turns of a session, each a command with its reply and its cell accesses.
+use Rattle.std.specs.Prelude.{ℕ, zero, suc, ◌+◌, ◌≡◌, ◌<◌, Bool, true, false, not, nat_lt, bytes_eq, if◌then◌else◌, List, [], ◌∷◌, length, Option, Some, None}
+use Rattle.cola_spec.specs.Map.{PutOutcome, New, Old, Full, Worn, Other, Map, value_of}
+use Rattle.cola_spec.specs.Command.{Command, Put, Del, Get}
+use Rattle.cola_spec.specs.Reply.{Reply, Deleted, Got, Failed}
+use Rattle.cola_spec.specs.Reply as reply
+use Rattle.cola_spec.specs.Machine.{Turn}
+use Rattle.cola_spec.specs.Bounds.{request_bound}
+use Rattle.cola_gen.specs.declared.Tally.{Tally}
+use Rattle.cola_gen.specs.Keys.{key_text, expected}
+
+-- a put that made a new key
+abbrev pub is_new : Reply → Bool
+is_new (reply.Put New) = true
+is_new _ = false
+
+-- a delete that found its key
+abbrev pub is_found : Reply → Bool
+is_found (Deleted (Some value)) = true
+is_found _ = false
+
+-- two answers to a get are the same
+abbrev pub same : Option (List ℕ) → Option (List ℕ) → Bool
+same None None = true
+same (Some a) (Some b) = bytes_eq a b
+same _ _ = false
+
+-- a get whose answer is not the one expected at this place
+abbrev pub is_wrong : ℕ → Reply → Bool
+is_wrong place (Got value) = not (same value (expected place))
+is_wrong place _ = false
+
+-- more cell accesses than a store of so many levels may make for the request
+abbrev pub is_over : ℕ → Turn → Bool
+is_over levels turn = nat_lt (request_bound levels turn.request) turn.ticks
+
+-- the reply of a put, a delete or a get that was not refused
+abbrev pub is_accepted : Reply → Bool
+is_accepted (reply.Put New) = true
+is_accepted (reply.Put (Old value)) = true
+is_accepted (Deleted value) = true
+is_accepted (Got value) = true
+is_accepted _ = false
+
+-- the reply refuses the command: full and worn refuse a put alone
+abbrev pub refuses : Reply → Command → Bool
+refuses (Failed failure) command = true
+refuses (reply.Put Full) (Put key value) = true
+refuses (reply.Put Worn) (Put key value) = true
+refuses _ _ = false
+
+-- 1 where a test holds
+abbrev pub one : Bool → ℕ
+one holds = if holds then 1 else 0
+
+-- how many turns pass a test that is told the turn's place; the newest turn stands first, and has as its place the number of those before it
+abbrev pub counted : (ℕ → Turn → Bool) → List Turn → ℕ
+counted test [] = 0
+counted test (turn ∷ turns) = one (test (length turns) turn) + counted test turns
+
+-- each number of a tally rises by the number of turns that it counts
+pub record Tallied (levels : ℕ) (turns : List Turn) (old new : Tally) : Type 0 where
+  pub fresh : new.fresh ≡ old.fresh + counted (λ place turn. is_new turn.answer) turns
+  pub gone : new.gone ≡ old.gone + counted (λ place turn. is_found turn.answer) turns
+  pub wrong : new.wrong ≡ old.wrong + counted (λ place turn. is_wrong place turn.answer) turns
+  pub over : new.over ≡ old.over + counted (λ place turn. is_over levels turn) turns
+
+-- each number of a tally is below 2^63
+pub record HasRoom (tally : Tally) : Type 0 where
+  pub fresh : tally.fresh < 9223372036854775808
+  pub gone : tally.gone < 9223372036854775808
+  pub wrong : tally.wrong < 9223372036854775808
+  pub over : tally.over < 9223372036854775808
+
+-- at how many places below a number a map has another answer than the expected one
+abbrev pub wrong_in : Map → ℕ → ℕ
+wrong_in m zero = 0
+wrong_in m (suc place) = one (not (same (value_of m (key_text place)) (expected place))) + wrong_in m place
