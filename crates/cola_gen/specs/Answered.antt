@@ -13,7 +13,7 @@ use Rattle.cola_table.specs.Replies.{turn_of, put_refused, read_failure}
 use Rattle.cola_gen.specs.declared.Tally.{Tally}
 use Rattle.cola_gen.specs.Keys.{evens}
 use Rattle.cola_gen.specs.Commands.{puts, deletes, gets, map_after, after_first}
-use Rattle.cola_gen.specs.Turns.{Tallied, is_accepted, refuses}
+use Rattle.cola_gen.specs.Turns.{Tallied, TalliedOne, is_accepted, refuses}
 
 -- a table with a tally and a number of steps
 pub record Place (T : Type 0) : Type 0 where
@@ -51,6 +51,19 @@ module _ {T W : Type 0} (t : table.Ghosts T W) where
     pub faults : t.faults new.table ≡ t.faults old.table
     pub keeps : Keeps old.table new.table
     pub as_map : (m : Map) → t.holds old.table m → AsMap (shape (t.terms old.table)) m command turns × t.holds new.table (after_first (shape (t.terms old.table)) m command count)
+
+  -- a command was answered by this turn: what it made is tallied, its cell accesses were counted and are within the bound, no fault came, and a table that held a map answered as the map does
+  pub record Accepted (command : Command) (bound levels place : ℕ) (old new : Place T) : Type 0 where
+    pub turn : Turn
+    pub asked : turn.request ≡ Some command
+    pub accepted : is_accepted turn.answer ≡ true
+    pub given : t.answers old.table turn new.table
+    pub tallied : TalliedOne levels place turn old.tally new.tally
+    pub ticks : new.steps ≡ old.steps + turn.ticks
+    pub within : turn.ticks ≤ bound
+    pub faults : t.faults new.table ≡ t.faults old.table
+    pub keeps : Keeps old.table new.table
+    pub as_map : (m : Map) → t.holds old.table m → (turn.answer ≡ open_reply (shape (t.terms old.table)) m command) × t.holds new.table (map_after (shape (t.terms old.table)) m command)
 
   -- a command was refused by this reply: a table that held a map refused as the map does or by a fault of its device, and holds the map still
   pub record Refused (command : Command) (answer : Reply) (old new : Place T) : Type 0 where

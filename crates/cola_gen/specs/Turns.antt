@@ -65,6 +65,20 @@ pub record Tallied (levels : ℕ) (turns : List Turn) (old new : Tally) : Type 0
   pub wrong : new.wrong ≡ old.wrong + counted (λ place turn. is_wrong place turn.answer) turns
   pub over : new.over ≡ old.over + counted (λ place turn. is_over levels turn) turns
 
+-- each number of a tally rises by one where the turn of this place is one that it counts
+pub record TalliedOne (levels place : ℕ) (turn : Turn) (old new : Tally) : Type 0 where
+  pub fresh : new.fresh ≡ old.fresh + one (is_new turn.answer)
+  pub gone : new.gone ≡ old.gone + one (is_found turn.answer)
+  pub wrong : new.wrong ≡ old.wrong + one (is_wrong place turn.answer)
+  pub over : new.over ≡ old.over + one (is_over levels turn)
+
+-- each number of a tally can rise by one
+pub record HasOneMore (tally : Tally) : Type 0 where
+  pub fresh : tally.fresh < 18446744073709551615
+  pub gone : tally.gone < 18446744073709551615
+  pub wrong : tally.wrong < 18446744073709551615
+  pub over : tally.over < 18446744073709551615
+
 -- each number of a tally is below 2^63
 pub record HasRoom (tally : Tally) : Type 0 where
   pub fresh : tally.fresh < 9223372036854775808
