@@ -83,3 +83,24 @@ module _ {T W : Type 0} (t : table.Ghosts T W) where
     pub turns : List Turn
     pub answered : Answered command bound levels place old before turns
     pub refused : Refused (command place) answer before new
+
+  -- all of these commands were answered, the newest turn first
+  pub record AllAnswered (command : ℕ → Command) (bound levels count : ℕ) (old new : Place T) : Type 0 where
+    pub turns : List Turn
+    pub answered : Answered command bound levels count old new turns
+
+  -- how a list of commands ended: all were answered, or the first that was refused ended the rest
+  abbrev pub Ran : {E : Type 0} → (ℕ → Command) → (E → Reply) → ℕ → ℕ → ℕ → Result (Unit {0}) E → Place T → Place T → Type 0
+  Ran command reply bound levels count (Ok _) old new = AllAnswered command bound levels count old new
+  Ran command reply bound levels count (Err fault) old new = Stopped command bound levels count (reply fault) old new
+
+  -- the puts were all answered, and then the deletes ended so
+  pub record Second (bound levels number : ℕ) (result : Result (Unit {0}) PutFault) (old new : Place T) : Type 0 where
+    pub between : Place T
+    pub first : AllAnswered puts bound levels number old between
+    pub second : Ran deletes put_refused bound levels (evens number) result between new
+
+  -- how the puts and deletes ended
+  abbrev pub Generated : ℕ → ℕ → ℕ → Result (Unit {0}) PutFault → Place T → Place T → Type 0
+  Generated bound levels number (Ok _) old new = Second bound levels number (Ok tt) old new
+  Generated bound levels number (Err fault) old new = Stopped puts bound levels number (put_refused fault) old new ⊎ Second bound levels number (Err fault) old new

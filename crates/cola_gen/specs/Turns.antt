@@ -79,12 +79,12 @@ pub record HasOneMore (tally : Tally) : Type 0 where
   pub wrong : tally.wrong < 18446744073709551615
   pub over : tally.over < 18446744073709551615
 
--- each number of a tally is below 2^63
-pub record HasRoom (tally : Tally) : Type 0 where
-  pub fresh : tally.fresh < 9223372036854775808
-  pub gone : tally.gone < 9223372036854775808
-  pub wrong : tally.wrong < 9223372036854775808
-  pub over : tally.over < 9223372036854775808
+-- each number of a tally was below 2^63 so many turns ago
+pub record HasCounted (turns : ℕ) (tally : Tally) : Type 0 where
+  pub fresh : tally.fresh < 9223372036854775808 + turns
+  pub gone : tally.gone < 9223372036854775808 + turns
+  pub wrong : tally.wrong < 9223372036854775808 + turns
+  pub over : tally.over < 9223372036854775808 + turns
 
 -- at how many places below a number a map has another answer than the expected one
 abbrev pub wrong_in : Map → ℕ → ℕ

@@ -3,6 +3,7 @@
 #![tactic(auto)]
 
 mod calls;
+mod generate;
 mod keys;
 
 pub use keys::{expected, key_of, made, value_of};
