@@ -15,6 +15,10 @@ use Rattle.cola_gen.specs.Keys.{evens}
 use Rattle.cola_gen.specs.Commands.{puts, deletes, gets, map_after, after_first}
 use Rattle.cola_gen.specs.Turns.{Tallied, TalliedOne, is_accepted, refuses}
 
+-- why a get was refused, as a reply
+abbrev pub read_refused : ReadFault → Reply
+read_refused refusal = Failed (read_failure refusal)
+
 -- a table with a tally and a number of steps
 pub record Place (T : Type 0) : Type 0 where
   pub table : T

@@ -3,10 +3,12 @@
 #![tactic(auto)]
 
 mod calls;
-mod generate;
+mod generating;
 mod keys;
+mod verifying;
 
 pub use keys::{expected, key_of, made, value_of};
+pub use verifying::verify;
 
 /// What the calls of a workload did.
 #[derive(Clone, Copy, Debug, PartialEq, Eq, Drop)]

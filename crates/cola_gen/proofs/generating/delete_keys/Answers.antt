@@ -7,7 +7,7 @@ use Rattle.cola_gen.specs.Commands.{deletes}
 use Rattle.cola_gen.specs.Turns.{HasCounted}
 use Rattle.cola_gen.specs.Answered.{at, AllAnswered}
 use Rattle.cola_gen.proofs.Counting.{goes_on, counts_on, stops}
-use Rattle.cola_gen.proofs.generate.delete_keys.Goals as goal
+use Rattle.cola_gen.proofs.generating.delete_keys.Goals as goal
 
 pub returns-in_err-delete_key-clause-ran : goal.returns-in_err-delete_key-clause-ran
 returns-in_err-delete_key-clause-ran g c =

@@ -4,7 +4,7 @@ use Rattle.cola_gen.specs.Commands.{deletes}
 use Rattle.cola_gen.specs.Turns.{HasCounted}
 use Rattle.cola_gen.specs.Answered.{at}
 use Rattle.cola_gen.proofs.Counting.{SoFar}
-use Rattle.cola_gen.proofs.generate.delete_keys.Given as goal
+use Rattle.cola_gen.proofs.generating.delete_keys.Given as goal
 
 abbrev pub invariant-loop-half : goal.invariant-loop-half
 invariant-loop-half g l = record {

@@ -3,7 +3,7 @@ use Rattle.cola_gen.specs.Commands.{puts}
 use Rattle.cola_gen.specs.Turns.{HasCounted}
 use Rattle.cola_gen.specs.Answered.{at}
 use Rattle.cola_gen.proofs.Counting.{SoFar}
-use Rattle.cola_gen.proofs.generate.put_keys.Given as goal
+use Rattle.cola_gen.proofs.generating.put_keys.Given as goal
 
 abbrev pub invariant-loop-place : goal.invariant-loop-place
 invariant-loop-place g l = record {

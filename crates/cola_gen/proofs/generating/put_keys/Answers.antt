@@ -5,7 +5,7 @@ use Rattle.cola_table.specs.Replies.{put_refused}
 use Rattle.cola_gen.specs.Commands.{puts}
 use Rattle.cola_gen.specs.Answered.{at}
 use Rattle.cola_gen.proofs.Counting.{goes_on, counts_on, stops}
-use Rattle.cola_gen.proofs.generate.put_keys.Goals as goal
+use Rattle.cola_gen.proofs.generating.put_keys.Goals as goal
 
 pub returns-in_err-put_key-clause-ran : goal.returns-in_err-put_key-clause-ran
 returns-in_err-put_key-clause-ran g c =
