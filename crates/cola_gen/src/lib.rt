@@ -5,6 +5,7 @@
 mod calls;
 mod generating;
 mod keys;
+pub mod laws;
 mod verifying;
 
 pub use keys::{expected, key_of, made, value_of};
