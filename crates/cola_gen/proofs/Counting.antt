@@ -1,5 +1,6 @@
 -- One more turn of a list of commands.
 use Rattle.std.proofs.Common.{◌≡◌, ◌+◌, ◌*◌, ◌≤◌, ◌<◌, ◌⊎◌, inl, inr, ℕ, zero, suc, refl, sym, subst, ap, ◌∙◌, arith, List, [], ◌∷◌, length, Bool, true, false, Some}
+use Rattle.std.proofs.lemmas.List.Elements.{All-cons, All-nil, All-head, All-tail}
 use Rattle.cola_spec.specs.Map.{Map}
 use Rattle.cola_spec.specs.Command.{Command}
 use Rattle.cola_spec.specs.Reply.{Reply}
@@ -8,7 +9,7 @@ use Rattle.cola_table.specs.declared.table.Table as table
 use Rattle.cola_table.specs.Terms.{shape}
 use Rattle.cola_gen.specs.declared.Tally.{Tally}
 use Rattle.cola_gen.specs.Commands.{map_after, after_first}
-use Rattle.cola_gen.specs.Turns.{Tallied, TalliedOne, HasOneMore, HasCounted, counted, one, is_new, is_found, is_wrong, is_over}
+use Rattle.cola_gen.specs.Turns.{Tallied, TalliedOne, HasOneMore, HasCounted, accepts, counted, one, is_new, is_found, is_wrong, is_over}
 use Rattle.cola_gen.specs.Answered.{Place, at, Keeps, Gave, AsMap, Answered, Accepted, Refused, Stopped, AllAnswered, Ran}
 
 -- no turn yet
@@ -53,7 +54,7 @@ module _ {T W : Type 0} (t : table.Ghosts T W) (command : ℕ → Command) (boun
     gave = refl;
     tallied = tallied_none levels old.tally;
     ticks = omega arith;
-    within = omega arith;
+    within = All-nil _;
     faults = refl;
     keeps = record { kept = refl; same_terms = refl };
     as_map = λ m held. (tt, held);
@@ -71,10 +72,10 @@ module _ {T W : Type 0} (t : table.Ghosts T W) (command : ℕ → Command) (boun
   pub one_more : (place : ℕ) (old middle new : Place T) (turns : List Turn) → Answered t command bound levels place old middle turns → (a : Accepted t (command place) bound levels place middle new) → Answered t command bound levels (place + 1) old new (a.turn ∷ turns)
   one_more place old middle new turns answered a = record {
     number = omega (arith, answered.number);
-    gave = (middle.table, (answered.gave, a.given, a.asked ∙ ap (λ at. Some (command at)) (sym answered.number), a.accepted));
+    gave = (middle.table, (answered.gave, a.given, a.asked ∙ ap (λ at. Some (command at)) (sym answered.number), ap (λ at. accepts a.turn.answer (command at)) answered.number ∙ a.accepted));
     tallied = tallied_more levels place turns a.turn old.tally middle.tally new.tally answered.number answered.tallied a.tallied;
     ticks = omega (arith, answered.ticks, a.ticks);
-    within = omega (arith, answered.within, a.within);
+    within = All-cons (λ turn. turn.ticks ≤ bound) a.turn turns a.within answered.within;
     faults = a.faults ∙ answered.faults;
     keeps = record { kept = a.keeps.kept ∙ answered.keeps.kept; same_terms = a.keeps.same_terms ∙ answered.keeps.same_terms };
     as_map = λ m held.

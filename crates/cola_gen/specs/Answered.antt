@@ -1,5 +1,5 @@
 -- What a table answered to a list of commands, of any table.
-use Rattle.std.specs.Prelude.{ℕ, ◌+◌, ◌-◌, ◌*◌, ◌≡◌, ◌≤◌, ◌<◌, ◌⊎◌, true, List, [], ◌∷◌, length, Some, Result, Ok, Err}
+use Rattle.std.specs.Prelude.{ℕ, ◌+◌, ◌-◌, ◌*◌, ◌≡◌, ◌≤◌, ◌<◌, ◌⊎◌, true, List, [], ◌∷◌, All, length, Some, Result, Ok, Err}
 use Rattle.cola_cell.specs.declared.fault.ReadFault.{ReadFault}
 use Rattle.cola_spec.specs.Map.{Shape, Map}
 use Rattle.cola_spec.specs.Command.{Command}
@@ -13,7 +13,7 @@ use Rattle.cola_table.specs.Replies.{turn_of, put_refused, read_failure}
 use Rattle.cola_gen.specs.declared.Tally.{Tally}
 use Rattle.cola_gen.specs.Keys.{evens}
 use Rattle.cola_gen.specs.Commands.{puts, deletes, gets, map_after, after_first}
-use Rattle.cola_gen.specs.Turns.{Tallied, TalliedOne, is_accepted, refuses}
+use Rattle.cola_gen.specs.Turns.{Tallied, TalliedOne, accepts, refuses}
 
 -- why a get was refused, as a reply
 abbrev pub read_refused : ReadFault → Reply
@@ -39,19 +39,25 @@ module _ {T W : Type 0} (t : table.Ghosts T W) where
     pub kept : t.kept new ≡ t.kept old
     pub same_terms : t.terms new ≡ t.terms old
 
+  -- what a table has beside its map stays, and the steps rise by at most this
+  pub record Spent (most : ℕ) (old new : Place T) : Type 0 where
+    pub keeps : Keeps old.table new.table
+    pub steps_kept : old.steps ≤ new.steps
+    pub within : new.steps ≤ old.steps + most
+
   -- the table answered the first commands of a list, one after another, and refused none; the newest turn stands first
   abbrev pub Gave : (ℕ → Command) → T → List Turn → T → Type 0
   Gave command old [] new = new ≡ old
   Gave command old (turn ∷ turns) new =
-      (before : T) × (Gave command old turns before × t.answers before turn new × (turn.request ≡ Some (command (length turns))) × (is_accepted turn.answer ≡ true))
+      (before : T) × (Gave command old turns before × t.answers before turn new × (turn.request ≡ Some (command (length turns))) × (accepts turn.answer (command (length turns)) ≡ true))
 
-  -- so many commands were answered by these turns: what they made is tallied, their cell accesses were counted and are within their bounds, no fault came, and a table that held a map answered as the map does
+  -- so many commands were answered by these turns: what they made is tallied, their cell accesses were counted and those of each are within the bound, no fault came, and a table that held a map answered as the map does
   pub record Answered (command : ℕ → Command) (bound levels count : ℕ) (old new : Place T) (turns : List Turn) : Type 0 where
     pub number : length turns ≡ count
     pub gave : Gave command old.table turns new.table
     pub tallied : Tallied levels turns old.tally new.tally
     pub ticks : new.steps ≡ old.steps + ticks_of turns
-    pub within : ticks_of turns ≤ count * bound
+    pub within : All (λ turn. turn.ticks ≤ bound) turns
     pub faults : t.faults new.table ≡ t.faults old.table
     pub keeps : Keeps old.table new.table
     pub as_map : (m : Map) → t.holds old.table m → AsMap (shape (t.terms old.table)) m command turns × t.holds new.table (after_first (shape (t.terms old.table)) m command count)
@@ -60,7 +66,7 @@ module _ {T W : Type 0} (t : table.Ghosts T W) where
   pub record Accepted (command : Command) (bound levels place : ℕ) (old new : Place T) : Type 0 where
     pub turn : Turn
     pub asked : turn.request ≡ Some command
-    pub accepted : is_accepted turn.answer ≡ true
+    pub accepted : accepts turn.answer command ≡ true
     pub given : t.answers old.table turn new.table
     pub tallied : TalliedOne levels place turn old.tally new.tally
     pub ticks : new.steps ≡ old.steps + turn.ticks

@@ -1,5 +1,5 @@
 -- What a tally counts: turns of a session, each a command with its reply and its cell accesses.
-use Rattle.std.specs.Prelude.{ℕ, zero, suc, ◌+◌, ◌≡◌, ◌<◌, Bool, true, false, not, nat_lt, bytes_eq, if◌then◌else◌, List, [], ◌∷◌, length, Option, Some, None}
+use Rattle.std.specs.Prelude.{ℕ, zero, suc, ◌+◌, ◌≡◌, ◌≤◌, ◌<◌, Bool, true, false, not, nat_lt, bytes_eq, if◌then◌else◌, List, [], ◌∷◌, length, Option, Some, None}
 use Rattle.cola_spec.specs.Map.{PutOutcome, New, Old, Full, Worn, Other, Map, value_of}
 use Rattle.cola_spec.specs.Command.{Command, Put, Del, Get}
 use Rattle.cola_spec.specs.Reply.{Reply, Deleted, Got, Failed}
@@ -34,13 +34,13 @@ is_wrong place _ = false
 abbrev pub is_over : ℕ → Turn → Bool
 is_over levels turn = nat_lt (request_bound levels turn.request) turn.ticks
 
--- the reply of a put, a delete or a get that was not refused
-abbrev pub is_accepted : Reply → Bool
-is_accepted (reply.Put New) = true
-is_accepted (reply.Put (Old value)) = true
-is_accepted (Deleted value) = true
-is_accepted (Got value) = true
-is_accepted _ = false
+-- the reply accepts the command: a put that made a key or replaced a value, and any answer to a delete or a get
+abbrev pub accepts : Reply → Command → Bool
+accepts (reply.Put New) (Put key value) = true
+accepts (reply.Put (Old value)) (Put key value') = true
+accepts (Deleted value) (Del key) = true
+accepts (Got value) (Get key) = true
+accepts _ _ = false
 
 -- the reply refuses the command: full and worn refuse a put alone
 abbrev pub refuses : Reply → Command → Bool
@@ -71,6 +71,17 @@ pub record TalliedOne (levels place : ℕ) (turn : Turn) (old new : Tally) : Typ
   pub gone : new.gone ≡ old.gone + one (is_found turn.answer)
   pub wrong : new.wrong ≡ old.wrong + one (is_wrong place turn.answer)
   pub over : new.over ≡ old.over + one (is_over levels turn)
+
+-- each number of a tally rises by at most so much, and none falls
+pub record RisesBy (fresh gone wrong over : ℕ) (old new : Tally) : Type 0 where
+  pub fresh_kept : old.fresh ≤ new.fresh
+  pub fresh_within : new.fresh ≤ old.fresh + fresh
+  pub gone_kept : old.gone ≤ new.gone
+  pub gone_within : new.gone ≤ old.gone + gone
+  pub wrong_kept : old.wrong ≤ new.wrong
+  pub wrong_within : new.wrong ≤ old.wrong + wrong
+  pub over_kept : old.over ≤ new.over
+  pub over_within : new.over ≤ old.over + over
 
 -- each number of a tally can rise by one
 pub record HasOneMore (tally : Tally) : Type 0 where
