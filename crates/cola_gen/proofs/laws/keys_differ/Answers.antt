@@ -1,5 +1,5 @@
 use Rattle.cola_gen.proofs.Scattered.{keys_apart}
-use Rattle.cola_gen.proofs.Totals.{counted_at_most}
+use Rattle.cola_gen.proofs.Making.{left}
 use Rattle.cola_gen.proofs.laws.keys_differ.Goals as goal
 
 pub returns : goal.returns
