@@ -1,10 +1,11 @@
 -- The puts and then the deletes.
-use Rattle.std.proofs.Common.{◌≡◌, ◌+◌, ◌*◌, ◌≤◌, ◌<◌, ◌⊎◌, inl, inr, ℕ, refl, sym, subst, ap, ◌∙◌, arith, List, [], ◌∷◌, length, Bool, true, false, Some, None, Option, Result, Ok, Err, OnOk, IfErr}
+use Rattle.std.proofs.Common.{◌≡◌, ◌+◌, ◌*◌, ◌≤◌, ◌<◌, ◌⊎◌, inl, inr, ℕ, refl, sym, subst, ap, ◌∙◌, arith, List, [], ◌∷◌, length, Bool, true, false, Some, None, Option, Result, Ok, Err, OnOk, MatchResult}
 use Rattle.std.proofs.Math.Nat.{mul-le-mul_right, mul-le-mul_left}
 use Rattle.cola_spec.specs.Map.{Map, empty_map, New, put_outcome, value_of}
 use Rattle.cola_spec.specs.Command.{Command}
 use Rattle.cola_spec.specs.Reply.{Reply, Failed, Fault, Deleted}
 use Rattle.cola_spec.specs.Reply as reply
+use Rattle.cola_spec.specs.Machine.{Turn}
 use Rattle.cola_spec.specs.Bounds.{put_bound}
 use Rattle.cola_table.specs.declared.PutFault.{PutFault}
 use Rattle.cola_table.specs.declared.PutFault.TheVariants as fault
@@ -12,9 +13,9 @@ use Rattle.cola_table.specs.declared.table.Table as table
 use Rattle.cola_table.specs.Terms.{shape}
 use Rattle.cola_table.specs.Replies.{put_refused}
 use Rattle.cola_gen.specs.declared.Tally.{Tally}
-use Rattle.cola_gen.specs.Keys.{evens, key_text}
+use Rattle.cola_gen.specs.Keys.{evens, key_text, value_text}
 use Rattle.cola_gen.specs.Commands.{puts, deletes, after_first, left_by}
-use Rattle.cola_gen.specs.Turns.{RisesBy, is_new, is_found, counted}
+use Rattle.cola_gen.specs.Turns.{RisesBy, TalliedAll, is_new, is_found, counted}
 use Rattle.cola_gen.specs.Answered.{Place, Keeps, Spent, AsMap, Answered, Stopped, AllAnswered, Ran, Second, Generated}
 use Rattle.cola_gen.proofs.Totals.{counted_none, counted_all}
 use Rattle.cola_gen.proofs.Rising.{spent_ran, puts_ran, deletes_ran, not_over_ran, rises_both, rises_less, put_not_found, delete_not_new}
@@ -125,3 +126,58 @@ module _ {T W : Type 0} (t : table.Ghosts T W) (levels number : ℕ) (old new : 
       let b = (made.second.answered.as_map (after_first (shape (t.terms old.table)) m puts number) a).1 in
       subst (λ s. t.holds new.table (after_first s (after_first (shape (t.terms old.table)) m puts number) deletes (evens number))) (terms_at (Ok tt) made) b
   left (Err refusal) m held made = tt
+
+  -- From the empty map
+
+  module _ (held : t.holds old.table empty_map) (small : number < 4294967296) (room : number ≤ (t.terms old.table).limit) where
+    -- the map after so many puts
+    abbrev put_so_far : ℕ → Map
+    put_so_far place = after_first (shape (t.terms old.table)) empty_map puts place
+
+    new_at : (place : ℕ) → place < number → put_outcome (shape (t.terms old.table)) (put_so_far place) (key_text place) ≡ New
+    new_at place below = all_new (shape (t.terms old.table)) number place below small room
+
+    found_at : (half : ℕ) → half < evens number → (value : List ℕ) × (value_of (after_first (shape (t.terms old.table)) (put_so_far number) deletes half) (key_text (2 * half)) ≡ Some value)
+    found_at half below = (value_text (2 * half), all_found (shape (t.terms old.table)) number small room half below)
+
+    first_all : (between : Place T) (turns : List Turn) → Answered t puts bound levels number old between turns → between.tally.fresh ≡ old.tally.fresh + number
+    first_all between turns a =
+        let each = counted_all (λ place. is_new) (shape (t.terms old.table)) empty_map puts turns number (omega (arith, a.number)) (λ place below. ap (λ o. is_new (reply.Put o)) (new_at place below)) (a.as_map empty_map held).0 in
+        omega (arith, a.tallied.fresh, each, a.number)
+
+    second_all : (between : Place T) (turns : List Turn) → shape (t.terms between.table) ≡ shape (t.terms old.table) → t.holds between.table (put_so_far number) → Answered t deletes bound levels (evens number) between new turns → new.tally.gone ≡ between.tally.gone + evens number
+    second_all between turns same held a =
+        let as_map = subst (λ s. AsMap s (put_so_far number) deletes turns) same (a.as_map (put_so_far number) held).0 in
+        let each = counted_all (λ place. is_found) (shape (t.terms old.table)) (put_so_far number) deletes turns (evens number) (omega (arith, a.number)) (λ half below. ap (λ v. is_found (Deleted v)) (found_at half below).1) as_map in
+        omega (arith, a.tallied.gone, each, a.number)
+
+    all_made : Second t bound levels number (Ok tt) old new → TalliedAll number old.tally new.tally
+    all_made made =
+        let between = made.between in
+        let a = made.first in
+        let b = made.second in
+        let fresh = first_all between a.turns a.answered in
+        let gone = second_all between b.turns (terms_at (Ok tt) made) (a.answered.as_map empty_map held).1 b.answered in
+        let not_gone = counted_none t puts (λ place. is_found) (λ place. put_not_found place place) a.turns old.table between.table a.answered.gave in
+        let not_fresh = counted_none t deletes (λ place. is_new) (λ place. delete_not_new place place) b.turns between.table new.table b.answered.gave in
+        record { fresh = omega (arith, fresh, b.answered.tallied.fresh, not_fresh); gone = omega (arith, gone, a.answered.tallied.gone, not_gone) }
+
+    put_stopped : (refusal : PutFault) → Stopped t puts bound levels number (put_refused refusal) old new → refusal ≡ fault.Device
+    put_stopped refusal s =
+        let m = put_so_far s.place in
+        elim (s.refused.as_map m (s.answered.as_map empty_map held).1).0 [
+          | inl device ↦ device_only refusal device
+          | inr answer ↦ absurd (never_new refusal (answer ∙ ap (λ z. reply.Put (put_outcome (shape z) m (key_text s.place))) s.answered.keeps.same_terms ∙ ap reply.Put (new_at s.place s.in_range)))
+        ]
+
+    delete_stopped : (refusal : PutFault) → Second t bound levels number (Err refusal) old new → refusal ≡ fault.Device
+    delete_stopped refusal made =
+        let s = made.second in
+        elim (s.refused.as_map (after_first (shape (t.terms made.between.table)) (put_so_far number) deletes s.place) (s.answered.as_map (put_so_far number) (made.first.answered.as_map empty_map held).1).1).0 [
+          | inl device ↦ device_only refusal device
+          | inr answer ↦ absurd (never_deleted refusal _ answer)
+        ]
+
+    pub from_empty : (result : Result (Unit {0}) PutFault) → Generated t bound levels number result old new → MatchResult result (λ _. TalliedAll number old.tally new.tally) (λ refusal. refusal ≡ fault.Device)
+    from_empty (Ok _) made = all_made made
+    from_empty (Err refusal) made = elim made [ | inl stopped ↦ put_stopped refusal stopped | inr second ↦ delete_stopped refusal second ]

@@ -7,7 +7,7 @@ use Rattle.cola_spec.specs.Reply as reply
 use Rattle.cola_spec.specs.Machine.{Turn}
 use Rattle.cola_spec.specs.Bounds.{request_bound}
 use Rattle.cola_gen.specs.declared.Tally.{Tally}
-use Rattle.cola_gen.specs.Keys.{key_text, expected}
+use Rattle.cola_gen.specs.Keys.{key_text, expected, evens}
 
 -- a put that made a new key
 abbrev pub is_new : Reply → Bool
@@ -82,6 +82,11 @@ pub record RisesBy (fresh gone wrong over : ℕ) (old new : Tally) : Type 0 wher
   pub wrong_within : new.wrong ≤ old.wrong + wrong
   pub over_kept : old.over ≤ new.over
   pub over_within : new.over ≤ old.over + over
+
+-- each put made a new key and each delete found its own
+pub record TalliedAll (number : ℕ) (old new : Tally) : Type 0 where
+  pub fresh : new.fresh ≡ old.fresh + number
+  pub gone : new.gone ≡ old.gone + evens number
 
 -- each number of a tally can rise by one
 pub record HasOneMore (tally : Tally) : Type 0 where
