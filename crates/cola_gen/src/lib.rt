@@ -8,6 +8,7 @@ mod keys;
 pub mod laws;
 mod verifying;
 
+pub use generating::generate;
 pub use keys::{expected, key_of, made, value_of};
 pub use verifying::verify;
 
