@@ -90,6 +90,9 @@ module _ {T W : Type 0} (t : table.Ghosts T W) (command : ℕ → Command) (boun
     pub turns : List Turn
     pub answered : Answered t command bound levels place old now turns
 
+  pub ended : (place count : ℕ) (old now : Place T) → place ≡ count → SoFar place old now → AllAnswered t command bound levels count old now
+  ended place count old now is so_far = record { turns = so_far.turns; answered = subst (λ n. Answered t command bound levels n old now so_far.turns) is so_far.answered }
+
 module _ {T W : Type 0} (t : table.Ghosts T W) (command : ℕ → Command) (bound : ℕ → ℕ) (levels : ℕ) where
   pub begun : (old : Place T) → SoFar t command (bound (t.terms old.table).depth) levels 0 old old
   begun old = record { turns = []; answered = none_answered t command (bound (t.terms old.table).depth) levels old }

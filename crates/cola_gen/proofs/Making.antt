@@ -16,10 +16,10 @@ use Rattle.cola_gen.specs.declared.Tally.{Tally}
 use Rattle.cola_gen.specs.Keys.{evens, key_text, value_text}
 use Rattle.cola_gen.specs.Commands.{puts, deletes, after_first, left_by}
 use Rattle.cola_gen.specs.Turns.{RisesBy, TalliedAll, is_new, is_found, counted}
-use Rattle.cola_gen.specs.Answered.{Place, Keeps, Spent, AsMap, Answered, Stopped, AllAnswered, Ran, Second, Generated}
+use Rattle.cola_gen.specs.Answered.{Place, Keeps, Spent, AsMap, Answered, Stopped, AllAnswered, Ran, Second, Generated, MadeOdd}
 use Rattle.cola_gen.proofs.Totals.{counted_none, counted_all}
 use Rattle.cola_gen.proofs.Rising.{spent_ran, puts_ran, deletes_ran, not_over_ran, rises_both, rises_less, put_not_found, delete_not_new}
-use Rattle.cola_gen.proofs.Left.{all_new, all_found}
+use Rattle.cola_gen.proofs.Left.{all_new, all_found, has_odd}
 
 -- Which refusals a sound table may answer
 
@@ -178,6 +178,6 @@ module _ {T W : Type 0} (t : table.Ghosts T W) (levels number : ℕ) (old new : 
           | inr answer ↦ absurd (never_deleted refusal _ answer)
         ]
 
-    pub from_empty : (result : Result (Unit {0}) PutFault) → Generated t bound levels number result old new → MatchResult result (λ _. TalliedAll number old.tally new.tally) (λ refusal. refusal ≡ fault.Device)
-    from_empty (Ok _) made = all_made made
+    pub from_empty : (result : Result (Unit {0}) PutFault) → Generated t bound levels number result old new → MatchResult result (λ _. MadeOdd t number old new) (λ refusal. refusal ≡ fault.Device)
+    from_empty (Ok _) made = record { map = left_by (shape (t.terms old.table)) empty_map number; holds = left (Ok tt) empty_map held made; odd = has_odd (shape (t.terms old.table)) number small room; tallied = all_made made }
     from_empty (Err refusal) made = elim made [ | inl stopped ↦ put_stopped refusal stopped | inr second ↦ delete_stopped refusal second ]

@@ -11,9 +11,9 @@ use Rattle.cola_table.specs.declared.table.Table as table
 use Rattle.cola_table.specs.Terms.{shape}
 use Rattle.cola_table.specs.Replies.{turn_of, put_refused, read_failure}
 use Rattle.cola_gen.specs.declared.Tally.{Tally}
-use Rattle.cola_gen.specs.Keys.{evens}
+use Rattle.cola_gen.specs.Keys.{evens, HasOdd}
 use Rattle.cola_gen.specs.Commands.{puts, deletes, gets, map_after, after_first}
-use Rattle.cola_gen.specs.Turns.{Tallied, TalliedOne, accepts, refuses}
+use Rattle.cola_gen.specs.Turns.{Tallied, TalliedOne, TalliedAll, accepts, refuses}
 
 -- why a get was refused, as a reply
 abbrev pub read_refused : ReadFault → Reply
@@ -114,3 +114,10 @@ module _ {T W : Type 0} (t : table.Ghosts T W) where
   abbrev pub Generated : ℕ → ℕ → ℕ → Result (Unit {0}) PutFault → Place T → Place T → Type 0
   Generated bound levels number (Ok _) old new = Second bound levels number (Ok tt) old new
   Generated bound levels number (Err fault) old new = Stopped puts bound levels number (put_refused fault) old new ⊎ Second bound levels number (Err fault) old new
+
+  -- the table holds the keys of the odd places below the number, each with its value, and no other; each put made a key, and each delete found its own
+  pub record MadeOdd (number : ℕ) (old new : Place T) : Type 0 where
+    pub map : Map
+    pub holds : t.holds new.table map
+    pub odd : HasOdd number map
+    pub tallied : TalliedAll number old.tally new.tally

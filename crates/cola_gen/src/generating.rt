@@ -9,8 +9,8 @@ ghost use Rattle.cola_table.specs.Terms.{shape};
 ghost use Rattle.cola_gen.specs.Keys as spec;
 ghost use Rattle.cola_gen.specs.Keys.{evens};
 ghost use Rattle.cola_gen.specs.Commands.{puts, deletes, left_by};
-ghost use Rattle.cola_gen.specs.Turns.{HasCounted, RisesBy, TalliedAll};
-ghost use Rattle.cola_gen.specs.Answered.{Ran, Generated, Spent, at};
+ghost use Rattle.cola_gen.specs.Turns.{HasCounted, RisesBy};
+ghost use Rattle.cola_gen.specs.Answered.{Ran, Generated, MadeOdd, Spent, at};
 
 use crate::Tally;
 use crate::calls::{delete_key, put_key};
@@ -71,7 +71,7 @@ pub fn generate<T: Table, L: Ledger>(
     requires { HasCounted 0 tally.old }
     ensures given { Generated T.Table (put_bound (T.terms table.old).depth) levels (spec.made keys) result (at table.old tally.old steps.old) (at table.new tally.new steps.new) }
     ensures left { (m : Map) → T.holds table.old m → OnOk result (T.holds table.new (left_by (shape (T.terms table.old)) m (spec.made keys))) }
-    ensures from_empty { T.holds table.old empty_map → spec.made keys ≤ (T.terms table.old).limit → MatchResult result (λ _. TalliedAll (spec.made keys) tally.old tally.new) (λ refusal. refusal ≡ fault.Device) }
+    ensures from_empty { T.holds table.old empty_map → spec.made keys ≤ (T.terms table.old).limit → MatchResult result (λ _. MadeOdd T.Table (spec.made keys) (at table.old tally.old steps.old) (at table.new tally.new steps.new)) (λ refusal. refusal ≡ fault.Device) }
     ensures not_over { (T.terms table.old).depth ≤ levels → tally.new.over ≡ tally.old.over }
     ensures tallied { RisesBy (spec.made keys) (evens (spec.made keys)) 0 (spec.made keys + evens (spec.made keys)) tally.old tally.new }
     ensures spent { Spent T.Table ((spec.made keys + evens (spec.made keys)) * put_bound (T.terms table.old).depth) (at table.old tally.old steps.old) (at table.new tally.new steps.new) }
