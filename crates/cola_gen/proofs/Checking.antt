@@ -38,7 +38,7 @@ none_wrong_in m number zero within has = refl
 none_wrong_in m number (suc place) within has =
     let rest = none_wrong_in m number place (omega arith) has in
     let first : one (not (same (value_of m (key_text place)) (expected place))) ≡ 0 =
-        ap (λ v. one (not (same v (expected place)))) (has.values place (omega arith)) ∙ ap (λ b. one (not b)) (same_self (expected place)) in
+    ap (λ v. one (not (same v (expected place)))) (has.values place (omega arith)) ∙ ap (λ b. one (not b)) (same_self (expected place)) in
     omega (arith, first, rest)
 
 device_only : (refusal : ReadFault) → read_refused refusal ≡ Failed Fault → refusal ≡ fault.Device
@@ -64,7 +64,7 @@ module _ {T W : Type 0} (t : table.Ghosts T W) (levels number : ℕ) (old new : 
       omega (arith, ran.answered.tallied.wrong, as_map, counts)
   wrong (Err refusal) m held ran =
       let before = subst (t.holds ran.before.table) (gets_keep (shape (t.terms old.table)) m ran.place) (ran.answered.as_map m held).1 in
-      elim (ran.refused.as_map m before).0 [ | inl device ↦ device_only refusal device | inr answer ↦ absurd (never_got refusal _ answer) ]
+      elim (ran.refused.as_map m before).0 [ inl device ↦ device_only refusal device | inr answer ↦ absurd (never_got refusal _ answer) ]
 
   pub none_wrong : (result : Result (Unit {0}) ReadFault) (m : Map) → t.holds old.table m → HasOdd number m → Ran t gets read_refused bound levels number result old new → OnOk result (new.tally.wrong ≡ old.tally.wrong)
   none_wrong (Ok unit) m held has ran = omega (arith, wrong (Ok unit) m held ran, none_wrong_in m number number (omega arith) has)

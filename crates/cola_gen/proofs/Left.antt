@@ -47,12 +47,12 @@ with_one_more : (shape : Shape) (number : ℕ) (m : Map) → number < 4294967296
 with_one_more shape number m small has = record {
   values = λ place below. elim (same_or_not place number) [
     | inl same ↦
-      ap (λ p. value_of (with_value shape m (key_text number) (value_text number)) (key_text p)) same
-      ∙ ap (λ s. option_map (λ s. s.value) s) (get_with_value shape m (key_text number) (value_text number))
-      ∙ ap (λ p. Some (value_text p)) (sym same)
+        ap (λ p. value_of (with_value shape m (key_text number) (value_text number)) (key_text p)) same
+        ∙ ap (λ s. option_map (λ s. s.value) s) (get_with_value shape m (key_text number) (value_text number))
+        ∙ ap (λ p. Some (value_text p)) (sym same)
     | inr apart ↦
-      ap (λ s. option_map (λ s. s.value) s) (others_with_value shape m (key_text number) (value_text number) (key_text place) (λ same. apart (keys_apart place number (omega arith) small same)))
-      ∙ has.values place (omega arith)
+        ap (λ s. option_map (λ s. s.value) s) (others_with_value shape m (key_text number) (value_text number) (key_text place) (λ same. apart (keys_apart place number (omega arith) small same)))
+        ∙ has.values place (omega arith)
   ];
   no_other = λ key apart.
       ap (λ s. option_map (λ s. s.value) s) (others_with_value shape m (key_text number) (value_text number) key (apart number (omega arith)))
@@ -113,8 +113,8 @@ one_deleted number deleted m room small has = record {
   gone = λ half below. elim (same_or_not half deleted) [
     | inl same ↦ ap (λ h. value_of (after_delete m (key_text (2 * deleted))) (key_text (2 * h))) same ∙ ap (λ s. option_map (λ s. s.value) s) (get_after_delete m (key_text (2 * deleted)))
     | inr apart ↦
-      ap (λ s. option_map (λ s. s.value) s) (others_after_delete m (key_text (2 * deleted)) (key_text (2 * half)) (λ same. let p : 2 * half ≡ 2 * deleted = keys_apart (2 * half) (2 * deleted) (omega arith) (omega arith) same in apart (omega arith)))
-      ∙ has.gone half (omega arith)
+        ap (λ s. option_map (λ s. s.value) s) (others_after_delete m (key_text (2 * deleted)) (key_text (2 * half)) (λ same. let p : 2 * half ≡ 2 * deleted = keys_apart (2 * half) (2 * deleted) (omega arith) (omega arith) same in apart (omega arith)))
+        ∙ has.gone half (omega arith)
   ];
   no_other = λ key apart.
       ap (λ s. option_map (λ s. s.value) s) (others_after_delete m (key_text (2 * deleted)) key (apart (2 * deleted) room))
@@ -138,8 +138,8 @@ module _ (shape : Shape) (number : ℕ) (small : number < 4294967296) (room : nu
   odd_place place below has = elim (same_or_not (place % 2) 1) [
     | inl odd ↦ has.still place below (λ half within same. omega arith) ∙ sym (ap (λ b. if b then Some (value_text place) else None) (eq-eqb (place % 2) 1 odd))
     | inr even ↦
-      let twice : place ≡ 2 * (place / 2) = omega arith in
-      ap (λ p. value_of (left_by shape empty_map number) (key_text p)) twice ∙ has.gone (place / 2) (omega arith) ∙ sym (ap (λ b. if b then Some (value_text place) else None) (ne_eqb (place % 2) 1 even))
+        let twice : place ≡ 2 * (place / 2) = omega arith in
+        ap (λ p. value_of (left_by shape empty_map number) (key_text p)) twice ∙ has.gone (place / 2) (omega arith) ∙ sym (ap (λ b. if b then Some (value_text place) else None) (ne_eqb (place % 2) 1 even))
   ]
 
   pub has_odd : HasOdd number (left_by shape empty_map number)

@@ -84,7 +84,7 @@ module _ {T W : Type 0} (t : table.Ghosts T W) (levels number : ℕ) (old new : 
 
   pub spent : (result : Result (Unit {0}) PutFault) → Generated t bound levels number result old new → Spent t ((number + evens number) * bound) old new
   spent (Ok _) made = second_spent (Ok tt) made
-  spent (Err refusal) made = elim made [ | inl stopped ↦ first_spent refusal stopped | inr second ↦ second_spent (Err refusal) second ]
+  spent (Err refusal) made = elim made [ inl stopped ↦ first_spent refusal stopped | inr second ↦ second_spent (Err refusal) second ]
 
   second_rises : (result : Result (Unit {0}) PutFault) → Second t bound levels number result old new → RisesBy number (evens number) 0 (number + evens number) old.tally new.tally
   second_rises result second =
@@ -180,4 +180,4 @@ module _ {T W : Type 0} (t : table.Ghosts T W) (levels number : ℕ) (old new : 
 
     pub from_empty : (result : Result (Unit {0}) PutFault) → Generated t bound levels number result old new → MatchResult result (λ _. MadeOdd t number old new) (λ refusal. refusal ≡ fault.Device)
     from_empty (Ok _) made = record { map = left_by (shape (t.terms old.table)) empty_map number; holds = left (Ok tt) empty_map held made; odd = has_odd (shape (t.terms old.table)) number small room; tallied = all_made made }
-    from_empty (Err refusal) made = elim made [ | inl stopped ↦ put_stopped refusal stopped | inr second ↦ delete_stopped refusal second ]
+    from_empty (Err refusal) made = elim made [ inl stopped ↦ put_stopped refusal stopped | inr second ↦ delete_stopped refusal second ]

@@ -21,7 +21,7 @@ pub counted_at_most : (test : ℕ → Turn → Bool) (turns : List Turn) → cou
 counted_at_most test [] = omega arith
 counted_at_most test (turn ∷ turns) =
     let rest = counted_at_most test turns in
-    let first : one (test (length turns) turn) ≤ 1 = elim (test (length turns) turn) as (λ b. one b ≤ 1) [ | true ↦ omega arith | false ↦ omega arith ] in
+    let first : one (test (length turns) turn) ≤ 1 = elim (test (length turns) turn) as (λ b. one b ≤ 1) [ true ↦ omega arith | false ↦ omega arith ] in
     omega arith
 
 -- the cell accesses of turns that are each within a bound

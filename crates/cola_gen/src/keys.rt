@@ -21,7 +21,11 @@ fn hex_digit(number: u32, unit: u32) -> u8
     ensures { result ≡ spec.hex_digit (number / unit % 16) }
 {
     let digit = (number / unit % 16) as u8;
-    if digit < 10 { b'0' + digit } else { b'a' - 10 + digit }
+    if digit < 10 {
+        b'0' + digit
+    } else {
+        b'a' - 10 + digit
+    }
 }
 
 /// A number in eight hexadecimal digits.

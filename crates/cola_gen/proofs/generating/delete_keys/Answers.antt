@@ -12,8 +12,8 @@ use Rattle.cola_gen.proofs.generating.delete_keys.Goals as goal
 pub returns-in_err-delete_key-clause-ran : goal.returns-in_err-delete_key-clause-ran
 returns-in_err-delete_key-clause-ran g c =
     let p = err_from_is_err_and c.from_residual.result c.from_residual.ensures.1 in rw (p.1, p.2) (
-      stops g.T.Table deletes put_bound c.args.levels c.loop-half.half (evens c.args.number) (put_refused c.in_err-delete_key.field-0.0) (at c.args.table.now c.args.tally.now c.args.steps.now) (at c.loop-half.table c.loop-half.tally c.loop-half.steps) (at c.delete_key.new.table c.delete_key.new.tally c.delete_key.new.steps)
-          (omega arith) c.loop-half.invariant.so_far c.in_err-delete_key.ensures.call
+    stops g.T.Table deletes put_bound c.args.levels c.loop-half.half (evens c.args.number) (put_refused c.in_err-delete_key.field-0.0) (at c.args.table.now c.args.tally.now c.args.steps.now) (at c.loop-half.table c.loop-half.tally c.loop-half.steps) (at c.delete_key.new.table c.delete_key.new.tally c.delete_key.new.steps)
+    (omega arith) c.loop-half.invariant.so_far c.in_err-delete_key.ensures.call
     )
 
 pub loop-half-preserved : goal.loop-half-preserved
