@@ -1,6 +1,5 @@
 -- The gets.
-use Rattle.std.proofs.Common.{◌≡◌, ◌+◌, ◌*◌, ◌≤◌, ◌<◌, ◌⊎◌, inl, inr, ℕ, zero, suc, refl, sym, subst, ap, ◌∙◌, arith, List, [], ◌∷◌, length, Bool, true, false, not, Some, None, Option, Result, Ok, Err, OnOk, MatchResult}
-use Rattle.std.specs.Str.{bytes_eq}
+use Rattle.std.proofs.Common.{◌≡◌, ◌+◌, ◌*◌, ◌≤◌, inl, inr, ℕ, zero, suc, refl, subst, ap, ◌∙◌, arith, List, [], ◌∷◌, length, true, not, Some, None, Option, Result, Ok, Err, OnOk, MatchResult}
 use Rattle.std.proofs.lemmas.Slice.Eq.{bytes_eq-Decides}
 use Rattle.cola_cell.specs.declared.fault.ReadFault.{ReadFault}
 use Rattle.cola_cell.specs.declared.fault.ReadFault.TheVariants as fault
@@ -13,7 +12,7 @@ use Rattle.cola_table.specs.Terms.{shape}
 use Rattle.cola_gen.specs.Keys.{key_text, expected, HasOdd}
 use Rattle.cola_gen.specs.Commands.{gets, after_first}
 use Rattle.cola_gen.specs.Turns.{RisesBy, counted, one, same, is_wrong, wrong_in}
-use Rattle.cola_gen.specs.Answered.{Place, Spent, AsMap, Answered, Stopped, Ran, read_refused}
+use Rattle.cola_gen.specs.Answered.{Place, Spent, AsMap, Ran, read_refused}
 use Rattle.cola_gen.proofs.Rising.{spent_ran, gets_ran, not_over_ran}
 
 -- a get leaves the map

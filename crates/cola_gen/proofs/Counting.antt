@@ -1,16 +1,16 @@
 -- One more turn of a list of commands.
-use Rattle.std.proofs.Common.{◌≡◌, ◌+◌, ◌*◌, ◌≤◌, ◌<◌, ◌⊎◌, inl, inr, ℕ, zero, suc, refl, sym, subst, ap, ◌∙◌, arith, List, [], ◌∷◌, length, Bool, true, false, Some}
-use Rattle.std.proofs.lemmas.List.Elements.{All-cons, All-nil, All-head, All-tail}
+use Rattle.std.proofs.Common.{◌≡◌, ◌+◌, ◌≤◌, ◌<◌, ℕ, suc, refl, sym, subst, ap, ◌∙◌, arith, List, [], ◌∷◌, length, Bool, true, false, Some}
+use Rattle.std.proofs.lemmas.List.Elements.{All-cons, All-nil}
 use Rattle.cola_spec.specs.Map.{Map}
 use Rattle.cola_spec.specs.Command.{Command}
 use Rattle.cola_spec.specs.Reply.{Reply}
-use Rattle.cola_spec.specs.Machine.{Turn, ticks_of, open_reply}
+use Rattle.cola_spec.specs.Machine.{Turn, open_reply}
 use Rattle.cola_table.specs.declared.table.Table as table
 use Rattle.cola_table.specs.Terms.{shape}
 use Rattle.cola_gen.specs.declared.Tally.{Tally}
 use Rattle.cola_gen.specs.Commands.{map_after, after_first}
-use Rattle.cola_gen.specs.Turns.{Tallied, TalliedOne, HasOneMore, HasCounted, accepts, counted, one, is_new, is_found, is_wrong, is_over}
-use Rattle.cola_gen.specs.Answered.{Place, at, Keeps, Gave, AsMap, Answered, Accepted, Refused, Stopped, AllAnswered, Ran}
+use Rattle.cola_gen.specs.Turns.{Tallied, TalliedOne, HasOneMore, HasCounted, accepts, one, is_new, is_found, is_wrong, is_over}
+use Rattle.cola_gen.specs.Answered.{Place, AsMap, Answered, Accepted, Refused, Stopped, AllAnswered}
 
 -- no turn yet
 

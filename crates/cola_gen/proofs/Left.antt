@@ -1,8 +1,8 @@
 -- The map that the puts and deletes leave.
-use Rattle.std.proofs.Common.{◌≡◌, ◌≢◌, ◌+◌, ◌-◌, ◌*◌, ◌/◌, ◌%◌, ◌^◌, ◌≤◌, ◌<◌, ℕ, zero, suc, refl, sym, ap, ◌∙◌, subst, arith, List, [], ◌∷◌, Bool, true, false, cond, nat_le, nat_eq, ◌&&◌, if◌then◌else◌, Option, Some, None, option_map, is_some, ◌⊎◌, inl, inr}
+use Rattle.std.proofs.Common.{◌≡◌, ◌≢◌, ◌+◌, ◌-◌, ◌*◌, ◌/◌, ◌%◌, ◌≤◌, ◌<◌, ℕ, zero, suc, refl, sym, ap, ◌∙◌, subst, arith, List, Bool, true, false, cond, nat_le, ◌&&◌, if◌then◌else◌, Some, None, option_map, is_some, ◌⊎◌, inl, inr}
 use Rattle.std.proofs.lemmas.Bool.{lt-leb, eq-eqb, ne_eqb}
 use Rattle.std.specs.FinMap as finite
-use Rattle.cola_spec.specs.Map.{Shape, Stored, Map, key_cmp, empty_map, value_of, count, is_worn, put_outcome, with_value, settled, after_put, after_delete, PutOutcome, New}
+use Rattle.cola_spec.specs.Map.{Shape, Stored, Map, key_cmp, empty_map, value_of, count, is_worn, put_outcome, with_value, settled, after_put, after_delete, New}
 use Rattle.cola_spec.proofs.MapLaws.{get_with_value, others_with_value, get_after_delete, others_after_delete, put_is_new, count_with_value, count_after_delete}
 use Rattle.cola_gen.specs.Keys.{key_text, value_text, evens, expected, HasOdd}
 use Rattle.cola_gen.specs.Commands.{puts, deletes, after_first, left_by}

@@ -1,8 +1,7 @@
 -- The puts and then the deletes.
-use Rattle.std.proofs.Common.{◌≡◌, ◌+◌, ◌*◌, ◌≤◌, ◌<◌, ◌⊎◌, inl, inr, ℕ, refl, sym, subst, ap, ◌∙◌, arith, List, [], ◌∷◌, length, Bool, true, false, Some, None, Option, Result, Ok, Err, OnOk, MatchResult}
-use Rattle.std.proofs.Math.Nat.{mul-le-mul_right, mul-le-mul_left}
+use Rattle.std.proofs.Common.{◌≡◌, ◌+◌, ◌*◌, ◌≤◌, ◌<◌, inl, inr, ℕ, refl, subst, ap, ◌∙◌, arith, List, Some, Option, Result, Ok, Err, OnOk, MatchResult}
+use Rattle.std.proofs.Math.Nat.{mul-le-mul_right}
 use Rattle.cola_spec.specs.Map.{Map, empty_map, New, put_outcome, value_of}
-use Rattle.cola_spec.specs.Command.{Command}
 use Rattle.cola_spec.specs.Reply.{Reply, Failed, Fault, Deleted}
 use Rattle.cola_spec.specs.Reply as reply
 use Rattle.cola_spec.specs.Machine.{Turn}
@@ -12,11 +11,10 @@ use Rattle.cola_table.specs.declared.PutFault.TheVariants as fault
 use Rattle.cola_table.specs.declared.table.Table as table
 use Rattle.cola_table.specs.Terms.{shape}
 use Rattle.cola_table.specs.Replies.{put_refused}
-use Rattle.cola_gen.specs.declared.Tally.{Tally}
 use Rattle.cola_gen.specs.Keys.{evens, key_text, value_text}
 use Rattle.cola_gen.specs.Commands.{puts, deletes, after_first, left_by}
-use Rattle.cola_gen.specs.Turns.{RisesBy, TalliedAll, is_new, is_found, counted}
-use Rattle.cola_gen.specs.Answered.{Place, Keeps, Spent, AsMap, Answered, Stopped, AllAnswered, Ran, Second, Generated, MadeOdd}
+use Rattle.cola_gen.specs.Turns.{RisesBy, TalliedAll, is_new, is_found}
+use Rattle.cola_gen.specs.Answered.{Place, Spent, AsMap, Answered, Stopped, Ran, Second, Generated, MadeOdd}
 use Rattle.cola_gen.proofs.Totals.{counted_none, counted_all}
 use Rattle.cola_gen.proofs.Rising.{spent_ran, puts_ran, deletes_ran, not_over_ran, rises_both, rises_less, put_not_found, delete_not_new}
 use Rattle.cola_gen.proofs.Left.{all_new, all_found, has_odd}

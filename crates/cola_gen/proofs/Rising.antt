@@ -1,16 +1,16 @@
 -- By how much a tally rises in a list of commands, by their kind.
-use Rattle.std.proofs.Common.{◌≡◌, ◌+◌, ◌*◌, ◌≤◌, ◌<◌, ℕ, refl, sym, subst, ap, ◌∙◌, arith, List, length, Bool, true, false, Some, Result, Ok, Err}
+use Rattle.std.proofs.Common.{◌≡◌, ◌+◌, ◌*◌, ◌≤◌, ℕ, refl, sym, subst, ap, ◌∙◌, arith, List, length, true, false, Result, Ok, Err}
 use Rattle.cola_spec.specs.Command.{Command}
 use Rattle.cola_spec.specs.Reply.{Reply, Deleted, Got}
 use Rattle.cola_spec.specs.Reply as reply
 use Rattle.cola_spec.specs.Map.{New}
 use Rattle.cola_spec.specs.Machine.{Turn}
-use Rattle.cola_spec.specs.Bounds.{put_bound, get_bound, command_bound}
+use Rattle.cola_spec.specs.Bounds.{command_bound}
 use Rattle.cola_table.specs.declared.table.Table as table
 use Rattle.cola_gen.specs.declared.Tally.{Tally}
 use Rattle.cola_gen.specs.Commands.{puts, deletes, gets}
 use Rattle.cola_gen.specs.Turns.{Tallied, RisesBy, accepts, counted, is_new, is_found, is_wrong, is_over}
-use Rattle.cola_gen.specs.Answered.{Place, Spent, Answered, Stopped, AllAnswered, Ran}
+use Rattle.cola_gen.specs.Answered.{Place, Spent, Answered, Ran}
 use Rattle.cola_gen.proofs.Totals.{counted_at_most, counted_none, counted_not_over, spent_answered, spent_stopped}
 
 -- What no reply that accepts a command is

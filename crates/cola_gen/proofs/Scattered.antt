@@ -1,5 +1,5 @@
 -- No two places have the same key.
-use Rattle.std.proofs.Common.{◌≡◌, ◌+◌, ◌*◌, ◌/◌, ◌%◌, ◌<◌, ℕ, ap, arith, List, get_or}
+use Rattle.std.proofs.Common.{◌≡◌, ◌/◌, ◌%◌, ◌<◌, ℕ, ap, arith, get_or}
 use Rattle.cola_gen.specs.Keys.{scattered, hex_digit, hex_text, key_text}
 
 -- times the inverse of the factor, 244002641, is the place again

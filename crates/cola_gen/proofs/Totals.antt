@@ -1,5 +1,5 @@
 -- What all turns of a list of commands come to.
-use Rattle.std.proofs.Common.{◌≡◌, ◌+◌, ◌-◌, ◌*◌, ◌≤◌, ◌<◌, ◌⊎◌, inl, inr, ℕ, zero, suc, refl, sym, All, subst, ap, ◌∙◌, arith, List, [], ◌∷◌, length, Bool, true, false, cond, nat_lt, Some}
+use Rattle.std.proofs.Common.{◌≡◌, ◌+◌, ◌*◌, ◌≤◌, ◌<◌, ℕ, refl, All, ap, ◌∙◌, arith, List, [], ◌∷◌, length, Bool, true, false}
 use Rattle.std.proofs.lemmas.Bool.{le-ltb}
 use Rattle.std.proofs.lemmas.List.Elements.{All-head, All-tail}
 use Rattle.std.proofs.Math.Nat.{mul-le-mul_right}
@@ -10,10 +10,9 @@ use Rattle.cola_spec.specs.Machine.{Turn, ticks_of, open_reply}
 use Rattle.cola_spec.specs.Bounds.{command_bound, request_bound}
 use Rattle.cola_table.specs.declared.table.Table as table
 use Rattle.cola_table.specs.Terms.{shape}
-use Rattle.cola_gen.specs.declared.Tally.{Tally}
-use Rattle.cola_gen.specs.Commands.{map_after, after_first}
-use Rattle.cola_gen.specs.Turns.{Tallied, accepts, counted, one, is_over}
-use Rattle.cola_gen.specs.Answered.{Place, at, Keeps, Spent, Gave, AsMap, Answered, Accepted, Refused, Stopped, AllAnswered, Ran}
+use Rattle.cola_gen.specs.Commands.{after_first}
+use Rattle.cola_gen.specs.Turns.{accepts, counted, one, is_over}
+use Rattle.cola_gen.specs.Answered.{Place, Spent, Gave, AsMap, Answered, Stopped}
 
 -- no more turns pass a test than there are
 

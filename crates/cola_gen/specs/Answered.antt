@@ -1,5 +1,5 @@
 -- What a table answered to a list of commands, of any table.
-use Rattle.std.specs.Prelude.{ℕ, ◌+◌, ◌-◌, ◌*◌, ◌≡◌, ◌≤◌, ◌<◌, ◌⊎◌, true, List, [], ◌∷◌, All, length, Some, Result, Ok, Err}
+use Rattle.std.specs.Prelude.{ℕ, ◌+◌, ◌-◌, ◌≡◌, ◌≤◌, ◌<◌, ◌⊎◌, true, List, [], ◌∷◌, All, length, Some, Result, Ok, Err}
 use Rattle.cola_cell.specs.declared.fault.ReadFault.{ReadFault}
 use Rattle.cola_spec.specs.Map.{Shape, Map}
 use Rattle.cola_spec.specs.Command.{Command}
@@ -12,7 +12,7 @@ use Rattle.cola_table.specs.Terms.{shape}
 use Rattle.cola_table.specs.Replies.{turn_of, put_refused, read_failure}
 use Rattle.cola_gen.specs.declared.Tally.{Tally}
 use Rattle.cola_gen.specs.Keys.{evens, HasOdd}
-use Rattle.cola_gen.specs.Commands.{puts, deletes, gets, map_after, after_first}
+use Rattle.cola_gen.specs.Commands.{puts, deletes, map_after, after_first}
 use Rattle.cola_gen.specs.Turns.{Tallied, TalliedOne, TalliedAll, accepts, refuses}
 
 -- why a get was refused, as a reply

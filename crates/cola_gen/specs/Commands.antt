@@ -1,5 +1,5 @@
 -- The commands of the workload, and the map that they leave.
-use Rattle.std.specs.Prelude.{ℕ, zero, suc, ◌*◌, ◌+◌}
+use Rattle.std.specs.Prelude.{ℕ, zero, suc, ◌*◌}
 use Rattle.cola_spec.specs.Map.{Shape, Map, after_put, after_delete}
 use Rattle.cola_spec.specs.Command.{Command, Put, Del, Get}
 use Rattle.cola_gen.specs.Keys.{key_text, value_text, evens}

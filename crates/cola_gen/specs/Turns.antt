@@ -1,6 +1,6 @@
 -- What a tally counts: turns of a session, each a command with its reply and its cell accesses.
 use Rattle.std.specs.Prelude.{ℕ, zero, suc, ◌+◌, ◌≡◌, ◌≤◌, ◌<◌, Bool, true, false, not, nat_lt, bytes_eq, if◌then◌else◌, List, [], ◌∷◌, length, Option, Some, None}
-use Rattle.cola_spec.specs.Map.{PutOutcome, New, Old, Full, Worn, Other, Map, value_of}
+use Rattle.cola_spec.specs.Map.{New, Old, Full, Worn, Map, value_of}
 use Rattle.cola_spec.specs.Command.{Command, Put, Del, Get}
 use Rattle.cola_spec.specs.Reply.{Reply, Deleted, Got, Failed}
 use Rattle.cola_spec.specs.Reply as reply

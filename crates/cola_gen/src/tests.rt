@@ -53,6 +53,15 @@ struct Ticking {
 struct Nothing;
 
 impl Ticking {
+    fn over(table: FlatTable, says: Says, calls: u32) -> Ticking {
+        Ticking {
+            table,
+            calls,
+            says,
+            faults: 0,
+        }
+    }
+
     /// Whether this call is one that is refused.
     fn is_spent(&mut self) -> bool
         ensures { self.new.faults ≡ self.old.faults }
@@ -286,8 +295,97 @@ fn eight_keys(rt: HostRuntime) -> Result<(), Fail> {
     let found = run_alone::<_, Brand>(&mut table, 8, 4, Blank::new(1));
     assert_eq!(rt; found, (tally(6, 3, 0, 0), Ok(()), Ok(())));
     assert_eq!(rt; table.count(), 3);
-    let mut empty = FlatTable::new(rt.alloc(), 8)?;
-    let found = verify_alone::<_, Brand>(&mut empty, 8, 4, Blank::new(1));
+    Ok(())
+}
+
+#[test]
+fn an_empty_table_is_wrong_at_odd_places(rt: HostRuntime) -> Result<(), Fail> {
+    let mut table = FlatTable::new(rt.alloc(), 8)?;
+    let found = verify_alone::<_, Brand>(&mut table, 8, 4, Blank::new(1));
     assert_eq!(rt; found, (tally(0, 0, 3, 0), Ok(())));
+    Ok(())
+}
+
+#[test]
+fn too_small_a_table_is_full(rt: HostRuntime) -> Result<(), Fail> {
+    let mut table = FlatTable::new(rt.alloc(), 4)?;
+    let found = run_alone::<_, Brand>(&mut table, 8, 4, Blank::new(1));
+    assert_eq!(rt; found, (tally(4, 0, 0, 0), Err(PutFault::Full), Ok(())));
+    Ok(())
+}
+
+#[test]
+fn many_keys(rt: HostRuntime) -> Result<(), Fail> {
+    let mut table = FlatTable::new(rt.alloc(), 65_536)?;
+    let found = run_alone::<_, Brand>(&mut table, 65_536, 15, Blank::new(1));
+    assert_eq!(rt; found, (tally(49_152, 24_576, 0, 0), Ok(()), Ok(())));
+    assert_eq!(rt; table.count(), 24_576);
+    Ok(())
+}
+
+#[test]
+fn one_tick_is_over_no_levels(rt: HostRuntime) -> Result<(), Fail> {
+    let mut table = Ticking::over(FlatTable::new(rt.alloc(), 8)?, Says::Full, 15);
+    let found = run_alone::<_, Brand>(&mut table, 8, 0, Blank::new(1));
+    assert_eq!(rt; found, (tally(6, 3, 0, 15), Ok(()), Ok(())));
+    let mut table = Ticking::over(FlatTable::new(rt.alloc(), 8)?, Says::Full, 15);
+    let found = run_alone::<_, Brand>(&mut table, 8, 1, Blank::new(1));
+    assert_eq!(rt; found, (tally(6, 3, 0, 0), Ok(()), Ok(())));
+    Ok(())
+}
+
+#[test]
+fn the_first_refusal_ends_it(rt: HostRuntime) -> Result<(), Fail> {
+    for (says, calls, numbers, put, get) in [
+        (Says::Device, 3, (3, 0, 3), Err(PutFault::Device), Ok(())),
+        (
+            Says::BadCell,
+            3,
+            (3, 0, 3),
+            Err(PutFault::BadCell(7)),
+            Ok(()),
+        ),
+        (
+            Says::Overfull,
+            0,
+            (0, 0, 0),
+            Err(PutFault::Overfull(2)),
+            Ok(()),
+        ),
+        (Says::Worn, 5, (5, 0, 5), Err(PutFault::Worn), Ok(())),
+        (Says::Full, 5, (5, 0, 5), Err(PutFault::Full), Ok(())),
+        (Says::Device, 8, (6, 2, 8), Err(PutFault::Device), Ok(())),
+        (
+            Says::BadCell,
+            6,
+            (6, 0, 6),
+            Err(PutFault::BadCell(7)),
+            Ok(()),
+        ),
+        (
+            Says::Overfull,
+            7,
+            (6, 1, 7),
+            Err(PutFault::Overfull(2)),
+            Ok(()),
+        ),
+        (Says::Device, 9, (6, 3, 9), Ok(()), Err(ReadFault::Device)),
+        (
+            Says::BadCell,
+            14,
+            (6, 3, 14),
+            Ok(()),
+            Err(ReadFault::BadCell(7)),
+        ),
+    ] {
+        let mut table = Ticking::over(FlatTable::new(rt.alloc(), 8)?, says, calls);
+        let found = run_alone::<_, Brand>(&mut table, 8, 0, Blank::new(1));
+        let (fresh, gone, over) = numbers;
+        assert_eq!(rt;
+            found,
+            (tally(fresh, gone, 0, over), put, get),
+            "after {calls} calls"
+        );
+    }
     Ok(())
 }

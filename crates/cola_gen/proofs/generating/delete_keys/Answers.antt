@@ -1,11 +1,11 @@
-use Rattle.std.proofs.Common.{◌≡◌, ◌+◌, ◌-◌, ◌/◌, arith, subst, sym}
+use Rattle.std.proofs.Common.{◌≡◌, ◌+◌, arith, subst}
 use Rattle.std.proofs.lemmas.Result.{err_from_is_err_and}
 use Rattle.cola_spec.specs.Bounds.{put_bound}
 use Rattle.cola_table.specs.Replies.{put_refused}
 use Rattle.cola_gen.specs.Keys.{evens}
 use Rattle.cola_gen.specs.Commands.{deletes}
 use Rattle.cola_gen.specs.Turns.{HasCounted}
-use Rattle.cola_gen.specs.Answered.{at, AllAnswered}
+use Rattle.cola_gen.specs.Answered.{at}
 use Rattle.cola_gen.proofs.Counting.{goes_on, counts_on, stops}
 use Rattle.cola_gen.proofs.generating.delete_keys.Goals as goal
 

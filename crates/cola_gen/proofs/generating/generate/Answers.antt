@@ -1,11 +1,10 @@
-use Rattle.std.proofs.Common.{◌<◌, ◌≤◌, ℕ, arith, subst, inl, Ok, Err, Result}
+use Rattle.std.proofs.Common.{arith, subst, inl, Err}
 use Rattle.std.proofs.lemmas.Result.{err_from_is_err_and}
 use Rattle.cola_spec.specs.Bounds.{put_bound}
-use Rattle.cola_table.specs.declared.PutFault.{PutFault}
 use Rattle.cola_table.specs.Replies.{put_refused}
 use Rattle.cola_gen.specs.Keys as spec
 use Rattle.cola_gen.specs.Keys.{evens}
-use Rattle.cola_gen.specs.Commands.{puts, deletes}
+use Rattle.cola_gen.specs.Commands.{puts}
 use Rattle.cola_gen.specs.Answered.{Stopped, Second, at}
 use Rattle.cola_gen.proofs.Making.{and_second, generated, spent, rises, not_over, left, from_empty}
 use Rattle.cola_gen.proofs.generating.generate.Goals as goal
