@@ -12,7 +12,7 @@ use Rattle.cola_table.specs.Terms.{shape}
 use Rattle.cola_gen.specs.Keys.{key_text, expected, HasOdd}
 use Rattle.cola_gen.specs.Commands.{gets, after_first}
 use Rattle.cola_gen.specs.Turns.{RisesBy, counted, one, same, is_wrong, wrong_in}
-use Rattle.cola_gen.specs.Answered.{Place, Spent, AsMap, Ran, read_refused}
+use Rattle.cola_gen.specs.Answered.{State, Spent, AsMap, Ran, read_refused}
 use Rattle.cola_gen.proofs.Rising.{spent_ran, gets_ran, not_over_ran}
 
 -- a get leaves the map
@@ -47,7 +47,7 @@ device_only (fault.BadCell cell) is = cc
 never_got : (refusal : ReadFault) (value : Option (List ℕ)) → read_refused refusal ≡ Got value → ⊥
 never_got refusal value is = cc
 
-module _ {T W : Type 0} (t : table.Ghosts T W) (levels number : ℕ) (old new : Place T) where
+module _ {T W : Type 0} (t : table.Ghosts T W) (levels number : ℕ) (old new : State T) where
   abbrev bound : ℕ
   bound = get_bound (t.terms old.table).depth
 

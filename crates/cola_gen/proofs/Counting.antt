@@ -10,7 +10,7 @@ use Rattle.cola_table.specs.Terms.{shape}
 use Rattle.cola_gen.specs.declared.Tally.{Tally}
 use Rattle.cola_gen.specs.Commands.{map_after, after_first}
 use Rattle.cola_gen.specs.Turns.{Tallied, TalliedOne, HasOneMore, HasCounted, accepts, one, is_new, is_found, is_wrong, is_over}
-use Rattle.cola_gen.specs.Answered.{Place, AsMap, Answered, Accepted, Refused, Stopped, AllAnswered}
+use Rattle.cola_gen.specs.Answered.{State, AsMap, Answered, Accepted, Refused, Stopped, AllAnswered}
 
 -- no turn yet
 
@@ -48,7 +48,7 @@ room_for_one count tally few counts = record {
 }
 
 module _ {T W : Type 0} (t : table.Ghosts T W) (command : ℕ → Command) (bound levels : ℕ) where
-  pub none_answered : (old : Place T) → Answered t command bound levels 0 old old []
+  pub none_answered : (old : State T) → Answered t command bound levels 0 old old []
   none_answered old = record {
     number = refl;
     gave = refl;
@@ -60,7 +60,7 @@ module _ {T W : Type 0} (t : table.Ghosts T W) (command : ℕ → Command) (boun
     as_map = λ m held. (tt, held);
   }
 
-  map_more : (place : ℕ) (old middle new : Place T) (turns : List Turn) (turn : Turn) (m : Map) → t.terms middle.table ≡ t.terms old.table → length turns ≡ place
+  map_more : (place : ℕ) (old middle new : State T) (turns : List Turn) (turn : Turn) (m : Map) → t.terms middle.table ≡ t.terms old.table → length turns ≡ place
       → AsMap (shape (t.terms old.table)) m command turns
       → (turn.answer ≡ open_reply (shape (t.terms middle.table)) (after_first (shape (t.terms old.table)) m command place) (command place)) × t.holds new.table (map_after (shape (t.terms middle.table)) (after_first (shape (t.terms old.table)) m command place) (command place))
       → AsMap (shape (t.terms old.table)) m command (turn ∷ turns) × t.holds new.table (after_first (shape (t.terms old.table)) m command (suc place))
@@ -69,7 +69,7 @@ module _ {T W : Type 0} (t : table.Ghosts T W) (command : ℕ → Command) (boun
     subst (λ s. t.holds new.table (map_after (shape s) (after_first (shape (t.terms old.table)) m command place) (command place))) terms answer.1,
   )
 
-  pub one_more : (place : ℕ) (old middle new : Place T) (turns : List Turn) → Answered t command bound levels place old middle turns → (a : Accepted t (command place) bound levels place middle new) → Answered t command bound levels (place + 1) old new (a.turn ∷ turns)
+  pub one_more : (place : ℕ) (old middle new : State T) (turns : List Turn) → Answered t command bound levels place old middle turns → (a : Accepted t (command place) bound levels place middle new) → Answered t command bound levels (place + 1) old new (a.turn ∷ turns)
   one_more place old middle new turns answered a = record {
     number = omega (arith, answered.number);
     gave = (middle.table, (answered.gave, a.given, a.asked ∙ ap (λ at. Some (command at)) (sym answered.number), ap (λ at. accepts a.turn.answer (command at)) answered.number ∙ a.accepted));
@@ -86,24 +86,24 @@ module _ {T W : Type 0} (t : table.Ghosts T W) (command : ℕ → Command) (boun
   }
 
   -- the loop's state
-  pub record SoFar (place : ℕ) (old now : Place T) : Type 0 where
+  pub record SoFar (place : ℕ) (old now : State T) : Type 0 where
     pub turns : List Turn
     pub answered : Answered t command bound levels place old now turns
 
-  pub ended : (place count : ℕ) (old now : Place T) → place ≡ count → SoFar place old now → AllAnswered t command bound levels count old now
+  pub ended : (place count : ℕ) (old now : State T) → place ≡ count → SoFar place old now → AllAnswered t command bound levels count old now
   ended place count old now is so_far = record { turns = so_far.turns; answered = subst (λ n. Answered t command bound levels n old now so_far.turns) is so_far.answered }
 
 module _ {T W : Type 0} (t : table.Ghosts T W) (command : ℕ → Command) (bound : ℕ → ℕ) (levels : ℕ) where
-  pub begun : (old : Place T) → SoFar t command (bound (t.terms old.table).depth) levels 0 old old
+  pub begun : (old : State T) → SoFar t command (bound (t.terms old.table).depth) levels 0 old old
   begun old = record { turns = []; answered = none_answered t command (bound (t.terms old.table).depth) levels old }
 
-  pub goes_on : (place : ℕ) (old middle new : Place T) → SoFar t command (bound (t.terms old.table).depth) levels place old middle → Accepted t (command place) (bound (t.terms middle.table).depth) levels place middle new → SoFar t command (bound (t.terms old.table).depth) levels (place + 1) old new
+  pub goes_on : (place : ℕ) (old middle new : State T) → SoFar t command (bound (t.terms old.table).depth) levels place old middle → Accepted t (command place) (bound (t.terms middle.table).depth) levels place middle new → SoFar t command (bound (t.terms old.table).depth) levels (place + 1) old new
   goes_on place old middle new so_far a =
       let b : Accepted t (command place) (bound (t.terms old.table).depth) levels place middle new = subst (λ s. Accepted t (command place) (bound s.depth) levels place middle new) so_far.answered.keeps.same_terms a in
       record { turns = b.turn ∷ so_far.turns; answered = one_more t command (bound (t.terms old.table).depth) levels place old middle new so_far.turns so_far.answered b }
 
-  pub counts_on : (place count : ℕ) (middle new : Place T) (depth : ℕ) → Accepted t (command place) depth levels place middle new → HasCounted count middle.tally → HasCounted (count + 1) new.tally
+  pub counts_on : (place count : ℕ) (middle new : State T) (depth : ℕ) → Accepted t (command place) depth levels place middle new → HasCounted count middle.tally → HasCounted (count + 1) new.tally
   counts_on place count middle new depth a counts = counted_more levels place count a.turn middle.tally new.tally a.tallied counts
 
-  pub stops : (place count : ℕ) (answer : Reply) (old middle new : Place T) → place < count → SoFar t command (bound (t.terms old.table).depth) levels place old middle → Refused t (command place) answer middle new → Stopped t command (bound (t.terms old.table).depth) levels count answer old new
+  pub stops : (place count : ℕ) (answer : Reply) (old middle new : State T) → place < count → SoFar t command (bound (t.terms old.table).depth) levels place old middle → Refused t (command place) answer middle new → Stopped t command (bound (t.terms old.table).depth) levels count answer old new
   stops place count answer old middle new in_range so_far refused = record { place = place; in_range = in_range; before = middle; turns = so_far.turns; answered = so_far.answered; refused = refused }

@@ -14,7 +14,7 @@ use Rattle.cola_table.specs.Replies.{put_refused}
 use Rattle.cola_gen.specs.Keys.{evens, key_text, value_text}
 use Rattle.cola_gen.specs.Commands.{puts, deletes, after_first, left_by}
 use Rattle.cola_gen.specs.Turns.{RisesBy, TalliedAll, is_new, is_found}
-use Rattle.cola_gen.specs.Answered.{Place, Spent, AsMap, Answered, Stopped, Ran, Second, Generated, MadeOdd}
+use Rattle.cola_gen.specs.Answered.{State, Spent, AsMap, Answered, Stopped, Ran, Second, Generated, MadeOdd}
 use Rattle.cola_gen.proofs.Totals.{counted_none, counted_all}
 use Rattle.cola_gen.proofs.Rising.{spent_ran, puts_ran, deletes_ran, not_over_ran, rises_both, rises_less, put_not_found, delete_not_new}
 use Rattle.cola_gen.proofs.Left.{all_new, all_found, has_odd}
@@ -42,12 +42,12 @@ never_deleted fault.Device value is = cc
 never_deleted (fault.BadCell cell) value is = cc
 never_deleted (fault.Overfull level) value is = cc
 
-module _ {T W : Type 0} (t : table.Ghosts T W) (levels number : ℕ) (old new : Place T) where
+module _ {T W : Type 0} (t : table.Ghosts T W) (levels number : ℕ) (old new : State T) where
   abbrev bound : ℕ
   bound = put_bound (t.terms old.table).depth
 
   -- after the puts, the deletes ended so
-  pub and_second : (result : Result (Unit {0}) PutFault) (between : Place T) → Ran t puts put_refused bound levels number (Ok tt) old between → Ran t deletes put_refused (put_bound (t.terms between.table).depth) levels (evens number) result between new → Second t bound levels number result old new
+  pub and_second : (result : Result (Unit {0}) PutFault) (between : State T) → Ran t puts put_refused bound levels number (Ok tt) old between → Ran t deletes put_refused (put_bound (t.terms between.table).depth) levels (evens number) result between new → Second t bound levels number result old new
   and_second result between first second = record {
     between = between;
     first = first;
@@ -138,12 +138,12 @@ module _ {T W : Type 0} (t : table.Ghosts T W) (levels number : ℕ) (old new : 
     found_at : (half : ℕ) → half < evens number → (value : List ℕ) × (value_of (after_first (shape (t.terms old.table)) (put_so_far number) deletes half) (key_text (2 * half)) ≡ Some value)
     found_at half below = (value_text (2 * half), all_found (shape (t.terms old.table)) number small room half below)
 
-    first_all : (between : Place T) (turns : List Turn) → Answered t puts bound levels number old between turns → between.tally.fresh ≡ old.tally.fresh + number
+    first_all : (between : State T) (turns : List Turn) → Answered t puts bound levels number old between turns → between.tally.fresh ≡ old.tally.fresh + number
     first_all between turns a =
         let each = counted_all (λ place. is_new) (shape (t.terms old.table)) empty_map puts turns number (omega (arith, a.number)) (λ place below. ap (λ o. is_new (reply.Put o)) (new_at place below)) (a.as_map empty_map held).0 in
         omega (arith, a.tallied.fresh, each, a.number)
 
-    second_all : (between : Place T) (turns : List Turn) → shape (t.terms between.table) ≡ shape (t.terms old.table) → t.holds between.table (put_so_far number) → Answered t deletes bound levels (evens number) between new turns → new.tally.gone ≡ between.tally.gone + evens number
+    second_all : (between : State T) (turns : List Turn) → shape (t.terms between.table) ≡ shape (t.terms old.table) → t.holds between.table (put_so_far number) → Answered t deletes bound levels (evens number) between new turns → new.tally.gone ≡ between.tally.gone + evens number
     second_all between turns same held a =
         let as_map = subst (λ s. AsMap s (put_so_far number) deletes turns) same (a.as_map (put_so_far number) held).0 in
         let each = counted_all (λ place. is_found) (shape (t.terms old.table)) (put_so_far number) deletes turns (evens number) (omega (arith, a.number)) (λ half below. ap (λ v. is_found (Deleted v)) (found_at half below).1) as_map in

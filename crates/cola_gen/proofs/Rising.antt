@@ -10,7 +10,7 @@ use Rattle.cola_table.specs.declared.table.Table as table
 use Rattle.cola_gen.specs.declared.Tally.{Tally}
 use Rattle.cola_gen.specs.Commands.{puts, deletes, gets}
 use Rattle.cola_gen.specs.Turns.{Tallied, RisesBy, accepts, counted, is_new, is_found, is_wrong, is_over}
-use Rattle.cola_gen.specs.Answered.{Place, Spent, Answered, Ran}
+use Rattle.cola_gen.specs.Answered.{State, Spent, Answered, Ran}
 use Rattle.cola_gen.proofs.Totals.{counted_at_most, counted_none, counted_not_over, spent_answered, spent_stopped}
 
 -- What no reply that accepts a command is
@@ -80,7 +80,7 @@ rises_as levels count f g w turns old new number tallied new_most found_most wro
       over_within = omega (arith, tallied.over, over_most, number);
     }
 
-module _ {T W : Type 0} (t : table.Ghosts T W) (bound levels count : ℕ) (old new : Place T) where
+module _ {T W : Type 0} (t : table.Ghosts T W) (bound levels count : ℕ) (old new : State T) where
   pub puts_rise : (turns : List Turn) → Answered t puts bound levels count old new turns → RisesBy count 0 0 count old.tally new.tally
   puts_rise turns a =
       let fresh = counted_at_most (λ place turn. is_new turn.answer) turns in
@@ -107,7 +107,7 @@ module _ {T W : Type 0} (t : table.Ghosts T W) (bound levels count : ℕ) (old n
 
 -- Of a list that was answered, or stopped at the first refusal
 
-module _ {T W E : Type 0} (t : table.Ghosts T W) (reply : E → Reply) (bound levels count : ℕ) (old new : Place T) where
+module _ {T W E : Type 0} (t : table.Ghosts T W) (reply : E → Reply) (bound levels count : ℕ) (old new : State T) where
   pub spent_ran : (command : ℕ → Command) → ((place depth : ℕ) → command_bound depth (command place) ≡ command_bound depth (command 0)) → command_bound (t.terms old.table).depth (command 0) ≡ bound → (result : Result (Unit {0}) E) → Ran t command reply bound levels count result old new → Spent t (count * bound) old new
   spent_ran command alike is (Ok _) ran = spent_answered t command bound levels count old new ran.turns ran.answered
   spent_ran command alike is (Err fault) ran = spent_stopped t command bound levels count (reply fault) old new alike is ran

@@ -12,7 +12,7 @@ use Rattle.cola_table.specs.declared.table.Table as table
 use Rattle.cola_table.specs.Terms.{shape}
 use Rattle.cola_gen.specs.Commands.{after_first}
 use Rattle.cola_gen.specs.Turns.{accepts, counted, one, is_over}
-use Rattle.cola_gen.specs.Answered.{Place, Spent, Gave, AsMap, Answered, Stopped}
+use Rattle.cola_gen.specs.Answered.{State, Spent, Gave, AsMap, Answered, Stopped}
 
 -- no more turns pass a test than there are
 
@@ -63,13 +63,13 @@ counted_all test shape m command (turn ∷ turns) most within always as_map =
 -- What a whole list of commands spent
 
 module _ {T W : Type 0} (t : table.Ghosts T W) (command : ℕ → Command) (bound levels : ℕ) where
-  pub spent_answered : (count : ℕ) (old new : Place T) (turns : List Turn) → Answered t command bound levels count old new turns → Spent t (count * bound) old new
+  pub spent_answered : (count : ℕ) (old new : State T) (turns : List Turn) → Answered t command bound levels count old new turns → Spent t (count * bound) old new
   spent_answered count old new turns answered =
       let ticks = ticks_at_most bound turns answered.within in
       let same : length turns * bound ≡ count * bound = ap (λ n. n * bound) answered.number in
       record { keeps = answered.keeps; steps_kept = omega (arith, answered.ticks); within = omega (arith, answered.ticks) }
 
-  pub spent_stopped : (count : ℕ) (answer : Reply) (old new : Place T) → ((place : ℕ) (depth : ℕ) → command_bound depth (command place) ≡ command_bound depth (command 0)) → command_bound (t.terms old.table).depth (command 0) ≡ bound → Stopped t command bound levels count answer old new → Spent t (count * bound) old new
+  pub spent_stopped : (count : ℕ) (answer : Reply) (old new : State T) → ((place : ℕ) (depth : ℕ) → command_bound depth (command place) ≡ command_bound depth (command 0)) → command_bound (t.terms old.table).depth (command 0) ≡ bound → Stopped t command bound levels count answer old new → Spent t (count * bound) old new
   spent_stopped count answer old new alike is stopped =
       let before = spent_answered stopped.place old stopped.before stopped.turns stopped.answered in
       let depth : (t.terms stopped.before.table).depth ≡ (t.terms old.table).depth = ap (λ s. s.depth) before.keeps.same_terms in

@@ -19,13 +19,13 @@ use Rattle.cola_gen.specs.Turns.{Tallied, TalliedOne, TalliedAll, accepts, refus
 abbrev pub read_refused : ReadFault → Reply
 read_refused refusal = Failed (read_failure refusal)
 
--- a table with a tally and a number of steps
-pub record Place (T : Type 0) : Type 0 where
+-- a table with a tally and a number of steps, before or after a call
+pub record State (T : Type 0) : Type 0 where
   pub table : T
   pub tally : Tally
   pub steps : ℕ
 
-abbrev pub at : {T : Type 0} → T → Tally → ℕ → Place T
+abbrev pub at : {T : Type 0} → T → Tally → ℕ → State T
 at table tally steps = record { table = table; tally = tally; steps = steps }
 
 -- each turn's reply is that of the map that the turns before it left; the newest turn stands first
@@ -40,7 +40,7 @@ module _ {T W : Type 0} (t : table.Ghosts T W) where
     pub same_terms : t.terms new ≡ t.terms old
 
   -- what a table has beside its map stays, and the steps rise by at most this
-  pub record Spent (most : ℕ) (old new : Place T) : Type 0 where
+  pub record Spent (most : ℕ) (old new : State T) : Type 0 where
     pub keeps : Keeps old.table new.table
     pub steps_kept : old.steps ≤ new.steps
     pub within : new.steps ≤ old.steps + most
@@ -52,7 +52,7 @@ module _ {T W : Type 0} (t : table.Ghosts T W) where
       (before : T) × (Gave command old turns before × t.answers before turn new × (turn.request ≡ Some (command (length turns))) × (accepts turn.answer (command (length turns)) ≡ true))
 
   -- so many commands were answered by these turns: what they made is tallied, their cell accesses were counted and those of each are within the bound, no fault came, and a table that held a map answered as the map does
-  pub record Answered (command : ℕ → Command) (bound levels count : ℕ) (old new : Place T) (turns : List Turn) : Type 0 where
+  pub record Answered (command : ℕ → Command) (bound levels count : ℕ) (old new : State T) (turns : List Turn) : Type 0 where
     pub number : length turns ≡ count
     pub gave : Gave command old.table turns new.table
     pub tallied : Tallied levels turns old.tally new.tally
@@ -63,7 +63,7 @@ module _ {T W : Type 0} (t : table.Ghosts T W) where
     pub as_map : (m : Map) → t.holds old.table m → AsMap (shape (t.terms old.table)) m command turns × t.holds new.table (after_first (shape (t.terms old.table)) m command count)
 
   -- a command was answered by this turn: what it made is tallied, its cell accesses were counted and are within the bound, no fault came, and a table that held a map answered as the map does
-  pub record Accepted (command : Command) (bound levels place : ℕ) (old new : Place T) : Type 0 where
+  pub record Accepted (command : Command) (bound levels place : ℕ) (old new : State T) : Type 0 where
     pub turn : Turn
     pub asked : turn.request ≡ Some command
     pub accepted : accepts turn.answer command ≡ true
@@ -76,7 +76,7 @@ module _ {T W : Type 0} (t : table.Ghosts T W) where
     pub as_map : (m : Map) → t.holds old.table m → (turn.answer ≡ open_reply (shape (t.terms old.table)) m command) × t.holds new.table (map_after (shape (t.terms old.table)) m command)
 
   -- a command was refused by this reply: a table that held a map refused as the map does or by a fault of its device, and holds the map still
-  pub record Refused (command : Command) (answer : Reply) (old new : Place T) : Type 0 where
+  pub record Refused (command : Command) (answer : Reply) (old new : State T) : Type 0 where
     pub refuses : refuses answer command ≡ true
     pub given : t.answers old.table (turn_of command answer (new.steps - old.steps)) new.table
     pub same_tally : new.tally ≡ old.tally
@@ -86,37 +86,37 @@ module _ {T W : Type 0} (t : table.Ghosts T W) where
     pub as_map : (m : Map) → t.holds old.table m → ((answer ≡ Failed Fault) ⊎ (answer ≡ open_reply (shape (t.terms old.table)) m command)) × t.holds new.table m
 
   -- the first command that was refused ended the rest
-  pub record Stopped (command : ℕ → Command) (bound levels count : ℕ) (answer : Reply) (old new : Place T) : Type 0 where
+  pub record Stopped (command : ℕ → Command) (bound levels count : ℕ) (answer : Reply) (old new : State T) : Type 0 where
     pub place : ℕ
     pub in_range : place < count
-    pub before : Place T
+    pub before : State T
     pub turns : List Turn
     pub answered : Answered command bound levels place old before turns
     pub refused : Refused (command place) answer before new
 
   -- all of these commands were answered, the newest turn first
-  pub record AllAnswered (command : ℕ → Command) (bound levels count : ℕ) (old new : Place T) : Type 0 where
+  pub record AllAnswered (command : ℕ → Command) (bound levels count : ℕ) (old new : State T) : Type 0 where
     pub turns : List Turn
     pub answered : Answered command bound levels count old new turns
 
   -- how a list of commands ended: all were answered, or the first that was refused ended the rest
-  abbrev pub Ran : {E : Type 0} → (ℕ → Command) → (E → Reply) → ℕ → ℕ → ℕ → Result (Unit {0}) E → Place T → Place T → Type 0
+  abbrev pub Ran : {E : Type 0} → (ℕ → Command) → (E → Reply) → ℕ → ℕ → ℕ → Result (Unit {0}) E → State T → State T → Type 0
   Ran command reply bound levels count (Ok _) old new = AllAnswered command bound levels count old new
   Ran command reply bound levels count (Err fault) old new = Stopped command bound levels count (reply fault) old new
 
   -- the puts were all answered, and then the deletes ended so
-  pub record Second (bound levels number : ℕ) (result : Result (Unit {0}) PutFault) (old new : Place T) : Type 0 where
-    pub between : Place T
+  pub record Second (bound levels number : ℕ) (result : Result (Unit {0}) PutFault) (old new : State T) : Type 0 where
+    pub between : State T
     pub first : AllAnswered puts bound levels number old between
     pub second : Ran deletes put_refused bound levels (evens number) result between new
 
   -- how the puts and deletes ended
-  abbrev pub Generated : ℕ → ℕ → ℕ → Result (Unit {0}) PutFault → Place T → Place T → Type 0
+  abbrev pub Generated : ℕ → ℕ → ℕ → Result (Unit {0}) PutFault → State T → State T → Type 0
   Generated bound levels number (Ok _) old new = Second bound levels number (Ok tt) old new
   Generated bound levels number (Err fault) old new = Stopped puts bound levels number (put_refused fault) old new ⊎ Second bound levels number (Err fault) old new
 
   -- the table holds the keys of the odd places below the number, each with its value, and no other; each put made a key, and each delete found its own
-  pub record MadeOdd (number : ℕ) (old new : Place T) : Type 0 where
+  pub record MadeOdd (number : ℕ) (old new : State T) : Type 0 where
     pub map : Map
     pub holds : t.holds new.table map
     pub odd : HasOdd number map
