@@ -1,5 +1,5 @@
 -- The bytes of a device that was laid out and has its header.
-use Rattle.std.proofs.Common.{◌≡◌, ℕ, ◌+◌, ◌-◌, ◌*◌, ◌^◌, ◌≤◌, List, ◌++◌, length, take, drop, replicate, Option, Some, None, Result, Ok, Err, refl, sym, ◌∙◌, ap, subst, arith, length-append}
+use Rattle.std.proofs.Common.{◌≡◌, ℕ, ◌+◌, ◌-◌, ◌^◌, ◌≤◌, List, ◌++◌, length, take, drop, replicate, Option, Some, None, Result, Ok, Err, refl, sym, ◌∙◌, ap, subst, arith, length-append}
 use Rattle.std.specs.Prelude.{IfSome, OnOk}
 use Rattle.std.proofs.Math.Pow.{pow_mono}
 use Rattle.std.proofs.lemmas.List.{length-replicate, drop-replicate, take_at, drop_at}
@@ -8,7 +8,6 @@ use Rattle.cola_cell.specs.declared.format.Format.{Format}
 use Rattle.cola_cell.specs.declared.format.Format.TheVariants.{One, Two}
 use Rattle.cola_device.specs.Bytes.{splice, IsEmpty, HasSize, HasRange, LaidOut, Wrote}
 use Rattle.cola_device.proofs.ToldLemmas.{length-WroteSome}
-use Rattle.cola_layout.specs.Geometry.{IsBottom}
 use Rattle.cola_layout.specs.Header.{IsSpelling}
 use Rattle.cola_image.proofs.StandingLemmas.{empty-stands}
 use Rattle.cola_store.specs.Create.{IsNewFile, new_header, file_size}
