@@ -1,6 +1,8 @@
 -- Blocks that are held, copies that agree and reads that are few, through reads and writes.
-use Rattle.std.proofs.Common.{◌≡◌, ◌≢◌, ◌⊎◌, inl, inr, ℕ, zero, suc, ◌+◌, ◌-◌, ◌*◌, ◌/◌, ◌^◌, ◌≤◌, ◌<◌, ◌==◌, true, false, cond, if◌then◌else◌, nat_lt, List, [], ◌∷◌, ◌++◌, length, take, drop, set, map, Option, Some, None, Result, Ok, Err, refl, sym, ◌∙◌, ap, subst, arith}
+use Rattle.std.proofs.Common.{◌≡◌, ◌≢◌, ◌⊎◌, inl, inr, ℕ, zero, suc, ◌+◌, ◌-◌, ◌*◌, ◌/◌, ◌%◌, ◌^◌, ◌≤◌, ◌<◌, ◌==◌, true, false, cond, if◌then◌else◌, nat_lt, List, [], ◌∷◌, ◌++◌, length, take, drop, set, map, Option, Some, None, Result, Ok, Err, refl, sym, ◌∙◌, ap, subst, arith}
 use Rattle.std.specs.Prelude.{OnOk, OnErr}
+use Rattle.std.proofs.Math.Nat.{div-eq_of_lt}
+use Rattle.std.proofs.lemmas.Nat.{div-mul-add, div-add-mod'}
 use Rattle.std.proofs.lemmas.Bool.{eqb-true, eqb-false}
 use Rattle.std.proofs.lemmas.Bool.Decides.{nat_tests}
 use Rattle.std.proofs.lemmas.List.{get_or-set_same, get_or-set_other, length-map}
@@ -14,7 +16,7 @@ use Rattle.cola_cache.specs.Cache.{Cache, used, untouched, blocks_touched}
 use Rattle.cola_cache.proofs.OrderLemmas.{absent-without, without-absent}
 use Rattle.cola_cache.proofs.CacheLemmas.{apart}
 use borrow.Rule.Slice.PartMut.{put_mid}
-use Rattle.cola_buffers.specs.Blocks.{Made, last_in, forgotten, AreBlocks, Since, IsSound, AreCopies}
+use Rattle.cola_buffers.specs.Blocks.{Made, last_in, forgotten, AreBlocks, HeldWritten, Since, IsSound, AreCopies}
 
 absent-outside : (first end block : ℕ) (held : List ℕ) → IsAbsent block held → IsAbsent block (outside first end held)
 absent-outside first end block [] absent = tt
@@ -244,3 +246,22 @@ held-written (Err fault) many size at count held now ok err are =
 -- the file is as long after a write, where the device tells
 pub file-written : {T E : Type 0} (result : Result T E) (told now : Option (List ℕ)) (at whole : ℕ) (from : List ℕ) → Wrote result at from told now → HasRange told at (length from) → HasRange told 0 whole → HasRange now 0 whole
 file-written result told now at whole from wrote inside file = HasRange-Wrote result at from told now 0 whole wrote inside file
+
+-- a range inside one block touches that block alone
+touches-one : (size block at count : ℕ) (held : List ℕ) → 0 < count → block * size ≤ at → at + count ≤ block * size + size → untouched size at count held ≡ without block held
+touches-one size block at count held some begins ends =
+    let into : ℕ = at - block * size in
+    let place : at ≡ block * size + into = omega (arith, begins) in
+    let first : at / size ≡ block = ap (λ (n : ℕ). n / size) place ∙ div-mul-add block size into (omega (arith, some, begins, ends)) in
+    let whole : at / size * size ≡ block * size = ap (λ (n : ℕ). n * size) first in
+    let rest : at % size + count - 1 < size = omega (arith, div-add-mod' at size, whole, some, begins, ends) in
+    let none : (count == 0) ≡ false = grind (arith, nat_tests, some) in
+    let touched : blocks_touched size at count ≡ (at % size + count - 1) / size + 1 = rw none refl in
+    let one : blocks_touched size at count ≡ 1 = touched ∙ ap (λ (n : ℕ). n + 1) (div-eq_of_lt rest) in
+    ap (λ (n : ℕ). outside n (n + blocks_touched size at count) held) first ∙ ap (λ (n : ℕ). outside block (block + n) held) one
+
+-- what the cache holds after a write inside one block
+pub held-after : {D T E : Type 0} (result : Result T E) (block at count : ℕ) (before now : Cache D) → 0 < count → block * before.size ≤ at → at + count ≤ block * before.size + before.size →
+    OnOk result (now.held ≡ before.held) → OnErr result (now.held ≡ untouched before.size at count before.held) → HeldWritten result block before now
+held-after (Ok value) block at count before now some begins ends ok err = ok
+held-after (Err fault) block at count before now some begins ends ok err = err ∙ touches-one before.size block at count before.held some begins ends

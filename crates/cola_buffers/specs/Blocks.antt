@@ -1,9 +1,9 @@
 -- A device in whole blocks behind a cache, with buffers that keep blocks: what a caller sees of it.
-use Rattle.std.specs.Prelude.{◌≡◌, ℕ, ◌+◌, ◌*◌, ◌^◌, ◌≤◌, ◌<◌, ◌==◌, Bool, false, if◌then◌else◌, List, [], ◌∷◌, length, replicate, Option, None, Some, slice_index_or, ⊤}
+use Rattle.std.specs.Prelude.{◌≡◌, ℕ, ◌+◌, ◌*◌, ◌^◌, ◌≤◌, ◌<◌, ◌==◌, Bool, false, if◌then◌else◌, List, [], ◌∷◌, length, replicate, Option, None, Some, Result, MatchResult, slice_index_or, ⊤}
 use Rattle.cola_device.specs.declared.counts.Counts.{Counts}
 use Rattle.cola_device.specs.Bytes.{part, HasRange, Gives}
-use Rattle.cola_cache.specs.Order.{IsAbsent}
-use Rattle.cola_cache.specs.Cache.{Cache}
+use Rattle.cola_cache.specs.Order.{IsAbsent, without}
+use Rattle.cola_cache.specs.Cache.{Cache, used}
 
 -- the device's reads and faults when the buffers were made
 pub record Made : Type 0 where
@@ -68,6 +68,14 @@ pub record Stays {D : Type 0} (before now : Blocks D) : Type 0 where
   pub size : now.cache.size ≡ before.cache.size
   pub many : now.many ≡ before.many
   pub made : now.made ≡ before.made
+
+-- what the cache holds after a block was read: the block comes to the front, and after an error all is as it was
+abbrev pub HeldRead : {D T E : Type 0} → Result T E → ℕ → Cache D → Cache D → Type 0
+HeldRead result block before now = MatchResult result (λ _. now.held ≡ used before.blocks block before.held) (λ _. now.held ≡ before.held)
+
+-- and after one was written, in part or whole: all is as it was, and after an error the block is given up
+abbrev pub HeldWritten : {D T E : Type 0} → Result T E → ℕ → Cache D → Cache D → Type 0
+HeldWritten result block before now = MatchResult result (λ _. now.held ≡ before.held) (λ _. now.held ≡ without block before.held)
 
 -- new ones over a device with these counts: the cache keeps no block yet, and no buffer holds one
 abbrev pub new_blocks : {D : Type 0} → D → Counts → ℕ → ℕ → ℕ → ℕ → Blocks D

@@ -4,7 +4,7 @@ ghost use Rattle.std.specs.Prelude.{◌≡◌, ◌≢◌, ℕ, ◌+◌, ◌*◌,
 ghost use Rattle.cola_device.specs.Bytes.{HasRange, Gives, Wrote, part};
 ghost use Rattle.cola_device.specs.Counts.{Called};
 ghost use Rattle.cola_cache.specs.Order.{IsAbsent};
-ghost use Rattle.cola_buffers.specs.Blocks.{IsSound, AreFew, AreCopies, Made, Since, Stays, forgotten, last_in, new_blocks};
+ghost use Rattle.cola_buffers.specs.Blocks.{IsSound, AreFew, AreCopies, HeldRead, HeldWritten, Made, Since, Stays, forgotten, last_in, new_blocks};
 
 use cola_cache::Cached;
 use cola_device::{Device, DeviceFault};
@@ -99,6 +99,7 @@ fn read_whole<D: Device>(
     ensures kept { D.kept device.new.device ≡ D.kept device.old.device }
     ensures counts { Called (D.counts device.old.device) (D.counts device.new.device) 1 0 result }
     ensures settings { (device.new.blocks ≡ device.old.blocks) × (device.new.size ≡ device.old.size) }
+    ensures held { HeldRead result block device.old device.new }
     ensures since { (many : ℕ) (made : Made) → block < many → Since many device.old.blocks device.old.held made (D.counts device.old.device)
         → Since many device.new.blocks device.new.held made (D.counts device.new.device) }
 {
@@ -126,6 +127,7 @@ fn read_copy<D: Device>(
     ensures kept { D.kept device.new.device ≡ D.kept device.old.device }
     ensures counts { Called (D.counts device.old.device) (D.counts device.new.device) 1 0 result }
     ensures settings { (device.new.blocks ≡ device.old.blocks) × (device.new.size ≡ device.old.size) }
+    ensures held { HeldRead result block device.old device.new }
     ensures since { (many : ℕ) (made : Made) → block < many → Since many device.old.blocks device.old.held made (D.counts device.old.device)
         → Since many device.new.blocks device.new.held made (D.counts device.new.device) }
 {
@@ -156,6 +158,7 @@ fn turn<D: Device>(
     ensures kept { D.kept device.new.device ≡ D.kept device.old.device }
     ensures counts { Called (D.counts device.old.device) (D.counts device.new.device) 1 0 result }
     ensures settings { (device.new.blocks ≡ device.old.blocks) × (device.new.size ≡ device.old.size) }
+    ensures held { HeldRead result block device.old device.new }
     ensures since { (many : ℕ) (made : Made) → block < many → Since many device.old.blocks device.old.held made (D.counts device.old.device)
         → Since many device.new.blocks device.new.held made (D.counts device.new.device) }
 {
@@ -219,6 +222,7 @@ impl<D: Device> Buffers<D> {
         ensures ok { OnOk result (self.new.lasts ≡ slice_set self.old.lasts buffer (Some block)) }
         ensures err { OnErr result (self.new.lasts ≡ slice_set self.old.lasts buffer None) }
         ensures same { last_in self.old.lasts buffer ≡ Some block → (self.new ≡ self.old) × IsOk result }
+        ensures held { last_in self.old.lasts buffer ≢ Some block → HeldRead result block self.old.cache self.new.cache }
         ensures hit { (IsAbsent block self.old.cache.held → ⊥) → (D.counts self.new.cache.device ≡ D.counts self.old.cache.device) × IsOk result }
         ensures bytes_stay { D.bytes self.new.cache.device ≡ D.bytes self.old.cache.device }
         ensures kept { D.kept self.new.cache.device ≡ D.kept self.old.cache.device }
@@ -253,6 +257,7 @@ impl<D: Device> Buffers<D> {
         requires block { block < self.old.many }
         requires size { length into.old ≡ self.old.cache.size }
         ensures given { OnOk result (Gives (D.bytes self.old.cache.device) (block * self.old.cache.size) into.new) }
+        ensures held { HeldRead result block self.old.cache self.new.cache }
         ensures hit { (IsAbsent block self.old.cache.held → ⊥) → (D.counts self.new.cache.device ≡ D.counts self.old.cache.device) × IsOk result }
         ensures bytes_stay { D.bytes self.new.cache.device ≡ D.bytes self.old.cache.device }
         ensures kept { D.kept self.new.cache.device ≡ D.kept self.old.cache.device }
@@ -266,12 +271,14 @@ impl<D: Device> Buffers<D> {
     /// Writes bytes inside one block, which no buffer holds afterwards.
     fn write_in(&mut self, block: u64, at: u64, from: &[u8]) -> Result<(), DeviceFault>
         requires block { block < self.old.many }
+        requires some { 0 < length from.now }
         requires begins { block * self.old.cache.size ≤ at }
         requires ends { at + length from.now ≤ block * self.old.cache.size + self.old.cache.size }
         ensures wrote { Wrote result at from.now (D.bytes self.old.cache.device) (D.bytes self.new.cache.device) }
         ensures kept { D.kept self.new.cache.device ≡ D.kept self.old.cache.device }
         ensures counts { Called (D.counts self.old.cache.device) (D.counts self.new.cache.device) 0 1 result }
         ensures lasts { self.new.lasts ≡ map (forgotten block) self.old.lasts }
+        ensures held { HeldWritten result block self.old.cache self.new.cache }
         ensures stays { Stays self.old self.new }
     {
         forget(&mut self.lasts, block);
@@ -287,6 +294,7 @@ impl<D: Device> Buffers<D> {
         ensures kept { D.kept self.new.cache.device ≡ D.kept self.old.cache.device }
         ensures counts { Called (D.counts self.old.cache.device) (D.counts self.new.cache.device) 0 1 result }
         ensures lasts { self.new.lasts ≡ map (forgotten block) self.old.lasts }
+        ensures held { HeldWritten result block self.old.cache self.new.cache }
         ensures stays { Stays self.old self.new }
     {
         self.write_in(block, block * self.size as u64, from)
@@ -301,6 +309,7 @@ impl<D: Device> Buffers<D> {
         ensures kept { D.kept self.new.cache.device ≡ D.kept self.old.cache.device }
         ensures counts { Called (D.counts self.old.cache.device) (D.counts self.new.cache.device) 0 1 result }
         ensures lasts { self.new.lasts ≡ map (forgotten 0) self.old.lasts }
+        ensures held { HeldWritten result 0 self.old.cache self.new.cache }
         ensures stays { Stays self.old self.new }
     {
         self.write_in(0, at, &[byte])
@@ -312,6 +321,7 @@ impl<D: Device> Buffers<D> {
         ensures kept { D.kept self.new.cache.device ≡ D.kept self.old.cache.device }
         ensures counts { Called (D.counts self.old.cache.device) (D.counts self.new.cache.device) 0 0 result }
         ensures lasts { self.new.lasts ≡ self.old.lasts }
+        ensures held { self.new.cache.held ≡ self.old.cache.held }
         ensures stays { Stays self.old self.new }
     {
         self.device.settle()

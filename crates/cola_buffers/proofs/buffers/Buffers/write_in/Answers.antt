@@ -2,7 +2,7 @@ use Rattle.std.proofs.Common.{◌≡◌, ◌<◌, ◌≤◌, ◌+◌, ◌*◌, �
 use Rattle.std.proofs.lemmas.List.{length-map}
 use Rattle.cola_device.specs.Bytes.{HasRange}
 use Rattle.cola_buffers.specs.Blocks.{Made, AreCopies, Since, forgotten, last_in}
-use Rattle.cola_buffers.proofs.BlocksLemmas.{sound-after, lasts-written, copies-written, write-inside, file-written, held-written, since-unread, whole-put}
+use Rattle.cola_buffers.proofs.BlocksLemmas.{sound-after, lasts-written, copies-written, write-inside, file-written, held-written, since-unread, whole-put, held-after}
 use Rattle.cola_buffers.proofs.buffers.Buffers.write_in.Goals as goal
 
 pub invariant_of-self : goal.invariant_of-self
@@ -33,3 +33,7 @@ invariant_of-self g c =
           (subst (λ (size : ℕ). AreCopies now i.copies.items (map (forgotten c.args.block) i.lasts.items) size) (sym write.settings.1)
           (copies-written c.write.result told now c.args.block c.args.at i.device.size c.args.from.now i.copies.items i.lasts.items write.wrote inside begins ends c.self.invariant.2)),
     )
+
+pub returns-clause-held : goal.returns-clause-held
+returns-clause-held g c =
+    held-after c.write.result c.args.block c.args.at (length c.args.from.now) c.args.self.now.cache c.write.new.self c.requires.some c.requires.begins c.requires.ends (rw (← c.self.view_is) c.write.ensures.ok) (rw (← c.self.view_is) c.write.ensures.err)
