@@ -1,6 +1,7 @@
 //! What the next run of a level is built of.
-ghost use Rattle.std.specs.Prelude.{◌≡◌, ◌+◌, ◌-◌, ◌≤◌, ◌<◌, ◌^◌, length};
+ghost use Rattle.std.specs.Prelude.{◌≡◌, ◌+◌, ◌-◌, ◌≤◌, ◌<◌, ◌^◌, length, not};
 ghost use Rattle.cola_clock.specs.Clock.{visible_slot};
+ghost use Rattle.cola_merge.specs.Feeds.{takes_young};
 ghost use Rattle.cola_level.specs.Marks.{marks_of, all_marks_of};
 ghost use Rattle.cola_level.specs.Aims.{sampled_run, upper_of, aim_at, top_at};
 
@@ -34,6 +35,16 @@ fn sample_of(clock: u64, level: u8, bottom: u8, next: &Level) -> Feed
     }
 }
 
+/// Whether incoming items are marked young above the bottom: in even periods, in which all own items are taken.
+fn marks_young(part: Part) -> bool
+    ensures { result ≡ not (takes_young part) }
+{
+    match part {
+        Part::All => true,
+        Part::Young => false,
+    }
+}
+
 /// The next run of a level above the bottom: own items as the period takes them, and incoming ones marked young in even
 /// periods.
 fn upper_aim(clock: u64, bottom: u8, own: Run, incoming: Feed, next: &Level) -> Aim
@@ -51,7 +62,7 @@ fn upper_aim(clock: u64, bottom: u8, own: Run, incoming: Feed, next: &Level) -> 
         incoming,
         sample: sample_of(clock, own.level, bottom, next),
         part,
-        young: part == Part::All,
+        young: marks_young(part),
         bottom: false,
     }
 }

@@ -1,14 +1,12 @@
 //! A level.
 ghost use Rattle.std.specs.Prelude.{◌≡◌, ◌≤◌};
 
+use crate::building::build;
 use cola_cell::{CellSink, CellSource, StepFault};
 use cola_layout::Marks;
-use cola_merge::{Aim, Merger, Progress};
+use cola_merge::{Aim, Merger};
 use cola_outside::Steps;
 use std::sync::ledger::Ledger;
-
-/// How many steps of its merge a mutation takes at each level of 1 and more that works.
-const QUOTA: u32 = 28;
 
 /// A level: the lengths of its two runs, in cells, and the merge that builds the shadow.
 #[derive(Clone, Copy, Debug)]
@@ -122,13 +120,10 @@ impl Level {
             OnOk result (IsLevelWorked (W.CellSource.held work.old).fixed.doublings t i above (marks_of self.old) (marks_of self.new) below
             (transfers_of (W.CellSource.held work.old) (W.CellSource.spent work.old)) (transfers_of (W.CellSource.held work.new) (W.CellSource.spent work.new))) }
     {
-        let result = self.merger.advance(work, aim, QUOTA, steps);
-        // a refused step, too, may have left the shadow longer
+        let result = build(&mut self.merger, work, aim, steps);
+        // a refused call may have made the shadow longer, too
         self.shadow = work.shadow_len(aim.level);
-        if result? == Progress::Done {
-            work.finish(aim.level)?;
-        }
-        Ok(())
+        result
     }
 
     /// Leaves the window: no source cell is consumed from here on. The level's merge is done and its shadow was finished.

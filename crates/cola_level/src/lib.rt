@@ -7,6 +7,7 @@
 #![tactic(auto)]
 
 mod aims;
+mod building;
 pub mod laws;
 mod level;
 #[cfg(test)]
