@@ -1,35 +1,53 @@
 -- What aims read, as the laws of levels have it; and the runs that stay.
-use Rattle.std.proofs.Common.{◌≡◌, ◌≢◌, ◌⊎◌, inl, inr, ℕ, suc, ◌-◌, ◌<◌, Bool, true, false, cond, if◌then◌else◌, List, [], ◌∷◌, refl, ap, sym, ◌∙◌, arith}
+use Rattle.std.proofs.Common.{◌≡◌, ◌≢◌, ◌⊎◌, inl, inr, ℕ, suc, ◌-◌, ◌<◌, Bool, true, false, not, cond, if◌then◌else◌, List, [], ◌∷◌, Some, None, refl, ap, sym, ◌∙◌, arith}
+use Rattle.std.specs.List.{slice_get}
+use Rattle.std.proofs.lemmas.Option.{none-some}
 use Rattle.cola_clock.specs.Clock.{period, is_odd, visible_slot}
-use Rattle.cola_clock.specs.Marks.{Marks}
+use Rattle.cola_clock.specs.Marks.{Marks, sample_end}
+use Rattle.cola_clock.specs.declared.state.Part.TheVariants.{All, Young}
 use Rattle.cola_runs.specs.Cells.{sample}
-use Rattle.cola_laws.specs.Chain.{Level, next_runs, first_keys}
+use Rattle.cola_laws.specs.Chain as chain
+use Rattle.cola_laws.specs.Chain.{upper_part, part_of, next_runs, first_keys}
 use Rattle.cola_laws.proofs.Facts.{sampled-nothing, sampled-run}
-use Rattle.cola_cell.specs.declared.cell.Cell.{Cell}
 use Rattle.cola_cell.specs.Held.{Held, LawCell, Stamped}
 use Rattle.cola_told.specs.Cells.{cells, run_cells}
 use Rattle.cola_told.proofs.CellLists.{cells-same}
-use Rattle.cola_merge.specs.declared.aims.Feed.TheVariants as feed
-use Rattle.cola_merge.specs.Feeds.{feed_keys}
+use Rattle.cola_merge.specs.declared.aims.Aim.{Aim}
+use Rattle.cola_merge.specs.declared.aims.Feed.{Feed}
+use Rattle.cola_merge.specs.Feeds as merge
+use Rattle.cola_merge.specs.Feeds.{takes_young, feed_len, feed_keys}
 use Rattle.cola_merge.specs.States.{Grows}
 use Rattle.cola_merge.proofs.ToldRuns.{sampled_feed}
-use Rattle.cola_level.specs.Aims.{sampled_run, aim_at, top_at}
-use Rattle.cola_level.specs.Standing.{slot_cells, visible_cells, stood, all_stood}
+use Rattle.cola_level.specs.declared.level.Level.{Level}
+use Rattle.cola_level.specs.Marks.{marks_of, all_marks_of}
+use Rattle.cola_level.specs.Aims.{sampled_run, sample_of, aim_with}
+use Rattle.cola_level.specs.Standing.{slot_cells, stood, all_stood}
 
--- what a level above the bottom samples
-pub keys_of_next : (held : Held) (t j : ℕ) (next : Marks) (under : List Marks) → feed_keys held (feed.Sampled (sampled_run t j next)) ≡ first_keys (next_runs t j (all_stood held t (suc j) (next ∷ under)))
-keys_of_next held t j next under =
+slot_chosen : (f : ℕ → ℕ → List LawCell) (odd : Bool) (p q m n : ℕ) → f (if odd then p else q) (cond odd m n) ≡ cond odd (f p m) (f q n)
+slot_chosen f true p q m n = refl
+slot_chosen f false p q m n = refl
+
+-- what a level samples
+pub keys_of_next : (held : Held) (t j : ℕ) (below : List Marks) → feed_keys held (sample_of t j below) ≡ first_keys (next_runs t j (all_stood held t (suc j) below))
+keys_of_next held t j [] = sym (sampled-nothing (List ℕ) Stamped t j)
+keys_of_next held t j (next ∷ under) =
     sampled_feed held (sampled_run t j next)
-    ∙ ap (λ (x : List LawCell). sample x) (chosen (slot_cells held (suc j)) (is_odd (period t j)) (1 - visible_slot t (suc j)) (visible_slot t (suc j)) next.shadow next.visible)
+    ∙ ap (λ (x : List LawCell). sample x) (slot_chosen (slot_cells held (suc j)) (is_odd (period t j)) (1 - visible_slot t (suc j)) (visible_slot t (suc j)) next.shadow next.visible)
     ∙ sym (sampled-run t j (stood held t (suc j) next) (all_stood held t (suc (suc j)) under))
-  where
-    chosen : (f : ℕ → ℕ → List LawCell) (odd : Bool) (p q m n : ℕ) → f (if odd then p else q) (cond odd m n) ≡ cond odd (f p m) (f q n)
-    chosen f true p q m n = refl
-    chosen f false p q m n = refl
 
-pub keys_of_aim : (held : Held) (t i own above : ℕ) (below : List Marks) → feed_keys held (aim_at t i own above below).sample ≡ first_keys (next_runs t (suc i) (all_stood held t (suc (suc i)) below))
-keys_of_aim held t i own above [] = sym (sampled-nothing (List ℕ) Stamped t (suc i))
-keys_of_aim held t i own above (next ∷ under) = keys_of_next held t (suc i) next under
+part_chosen : (odd : Bool) → record { only_young = takes_young (if odd then Young else All); marks_young = not odd; drops_tombstones = false } ≡ upper_part odd
+part_chosen true = refl
+part_chosen false = refl
+
+-- the part that a level builds
+pub part_of_aim : (held : Held) (t j own : ℕ) (incoming : Feed) (below : List Marks) → merge.part_of (aim_with t j own incoming below) ≡ part_of (is_odd (period t j)) (all_stood held t (suc j) below)
+part_of_aim held t j own incoming [] = refl
+part_of_aim held t j own incoming (next ∷ under) = part_chosen (is_odd (period t j))
+
+-- how many keys a level samples
+pub sample_len : (t j : ℕ) (below : List Marks) → feed_len (sample_of t j below) ≡ sample_end (is_odd (period t j)) below
+sample_len t j [] = refl
+sample_len t j (next ∷ under) = refl
 
 -- ---- the runs that stay while a shadow grows
 
@@ -49,5 +67,16 @@ module _ (old new : Held) (level : ℕ) (grows : Grows old new level) where
   pub levels_stay : (t j : ℕ) (below : List Marks) → level < j → all_stood new t j below ≡ all_stood old t j below
   levels_stay t j [] h = refl
   levels_stay t j (m ∷ ms) h =
-      ap (λ (x : Level (List ℕ) Stamped). x ∷ all_stood new t (suc j) ms) (level_stays t j m (λ e. omega (arith, e, h)))
-      ∙ ap (λ (xs : List (Level (List ℕ) Stamped)). stood old t j m ∷ xs) (levels_stay t (suc j) ms (omega (arith, h)))
+      ap (λ (x : chain.Level (List ℕ) Stamped). x ∷ all_stood new t (suc j) ms) (level_stays t j m (λ e. omega (arith, e, h)))
+      ∙ ap (λ (xs : List (chain.Level (List ℕ) Stamped)). stood old t j m ∷ xs) (levels_stay t (suc j) ms (omega (arith, h)))
+
+-- ---- the first of the levels behind
+
+some_same : {X : Type 0} (x y : X) → Some x ≡ Some y → x ≡ y
+some_same x y e = cc
+
+pub aim_of_first : (t j own : ℕ) (incoming : Feed) (aim : Aim) (next : Level) (levels : List Level) → Some next ≡ slice_get levels 0 → ((under : List Marks) → aim ≡ aim_with t j own incoming (marks_of next ∷ under)) →
+    aim ≡ aim_with t j own incoming (all_marks_of levels)
+aim_of_first t j own incoming aim next [] e h = absurd (none-some next (sym e))
+aim_of_first t j own incoming aim next (l ∷ ls) e h =
+    h (all_marks_of ls) ∙ ap (λ (x : Level). aim_with t j own incoming (marks_of x ∷ all_marks_of ls)) (some_same next l e)

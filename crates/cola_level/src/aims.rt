@@ -1,9 +1,10 @@
 //! What the next run of a level is built of.
-ghost use Rattle.std.specs.Prelude.{◌≡◌, ◌+◌, ◌-◌, ◌≤◌, ◌<◌, ◌^◌, length, not};
+ghost use Rattle.std.specs.Prelude.{◌≡◌, ◌+◌, ◌-◌, ◌≤◌, ◌<◌, ◌^◌, length, not, List, ◌∷◌};
 ghost use Rattle.cola_clock.specs.Clock.{visible_slot};
+ghost use Rattle.cola_clock.specs.Marks.{Marks};
 ghost use Rattle.cola_merge.specs.Feeds.{takes_young};
 ghost use Rattle.cola_level.specs.Marks.{marks_of, all_marks_of};
-ghost use Rattle.cola_level.specs.Aims.{sampled_run, upper_of, aim_at, top_at};
+ghost use Rattle.cola_level.specs.Aims.{sampled_run, aim_with, aim_at, top_at};
 
 use crate::level::Level;
 use cola_bottom::bottom_aim;
@@ -52,7 +53,7 @@ fn upper_aim(clock: u64, bottom: u8, own: Run, incoming: Feed, next: &Level) -> 
     requires above_bottom { own.level < bottom }
     requires clock_in_range { clock < 2 ^ 23 }
     requires slot { own.slot ≡ visible_slot clock own.level }
-    ensures { result ≡ upper_of clock own.level own.len incoming (marks_of next.now) }
+    ensures { (under : List Marks) → result ≡ aim_with clock own.level own.len incoming (marks_of next.now ∷ under) }
 {
     let part = own_part(clock, own.level, bottom);
     Aim {
@@ -100,7 +101,7 @@ pub fn top_aim(clock: u64, bottom: u8, own: u32, cell: Cell, next: &Level) -> Ai
     requires below_zero { 1 ≤ bottom }
     requires bottom_in_range { bottom ≤ 22 }
     requires clock_in_range { clock < 2 ^ 23 }
-    ensures { result ≡ top_at clock own cell (marks_of next.now) }
+    ensures { (under : List Marks) → result ≡ top_at clock own cell (marks_of next.now ∷ under) }
 {
     let own = Run {
         level: 0,

@@ -26,12 +26,12 @@ pub fn aims_follow_the_clock()
     ensures slot { (t i own above : ℕ) (below : List Marks) → (aim_at t i own above below).slot ≡ 1 - visible_slot t (suc i) }
 {}
 
-/// The same of level 0, above at least one other: what comes in is the one new item.
+/// The same of level 0: what comes in is the one new item.
 pub fn top_aim_follows_the_clock()
-    ensures part { (held : Held) (t own : ℕ) (c : Cell) (next : Marks) (under : List Marks) → merge.part_of (top_at t own c next) ≡ part_of (is_odd (period t 0)) (all_stood held t 1 (next ∷ under)) }
-    ensures own { (held : Held) (t own : ℕ) (c : Cell) (next : Marks) → feed_cells held (top_at t own c next).own ≡ visible_cells held t 0 own }
-    ensures incoming { (held : Held) (t own : ℕ) (c : Cell) (next : Marks) → feed_cells held (top_at t own c next).incoming ≡ as_cell c ∷ [] }
-    ensures keys { (held : Held) (t own : ℕ) (c : Cell) (next : Marks) (under : List Marks) → feed_keys held (top_at t own c next).sample ≡ first_keys (next_runs t 0 (all_stood held t 1 (next ∷ under))) }
+    ensures part { (held : Held) (t own : ℕ) (c : Cell) (below : List Marks) → merge.part_of (top_at t own c below) ≡ part_of (is_odd (period t 0)) (all_stood held t 1 below) }
+    ensures own { (held : Held) (t own : ℕ) (c : Cell) (below : List Marks) → feed_cells held (top_at t own c below).own ≡ visible_cells held t 0 own }
+    ensures incoming { (held : Held) (t own : ℕ) (c : Cell) (below : List Marks) → feed_cells held (top_at t own c below).incoming ≡ as_cell c ∷ [] }
+    ensures keys { (held : Held) (t own : ℕ) (c : Cell) (below : List Marks) → feed_keys held (top_at t own c below).sample ≡ first_keys (next_runs t 0 (all_stood held t 1 below)) }
 {}
 
 /// While a level's shadow grows, the runs of all other levels stay, and its own visible run, which stands in another slot.

@@ -15,7 +15,7 @@ pub overflow_sub-result : goal.overflow_sub-result
 overflow_sub-result c = subst (λ (x : ℕ). x ≤ 1) (sym c.requires.slot) (slot_small c.args.clock c.args.own.level)
 
 pub returns : goal.returns
-returns c =
+returns c = λ under.
     let t : ℕ = c.args.clock in
     let j : ℕ = c.args.own.level in
     let len : ℕ = c.args.own.len in
