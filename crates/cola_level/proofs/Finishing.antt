@@ -1,5 +1,5 @@
 -- What a finish leaves of a merge whose steps are done.
-use Rattle.std.proofs.Common.{◌≡◌, ◌≢◌, ◌⊎◌, inl, inr, ℕ, ◌+◌, ◌*◌, ◌/◌, ◌%◌, ◌^◌, ◌<◌, ◌≤◌, List, map, Result, Ok, Err, OnOk, IfErr, refl, ap, sym, subst, ◌∙◌, arith}
+use Rattle.std.proofs.Common.{◌≡◌, ◌≢◌, ◌⊎◌, inl, inr, ℕ, ◌+◌, ◌<◌, ◌≤◌, List, map, Result, Ok, Err, OnOk, IfErr, ap, sym, subst, ◌∙◌, arith}
 use Rattle.std.specs.List.Sorted.{IsStrictlySortedBy}
 use Rattle.cola_outside.specs.Faults.{Rose}
 use Rattle.cola_runs.specs.Cells as laws
@@ -9,12 +9,11 @@ use Rattle.cola_cell.specs.declared.cell.Reader.TheVariants.{Own, Incoming, Samp
 use Rattle.cola_cell.specs.declared.fault.PushFault.{PushFault}
 use Rattle.cola_cell.specs.declared.fault.PushFault.TheVariants as push
 use Rattle.cola_cell.specs.declared.fault.StepFault.{StepFault}
-use Rattle.cola_cell.specs.declared.fault.StepFault.TheVariants.{Device}
 use Rattle.cola_cell.specs.declared.sink.Shadow.{Shadow}
 use Rattle.cola_cell.specs.Fault.{step_of_push}
-use Rattle.cola_cell.specs.Held.{Held, Fixed, Spot, Told, LawCell, Stamped, IsTelling, span}
+use Rattle.cola_cell.specs.Held.{Held, Spot, Told, LawCell, Stamped, span}
 use Rattle.cola_cell.specs.Order.{key_cmp}
-use Rattle.cola_cell.specs.Places.{Block, block_of}
+use Rattle.cola_cell.specs.Places.{block_of}
 use Rattle.cola_cell.specs.Spent.{Buffer, Spent}
 use Rattle.cola_cell.specs.Shadows.{WriteCalm, FinishAnswers, Finishes, FinishSpends}
 use Rattle.cola_cell.proofs.RunLemmas.{telling_stays}
@@ -25,9 +24,9 @@ use Rattle.cola_merge.specs.declared.aims.Progress.{Progress}
 use Rattle.cola_merge.specs.declared.aims.Progress.TheVariants.{Done}
 use Rattle.cola_merge.specs.declared.merging.Merger.{Merger}
 use Rattle.cola_merge.specs.Feeds.{part_of, feed_cells, feed_keys}
-use Rattle.cola_merge.specs.Heads.{consumed, IsReady, build_of}
-use Rattle.cola_merge.specs.Blocks.{Lasts, feed_left, blocks_left}
-use Rattle.cola_merge.specs.States.{State, state, len_of, StepCause, Grows, KeepsBlocks}
+use Rattle.cola_merge.specs.Heads.{IsReady, build_of}
+use Rattle.cola_merge.specs.Blocks.{blocks_left}
+use Rattle.cola_merge.specs.States.{State, state, StepCause, Grows, KeepsBlocks}
 use Rattle.cola_merge.specs.Advance.{IsGoing, GoesBy}
 use Rattle.cola_merge.proofs.Kept.{grows_then, feed_cells-stay, feeds_told-stay, ready-stays, forgets_keeps, left-stays}
 use Rattle.cola_level.specs.Work.{Takes, GoesFurther, IsWholeAtEnd, IsCalm, IsDevice}

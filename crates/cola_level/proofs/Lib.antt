@@ -4,3 +4,4 @@ pub mod Writing
 pub mod Outcomes
 pub mod Sources
 pub mod Parities
+pub mod Turns

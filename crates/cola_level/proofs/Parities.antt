@@ -1,10 +1,9 @@
 -- The parity of a level's period, by what the clock answers of it.
-use Rattle.std.proofs.Common.{◌≡◌, ◌≢◌, ℕ, suc, ◌+◌, ◌-◌, ◌≤◌, ◌<◌, Bool, true, false, not, cond, if◌then◌else◌, ◌==◌, refl, ap, sym, ◌∙◌, arith}
-use Rattle.std.proofs.lemmas.Bool.{eqb-false, eqb-true, ne_eqb}
+use Rattle.std.proofs.Common.{◌≡◌, ℕ, suc, ◌-◌, ◌≤◌, ◌<◌, Bool, true, false, not, cond, if◌then◌else◌, ◌==◌, refl, ap, sym, ◌∙◌, arith}
+use Rattle.std.proofs.lemmas.Bool.{ne_eqb}
 use Rattle.cola_clock.specs.Clock.{period, is_odd, visible_slot}
 use Rattle.cola_clock.specs.Marks.{Marks}
 use Rattle.cola_clock.specs.Schedule.{part_at, below_at}
-use Rattle.cola_clock.specs.declared.state.Below.{Below}
 use Rattle.cola_clock.specs.declared.state.Below.TheVariants.{Visible, Shadow, Nothing}
 use Rattle.cola_clock.specs.declared.state.Part.{Part}
 use Rattle.cola_clock.specs.declared.state.Part.TheVariants.{All, Young}

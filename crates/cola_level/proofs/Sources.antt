@@ -1,5 +1,5 @@
 -- What aims read, as the laws of levels have it; and the runs that stay.
-use Rattle.std.proofs.Common.{◌≡◌, ◌≢◌, ◌⊎◌, inl, inr, ℕ, suc, ◌-◌, ◌<◌, Bool, true, false, not, cond, if◌then◌else◌, List, [], ◌∷◌, Some, None, refl, ap, sym, ◌∙◌, arith}
+use Rattle.std.proofs.Common.{◌≡◌, ◌≢◌, ◌⊎◌, inl, inr, ℕ, suc, ◌-◌, ◌<◌, Bool, true, false, not, cond, if◌then◌else◌, List, [], ◌∷◌, Some, refl, ap, sym, ◌∙◌, arith}
 use Rattle.std.specs.List.{slice_get}
 use Rattle.std.proofs.lemmas.Option.{none-some}
 use Rattle.cola_clock.specs.Clock.{period, is_odd, visible_slot}
@@ -10,7 +10,6 @@ use Rattle.cola_laws.specs.Chain as chain
 use Rattle.cola_laws.specs.Chain.{upper_part, part_of, next_runs, first_keys}
 use Rattle.cola_laws.proofs.Facts.{sampled-nothing, sampled-run}
 use Rattle.cola_cell.specs.Held.{Held, LawCell, Stamped}
-use Rattle.cola_told.specs.Cells.{cells, run_cells}
 use Rattle.cola_told.proofs.CellLists.{cells-same}
 use Rattle.cola_merge.specs.declared.aims.Aim.{Aim}
 use Rattle.cola_merge.specs.declared.aims.Feed.{Feed}

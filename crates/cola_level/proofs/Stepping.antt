@@ -1,5 +1,5 @@
 -- What the steps of one mutation say to the work of a level.
-use Rattle.std.proofs.Common.{◌≡◌, ℕ, ◌+◌, ◌<◌, ◌≤◌, min, Result, Ok, Err, OnOk, IfErr, arith}
+use Rattle.std.proofs.Common.{ℕ, ◌+◌, ◌≤◌, min, Result, Ok, Err, OnOk, IfErr, arith}
 use Rattle.cola_cell.specs.declared.fault.StepFault.{StepFault}
 use Rattle.cola_cell.specs.declared.fault.StepFault.TheVariants.{Device, BadCell, Overfull}
 use Rattle.cola_cell.specs.Held.{Held}
@@ -8,11 +8,11 @@ use Rattle.cola_merge.specs.declared.aims.Progress.{Progress}
 use Rattle.cola_merge.specs.declared.aims.Progress.TheVariants.{Done, More}
 use Rattle.cola_merge.specs.declared.merging.Merger.{Merger}
 use Rattle.cola_merge.specs.Feeds.{feed_len}
-use Rattle.cola_merge.specs.Heads.{consumed, IsReady, IsUsedUp}
+use Rattle.cola_merge.specs.Heads.{consumed}
 use Rattle.cola_merge.specs.States.{State, StepCause}
 use Rattle.cola_merge.specs.Advance as merge
 use Rattle.cola_merge.specs.Advance.{Consumes, Gone, IsWhole, HasStepCause, IsDeviceFault}
-use Rattle.cola_level.specs.Work.{sources, Takes, GoesFurther, GoesOn, IsWholeAtEnd, IsCalm, IsDevice}
+use Rattle.cola_level.specs.Work.{Takes, GoesFurther, GoesOn, IsWholeAtEnd, IsCalm, IsDevice}
 use Rattle.cola_level.specs.Built.{Moves, TellsEnd}
 
 all_taken : (a b c x y z n : ℕ) → a ≤ x → b ≤ y → c ≤ z → min (a + b + c) n ≤ x + y + z

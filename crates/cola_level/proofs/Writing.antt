@@ -1,18 +1,17 @@
 -- What the work of a level spends, and what it writes of its shadow.
-use Rattle.std.proofs.Common.{◌≡◌, ◌⊎◌, inl, inr, ℕ, ◌+◌, ◌*◌, ◌/◌, ◌%◌, ◌^◌, ◌<◌, ◌≤◌, ◌==◌, ◌||◌, nat_lt, nat_le, Bool, true, false, Result, Ok, Err, OnOk, IsTrue, refl, ap, sym, subst, ◌∙◌, arith}
-use Rattle.std.proofs.lemmas.Bool.{leb-true, le-leb, lt-leb, eq-eqb, true≢false, lt-ltb, ltb-true}
+use Rattle.std.proofs.Common.{◌≡◌, ◌⊎◌, inl, inr, ℕ, ◌+◌, ◌*◌, ◌/◌, ◌%◌, ◌^◌, ◌<◌, ◌≤◌, ◌||◌, nat_lt, Bool, true, false, Ok, refl, ap, sym, subst, ◌∙◌, arith}
+use Rattle.std.proofs.lemmas.Bool.{leb-true, le-leb, eq-eqb, true≢false, ltb-true}
 use Rattle.std.proofs.lemmas.Nat.{div_below}
-use Rattle.cola_cell.specs.declared.fault.PushFault.{PushFault}
 use Rattle.cola_cell.specs.declared.sink.Shadow.{Shadow}
 use Rattle.cola_cell.specs.Held.{Held, Fixed, span}
 use Rattle.cola_cell.specs.Places.{slot_size}
 use Rattle.cola_cell.specs.Spent.{Spent}
-use Rattle.cola_cell.specs.Shadows.{IsKept, WritesNothing, Finishes, FinishSpends}
+use Rattle.cola_cell.specs.Shadows.{IsKept, Finishes, FinishSpends}
 use Rattle.cola_merge.specs.declared.aims.Aim.{Aim}
 use Rattle.cola_merge.specs.declared.merging.Merger.{Merger}
 use Rattle.cola_merge.specs.Feeds.{feed_len}
 use Rattle.cola_merge.specs.Heads.{consumed, IsReady, IsUsedUp}
-use Rattle.cola_merge.specs.States.{State, state, len_of, Spends, Grows}
+use Rattle.cola_merge.specs.States.{State, len_of, Spends, Grows}
 use Rattle.cola_merge.specs.Advance.{IsSavedByBlocks}
 use Rattle.cola_transfers.specs.Blocks.{IsWrittenDown}
 use Rattle.cola_level.specs.Standing.{is_kept}

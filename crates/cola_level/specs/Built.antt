@@ -1,5 +1,5 @@
 -- What the merge of a level does in one mutation, before and after its shadow is finished.
-use Rattle.std.specs.Prelude.{◌≡◌, ℕ, ◌+◌, ◌/◌, ◌≤◌, ⊤, length, Result, Ok, Err, OnOk, IfErr}
+use Rattle.std.specs.Prelude.{◌+◌, ◌/◌, ◌≤◌, ⊤, length, Result, Ok, Err, OnOk, IfErr}
 use Rattle.cola_cell.specs.declared.cell.Reader.{Reader}
 use Rattle.cola_cell.specs.declared.fault.StepFault.{StepFault}
 use Rattle.cola_cell.specs.Held.{IsTelling, span}

@@ -1,5 +1,5 @@
 -- The aim of a level of 1 and more.
-use Rattle.std.proofs.Common.{◌≡◌, ℕ, suc, ◌-◌, ap, sym, ◌∙◌, arith}
+use Rattle.std.proofs.Common.{◌≡◌, ℕ, suc, ◌-◌, ap, ◌∙◌, arith}
 use Rattle.cola_merge.specs.declared.aims.Feed.TheVariants.{Run}
 use Rattle.cola_level.specs.Marks.{all_marks_of}
 use Rattle.cola_level.specs.Aims.{visible_run, aim_with}

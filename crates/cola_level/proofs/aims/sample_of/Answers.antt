@@ -1,5 +1,5 @@
 -- What a level above the bottom samples.
-use Rattle.std.proofs.Common.{◌≡◌, ℕ, suc, ◌+◌, ◌-◌, ap, sym, ◌∙◌}
+use Rattle.std.proofs.Common.{ℕ, ◌+◌, ◌-◌, ap, sym, ◌∙◌}
 use Rattle.std.proofs.Math.Numerals.{add-one}
 use Rattle.cola_clock.specs.Clock.{visible_slot}
 use Rattle.cola_cell.specs.declared.cell.Run.{Run}

@@ -1,9 +1,8 @@
 -- What the work on a merge says.
-use Rattle.std.proofs.Common.{Result, Ok, Err}
 use Rattle.cola_cell.specs.Fault.{step_of_push}
 use Rattle.cola_merge.specs.States.{state}
 use Rattle.cola_merge.proofs.Reading.{err_is}
-use Rattle.cola_level.proofs.Outcomes.{refused, left, unfinished, ended}
+use Rattle.cola_level.proofs.Outcomes.{left, unfinished, ended}
 use Rattle.cola_level.proofs.building.build.Goals as goal
 
 pub returns-in_err-finish-in-Done-clause-built : goal.returns-in_err-finish-in-Done-clause-built

@@ -1,5 +1,5 @@
 -- What an aim builds and reads.
-use Rattle.std.proofs.Common.{ℕ, suc, ◌+◌, refl, ap}
+use Rattle.std.proofs.Common.{ℕ, suc, ◌+◌, ap}
 use Rattle.cola_merge.specs.declared.aims.Feed.TheVariants.{Run}
 use Rattle.cola_level.specs.Aims.{visible_run}
 use Rattle.cola_level.proofs.Sources.{keys_of_next, part_of_aim, sample_len}
