@@ -1,0 +1,5 @@
+pub mod Marks
+pub mod Aims
+pub mod Standing
+pub mod Work
+pub mod Built
