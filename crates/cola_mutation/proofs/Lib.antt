@@ -1,0 +1,6 @@
+pub mod MapLemmas
+pub mod Keeping
+pub mod Marking
+pub mod AddingUp
+pub mod Advancing
+pub mod Turning

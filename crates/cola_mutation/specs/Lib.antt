@@ -1,0 +1,3 @@
+pub mod Levels
+pub mod Work
+pub mod Ends

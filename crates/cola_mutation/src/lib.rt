@@ -1,0 +1,5 @@
+//! One mutation of a chain of levels, over any object of cells.
+#![tactic(auto)]
+
+pub mod maps;
+mod working;
