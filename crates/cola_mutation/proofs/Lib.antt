@@ -4,3 +4,4 @@ pub mod Marking
 pub mod AddingUp
 pub mod Advancing
 pub mod Turning
+pub mod Restarting

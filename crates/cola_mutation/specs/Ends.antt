@@ -20,11 +20,14 @@ abbrev pub AreDone : ℕ → ℕ → List Level → Type 0
 AreDone t j [] = ⊤
 AreDone t j (l ∷ ls) = (ends t j ≡ true → IsOwnRunConsumed l) × AreDone t (suc j) ls
 
--- of `count` levels from level j on, each that flips gets a new, empty shadow in the slot of the run that was visible; the
--- others' shadows stay, and so does every cell but those of a shadow that was given up and was not kept
+-- a level that is none of `count` levels from level j on, or does not flip
+abbrev pub IsStaying : ℕ → ℕ → ℕ → ℕ → Type 0
+IsStaying t j count l = (l < j) ⊎ (j + count ≤ l) ⊎ (flips t l ≡ false)
+
+-- of `count` levels from level j on, each that flips gets a new, empty shadow in the slot of the run that was visible; the others' shadows stay, and so does every cell but those of a shadow that was given up and was not kept
 pub record Restarted (t j count : ℕ) (old new : Held) : Type 0 where
   pub fixed_is : new.fixed ≡ old.fixed
   pub telling_is : (l s k : ℕ) → is_untold (new.spots l s k) ≡ is_untold (old.spots l s k)
   pub flipped : (l : ℕ) → j ≤ l → l < j + count → flips t l ≡ true → new.shadows l ≡ emptied (visible_slot t l)
-  pub others_stay : (l : ℕ) → (l < j) ⊎ (flips t l ≡ false) → new.shadows l ≡ old.shadows l
-  pub spots_stay : (l s k : ℕ) → (l < j) ⊎ (flips t l ≡ false) ⊎ (s ≢ (old.shadows l).slot) ⊎ IsKept old l → new.spots l s k ≡ old.spots l s k
+  pub others_stay : (l : ℕ) → IsStaying t j count l → new.shadows l ≡ old.shadows l
+  pub spots_stay : (l s k : ℕ) → IsStaying t j count l ⊎ ((s ≢ (old.shadows l).slot) ⊎ IsKept old l) → new.spots l s k ≡ old.spots l s k

@@ -164,7 +164,7 @@ abbrev pub with_shadow : Level → ℕ → Level
 with_shadow top n = record { visible = top.visible; shadow = n; merger = top.merger }
 
 -- level 0 has its shadow built whole from its visible run, one cell and the sample of the level below, which has the marks `next`
-pub record Builds {A : Type 0} (t : ℕ) (c : Cell) (s u : State) (top built : Level) (next : Marks) (under : List Marks) (result : Result A StepFault) : Type 0 where
+pub record Builds {A : Type 0} (t : ℕ) (c : Cell) (s u : State) (top built : Level) (next : Marks) (result : Result A StepFault) : Type 0 where
   pub grows : Grows s.held u.held 0
   pub accepted : OnOk result (built ≡ with_shadow top (u.held.shadows 0).len)
   pub same : OnErr result (built ≡ top)
@@ -172,7 +172,7 @@ pub record Builds {A : Type 0} (t : ℕ) (c : Cell) (s u : State) (top built : L
   pub told : IsTelling s.held → IsShadowTold u.held 0
   pub whole : IsGoing s.held (top_at t top.visible c next) fresh → OnOk result (shadow_cells u.held 0 ≡ whole_run s.held (top_at t top.visible c next))
   pub only : IsGoing s.held (top_at t top.visible c next) fresh → length (whole_run s.held (top_at t top.visible c next)) ≤ slot_size 0 → IfErr result IsDevice
-  pub traded : OnOk result (IsTopBuilt s.held.fixed.doublings t (next ∷ under) (transfers s) (transfers u))
+  pub traded : (under : List Marks) → OnOk result (IsTopBuilt s.held.fixed.doublings t (next ∷ under) (transfers s) (transfers u))
   pub refused : IfErr result (IsRefused u s.spent.faults)
   pub calm : IsCalm s.spent.faults u.spent.faults result
   pub costs : Costs s u 9 0

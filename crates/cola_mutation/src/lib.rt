@@ -1,5 +1,6 @@
 //! One mutation of a chain of levels, over any object of cells.
 #![tactic(auto)]
 
+mod ending;
 pub mod maps;
 mod working;
