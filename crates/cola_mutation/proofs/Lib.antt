@@ -5,3 +5,4 @@ pub mod AddingUp
 pub mod Advancing
 pub mod Turning
 pub mod Restarting
+pub mod Building

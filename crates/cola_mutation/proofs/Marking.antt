@@ -16,7 +16,7 @@ use Rattle.cola_transfers.specs.Chain.{has_ended}
 use Rattle.cola_transfers.proofs.PaidLaws.{done-all}
 use Rattle.cola_level.specs.declared.level.Level.{Level}
 use Rattle.cola_level.specs.Marks.{marks_of, all_marks_of, IsOwnRunConsumed}
-use Rattle.cola_level.specs.Aims.{visible_run, upper_of, aim_at}
+use Rattle.cola_level.specs.Aims.{aim_at}
 use Rattle.cola_mutation.specs.Levels.{Fits}
 use Rattle.cola_mutation.specs.Work.{HasTurned, HaveTurned}
 
@@ -26,7 +26,7 @@ pub aim_same : (t i own above : ℕ) (ls ms : List Level) → works t (suc i) �
 aim_same t i own above [] [] w h = refl
 aim_same t i own above [] (m ∷ ms) w h = absurd h
 aim_same t i own above (l ∷ ls) [] w h = absurd h
-aim_same t i own above (l ∷ ls) (m ∷ ms) w h = ap (λ (x : Level). upper_of t (suc i) own (feed.Run (visible_run t i above)) (marks_of x)) (sym (h.0.rests (adjacent-rest t i w)))
+aim_same t i own above (l ∷ ls) (m ∷ ms) w h = ap (λ (x : Level). aim_at t i own above (marks_of x ∷ [])) (sym (h.0.rests (adjacent-rest t i w)))
 
 pub end_same : (t i : ℕ) (odd : Bool) (ls ms : List Level) → works t (suc i) ≡ true → HaveTurned t (suc i) ls ms → sample_end odd (all_marks_of ls) ≡ sample_end odd (all_marks_of ms)
 end_same t i odd [] [] w h = refl

@@ -170,8 +170,8 @@ pub record Builds {A : Type 0} (t : ℕ) (c : Cell) (s u : State) (top built : L
   pub same : OnErr result (built ≡ top)
   pub within : (u.held.shadows 0).len ≤ slot_size 0
   pub told : IsTelling s.held → IsShadowTold u.held 0
-  pub whole : IsGoing s.held (top_at t top.visible c next) fresh → OnOk result (shadow_cells u.held 0 ≡ whole_run s.held (top_at t top.visible c next))
-  pub only : IsGoing s.held (top_at t top.visible c next) fresh → length (whole_run s.held (top_at t top.visible c next)) ≤ slot_size 0 → IfErr result IsDevice
+  pub whole : IsGoing s.held (top_at t top.visible c (next ∷ [])) fresh → OnOk result (shadow_cells u.held 0 ≡ whole_run s.held (top_at t top.visible c (next ∷ [])))
+  pub only : IsGoing s.held (top_at t top.visible c (next ∷ [])) fresh → length (whole_run s.held (top_at t top.visible c (next ∷ []))) ≤ slot_size 0 → IfErr result IsDevice
   pub traded : (under : List Marks) → OnOk result (IsTopBuilt s.held.fixed.doublings t (next ∷ under) (transfers s) (transfers u))
   pub refused : IfErr result (IsRefused u s.spent.faults)
   pub calm : IsCalm s.spent.faults u.spent.faults result

@@ -3,4 +3,5 @@
 
 mod ending;
 pub mod maps;
+mod topping;
 mod working;

@@ -1,0 +1,4 @@
+pub mod Marks
+pub mod Aims
+pub mod Standing
+pub mod Work
