@@ -119,15 +119,15 @@ ready_stays {a} {b} {aim} {m} x e f r = record {
 }
 
 -- a level that works reads its own level, the one above it and the one below it
-pub feeds_stay : {Q : ℕ → Type 0} {a b : Held} (t i own above : ℕ) (below : List Marks) → Keeps Q a b → Q (suc i) → Q i → Q (suc (suc i)) → FeedsStay a b (aim_at t i own above below)
+pub feeds_stay : {Q : ℕ → Type 0} {a b : Held} (t i own above : ℕ) (below : List Marks) → Keeps Q a b → Q (suc i) → Q i ⊎ (visible_slot t i ≢ (a.shadows i).slot) → Q (suc (suc i)) → FeedsStay a b (aim_at t i own above below)
 feeds_stay t i own above [] k q r s = record {
   own = λ n. k.spots_stay (suc i) (visible_slot t (suc i)) n (inl q);
-  incoming = λ n. k.spots_stay i (visible_slot t i) n (inl r);
+  incoming = λ n. k.spots_stay i (visible_slot t i) n r;
   sample = λ n. refl;
 }
 feeds_stay {Q} {a} {b} t i own above (next ∷ under) k q r s = record {
   own = λ n. k.spots_stay (suc i) (visible_slot t (suc i)) n (inl q);
-  incoming = λ n. k.spots_stay i (visible_slot t i) n (inl r);
+  incoming = λ n. k.spots_stay i (visible_slot t i) n r;
   sample = λ n. k.spots_stay (suc (suc i)) (sampled_slot t (suc i)) (8 * n + 7) (inl s);
 }
 
@@ -135,7 +135,7 @@ pub aim_level : (t i own above : ℕ) (below : List Marks) → (aim_at t i own a
 aim_level t i own above [] = refl
 aim_level t i own above (next ∷ under) = refl
 
-pub fits_stay : {Q : ℕ → Type 0} {a b : Held} (t i above : ℕ) (l : Level) (below : List Marks) → Keeps Q a b → Q (suc i) → (works t (suc i) ≡ true → Q i × Q (suc (suc i))) →
+pub fits_stay : {Q : ℕ → Type 0} {a b : Held} (t i above : ℕ) (l : Level) (below : List Marks) → Keeps Q a b → Q (suc i) → (works t (suc i) ≡ true → (Q i ⊎ (visible_slot t i ≢ (a.shadows i).slot)) × Q (suc (suc i))) →
     Fits a t i above l below → Fits b t i above l below
 fits_stay {Q} {a} {b} t i above l below k q near f = record {
   level_in = subst (λ (y : Fixed). suc i < y.levels) (sym k.fixed_is) f.level_in;
@@ -162,6 +162,6 @@ pub all_fit_stay : {a b : Held} (t i k above : ℕ) (ls : List Level) → i < k 
 all_fit_stay t i k above [] h g f = tt
 all_fit_stay {a} {b} t i k above (l ∷ ls) h g f = (
   fits_stay t k above l (all_marks_of ls) g (inl (λ e. let x : suc k ≡ suc i = e in omega (arith, x, h)))
-  (λ w. (rest_quiet t i k h w, inl (λ e. let x : suc (suc k) ≡ suc i = e in omega (arith, x, h)))) f.0,
+  (λ w. (inl (rest_quiet t i k h w), inl (λ e. let x : suc (suc k) ≡ suc i = e in omega (arith, x, h)))) f.0,
   all_fit_stay t i (suc k) l.visible ls (omega (arith, h)) g f.1,
 )

@@ -6,3 +6,4 @@ pub mod Advancing
 pub mod Turning
 pub mod Restarting
 pub mod Building
+pub mod Readying

@@ -172,7 +172,7 @@ turns_then r b t i above s u v l m ls ms f h g =
     record {
       fit = (
         fits_below t i above m ls ms g.turned
-        (fits_stay t i above m (all_marks_of ls) g.keeps (inl (omega arith)) (λ w. (inl (omega arith), inr (adjacent-rest t i w))) h.fits),
+        (fits_stay t i above m (all_marks_of ls) g.keeps (inl (omega arith)) (λ w. (inl (inl (omega arith)), inr (adjacent-rest t i w))) h.fits),
         g.fit,
       );
       keeps = keeps_then (quiet_beside t i) (quiet_below t i) h.keeps g.keeps;

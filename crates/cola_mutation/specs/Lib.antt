@@ -1,3 +1,4 @@
 pub mod Levels
 pub mod Work
 pub mod Ends
+pub mod Standing

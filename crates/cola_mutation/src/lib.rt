@@ -3,5 +3,6 @@
 
 mod ending;
 pub mod maps;
+mod stepping;
 mod topping;
 mod working;
