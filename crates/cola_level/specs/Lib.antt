@@ -2,3 +2,4 @@ pub mod Marks
 pub mod Aims
 pub mod Standing
 pub mod Work
+pub mod Built

@@ -1,5 +1,5 @@
 -- The marks of a level, and what flips and ends of windows make of a level.
-use Rattle.std.specs.Prelude.{◌≤◌, ℕ, List, [], ◌∷◌}
+use Rattle.std.specs.Prelude.{◌≤◌, List, [], ◌∷◌}
 use Rattle.cola_clock.specs.Marks.{Marks}
 use Rattle.cola_merge.specs.Heads.{head_at, fresh}
 use Rattle.cola_level.specs.declared.level.Level.{Level}

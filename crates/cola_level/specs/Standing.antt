@@ -1,5 +1,5 @@
 -- A level on an object of cells, as the laws of levels and the account of transfers have it.
-use Rattle.std.specs.Prelude.{◌≡◌, ℕ, suc, ◌-◌, true, Bool, nat_lt, ◌||◌, List, length}
+use Rattle.std.specs.Prelude.{◌≡◌, ℕ, suc, true, Bool, nat_lt, ◌||◌, List}
 use Rattle.cola_clock.specs.Clock.{works, period, is_odd, visible_slot}
 use Rattle.cola_clock.specs.Marks.{Marks}
 use Rattle.cola_laws.specs.Chain.{Level, part_of, next_runs, first_keys}
@@ -15,7 +15,7 @@ use Rattle.cola_told.specs.Cells.{cells, IsShadowTold}
 use Rattle.cola_merge.specs.declared.aims.Aim.{Aim}
 use Rattle.cola_merge.specs.Blocks.{is_last}
 use Rattle.cola_merge.specs.Heads.{AreFeedsTold}
-use Rattle.cola_transfers.specs.Chain.{Readers, Transfers}
+use Rattle.cola_transfers.specs.Chain.{Transfers}
 
 -- the first cells of a slot, so many
 abbrev pub slot_cells : Held → ℕ → ℕ → ℕ → List LawCell

@@ -1,6 +1,5 @@
 -- What the work of a level in one mutation does: to its merge, to the object, and what it spends.
-use Rattle.std.specs.Prelude.{◌≡◌, ℕ, suc, ◌+◌, ◌*◌, ◌%◌, ◌^◌, ◌≤◌, min, nat_le, Bool, true, ⊤, List, Result, Ok, Err, IfErr}
-use Rattle.cola_clock.specs.Clock.{works}
+use Rattle.std.specs.Prelude.{◌≡◌, ℕ, suc, ◌+◌, ◌%◌, ◌^◌, ◌≤◌, min, nat_le, Bool, true, ⊤, List, Result, Ok, Err, IfErr}
 use Rattle.cola_clock.specs.Marks.{Marks, merge_steps}
 use Rattle.cola_laws.specs.Mutation.{IsAdvanced}
 use Rattle.cola_cell.specs.declared.fault.StepFault.{StepFault}
@@ -14,7 +13,7 @@ use Rattle.cola_merge.specs.declared.aims.Aim.{Aim}
 use Rattle.cola_merge.specs.declared.merging.Merger.{Merger}
 use Rattle.cola_merge.specs.Feeds.{feed_len, feed_cells, feed_keys}
 use Rattle.cola_merge.specs.Heads.{consumed, IsUsedUp}
-use Rattle.cola_merge.specs.States.{State, StepCause, StepCalm}
+use Rattle.cola_merge.specs.States.{StepCalm}
 use Rattle.cola_merge.specs.Advance.{IsGoing, GoesBy, whole_run}
 use Rattle.cola_transfers.specs.Blocks.{IsWrittenDown}
 use Rattle.cola_level.specs.Standing.{visible_cells, stood, all_stood, is_kept}

@@ -1,12 +1,12 @@
 //! A level.
 ghost use Rattle.std.specs.Prelude.{◌≡◌, ◌≤◌};
 
+use crate::building::build;
 use cola_cell::{CellSink, CellSource, StepFault};
 use cola_layout::Marks;
 use cola_merge::{Aim, Merger};
 use cola_outside::Steps;
 use std::sync::ledger::Ledger;
-
 
 /// A level: the lengths of its two runs, in cells, and the merge that builds the shadow.
 #[derive(Clone, Copy, Debug)]
@@ -75,8 +75,7 @@ impl Level {
         aim: &Aim,
         steps: &mut Steps<L>,
     ) -> Result<(), StepFault>
-        requires ready { IsReady (W.CellSource.held work.old) aim.now self.old.merger }
-        requires never { ⊥ }
+        requires { IsReady (W.CellSource.held work.old) aim.now self.old.merger }
         // it may be called again, and nothing changed but the shadow's end and what stands behind it
         ensures ready { IsReady (W.CellSource.held work.new) aim.now self.new.merger }
         ensures kept { W.CellSource.kept work.new ≡ W.CellSource.kept work.old }
@@ -121,7 +120,10 @@ impl Level {
             OnOk result (IsLevelWorked (W.CellSource.held work.old).fixed.doublings t i above (marks_of self.old) (marks_of self.new) below
             (transfers_of (W.CellSource.held work.old) (W.CellSource.spent work.old)) (transfers_of (W.CellSource.held work.new) (W.CellSource.spent work.new))) }
     {
-        Ok(())
+        let result = build(&mut self.merger, work, aim, steps);
+        // a refused call may have made the shadow longer, too
+        self.shadow = work.shadow_len(aim.level);
+        result
     }
 
     /// Leaves the window: no source cell is consumed from here on. The level's merge is done and its shadow was finished.

@@ -7,3 +7,4 @@ pub mod Turning
 pub mod Restarting
 pub mod Building
 pub mod Readying
+pub mod Following

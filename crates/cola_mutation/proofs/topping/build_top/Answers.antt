@@ -12,9 +12,6 @@ use Rattle.cola_mutation.proofs.Building.{Says, builds_ok, builds_err}
 use Rattle.cola_mutation.proofs.Turning.{err_is}
 use Rattle.cola_mutation.proofs.topping.build_top.Goals as goal
 
-pub top_aim-aim-requires-clause-never : goal.top_aim-aim-requires-clause-never
-top_aim-aim-requires-clause-never g c = ?
-
 pub advance-requires : goal.advance-requires
 advance-requires g c =
     subst (λ (m : Merger). IsReady (g.W.CellSource.held c.args.work.now) c.top_aim-aim.result m) (sym c.begin-merger.ensures)

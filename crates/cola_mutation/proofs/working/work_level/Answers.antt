@@ -19,14 +19,8 @@ back n = omega arith
 answer : (t n : ℕ) (r b : Bool) → r ≡ works t (n + 1) → r ≡ b → works t (suc n) ≡ b
 answer t n r b e f = ap (λ (x : ℕ). works t x) (sym (one_more n)) ∙ sym e ∙ f
 
-pub aim_of-aim-requires-clause-never : goal.aim_of-aim-requires-clause-never
-aim_of-aim-requires-clause-never g c = ?
-
-pub work-requires-clause-never : goal.work-requires-clause-never
-work-requires-clause-never g c = ?
-
-pub work-requires-clause-ready : goal.work-requires-clause-ready
-work-requires-clause-ready g c =
+pub work-requires : goal.work-requires
+work-requires g c =
     let w = answer c.args.clock c.args.upper c.works.result true c.works.ensures c.if-not-works.false in
     let e = c.aim_of-aim.ensures ∙ ap (λ (n : ℕ). aim_at c.args.clock n c.args.level.now.visible c.args.above (all_marks_of c.args.below.now)) (back c.args.upper) in
     subst (λ (a : Aim). IsReady (g.W.CellSource.held c.args.work.now) a c.args.level.now.merger) (sym e) (c.requires.fits.ready w)

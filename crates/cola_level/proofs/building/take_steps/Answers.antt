@@ -1,0 +1,34 @@
+-- What the steps of one mutation say.
+use Rattle.cola_merge.specs.States.{state}
+use Rattle.cola_level.proofs.Stepping.{takes_of, goes_on_of, whole_of, cause_of, calm_of, only_of, ends_of}
+use Rattle.cola_level.proofs.building.take_steps.Goals as goal
+
+pub returns-clause-kept : goal.returns-clause-kept
+returns-clause-kept g c = c.advance.ensures.kept
+
+pub returns-clause-stepped : goal.returns-clause-stepped
+returns-clause-stepped g c =
+    let e = c.advance.ensures in
+    record {
+      moves = record {
+        ready = e.ready;
+        grows = e.frames;
+        lasts = e.lasts;
+        takes = takes_of c.args.aim.now c.args.merger.now c.advance.new.self c.advance.result e.consumes;
+        rises = e.rises;
+        emits = e.emits;
+        samples = e.samples;
+        told = e.told;
+        cut = λ going. goes_on_of c.args.aim.now c.args.merger.now c.advance.new.self (g.W.CellSource.held c.args.work.now) (g.W.CellSource.held c.advance.new.work) c.advance.result (e.cut going);
+        whole = λ going. whole_of c.args.aim.now c.args.merger.now c.advance.new.self (g.W.CellSource.held c.args.work.now) (g.W.CellSource.held c.advance.new.work) c.advance.result e.consumes (e.whole going);
+        cause = cause_of c.args.aim.now (g.W.CellSource.spent c.args.work.now).faults (state (g.W.CellSource.held c.advance.new.work) (g.W.CellSource.spent c.advance.new.work) c.advance.new.self c.advance.new.steps) c.advance.result e.cause;
+        calm = calm_of (g.W.CellSource.spent c.args.work.now).faults (g.W.CellSource.spent c.advance.new.work).faults c.advance.result e.calm;
+        only = λ going fits. only_of c.advance.result (e.only going fits);
+        turned = e.turned;
+      };
+      ends = ends_of c.args.aim.now c.args.merger.now c.advance.new.self c.advance.result e.consumes;
+      spends = e.spends;
+      ticks = e.ticks;
+      saved = e.saved;
+      written = e.written;
+    }
