@@ -62,7 +62,7 @@ visible_apart t j slot e f = parity_apart (is_odd (period t j)) (visible_slot t 
 
 -- ---- what one level needs for its turn
 
-sampled_told : (b : Bool) (f : ℕ → ℕ → Spot) (v x y : ℕ) → AreTold (f v) y → AreTold (f (1 - v)) x → AreTold (f (cond b (1 - v) v)) (cond b x y)
+pub sampled_told : (b : Bool) (f : ℕ → ℕ → Spot) (v x y : ℕ) → AreTold (f v) y → AreTold (f (1 - v)) x → AreTold (f (cond b (1 - v) v)) (cond b x y)
 sampled_told true f v x y p q = q
 sampled_told false f v x y p q = p
 
@@ -99,7 +99,7 @@ can_turn {held} t i above l below f c =
 
 -- ---- what the others then need
 
-telling_stays : {Q : ℕ → Type 0} {a b : Held} → Keeps Q a b → IsTelling a → IsTelling b
+pub telling_stays : {Q : ℕ → Type 0} {a b : Held} → Keeps Q a b → IsTelling a → IsTelling b
 telling_stays {Q} {a} {b} k tells = λ l s n p. k.telling_is l s n ∙ tells l s n (subst (λ (x : Fixed). IsPlace x.levels l s n) k.fixed_is p)
 
 visible_told : {a b : Held} (t i above : ℕ) (l : Level) (below : List Marks) → Keeps (IsBeside t i) a b → Fits a t i above l below → AreTold (a.spots (suc i) (visible_slot t (suc i))) l.visible →

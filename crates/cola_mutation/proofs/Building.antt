@@ -71,7 +71,7 @@ costs_built s u t own c next n r ready thrifty spends = record {
 
 -- ---- transfers
 
-small_slot : (d : ℕ) → 4 < 8 * 2 ^ d
+pub small_slot : (d : ℕ) → 4 < 8 * 2 ^ d
 small_slot d = let p : 0 < 2 ^ d = pow_pos d in omega (arith, p)
 
 few_blocks : (d n : ℕ) → n ≤ 4 → n / (8 * 2 ^ d) < 1
@@ -123,7 +123,7 @@ built_traded s u t own c next under n grows empty few lasts turned written = rec
 
 -- ---- both answers
 
-untold_none : (held : Held) → (held.shadows 0).len ≡ 0 → IsShadowTold held 0
+pub untold_none : (held : Held) → (held.shadows 0).len ≡ 0 → IsShadowTold held 0
 untold_none held e = λ i h. absurd (let f = e in omega (arith, f, h))
 
 device_only : (fault : StepFault) → IsDeviceFault (Err fault) → IsDevice fault

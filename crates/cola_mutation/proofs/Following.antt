@@ -113,7 +113,7 @@ feeds_restarted t n i own above (next ∷ under) r x y z = record {
 
 -- ---- heads that stay, or are let go
 
-merger_choice : (a b : Bool) (l : Level) → l.merger ≡ fresh → (cond a (flipped l) (cond b (out_of_window l) l)).merger ≡ fresh
+pub merger_choice : (a b : Bool) (l : Level) → l.merger ≡ fresh → (cond a (flipped l) (cond b (out_of_window l) l)).merger ≡ fresh
 merger_choice true b l e = ap (λ (m : Merger). record { own = head_at m.own.at; incoming = head_at m.incoming.at; sample = head_at m.sample.at }) e
 merger_choice false true l e = refl
 merger_choice false false l e = e

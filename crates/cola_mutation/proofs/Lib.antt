@@ -8,3 +8,8 @@ pub mod Restarting
 pub mod Building
 pub mod Readying
 pub mod Following
+pub mod Lasting
+pub mod Meaning
+pub mod Accepting
+pub mod Succeeding
+pub mod Trading
