@@ -65,7 +65,7 @@ slots_of held t i above (x ∷ ls) f l lo hi = elim (eqb_tells l (suc i)) [
 
 -- ---- told at the next clock
 
-nothing_told : (f : ℕ → Spot) (n : ℕ) → n ≡ 0 → AreTold f n
+pub nothing_told : (f : ℕ → Spot) (n : ℕ) → n ≡ 0 → AreTold f n
 nothing_told f n e i h = absurd (let x = e in omega (arith, x, h))
 
 told_level : (spots : Spots) (t j : ℕ) (c : Bool) → flips t j ≡ c → (m : Marks) → AreTold (spots j (visible_slot t j)) m.visible → AreTold (spots j (1 - visible_slot t j)) m.shadow →

@@ -13,3 +13,4 @@ pub mod Meaning
 pub mod Accepting
 pub mod Succeeding
 pub mod Trading
+pub mod Refusing
