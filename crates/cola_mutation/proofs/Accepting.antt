@@ -107,8 +107,7 @@ pub done_all : {held : Held} (t : ℕ) (c : Cell) (s u : State) (ls ms : List Le
 done_all t c s u [] ms chain p = absurd p
 done_all t c s u (top ∷ below) [] chain p = absurd p
 done_all t c s u (top ∷ below) (built ∷ worked) chain p =
-    let a = accepted_of t c s u top built below worked p in
-    (
+    let a = accepted_of t c s u top built below worked p in (
       (λ e. absurd (true≢false (sym e ∙ ends_zero t))),
       all_done t 0 top.visible worked chain.marks.0.visible_fits (marks_worked t top below worked chain a.turns),
     )

@@ -101,11 +101,11 @@ saved_then mid new t i above l m ls ms one all keeps first rest fits marks k lo 
       | inl q ↦ subst (λ (n : ℕ). (new.held.shadows n).saved ≡ true) (sym q.1) (own (subst (λ (n : ℕ). ends t n ≡ true) q.1 e))
       | inr q ↦ rest k (let d = q.1 in omega (arith, d, lo)) (omega (arith, hi)) e
     ] where
-  own : ends t (suc i) ≡ true → (new.held.shadows (suc i)).saved ≡ true
-  own end =
-      ap (λ (x : Shadow). x.saved) (keeps.shadows_stay (suc i) (inl (omega arith)))
-      ∙ first (ends-works t (suc i) end)
-      (subst (λ (a : Aim). IsUsedUp a m.merger) (sym (aim_same t i m.visible above ls ms (ends-works t (suc i) end) all)) (ends_used_up t i above m (all_marks_of ms) end fits marks))
+      own : ends t (suc i) ≡ true → (new.held.shadows (suc i)).saved ≡ true
+      own end =
+          ap (λ (x : Shadow). x.saved) (keeps.shadows_stay (suc i) (inl (omega arith)))
+          ∙ first (ends-works t (suc i) end)
+          (subst (λ (a : Aim). IsUsedUp a m.merger) (sym (aim_same t i m.visible above ls ms (ends-works t (suc i) end) all)) (ends_used_up t i above m (all_marks_of ms) end fits marks))
 
 -- ---- transfers
 
@@ -117,5 +117,5 @@ worked_then s u v t i above l m ls ms x one turn rest = (
   transfers u,
   turn,
   subst (λ (n : ℕ). AreLevelsWorked s.held.fixed.doublings t (suc i) n (all_marks_of ls) (all_marks_of ms) (transfers u) (transfers v)) one.visible
-  (subst (λ (y : Fixed). AreLevelsWorked y.doublings t (suc i) m.visible (all_marks_of ls) (all_marks_of ms) (transfers u) (transfers v)) x rest),
+      (subst (λ (y : Fixed). AreLevelsWorked y.doublings t (suc i) m.visible (all_marks_of ls) (all_marks_of ms) (transfers u) (transfers v)) x rest),
 )

@@ -41,8 +41,7 @@ stood_stays {Q} {a} {b} t j m k q =
 pub alike_behind : {a b : Held} (t i k : ℕ) (marks : List Marks) → i < k → Keeps (IsBeside t i) a b → AreRunsAlike a.spots b.spots t (suc k) marks
 alike_behind t i k [] h keeps = tt
 alike_behind t i k (m ∷ marks) h keeps =
-    let d : suc k ≢ suc i = λ e. let f : suc k ≡ suc i = e in omega (arith, f, h) in
-    (
+    let d : suc k ≢ suc i = λ e. let f : suc k ≡ suc i = e in omega (arith, f, h) in (
       λ index l. keeps.spots_stay (suc k) (visible_slot t (suc k)) index (inl (inl d)),
       λ index l. keeps.spots_stay (suc k) (1 - visible_slot t (suc k)) index (inl (inl d)),
       alike_behind t i (suc k) marks (omega (arith, h)) keeps,
@@ -113,14 +112,14 @@ visible_stays {a} {b} t i above l below keeps f = cells_stay (suc i) (visible_sl
 pub rest_can : {a b : Held} (t i above : ℕ) (l m : Level) (below : List Marks) → Keeps (IsBeside t i) a b → Fits a t i above l below → m.visible ≡ l.visible →
     CanAllTurn a t i above (marks_of l ∷ below) → CanAllTurn b t (suc i) m.visible below
 rest_can {a} {b} t i above l m below keeps f e c = subst (λ (n : ℕ). CanAllTurn b t (suc i) n below) (sym e) (record {
-      tells = telling_stays keeps c.tells;
-      above_told = visible_told t i above l below keeps f c.told.0;
-      told = runs-told a.spots b.spots t (suc (suc i)) below (alike_behind t i (suc i) below (omega arith) keeps) c.told.2;
-      paced = subst (λ (ls : List (LawLevel (List ℕ) Stamped)). ArePaced key_cmp 0 t (suc (suc i)) (visible_cells b t (suc i) l.visible) ls) (sym (behind_stays t i below keeps))
-          (subst (λ (cs : List LawCell). ArePaced key_cmp 0 t (suc (suc i)) cs (all_stood a t (suc (suc i)) below)) (sym (visible_stays t i above l below keeps f)) c.paced.1);
-      workable = subst (λ (ls : List (LawLevel (List ℕ) Stamped)). AreWorkable key_cmp t (suc (suc i)) (visible_cells b t (suc i) l.visible) ls) (sym (behind_stays t i below keeps))
-          (subst (λ (cs : List LawCell). AreWorkable key_cmp t (suc (suc i)) cs (all_stood a t (suc (suc i)) below)) (sym (visible_stays t i above l below keeps f)) c.workable.1);
-    })
+  tells = telling_stays keeps c.tells;
+  above_told = visible_told t i above l below keeps f c.told.0;
+  told = runs-told a.spots b.spots t (suc (suc i)) below (alike_behind t i (suc i) below (omega arith) keeps) c.told.2;
+  paced = subst (λ (ls : List (LawLevel (List ℕ) Stamped)). ArePaced key_cmp 0 t (suc (suc i)) (visible_cells b t (suc i) l.visible) ls) (sym (behind_stays t i below keeps))
+      (subst (λ (cs : List LawCell). ArePaced key_cmp 0 t (suc (suc i)) cs (all_stood a t (suc (suc i)) below)) (sym (visible_stays t i above l below keeps f)) c.paced.1);
+  workable = subst (λ (ls : List (LawLevel (List ℕ) Stamped)). AreWorkable key_cmp t (suc (suc i)) (visible_cells b t (suc i) l.visible) ls) (sym (behind_stays t i below keeps))
+      (subst (λ (cs : List LawCell). AreWorkable key_cmp t (suc (suc i)) cs (all_stood a t (suc (suc i)) below)) (sym (visible_stays t i above l below keeps f)) c.workable.1);
+})
 
 -- ---- all turns
 
@@ -129,8 +128,7 @@ pub told_runs : {s u v : Held} (t i above : ℕ) (l m : Level) (below : List Mar
     m.visible ≡ l.visible → AreTold (s.spots (suc i) (visible_slot t (suc i))) l.visible → IsShadowTold u (suc i) →
     AreTold (v.spots (suc i) (visible_slot t (suc i))) m.visible × AreTold (v.spots (suc i) (1 - visible_slot t (suc i))) m.shadow
 told_runs {s} {u} {v} t i above l m below k q f g e told shadow =
-    let quiet : IsQuiet t (suc i) (suc i) = inl (omega arith) in
-    (
+    let quiet : IsQuiet t (suc i) (suc i) = inl (omega arith) in (
       λ n h. subst (λ (x : Spot). IsTold x) (sym (q.spots_stay (suc i) (visible_slot t (suc i)) n (inl quiet)))
           (visible_told t i above l below k f told n (subst (λ (x : ℕ). n < x) e h)),
       λ n h. subst (λ (x : Spot). IsTold x) (sym (q.spots_stay (suc i) (1 - visible_slot t (suc i)) n (inl quiet)))
@@ -150,10 +148,10 @@ advance_then r b s u v t i above l m ls ms k q one f g first rest c =
     record {
       advanced = (
         fewer-advanced key_cmp merge_steps (taken r) t (suc i) (visible_cells s t i above) (stood s t (suc i) (marks_of l)) (stood v t (suc i) (marks_of m)) (all_stood s t (suc (suc i)) (all_marks_of ls)) (taken_few r)
-        (subst (λ (x : LawLevel (List ℕ) Stamped). IsAdvanced key_cmp merge_steps t (suc i) (visible_cells s t i above) (stood s t (suc i) (marks_of l)) (all_stood s t (suc (suc i)) (all_marks_of ls)) x) (sym (stood_stays t (suc i) (marks_of m) q quiet)) own.advanced),
+            (subst (λ (x : LawLevel (List ℕ) Stamped). IsAdvanced key_cmp merge_steps t (suc i) (visible_cells s t i above) (stood s t (suc i) (marks_of l)) (all_stood s t (suc (suc i)) (all_marks_of ls)) x) (sym (stood_stays t (suc i) (marks_of m) q quiet)) own.advanced),
         subst (λ (xs : List (LawLevel (List ℕ) Stamped)). AreAdvanced key_cmp (taken r) t (suc (suc i)) (visible_cells s t (suc i) l.visible) xs (all_stood v t (suc (suc i)) (all_marks_of ms))) (behind_stays t i (all_marks_of ls) k)
-        (subst (λ (cs : List LawCell). AreAdvanced key_cmp (taken r) t (suc (suc i)) cs (all_stood u t (suc (suc i)) (all_marks_of ls)) (all_stood v t (suc (suc i)) (all_marks_of ms))) (visible_stays t i above l (all_marks_of ls) k f)
-        (subst (λ (n : ℕ). AreAdvanced key_cmp (taken r) t (suc (suc i)) (visible_cells u t (suc i) n) (all_stood u t (suc (suc i)) (all_marks_of ls)) (all_stood v t (suc (suc i)) (all_marks_of ms))) one.visible all.advanced)),
+            (subst (λ (cs : List LawCell). AreAdvanced key_cmp (taken r) t (suc (suc i)) cs (all_stood u t (suc (suc i)) (all_marks_of ls)) (all_stood v t (suc (suc i)) (all_marks_of ms))) (visible_stays t i above l (all_marks_of ls) k f)
+            (subst (λ (n : ℕ). AreAdvanced key_cmp (taken r) t (suc (suc i)) (visible_cells u t (suc i) n) (all_stood u t (suc (suc i)) (all_marks_of ls)) (all_stood v t (suc (suc i)) (all_marks_of ms))) one.visible all.advanced)),
       );
       told = (runs.0, runs.1, all.told);
       only = all.only;
@@ -170,7 +168,7 @@ advance_refused fault s u t i above l m ls k one f g q first c =
       advanced = (
         own.advanced,
         subst (λ (xs : List (LawLevel (List ℕ) Stamped)). AreAdvanced key_cmp 0 t (suc (suc i)) (visible_cells s t (suc i) l.visible) (all_stood s t (suc (suc i)) (all_marks_of ls)) xs) (sym (behind_stays t i (all_marks_of ls) k))
-        (none-advanced key_cmp 0 t (suc (suc i)) (visible_cells s t (suc i) l.visible) (all_stood s t (suc (suc i)) (all_marks_of ls)) c.paced.1),
+            (none-advanced key_cmp 0 t (suc (suc i)) (visible_cells s t (suc i) l.visible) (all_stood s t (suc (suc i)) (all_marks_of ls)) c.paced.1),
       );
       told = (runs.0, runs.1, runs-told s.spots u.spots t (suc (suc i)) (all_marks_of ls) (alike_behind t i (suc i) (all_marks_of ls) (omega arith) k) c.told.2);
       only = own.only;

@@ -191,9 +191,9 @@ module _ (a b : Held) (t n i above above_next : ℕ) (l : Level) (ls : List Leve
   rests_next : (c : Bool) → works t (suc i) ≡ c → Fits a t i above l (all_marks_of ls) → works (suc t) (suc i) ≡ false → (ended t (suc i) l).merger ≡ fresh
   rests_next true w fits v = ap (λ (x : Level). x.merger) (ended_leaves t (suc i) l (window-keeps_self t i w) (over_now (ends t (suc i)) refl))
     where
-    over_now : (e : Bool) → ends t (suc i) ≡ e → ends t (suc i) ≡ true
-    over_now true e = e
-    over_now false e = absurd (true≢false (sym (window-next t i w e) ∙ v))
+      over_now : (e : Bool) → ends t (suc i) ≡ e → ends t (suc i) ≡ true
+      over_now true e = e
+      over_now false e = absurd (true≢false (sym (window-next t i w e) ∙ v))
   rests_next false w fits v = merger_next fits w
 
   fits_next : Restarted t 0 n a b → suc i < n → (flips t i ≡ false → above_next ≡ above) → above_next ≤ slot_size i → (ended t (suc i) l).visible ≤ slot_size (suc i) →
@@ -216,8 +216,8 @@ pub all_fit_next : {a b : Held} (t n i above above_next : ℕ) (ls : List Level)
 all_fit_next t n i above above_next [] r h levels same fits marks f = tt
 all_fit_next {a} {b} t n i above above_next (l ∷ ls) r h levels same fits marks f = (
   fits_next a b t n i above above_next l ls r (omega (arith, h)) same fits marks.0.visible_fits
-  (first_fits 0 (suc t) (suc i) (ended t (suc i) l).visible b.fixed.levels (all_marks_of (all_ended t (suc (suc i)) ls))
-  (let e = length_marks (all_ended t (suc (suc i)) ls) in let o = length_ended t (suc (suc i)) ls in omega (arith, e, o, levels)) marks.1) f.0,
+      (first_fits 0 (suc t) (suc i) (ended t (suc i) l).visible b.fixed.levels (all_marks_of (all_ended t (suc (suc i)) ls))
+      (let e = length_marks (all_ended t (suc (suc i)) ls) in let o = length_ended t (suc (suc i)) ls in omega (arith, e, o, levels)) marks.1) f.0,
   all_fit_next t n (suc i) l.visible (ended t (suc i) l).visible ls r (omega (arith, h)) (omega (arith, levels)) (visible_ended t (suc i) l) marks.0.visible_fits marks.1 f.1,
 )
 

@@ -162,6 +162,6 @@ pub all_fit_stay : {a b : Held} (t i k above : ℕ) (ls : List Level) → i < k 
 all_fit_stay t i k above [] h g f = tt
 all_fit_stay {a} {b} t i k above (l ∷ ls) h g f = (
   fits_stay t k above l (all_marks_of ls) g (inl (λ e. let x : suc k ≡ suc i = e in omega (arith, x, h)))
-  (λ w. (inl (rest_quiet t i k h w), inl (λ e. let x : suc (suc k) ≡ suc i = e in omega (arith, x, h)))) f.0,
+      (λ w. (inl (rest_quiet t i k h w), inl (λ e. let x : suc (suc k) ≡ suc i = e in omega (arith, x, h)))) f.0,
   all_fit_stay t i (suc k) l.visible ls (omega (arith, h)) g f.1,
 )

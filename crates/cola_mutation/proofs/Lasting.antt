@@ -72,25 +72,24 @@ told_level : (spots : Spots) (t j : ℕ) (c : Bool) → flips t j ≡ c → (m :
     AreTold (spots j (visible_slot (suc t) j)) (marks_after t j m).visible × AreTold (spots j (1 - visible_slot (suc t) j)) (marks_after t j m).shadow
 told_level spots t j true f m v w =
     let turned : marks_after t j m ≡ record { visible = m.shadow; shadow = 0; own = m.own; incoming = m.incoming; sampled = m.sampled } =
-    ap (λ (b : Bool). cond b (record { visible = m.shadow; shadow = 0; own = m.own; incoming = m.incoming; sampled = m.sampled }) (cond (ends t j) (record { visible = m.visible; shadow = m.shadow; own = 0; incoming = 0; sampled = 0 }) m)) f in
-    (
+    ap (λ (b : Bool). cond b (record { visible = m.shadow; shadow = 0; own = m.own; incoming = m.incoming; sampled = m.sampled }) (cond (ends t j) (record { visible = m.visible; shadow = m.shadow; own = 0; incoming = 0; sampled = 0 }) m)) f in (
       subst (λ (x : Marks). AreTold (spots j (visible_slot (suc t) j)) x.visible) (sym turned) (subst (λ (s : ℕ). AreTold (spots j s) m.shadow) (sym (slot-turns t j f)) w),
       nothing_told (spots j (1 - visible_slot (suc t) j)) (marks_after t j m).shadow (ap (λ (x : Marks). x.shadow) turned),
     )
 told_level spots t j false f m v w =
     let stays : marks_after t j m ≡ cond (ends t j) (record { visible = m.visible; shadow = m.shadow; own = 0; incoming = 0; sampled = 0 }) m =
-    ap (λ (b : Bool). cond b (record { visible = m.shadow; shadow = 0; own = m.own; incoming = m.incoming; sampled = m.sampled }) (cond (ends t j) (record { visible = m.visible; shadow = m.shadow; own = 0; incoming = 0; sampled = 0 }) m)) f in
-    (
+    ap (λ (b : Bool). cond b (record { visible = m.shadow; shadow = 0; own = m.own; incoming = m.incoming; sampled = m.sampled }) (cond (ends t j) (record { visible = m.visible; shadow = m.shadow; own = 0; incoming = 0; sampled = 0 }) m)) f in (
       subst (λ (n : ℕ). AreTold (spots j (visible_slot (suc t) j)) n) (sym (ap (λ (x : Marks). x.visible) stays ∙ same_visible (ends t j))) (subst (λ (s : ℕ). AreTold (spots j s) m.visible) (sym (slot-stays t j f)) v),
       subst (λ (n : ℕ). AreTold (spots j (1 - visible_slot (suc t) j)) n) (sym (ap (λ (x : Marks). x.shadow) stays ∙ same_shadow (ends t j))) (subst (λ (s : ℕ). AreTold (spots j (1 - s)) m.shadow) (sym (slot-stays t j f)) w),
     )
   where
-  same_visible : (b : Bool) → (cond b (record { visible = m.visible; shadow = m.shadow; own = 0; incoming = 0; sampled = 0 }) m).visible ≡ m.visible
-  same_visible true = refl
-  same_visible false = refl
-  same_shadow : (b : Bool) → (cond b (record { visible = m.visible; shadow = m.shadow; own = 0; incoming = 0; sampled = 0 }) m).shadow ≡ m.shadow
-  same_shadow true = refl
-  same_shadow false = refl
+    same_visible : (b : Bool) → (cond b (record { visible = m.visible; shadow = m.shadow; own = 0; incoming = 0; sampled = 0 }) m).visible ≡ m.visible
+    same_visible true = refl
+    same_visible false = refl
+
+    same_shadow : (b : Bool) → (cond b (record { visible = m.visible; shadow = m.shadow; own = 0; incoming = 0; sampled = 0 }) m).shadow ≡ m.shadow
+    same_shadow true = refl
+    same_shadow false = refl
 
 pub told_next : (spots : Spots) (t j : ℕ) (ms : List Marks) → AreRunsTold spots t j ms → AreRunsTold spots (suc t) j (all_marks_after t j ms)
 told_next spots t j [] h = tt

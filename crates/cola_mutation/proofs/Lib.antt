@@ -14,3 +14,4 @@ pub mod Accepting
 pub mod Succeeding
 pub mod Trading
 pub mod Refusing
+pub mod Results

@@ -74,15 +74,15 @@ refused_by t c s mid u top built below worked fault (Ok tt) turns builds =
 refused_by t c s mid u top built below worked fault (Err f) turns builds =
     let e : f ≡ fault = same_fault fault f builds.2 in
     subst (λ (w : State). Refused t c s w top below worked fault) (sym builds.0) (record {
-          mid = mid;
-          first = Err f;
-          turns = turns;
-          grows = grows_none mid.held 0;
-          refused = subst (λ (x : StepFault). IsRefused mid s.spent.faults x) e turns.refused;
-          calm = subst (λ (x : StepFault). StepCalm s.spent.faults mid.spent.faults x) e turns.calm;
-          costs = spends_more (omega arith) (omega arith) turns.costs;
-          only = λ device _ _. subst (λ (x : StepFault). IsDevice x) e device;
-        })
+      mid = mid;
+      first = Err f;
+      turns = turns;
+      grows = grows_none mid.held 0;
+      refused = subst (λ (x : StepFault). IsRefused mid s.spent.faults x) e turns.refused;
+      calm = subst (λ (x : StepFault). StepCalm s.spent.faults mid.spent.faults x) e turns.calm;
+      costs = spends_more (omega arith) (omega arith) turns.costs;
+      only = λ device _ _. subst (λ (x : StepFault). IsDevice x) e device;
+    })
 
 pub refused_of : (t : ℕ) (c : Cell) (s u : State) (top built : Level) (below worked : List Level) (fault : StepFault) → Prepares {A = Unit {0}} t c s u top built below worked (Err fault) → Refused t c s u top below worked fault
 refused_of t c s u top built below worked fault p = refused_by t c s p.mid u top built below worked fault p.first p.turns p.builds
@@ -185,11 +185,11 @@ module _ (s u : State) (v : Held) (t : ℕ) (c : Cell) (top : Level) (below work
         let alike : all_stood v t 1 (all_marks_of worked) ≡ all_stood a.mid.held t 1 (all_marks_of worked) = levels-alike a.mid.held.spots v.spots t 1 (all_marks_of worked) (below_alike chain a r) in
         refusal key_cmp most t m (stood s.held t 0 (marks_of top)) (stood v t 0 (marks_of top)) (all_stood s.held t 1 (all_marks_of below)) (all_stood v t 1 (all_marks_of worked)) stand.sound visible
         (record {
-              empty = ap (λ (n : ℕ). slot_cells v 0 (1 - visible_slot t 0) n) idle.empty;
-              own_rests = idle.at_rest.own_rests;
-              incoming_rests = idle.at_rest.incoming_rests;
-              sampled_rests = idle.at_rest.sampled_rests;
-            })
+          empty = ap (λ (n : ℕ). slot_cells v 0 (1 - visible_slot t 0) n) idle.empty;
+          own_rests = idle.at_rest.own_rests;
+          incoming_rests = idle.at_rest.incoming_rests;
+          sampled_rests = idle.at_rest.sampled_rests;
+        })
         (subst (λ (ls : List (LawLevel (List ℕ) Stamped)). AreAdvanced key_cmp 0 t 1 (visible_cells s.held t 0 top.visible) (all_stood s.held t 1 (all_marks_of below)) ls) (sym alike)
         (all-fewer key_cmp (taken a.first) 0 t 1 (visible_cells s.held t 0 top.visible) (all_stood s.held t 1 (all_marks_of below)) (all_stood a.mid.held t 1 (all_marks_of worked)) (omega arith) adv.advanced))
 

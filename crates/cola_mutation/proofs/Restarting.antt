@@ -112,9 +112,9 @@ beside_first t j l g d = g.others_stay l (sides t j l (less_or j l d))
 kept_same : {a b : Held} (l : ℕ) → b.fixed ≡ a.fixed → b.shadows l ≡ a.shadows l → IsKept a l → IsKept b l
 kept_same {a} {b} l x e h = record { is = both h.is }
   where
-  both : (IsTrue (a.shadows l).saved) ⊎ (slot_size l < 8 * 2 ^ a.fixed.doublings) → (IsTrue (b.shadows l).saved) ⊎ (slot_size l < 8 * 2 ^ b.fixed.doublings)
-  both (inl k) = inl (subst (λ (s : Shadow). IsTrue s.saved) (sym e) k)
-  both (inr k) = inr (subst (λ (y : Fixed). slot_size l < 8 * 2 ^ y.doublings) (sym x) k)
+    both : (IsTrue (a.shadows l).saved) ⊎ (slot_size l < 8 * 2 ^ a.fixed.doublings) → (IsTrue (b.shadows l).saved) ⊎ (slot_size l < 8 * 2 ^ b.fixed.doublings)
+    both (inl k) = inl (subst (λ (s : Shadow). IsTrue s.saved) (sym e) k)
+    both (inr k) = inr (subst (λ (y : Fixed). slot_size l < 8 * 2 ^ y.doublings) (sym x) k)
 
 later_spots : {a b : Held} (t j n l s : ℕ) → Restarted t j 1 a b → IsStaying t j (suc n) l ⊎ ((s ≢ (a.shadows l).slot) ⊎ IsKept a l) → IsStaying t (suc j) n l ⊎ ((s ≢ (b.shadows l).slot) ⊎ IsKept b l)
 later_spots t j n l s g (inl h) = inl (staying_rest t j n l h)

@@ -116,14 +116,14 @@ turn_works r t i above s u l m below w f h =
       refused = refused_turn r u s.spent.faults aim m h.ready h.cause;
       calm = h.calm;
       costs = subst (λ (n : ℕ). Costs s u (59 * n) n) (sym (one_busy t i w)) (record {
-            steps_stay = h.spends.steps_stay;
-            steps_rise = let e = h.spends.steps_rise in omega (arith, e);
-            ticked_is = h.spends.ticked_is;
-            turned_stays = h.spends.turned_stays;
-            written_stays = h.spends.written_stays;
-            transfers = h.spends.transfers;
-            faults_stay = h.spends.faults_stay;
-          });
+        steps_stay = h.spends.steps_stay;
+        steps_rise = let e = h.spends.steps_rise in omega (arith, e);
+        ticked_is = h.spends.ticked_is;
+        turned_stays = h.spends.turned_stays;
+        written_stays = h.spends.written_stays;
+        transfers = h.spends.transfers;
+        faults_stay = h.spends.faults_stay;
+      });
     }
 
 -- ---- all turns
@@ -172,7 +172,7 @@ turns_then r b t i above s u v l m ls ms f h g =
     record {
       fit = (
         fits_below t i above m ls ms g.turned
-        (fits_stay t i above m (all_marks_of ls) g.keeps (inl (omega arith)) (λ w. (inl (inl (omega arith)), inr (adjacent-rest t i w))) h.fits),
+            (fits_stay t i above m (all_marks_of ls) g.keeps (inl (omega arith)) (λ w. (inl (inl (omega arith)), inr (adjacent-rest t i w))) h.fits),
         g.fit,
       );
       keeps = keeps_then (quiet_beside t i) (quiet_below t i) h.keeps g.keeps;

@@ -2,3 +2,4 @@ pub mod Levels
 pub mod Work
 pub mod Ends
 pub mod Standing
+pub mod Steps

@@ -6,3 +6,5 @@ pub mod maps;
 mod stepping;
 mod topping;
 mod working;
+
+pub use stepping::step;

@@ -29,7 +29,7 @@ end_levels-requires g t c κs within = (
         (
           c.requires.clock_in,
           subst (λ (n : ℕ). AreDone c.args.clock n c.in-Some.below.now) (sym (one_more c.args.number))
-          (subst (λ (ls : List Level). AreDone c.args.clock c.args.number ls) c.in-Some.ensures.cases.0 c.requires.done).1,
+              (subst (λ (ls : List Level). AreDone c.args.clock c.args.number ls) c.in-Some.ensures.cases.0 c.requires.done).1,
         ),
       ),
     ),

@@ -28,20 +28,20 @@ returns-in_err-advance-clause-builds g c =
     (builds_err fault t c.args.cell s u c.args.top.now next c.advance.new.self c.requires.empty
     (subst (λ (m : Merger). Says s u (top_at t c.args.top.now.visible c.args.cell (next ∷ [])) m c.advance.new.self 7 (Err fault)) c.begin-merger.ensures
     (subst (λ (a : Aim). Says s u a c.begin-merger.result c.advance.new.self 7 (Err fault)) (c.top_aim-aim.ensures []) (record {
-          ready = c.in_err-advance.ensures.ready;
-          frames = c.in_err-advance.ensures.frames;
-          lasts = c.in_err-advance.ensures.lasts;
-          consumes = c.in_err-advance.ensures.consumes;
-          told = c.in_err-advance.ensures.told;
-          whole = c.in_err-advance.ensures.whole;
-          cause = c.in_err-advance.ensures.cause;
-          calm = c.in_err-advance.ensures.calm;
-          only = c.in_err-advance.ensures.only;
-          begins = c.in_err-advance.ensures.begins c.begin-merger.ensures;
-          spends = c.in_err-advance.ensures.spends;
-          turned = c.in_err-advance.ensures.turned;
-          written = c.in_err-advance.ensures.written;
-        }))))
+      ready = c.in_err-advance.ensures.ready;
+      frames = c.in_err-advance.ensures.frames;
+      lasts = c.in_err-advance.ensures.lasts;
+      consumes = c.in_err-advance.ensures.consumes;
+      told = c.in_err-advance.ensures.told;
+      whole = c.in_err-advance.ensures.whole;
+      cause = c.in_err-advance.ensures.cause;
+      calm = c.in_err-advance.ensures.calm;
+      only = c.in_err-advance.ensures.only;
+      begins = c.in_err-advance.ensures.begins c.begin-merger.ensures;
+      spends = c.in_err-advance.ensures.spends;
+      turned = c.in_err-advance.ensures.turned;
+      written = c.in_err-advance.ensures.written;
+    }))))
 
 pub returns-clause-builds : goal.returns-clause-builds
 returns-clause-builds g c =
@@ -52,18 +52,18 @@ returns-clause-builds g c =
     builds_ok _ c.in_ok-advance.field-0 t c.args.cell s u c.args.top.now (record { visible = c.args.top.now.visible; shadow = c.shadow_len-top.result; merger = c.args.top.now.merger }) next c.advance.new.self c.requires.empty
     (subst (λ (m : Merger). Says s u (top_at t c.args.top.now.visible c.args.cell (next ∷ [])) m c.advance.new.self 7 (Ok c.in_ok-advance.field-0)) c.begin-merger.ensures
     (subst (λ (a : Aim). Says s u a c.begin-merger.result c.advance.new.self 7 (Ok c.in_ok-advance.field-0)) (c.top_aim-aim.ensures []) (record {
-          ready = c.in_ok-advance.ensures.ready;
-          frames = c.in_ok-advance.ensures.frames;
-          lasts = c.in_ok-advance.ensures.lasts;
-          consumes = c.in_ok-advance.ensures.consumes;
-          told = c.in_ok-advance.ensures.told;
-          whole = c.in_ok-advance.ensures.whole;
-          cause = c.in_ok-advance.ensures.cause;
-          calm = c.in_ok-advance.ensures.calm;
-          only = c.in_ok-advance.ensures.only;
-          begins = c.in_ok-advance.ensures.begins c.begin-merger.ensures;
-          spends = c.in_ok-advance.ensures.spends;
-          turned = c.in_ok-advance.ensures.turned;
-          written = c.in_ok-advance.ensures.written;
-        })))
+      ready = c.in_ok-advance.ensures.ready;
+      frames = c.in_ok-advance.ensures.frames;
+      lasts = c.in_ok-advance.ensures.lasts;
+      consumes = c.in_ok-advance.ensures.consumes;
+      told = c.in_ok-advance.ensures.told;
+      whole = c.in_ok-advance.ensures.whole;
+      cause = c.in_ok-advance.ensures.cause;
+      calm = c.in_ok-advance.ensures.calm;
+      only = c.in_ok-advance.ensures.only;
+      begins = c.in_ok-advance.ensures.begins c.begin-merger.ensures;
+      spends = c.in_ok-advance.ensures.spends;
+      turned = c.in_ok-advance.ensures.turned;
+      written = c.in_ok-advance.ensures.written;
+    })))
     (ap (λ (n : ℕ). record { visible = c.args.top.now.visible; shadow = n; merger = c.args.top.now.merger }) c.shadow_len-top.ensures.value)

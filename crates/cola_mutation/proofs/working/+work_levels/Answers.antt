@@ -33,8 +33,7 @@ pub work_levels-requires : goal.work_levels-requires
 work_levels-requires g t c κs within =
     let s = state_of (g.W.CellSource.held c.args.work.now) (g.W.CellSource.spent c.args.work.now) c.args.steps.now in
     let u = state_of (g.W.CellSource.held c.work_level.new.work) (g.W.CellSource.spent c.work_level.new.work) c.work_level.new.steps in
-    let fit = subst (λ (ls : List Level). AreFit (g.W.CellSource.held c.args.work.now) c.args.clock c.args.upper c.args.above ls) c.in-Some.ensures.cases.0 c.requires.fit in
-    (
+    let fit = subst (λ (ls : List Level). AreFit (g.W.CellSource.held c.args.work.now) c.args.clock c.args.upper c.args.above ls) c.in-Some.ensures.cases.0 c.requires.fit in (
       omega (arith, c.in-Some.ensures.cases.1, c.decreases),
       (
         within.0,
@@ -42,7 +41,7 @@ work_levels-requires g t c κs within =
           within.1,
           (
             subst (λ (n : ℕ). AreFit (g.W.CellSource.held c.work_level.new.work) c.args.clock n c.work_level.new.level.visible c.in-Some.below.now) (sym (one_more c.args.upper))
-            (rest_fit c.work_level.result c.args.clock c.args.upper c.args.above s u c.in-Some.level.now c.work_level.new.level c.in-Some.below.now fit c.work_level.ensures.turn),
+                (rest_fit c.work_level.result c.args.clock c.args.upper c.args.above s u c.in-Some.level.now c.work_level.new.level c.in-Some.below.now fit c.work_level.ensures.turn),
             (c.requires.clock_in, omega (arith, c.in-Some.ensures.cases.1, c.requires.levels_in)),
           ),
         ),

@@ -37,16 +37,16 @@ returns-clause-turn g c =
     let e : c.aim_of-aim.result ≡ aim_at t i c.args.level.now.visible above below = c.aim_of-aim.ensures ∙ ap (λ (n : ℕ). aim_at t n c.args.level.now.visible above below) (back i) in
     turn_works c.work.result t i above s u c.args.level.now c.work.new.self below w c.requires.fits
     (subst (λ (a : Aim). Says t i above s u c.args.level.now c.work.new.self below a c.work.result) e (record {
-          ready = c.work.ensures.ready;
-          frames = c.work.ensures.frames;
-          visible = c.work.ensures.visible;
-          length_is = c.work.ensures.length;
-          rises = c.work.ensures.takes.rises;
-          saved = c.work.ensures.saved;
-          cause = c.work.ensures.cause;
-          calm = c.work.ensures.calm;
-          spends = c.work.ensures.spends;
-          marked = c.work.ensures.marked t i above below e;
-          advances = c.work.ensures.advances t i above below e;
-          worked = c.work.ensures.worked t i above below e;
-        }))
+      ready = c.work.ensures.ready;
+      frames = c.work.ensures.frames;
+      visible = c.work.ensures.visible;
+      length_is = c.work.ensures.length;
+      rises = c.work.ensures.takes.rises;
+      saved = c.work.ensures.saved;
+      cause = c.work.ensures.cause;
+      calm = c.work.ensures.calm;
+      spends = c.work.ensures.spends;
+      marked = c.work.ensures.marked t i above below e;
+      advances = c.work.ensures.advances t i above below e;
+      worked = c.work.ensures.worked t i above below e;
+    }))
