@@ -15,3 +15,5 @@ pub mod Succeeding
 pub mod Trading
 pub mod Refusing
 pub mod Results
+pub mod Beginning
+pub mod Causes

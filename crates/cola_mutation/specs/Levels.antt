@@ -5,7 +5,7 @@ use Rattle.cola_clock.specs.Marks.{Marks, AreChainMarks}
 use Rattle.cola_cell.specs.Held.{Held}
 use Rattle.cola_merge.specs.Heads.{fresh, IsReady}
 use Rattle.cola_level.specs.declared.level.Level.{Level}
-use Rattle.cola_level.specs.Marks.{all_marks_of}
+use Rattle.cola_level.specs.Marks.{all_marks_of, level_with}
 use Rattle.cola_level.specs.Aims.{aim_at}
 
 -- level i + 1, under a visible run of `above` cells and over levels with the marks `below`, stands on the object at clock t:
@@ -42,3 +42,13 @@ pub record IsChain (held : Held) (t : ℕ) (levels : List Level) : Type 0 where
   pub clock_in : t < 2 ^ length levels
   pub fit : AreAllFit held t levels
   pub marks : AreChainMarks t (all_marks_of levels)
+
+-- levels with these marks, none of whose heads was read
+abbrev pub levels_with : List Marks → List Level
+levels_with [] = []
+levels_with (m ∷ ms) = level_with m ∷ levels_with ms
+
+-- the object's shadows from level j on are as long as these marks say, and stand in the slots that are not visible
+abbrev pub ArePlaced : Held → ℕ → ℕ → List Marks → Type 0
+ArePlaced held t j [] = ⊤
+ArePlaced held t j (m ∷ ms) = ((held.shadows j).len ≡ m.shadow) × ((held.shadows j).slot ≡ 1 - visible_slot t j) × ArePlaced held t (suc j) ms

@@ -2,6 +2,7 @@
 #![tactic(auto)]
 
 mod ending;
+pub mod laws;
 pub mod maps;
 mod stepping;
 mod topping;
