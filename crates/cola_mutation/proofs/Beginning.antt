@@ -53,13 +53,13 @@ all_fit_new : (held : Held) (t i above : ℕ) (ms : List Marks) → AreAllMarks 
 all_fit_new held t i above [] marks placed fits levels = tt
 all_fit_new held t i above (m ∷ ms) marks placed fits levels = (
   subst (λ (below : List Marks). Fits held t i above (level_with m) below) (sym (marks_back ms)) (record {
-        level_in = omega (arith, levels);
-        shadow_is = sym placed.0;
-        slot_is = placed.1;
-        ready = λ w. ready_with t i above m ms _ (marks.0.inside (omega arith) w)
-            (ready_fresh t i m.visible above ms (omega (arith, levels)) placed.1 marks.0.visible_fits fits (first_fits 0 t (suc i) m.visible held.fixed.levels ms (omega (arith, levels)) marks.1));
-        rests = λ w. fresh_with m (at_rest t i above m ms (is_over t (suc i)) refl w marks.0);
-      }),
+    level_in = omega (arith, levels);
+    shadow_is = sym placed.0;
+    slot_is = placed.1;
+    ready = λ w. ready_with t i above m ms _ (marks.0.inside (omega arith) w)
+        (ready_fresh t i m.visible above ms (omega (arith, levels)) placed.1 marks.0.visible_fits fits (first_fits 0 t (suc i) m.visible held.fixed.levels ms (omega (arith, levels)) marks.1));
+    rests = λ w. fresh_with m (at_rest t i above m ms (is_over t (suc i)) refl w marks.0);
+  }),
   all_fit_new held t (suc i) m.visible ms marks.1 placed.2 marks.0.visible_fits (omega (arith, levels)),
 )
 

@@ -36,7 +36,7 @@ use Rattle.cola_mutation.proofs.Keeping.{keeps_then}
 use Rattle.cola_mutation.proofs.AddingUp.{spends_then, spends_more, refused_later, calm_then}
 use Rattle.cola_mutation.proofs.Advancing.{cells_stay, visible_apart, telling_stays}
 use Rattle.cola_mutation.proofs.Readying.{top_quiet, length_levels}
-use Rattle.cola_mutation.proofs.Lasting.{alike_kept, nothing_told}
+use Rattle.cola_mutation.proofs.Lasting.{alike_kept, nothing_told, slots_of}
 use Rattle.cola_mutation.proofs.Meaning.{can_all_turn, sound_after, new_cell, can_build}
 use Rattle.cola_mutation.proofs.Accepting.{IsBelow, keeps_top, all_fit_top, half_work}
 use Rattle.cola_mutation.proofs.Succeeding.{over_rests, over_above}
@@ -166,6 +166,13 @@ module _ (s u : State) (v : Held) (t : ℕ) (c : Cell) (top : Level) (below work
   top_alike chain a r k =
       (keeps_all chain a r).spots_stay 0 (visible_slot t 0) k (inr (visible_apart t 0 (a.mid.held.shadows 0).slot (slot_mid chain a)))
       ∙ a.turns.keeps.spots_stay 0 (visible_slot t 0) k (inl (top_quiet t))
+
+  pub visible_stays : IsChain s.held t (top ∷ below) → (a : Given) → Emptied → (l k : ℕ) → l < suc (length below) → v.spots l (visible_slot t l) k ≡ s.held.spots l (visible_slot t l) k
+  visible_stays chain a r zero k h = top_alike chain a r k
+  visible_stays chain a r (suc l) k h =
+      (keeps_all chain a r).spots_stay (suc l) (visible_slot t (suc l)) k (inl (λ e. let x : suc l ≡ 0 = e in omega (arith, x)))
+      ∙ a.turns.keeps.spots_stay (suc l) (visible_slot t (suc l)) k
+      (inr (visible_apart t (suc l) (s.held.shadows (suc l)).slot (slots_of s.held t 0 top.visible below chain.fit.1 (suc l) (omega arith) (omega (arith, h)))))
 
   below_alike : IsChain s.held t (top ∷ below) → (a : Given) → Emptied → AreRunsAlike a.mid.held.spots v.spots t 1 (all_marks_of worked)
   below_alike chain a r = alike_kept t 1 (all_marks_of worked) (keeps_all chain a r) (λ l h e. let x : l ≡ 0 = e in omega (arith, x, h))

@@ -21,12 +21,13 @@ use Rattle.cola_mutation.proofs.Meaning.{new_cell}
 use Rattle.cola_mutation.proofs.Accepting.{Accepted, accepted_of, next_chain}
 use Rattle.cola_mutation.proofs.Succeeding.{stands_next}
 use Rattle.cola_mutation.proofs.Trading.{trades_next, costs_all}
-use Rattle.cola_mutation.proofs.Refusing.{Refused, refused_of, top_stays, same_chain, stands_still, device_only, costs_refused, refusal_of}
+use Rattle.cola_mutation.proofs.Refusing.{Refused, refused_of, top_stays, same_chain, stands_still, device_only, costs_refused, refusal_of, keeps_all, visible_stays}
 
 -- ---- accepted
 
 pub record StepsOn (t next : ℕ) (key : List ℕ) (item : Item) (s v : State) (ls after : List Level) : Type 0 where
   pub chain : IsChain v.held next after
+  pub fixed : v.held.fixed ≡ s.held.fixed
   pub counted : length after ≡ length ls
   pub changes : ChangesMap s.held v.held t next key item ls after
   pub trades : AllTrade t s v ls after
@@ -41,6 +42,7 @@ module _ (s u v : State) (t : ℕ) (key : List ℕ) (item : Item) where
       let many = length_levels t 0 below (next ∷ under) a.turns.turned in
       record {
         chain = next_chain s u v.held t (new_cell key item) top below (next ∷ under) chain a r;
+        fixed = r.fixed_is ∙ a.builds.grows.around.fixed_is ∙ a.turns.keeps.fixed_is;
         counted = let o = length_ended t 0 (with_shadow top (u.held.shadows 0).len ∷ next ∷ under) in omega (arith, o, many);
         changes = λ most m is few. stands_next s u v.held most t key item top next below under m chain is.stands is.room few a r;
         trades = trades_next s u v t (new_cell key item) top next below under chain a r e;
@@ -67,6 +69,8 @@ module _ (s u v : State) (t : ℕ) (key : List ℕ) (item : Item) where
 
 pub record StaysBack (t : ℕ) (s v : State) (ls ms : List Level) (fault : StepFault) : Type 0 where
   pub chain : IsChain v.held t ms
+  pub fixed : v.held.fixed ≡ s.held.fixed
+  pub visible : (level index : ℕ) → level < length ls → v.held.spots level (visible_slot t level) index ≡ s.held.spots level (visible_slot t level) index
   pub counted : length ms ≡ length ls
   pub keeps : KeepsMap s.held v.held t ls ms
   pub progress : KeepsProgress t ls ms
@@ -80,6 +84,8 @@ module _ (s u v : State) (t : ℕ) (key : List ℕ) (item : Item) (fault : StepF
       v.spent ≡ u.spent → v.steps ≡ u.steps → StaysBack t s v (top ∷ below) (top ∷ next ∷ under) fault
   stays_with top next below under chain a r e f = record {
     chain = same_chain s u v.held t (new_cell key item) top below (next ∷ under) fault chain a r;
+    fixed = (keeps_all s u v.held t (new_cell key item) top below (next ∷ under) fault chain a r).fixed_is ∙ a.turns.keeps.fixed_is;
+    visible = λ level index h. visible_stays s u v.held t (new_cell key item) top below (next ∷ under) fault chain a r level index h;
     counted = ap suc (length_levels t 0 below (next ∷ under) a.turns.turned);
     keeps = λ most m is. stands_still s u v.held t (new_cell key item) top below (next ∷ under) fault most m chain is.stands is.room a r;
     progress = (refl, a.turns.turned);

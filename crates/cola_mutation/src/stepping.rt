@@ -1,6 +1,7 @@
 //! One mutation.
 ghost use Rattle.std.specs.Prelude.{◌≡◌, ℕ, ◌+◌, ◌*◌, ◌/◌, ◌≤◌, ◌<◌, ◌^◌, List, length, IfOk, IfErr, OnOk, OnErr, MatchResult};
 ghost use Rattle.std.specs.declared.option.Option.{Option};
+ghost use Rattle.cola_clock.specs.Clock.{visible_slot};
 ghost use Rattle.cola_laws.specs.Plain.{next_clock};
 ghost use Rattle.cola_cell.specs.Format.{CellFits, KeyFits, ItemFits};
 ghost use Rattle.cola_cell.specs.Held.{Stamped};
@@ -85,9 +86,12 @@ pub fn step<W: CellSink, L: Ledger>(
     ensures kept { W.CellSource.kept work.new ≡ W.CellSource.kept work.old }
     // the levels may be called to again
     ensures chain { MatchResult result (λ next. IsChain (W.CellSource.held work.new) next levels.new) (λ fault. IsChain (W.CellSource.held work.new) clock levels.new) }
+    ensures fixed { (W.CellSource.held work.new).fixed ≡ (W.CellSource.held work.old).fixed }
     ensures counted { length levels.new ≡ length levels.old }
     ensures clock { IfOk result (λ next. next ≡ next_clock (length levels.old) clock) }
     ensures progress { OnErr result (KeepsProgress clock levels.old levels.new) }
+    ensures visible { OnErr result ((level index : ℕ) → level < length levels.old →
+        (W.CellSource.held work.new).spots level (visible_slot clock level) index ≡ (W.CellSource.held work.old).spots level (visible_slot clock level) index) }
     // what it means
     ensures changes { IfOk result (λ next. ChangesMap (W.CellSource.held work.old) (W.CellSource.held work.new) clock next key.now item.now levels.old levels.new) }
     ensures keeps { OnErr result (KeepsMap (W.CellSource.held work.old) (W.CellSource.held work.new) clock levels.old levels.new) }
@@ -98,6 +102,8 @@ pub fn step<W: CellSink, L: Ledger>(
     // what it cost
     ensures costs { Costs (state_of (W.CellSource.held work.old) (W.CellSource.spent work.old) steps.old) (state_of (W.CellSource.held work.new) (W.CellSource.spent work.new) steps.new)
         (step_ticks (length levels.old)) (length levels.old / 2) }
+    ensures transfers { (W.CellSource.spent work.new).turned + (W.CellSource.spent work.new).written
+        ≤ (W.CellSource.spent work.old).turned + (W.CellSource.spent work.old).written + (9 + 60 * (length levels.old / 2)) }
     ensures trades { OnOk result (AllTrade clock (state_of (W.CellSource.held work.old) (W.CellSource.spent work.old) steps.old) (state_of (W.CellSource.held work.new) (W.CellSource.spent work.new) steps.new) levels.old levels.new) }
 {
     // every object has at most 23 levels

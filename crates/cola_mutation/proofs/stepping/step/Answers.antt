@@ -158,3 +158,45 @@ returns-clause-trades g c =
     let v = state_of (g.W.CellSource.held c.end_levels.new.work) (g.W.CellSource.spent c.end_levels.new.work) c.build_shadows.new.steps in
     let done = steps_on s u v c.args.clock c.args.key.now c.args.item.now c.args.levels.now c.build_shadows.new.levels c.requires.chain c.in_default.ensures.prepares c.end_levels.ensures.restarted c.end_levels.ensures.spends_nothing refl in
     subst (λ (ls : List Level). AllTrade c.args.clock s v c.args.levels.now ls) (sym c.end_levels.ensures.ended) done.trades
+
+pub returns-in-Err-clause-fixed : goal.returns-in-Err-clause-fixed
+returns-in-Err-clause-fixed g c =
+    let s = state_of (g.W.CellSource.held c.args.work.now) (g.W.CellSource.spent c.args.work.now) c.args.steps.now in
+    let u = state_of (g.W.CellSource.held c.build_shadows.new.work) (g.W.CellSource.spent c.build_shadows.new.work) c.build_shadows.new.steps in
+    let v = state_of (g.W.CellSource.held c.restart.new.self) (g.W.CellSource.spent c.restart.new.self) c.build_shadows.new.steps in
+    let r : Restarts u.held v.held 0 (1 - visible_slot c.args.clock 0) = subst (λ (x : ℕ). Restarts (g.W.CellSource.held c.build_shadows.new.work) (g.W.CellSource.held c.restart.new.self) 0 (1 - x)) c.visible_slot.ensures.value c.restart.ensures.restarts in
+    (stays_back s u v c.args.clock c.args.key.now c.args.item.now c.in-Err.fault c.args.levels.now c.build_shadows.new.levels c.requires.chain c.in-Err.ensures.prepares r c.restart.ensures.spends_nothing refl).fixed
+
+pub returns-in-Err-clause-visible : goal.returns-in-Err-clause-visible
+returns-in-Err-clause-visible g c =
+    let s = state_of (g.W.CellSource.held c.args.work.now) (g.W.CellSource.spent c.args.work.now) c.args.steps.now in
+    let u = state_of (g.W.CellSource.held c.build_shadows.new.work) (g.W.CellSource.spent c.build_shadows.new.work) c.build_shadows.new.steps in
+    let v = state_of (g.W.CellSource.held c.restart.new.self) (g.W.CellSource.spent c.restart.new.self) c.build_shadows.new.steps in
+    let r : Restarts u.held v.held 0 (1 - visible_slot c.args.clock 0) = subst (λ (x : ℕ). Restarts (g.W.CellSource.held c.build_shadows.new.work) (g.W.CellSource.held c.restart.new.self) 0 (1 - x)) c.visible_slot.ensures.value c.restart.ensures.restarts in
+    (stays_back s u v c.args.clock c.args.key.now c.args.item.now c.in-Err.fault c.args.levels.now c.build_shadows.new.levels c.requires.chain c.in-Err.ensures.prepares r c.restart.ensures.spends_nothing refl).visible
+
+pub returns-clause-fixed : goal.returns-clause-fixed
+returns-clause-fixed g c =
+    let s = state_of (g.W.CellSource.held c.args.work.now) (g.W.CellSource.spent c.args.work.now) c.args.steps.now in
+    let u = state_of (g.W.CellSource.held c.build_shadows.new.work) (g.W.CellSource.spent c.build_shadows.new.work) c.build_shadows.new.steps in
+    let v = state_of (g.W.CellSource.held c.end_levels.new.work) (g.W.CellSource.spent c.end_levels.new.work) c.build_shadows.new.steps in
+    let done = steps_on s u v c.args.clock c.args.key.now c.args.item.now c.args.levels.now c.build_shadows.new.levels c.requires.chain c.in_default.ensures.prepares c.end_levels.ensures.restarted c.end_levels.ensures.spends_nothing refl in
+    done.fixed
+
+pub returns-in-Err-clause-transfers : goal.returns-in-Err-clause-transfers
+returns-in-Err-clause-transfers g c =
+    let s = state_of (g.W.CellSource.held c.args.work.now) (g.W.CellSource.spent c.args.work.now) c.args.steps.now in
+    let u = state_of (g.W.CellSource.held c.build_shadows.new.work) (g.W.CellSource.spent c.build_shadows.new.work) c.build_shadows.new.steps in
+    let v = state_of (g.W.CellSource.held c.restart.new.self) (g.W.CellSource.spent c.restart.new.self) c.build_shadows.new.steps in
+    let r : Restarts u.held v.held 0 (1 - visible_slot c.args.clock 0) = subst (λ (x : ℕ). Restarts (g.W.CellSource.held c.build_shadows.new.work) (g.W.CellSource.held c.restart.new.self) 0 (1 - x)) c.visible_slot.ensures.value c.restart.ensures.restarts in
+    let cost = (stays_back s u v c.args.clock c.args.key.now c.args.item.now c.in-Err.fault c.args.levels.now c.build_shadows.new.levels c.requires.chain c.in-Err.ensures.prepares r c.restart.ensures.spends_nothing refl).costs in
+    omega (arith, cost.steps_stay, cost.steps_rise, cost.transfers)
+
+pub returns-clause-transfers : goal.returns-clause-transfers
+returns-clause-transfers g c =
+    let s = state_of (g.W.CellSource.held c.args.work.now) (g.W.CellSource.spent c.args.work.now) c.args.steps.now in
+    let u = state_of (g.W.CellSource.held c.build_shadows.new.work) (g.W.CellSource.spent c.build_shadows.new.work) c.build_shadows.new.steps in
+    let v = state_of (g.W.CellSource.held c.end_levels.new.work) (g.W.CellSource.spent c.end_levels.new.work) c.build_shadows.new.steps in
+    let done = steps_on s u v c.args.clock c.args.key.now c.args.item.now c.args.levels.now c.build_shadows.new.levels c.requires.chain c.in_default.ensures.prepares c.end_levels.ensures.restarted c.end_levels.ensures.spends_nothing refl in
+    let cost = done.costs in
+    omega (arith, cost.steps_stay, cost.steps_rise, cost.transfers)
