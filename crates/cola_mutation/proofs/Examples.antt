@@ -1,6 +1,6 @@
 -- Small chains at clock 0.
-use Rattle.std.proofs.Common.{◌≡◌, ◌⊎◌, inl, inr, ℕ, suc, ◌+◌, ◌-◌, ◌*◌, ◌/◌, ◌%◌, ◌^◌, ◌<◌, ◌≤◌, Bool, true, false, List, [], ◌∷◌, length, replicate, refl, ap, sym, subst, ◌∙◌, arith}
-use Rattle.cola_clock.specs.Clock.{period, elapsed, is_odd, works, is_before, is_over, window_step, visible_slot}
+use Rattle.std.proofs.Common.{◌≡◌, ◌⊎◌, inl, inr, ℕ, ◌*◌, ◌≤◌, List, replicate, refl, ap, sym, subst, arith}
+use Rattle.cola_clock.specs.Clock.{period, elapsed, window_step, visible_slot}
 use Rattle.cola_clock.specs.Marks.{Marks, no_marks, AreLevelMarks, AreChainMarks}
 use Rattle.cola_cell.specs.declared.sink.Shadow.{Shadow}
 use Rattle.cola_cell.specs.Flat.{Flat, held_of, shadow_at}

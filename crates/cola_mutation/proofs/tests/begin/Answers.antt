@@ -1,5 +1,5 @@
 -- The levels stand on the cells in memory.
-use Rattle.std.proofs.Common.{◌≡◌, ℕ, List, sym, ap, subst, ◌∙◌}
+use Rattle.std.proofs.Common.{List, sym, ap, subst, ◌∙◌}
 use Rattle.cola_cell.specs.Flat.{Flat, held_of}
 use Rattle.cola_level.specs.declared.level.Level.{Level}
 use Rattle.cola_mutation.specs.Levels.{IsChain}
