@@ -1,0 +1,4 @@
+pub mod Cells
+pub mod Store
+pub mod Parts
+pub mod Turns

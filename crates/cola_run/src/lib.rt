@@ -1,0 +1,8 @@
+//! The cells of runs over a device: in the front, in the tails of shadows, and in blocks of the device.
+#![tactic(auto)]
+
+mod device_cells;
+mod run_store;
+mod traits;
+
+pub use run_store::RunStore;
