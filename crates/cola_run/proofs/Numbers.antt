@@ -128,3 +128,56 @@ block-in_file bottom b l s i fits p =
 -- cells of the tails of different levels lie in different blocks of them
 pub tail-block : (b d i : ℕ) → ((2 ^ b * d + i % 2 ^ b) / 2 ^ b ≡ d) × ((2 ^ b * d + i % 2 ^ b) % 2 ^ b ≡ i % 2 ^ b)
 tail-block b d i = block-of (2 ^ b) d (i % 2 ^ b) (mod-lt i (pow_pos b))
+
+-- what comes next lies in the same block, or begins the next one
+pub record IsMore (block n : ℕ) : Type 0 where
+  pub block_is : (n + 1) / block ≡ n / block
+  pub place_is : (n + 1) % block ≡ n % block + 1
+  pub within : n % block + 1 < block
+
+pub record IsFull (block n : ℕ) : Type 0 where
+  pub block_is : (n + 1) / block ≡ n / block + 1
+  pub place_is : (n + 1) % block ≡ 0
+  pub full : n % block + 1 ≡ block
+
+pub next-split : (block n : ℕ) → 0 < block → IsMore block n ⊎ IsFull block n
+next-split block n some =
+    let s = split block n some in
+    let i = s.is in
+    let r = s.rest in
+    elim (cases_lt (n % block + 1) block) [
+      | inl more ↦
+          let e : n + 1 ≡ block * (n / block) + (n % block + 1) = omega (arith, i) in
+          let (q, p) = block-of block (n / block) (n % block + 1) more in
+          inl (record { block_is = ap (λ (x : ℕ). x / block) e ∙ q; place_is = ap (λ (x : ℕ). x % block) e ∙ p; within = more })
+      | inr full ↦
+          let e : n + 1 ≡ block * (n / block + 1) + 0 = (let m : block * (n / block + 1) ≡ block * (n / block) + block = omega arith in omega (arith, i, r, full, m)) in
+          let (q, p) = block-of block (n / block + 1) 0 some in
+          inr (record { block_is = ap (λ (x : ℕ). x / block) e ∙ q; place_is = ap (λ (x : ℕ). x % block) e ∙ p; full = omega (arith, r, full) })
+    ]
+
+-- numbers of one block at one place there are one
+pub one-place : (block i n : ℕ) → 0 < block → i / block ≡ n / block → i % block ≡ n % block → i ≡ n
+one-place block i n some blocks places =
+    let x = (split block i some).is in
+    let y = (split block n some).is in
+    let m : block * (i / block) ≡ block * (n / block) = ap (λ (k : ℕ). block * k) blocks in
+    omega (arith, x, y, m, places)
+
+-- the last of its block
+pub last-place : (block i n : ℕ) → 0 < block → i / block ≡ n / block → n % block + 1 ≡ block → i ≤ n
+last-place block i n some blocks full =
+    let s = split block i some in
+    let x = s.is in
+    let r = s.rest in
+    let y = (split block n some).is in
+    let m : block * (i / block) ≡ block * (n / block) = ap (λ (k : ℕ). block * k) blocks in
+    omega (arith, x, y, m, r, full)
+
+-- nothing of a block lies before its begin
+pub first-place : (block i n : ℕ) → 0 < block → i / block ≡ n / block → n % block ≡ 0 → n ≤ i
+first-place block i n some blocks begin =
+    let x = (split block i some).is in
+    let y = (split block n some).is in
+    let m : block * (i / block) ≡ block * (n / block) = ap (λ (k : ℕ). block * k) blocks in
+    omega (arith, x, y, m, begin)

@@ -1,12 +1,12 @@
 -- What is told of a place: of one in the front, one in a tail, and one on the device.
-use Rattle.std.proofs.Common.{eq-eqb, ◌≡◌, ◌≢◌, ◌⊎◌, inl, inr, ℕ, ◌+◌, ◌*◌, ◌/◌, ◌%◌, ◌^◌, ◌<◌, ◌≤◌, ◌==◌, nat_lt, ◌&&◌, Bool, true, false, if◌then◌else◌, List, length, Option, None, Some, refl, sym, ap, ◌∙◌, arith}
+use Rattle.std.proofs.Common.{eq-eqb, ◌≡◌, ◌≢◌, ◌⊎◌, inl, inr, ℕ, ◌+◌, ◌*◌, ◌/◌, ◌%◌, ◌^◌, ◌<◌, ◌≤◌, ◌==◌, nat_lt, ◌&&◌, Bool, true, false, if◌then◌else◌, List, length, Option, None, Some, IfSome, refl, sym, ap, ◌∙◌, arith}
 use Rattle.std.proofs.lemmas.Bool.{eqb-true, false≢true, ltb-true, lt-ltb, ltb-false, le-ltb, cases_lt}
 use Rattle.cola_outside.specs.Told.{Both}
 use Rattle.cola_cell.specs.declared.cell.Cell.{Cell}
 use Rattle.cola_cell.specs.declared.sink.Shadow.{Shadow}
 use Rattle.cola_cell.specs.Decoded.{spot_of_bytes}
 use Rattle.cola_cell.specs.Flat.{spot_of, shadow_at, is_place}
-use Rattle.cola_cell.specs.Held.{Spot, Untold, Bad, is_untold}
+use Rattle.cola_cell.specs.Held.{Spot, LawCell, Untold, Bad, Told, is_untold, with_cell}
 use Rattle.cola_cell.specs.Places.{slot_size, number_of, IsPlace}
 use Rattle.cola_cell.proofs.DecodedLemmas.{spot_is_told}
 use Rattle.cola_front.specs.Front.{FrontCells, cell_at, cell_bytes}
@@ -169,3 +169,23 @@ telling-is old new P h l s i = by-case old.lower.told new.lower.told h
     by-case None (Some c) h = absurd h
     by-case (Some b) None h = absurd h
     by-case (Some b) (Some c) h = known-told new c l s i ∙ sym (known-told old b l s i)
+
+-- what is so of a told content, beside a relation to another
+pub both-with : {A B : Type 0} (a : Option A) (b : Option B) (Q : A → Type 0) (P : A → B → Type 0) → IfSome a Q → Both a b P → Both a b (λ x y. Q x × P x y)
+both-with None None Q P q h = tt
+both-with None (Some y) Q P q h = absurd h
+both-with (Some x) None Q P q h = absurd h
+both-with (Some x) (Some y) Q P q h = (q, h)
+
+-- what follows of the second of two told contents
+pub both-second : {A B : Type 0} (a : Option A) (b : Option B) (P : A → B → Type 0) (Q : B → Type 0) → ((x : A) (y : B) → P x y → Q y) → Both a b P → IfSome b Q
+both-second None None P Q f h = tt
+both-second None (Some y) P Q f h = absurd h
+both-second (Some x) None P Q f h = absurd h
+both-second (Some x) (Some y) P Q f h = f x y h
+
+-- a cell that is put in a place that is told
+pub with-told : (x : Spot) (c : LawCell) → is_untold x ≡ false → Told c ≡ with_cell x c
+with-told Untold c e = absurd (false≢true (sym e))
+with-told Bad c e = refl
+with-told (Told b) c e = refl

@@ -1,5 +1,5 @@
 //! The cells of the levels on the device: in the tail of a shadow, or in a block.
-ghost use Rattle.std.specs.Prelude.{◌≡◌, ◌+◌, ◌*◌, ◌/◌, ◌%◌, ◌^◌, ◌≤◌, ◌<◌, ◌==◌, not, true, ℕ, Option, length, slice_set};
+ghost use Rattle.std.specs.Prelude.{◌≡◌, ◌+◌, ◌*◌, ◌/◌, ◌%◌, ◌^◌, ◌≤◌, ◌<◌, ◌==◌, not, true, false, ℕ, Option, length, slice_set};
 ghost use Rattle.cola_cell.specs.Flat.{shadow_at, found};
 ghost use Rattle.cola_cell.specs.Format.{width, CellFits};
 ghost use Rattle.cola_cell.specs.Places.{slot_size, number_of, IsPlace};

@@ -1,11 +1,11 @@
 //! Reads, pushes, restarts and finishes of the cells of a store.
-ghost use Rattle.std.specs.Prelude.{◌≡◌, ◌+◌, ◌*◌, ◌≤◌, ◌<◌, ℕ, Option, length};
+ghost use Rattle.std.specs.Prelude.{◌≡◌, ◌+◌, ◌*◌, ◌≤◌, ◌<◌, ℕ, true, Option, length};
 ghost use Rattle.cola_cell.specs.Flat.{shadow_at};
 ghost use Rattle.cola_cell.specs.Places.{slot_size, IsPlace};
-ghost use Rattle.cola_cell.specs.Spent.{Reads};
+ghost use Rattle.cola_cell.specs.Spent.{Reads, ReadAnswers};
 ghost use Rattle.cola_cell.specs.Format.{CellFits};
 ghost use Rattle.cola_cell.specs.Shadows.{Restarts, Pushes, PushSpends, push_ticks, Finishes, FinishSpends};
-ghost use Rattle.cola_run.specs.Cells.{IsOnDevice};
+ghost use Rattle.cola_run.specs.Cells.{IsOnDevice, block_cells, is_in_tail};
 ghost use Rattle.cola_run.specs.Store.{IsStore, held_of, spent_of, Kept, kept_of, buffer_number, reader_number};
 ghost use Rattle.cola_run.specs.Turns.{buffer_for, buffer_index};
 
@@ -47,14 +47,23 @@ fn buffer_of(geometry: &Geometry, reader: Option<Reader>, level: u8) -> usize
 
 impl<D: Device> RunStore<D> {
     /// The cell at a place of a level that is in memory.
-    fn read_in_front(&self, level: u8, slot: u8, index: u32) -> Result<Cell, ReadFault> {
+    fn read_in_front(&self, level: u8, slot: u8, index: u32) -> Result<Cell, ReadFault>
+        requires place { IsPlace (self.now.geometry.bottom + 1) level slot index }
+        requires front { level + 2 < self.now.geometry.block_exp }
+        ensures answer { (faults : ℕ) → ReadAnswers (held_of D.bytes self.now) faults faults level slot index result }
+    {
         let _item: Option<Item> = None;
         let number = self.geometry.place(level, slot, index);
         cell_or_bad(self.front.read(number), number)
     }
 
     /// The cell at a place that is in the tail of its level.
-    fn read_in_tail(&self, level: u8, slot: u8, index: u32) -> Result<Cell, ReadFault> {
+    fn read_in_tail(&self, level: u8, slot: u8, index: u32) -> Result<Cell, ReadFault>
+        requires place { IsPlace (self.now.geometry.bottom + 1) level slot index }
+        requires device { self.now.geometry.block_exp ≤ level + 2 }
+        requires tail { is_in_tail (block_cells self.now.geometry) (shadow_at self.now.shadows level) slot index ≡ true }
+        ensures answer { (faults : ℕ) → ReadAnswers (held_of D.bytes self.now) faults faults level slot index result }
+    {
         let _item: Option<Item> = None;
         let number = self.geometry.place(level, slot, index);
         let place = place_in_tails(&self.geometry, level, index);
