@@ -6,3 +6,4 @@ pub mod Lowers
 pub mod Pushes
 pub mod Finishes
 pub mod Standing
+pub mod Calls

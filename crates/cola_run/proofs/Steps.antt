@@ -34,9 +34,8 @@ tail-first g level =
     omega (arith, z)
 
 -- the tail of a level is one block
-pub tail-holds : (g : Geometry) (tails : List ℕ) (level : ℕ) → IsBlock g.block_exp g.bottom → IsOnDevice g level → length tails ≡ width g.format * (block_cells g * device_levels g)
-    → width g.format * tail_number g level 0 + block_bytes g ≤ length tails
-tail-holds g tails level fits device many =
+pub tail-room : (g : Geometry) (level : ℕ) → IsOnDevice g level → width g.format * tail_number g level 0 + block_bytes g ≤ width g.format * (block_cells g * device_levels g)
+tail-room g level device =
     let low : level ≤ g.bottom = device.within in
     let high : g.block_exp ≤ level + 2 = device.whole in
     let first = tail-first g level in
@@ -45,11 +44,15 @@ tail-holds g tails level fits device many =
     let room : width g.format * (tail_number g level 0 + block_cells g) ≤ width g.format * (block_cells g * device_levels g) =
     room-of g.format (tail_number g level 0 + block_cells g) (block_cells g * device_levels g) (omega (arith, first, more)) in
     let sum = room-sum g.format (tail_number g level 0) (block_cells g) in
-    omega (arith, room, sum, many)
+    omega (arith, room, sum)
+
+pub tail-holds : (g : Geometry) (tails : List ℕ) (level : ℕ) → IsOnDevice g level → length tails ≡ width g.format * (block_cells g * device_levels g)
+    → width g.format * tail_number g level 0 + block_bytes g ≤ length tails
+tail-holds g tails level device many = let h = tail-room g level device in omega (arith, h, many)
 
 pub tail-many : (g : Geometry) (tails : List ℕ) (level : ℕ) → IsBlock g.block_exp g.bottom → IsOnDevice g level → length tails ≡ width g.format * (block_cells g * device_levels g)
     → length (tail_of g tails level) ≡ block_bytes g
-tail-many g tails level fits device many = length-part tails (width g.format * tail_number g level 0) (block_bytes g) (tail-holds g tails level fits device many)
+tail-many g tails level fits device many = length-part tails (width g.format * tail_number g level 0) (block_bytes g) (tail-holds g tails level device many)
 
 -- a cell of a tail among those of the tails
 pub tail-cell : (g : Geometry) (tails : List ℕ) (level i : ℕ) → cell_bytes g.format (tail_of g tails level) (i % block_cells g) ≡ cell_bytes g.format tails (tail_number g level i)

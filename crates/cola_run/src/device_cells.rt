@@ -5,7 +5,7 @@ ghost use Rattle.cola_cell.specs.Format.{width, CellFits};
 ghost use Rattle.cola_cell.specs.Places.{slot_size, number_of, IsPlace};
 ghost use Rattle.cola_buffers.specs.Blocks.{last_in};
 ghost use Rattle.cola_run.specs.Cells.{IsOnDevice, block_cells, block_bytes, file_blocks, device_levels, tail_number, block_number, is_in_tail};
-ghost use Rattle.cola_run.specs.Parts.{Finds, WroteTail, MetFault, IsPushed, IsFinished, fills};
+ghost use Rattle.cola_run.specs.Parts.{Finds, OneShadow, WroteTail, MetFault, IsPushed, IsFinished, fills};
 ghost use Rattle.cola_run.specs.Turns.{Turns, Writing};
 
 use cola_buffers::Buffers;
@@ -48,6 +48,50 @@ pub(crate) fn place_in_tails(geometry: &Geometry, level: u8, index: u32) -> usiz
 {
     let block = cells_of_block(geometry) as usize;
     block * (level + 2 - geometry.block_exp) as usize + index as usize % block
+}
+
+/// Where the tail of a level begins among the tails, in bytes.
+pub(crate) fn begin_of_tail(geometry: &Geometry, level: u8) -> usize
+    requires { IsOnDevice geometry.now level }
+    ensures value { result ≡ width geometry.now.format * tail_number geometry.now level 0 }
+    ensures fits { result + block_bytes geometry.now ≤ width geometry.now.format * (block_cells geometry.now * device_levels geometry.now) }
+    ensures few { result ≤ 1376256 }
+{
+    geometry.format.width() * place_in_tails(geometry, level, 0)
+}
+
+/// How the shadow of a level stands.
+pub(crate) fn shadow_of(shadows: &[Shadow], level: u8) -> Shadow
+    requires { level < length shadows.now }
+    ensures { result ≡ shadow_at shadows.now level }
+{
+    shadows[level as usize]
+}
+
+/// Puts another shadow in the place of the level's.
+pub(crate) fn set_shadow(shadows: &mut [Shadow], level: u8, shadow: Shadow)
+    requires { level < length shadows.old }
+    ensures { OneShadow shadows.old shadows.new level shadow }
+{
+    shadows[level as usize] = shadow;
+}
+
+/// The same shadow, of which not every cell needs to be on the device.
+fn unsaved(shadow: Shadow) -> Shadow
+    ensures { result ≡ record shadow { saved = false } }
+{
+    let Shadow { slot, len, .. } = shadow;
+    let saved = false;
+    Shadow { slot, len, saved }
+}
+
+/// The same shadow, whose cells are on the device.
+pub(crate) fn saved(shadow: Shadow) -> Shadow
+    ensures { result ≡ record shadow { saved = true } }
+{
+    let Shadow { slot, len, .. } = shadow;
+    let saved = true;
+    Shadow { slot, len, saved }
 }
 
 /// The number of the block in which a place lies, counted from the first byte of the file.
@@ -116,7 +160,7 @@ pub(crate) fn write_tail<D: Device>(
     ensures fault { MetFault result }
 {
     let size = buffers.block_size();
-    let at = geometry.format.width() * place_in_tails(geometry, level, 0);
+    let at = begin_of_tail(geometry, level);
     let block = block_at(geometry, level, slot, index);
     match buffers.write_block(block, &tails[at..at + size]) {
         Ok(()) => Ok(()),
@@ -167,18 +211,18 @@ pub(crate) fn push_on_device<D: Device>(
 {
     let _item: Option<Item> = None;
     know_spelling(geometry.format, cell);
-    let shadow = shadows[level as usize];
+    let shadow = shadow_of(shadows, level);
     // Until the cell is counted, not all of the tail is on the device.
-    shadows[level as usize].saved = false;
+    set_shadow(shadows, level, unsaved(shadow));
     let place = place_in_tails(geometry, level, shadow.len);
     put_cell(geometry.format, tails, place, &Some(*cell));
     if !fills_block(geometry, shadow.len) {
-        shadows[level as usize] = longer(geometry, shadow);
+        set_shadow(shadows, level, longer(geometry, shadow));
         return Ok(());
     }
     match write_tail(buffers, geometry, tails, level, shadow.slot, shadow.len) {
         Ok(()) => {
-            shadows[level as usize] = longer(geometry, shadow);
+            set_shadow(shadows, level, longer(geometry, shadow));
             Ok(())
         }
         Err(fault) => Err(fault),
@@ -204,13 +248,13 @@ pub(crate) fn finish_on_device<D: Device>(
     ensures writing { Writing D.counts D.kept (not (shadow_at shadows.old level).saved) buffers.old buffers.new
         (block_number geometry.now level (shadow_at shadows.old level).slot (shadow_at shadows.old level).len) result }
 {
-    let shadow = shadows[level as usize];
+    let shadow = shadow_of(shadows, level);
     if shadow.saved {
         return Ok(());
     }
     match write_tail(buffers, geometry, tails, level, shadow.slot, shadow.len) {
         Ok(()) => {
-            shadows[level as usize].saved = true;
+            set_shadow(shadows, level, saved(shadow));
             Ok(())
         }
         Err(fault) => Err(fault),
