@@ -7,3 +7,6 @@ pub mod Pushes
 pub mod Finishes
 pub mod Standing
 pub mod Calls
+pub mod Lasts
+pub mod Reading
+pub mod Sinks

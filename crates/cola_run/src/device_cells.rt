@@ -1,5 +1,5 @@
 //! The cells of the levels on the device: in the tail of a shadow, or in a block.
-ghost use Rattle.std.specs.Prelude.{◌≡◌, ◌+◌, ◌*◌, ◌/◌, ◌%◌, ◌^◌, ◌≤◌, ◌<◌, ◌==◌, not, true, false, ℕ, Option, length, slice_set};
+ghost use Rattle.std.specs.Prelude.{◌≡◌, ◌+◌, ◌*◌, ◌/◌, ◌%◌, ◌^◌, ◌≤◌, ◌<◌, ◌==◌, not, true, false, ℕ, Option, Some, length, slice_set};
 ghost use Rattle.cola_cell.specs.Flat.{shadow_at, found};
 ghost use Rattle.cola_cell.specs.Format.{width, CellFits};
 ghost use Rattle.cola_cell.specs.Places.{slot_size, number_of, IsPlace};
@@ -12,6 +12,7 @@ use cola_buffers::Buffers;
 use cola_cell::{Cell, Item, PushFault, ReadFault, Shadow};
 use cola_device::Device;
 use cola_front::block::{cell_in, know_spelling, put_cell};
+use cola_front::Front;
 use cola_layout::Geometry;
 
 /// The number of cells of a block.
@@ -259,4 +260,28 @@ pub(crate) fn finish_on_device<D: Device>(
         }
         Err(fault) => Err(fault),
     }
+}
+
+/// Appends a cell to the shadow of a level of the front.
+pub(crate) fn push_in_front(
+    front: &mut Front,
+    geometry: &Geometry,
+    shadows: &mut [Shadow],
+    level: u8,
+    cell: &Cell,
+)
+    requires level { level + 2 < geometry.now.block_exp }
+    requires shadows { level < length shadows.old }
+    requires place { IsPlace (geometry.now.bottom + 1) level (shadow_at shadows.old level).slot (shadow_at shadows.old level).len }
+    requires format { front.old.format ≡ geometry.now.format }
+    requires block { front.old.block ≡ block_cells geometry.now }
+    requires fits { CellFits geometry.now.format cell.now }
+    ensures front { front.new ≡ record front.old { cells = slice_set front.old.cells (number_of level (shadow_at shadows.old level).slot (shadow_at shadows.old level).len) (Some cell.now) } }
+    ensures shadow { OneShadow shadows.old shadows.new level (record { slot = (shadow_at shadows.old level).slot; len = (shadow_at shadows.old level).len + 1; saved = fills geometry.now (shadow_at shadows.old level).len }) }
+    ensures within { number_of level (shadow_at shadows.old level).slot (shadow_at shadows.old level).len < length front.old.cells }
+{
+    let _item: Option<Item> = None;
+    let shadow = shadow_of(shadows, level);
+    front.write(geometry.place(level, shadow.slot, shadow.len), cell);
+    set_shadow(shadows, level, longer(geometry, shadow));
 }

@@ -10,8 +10,8 @@ ghost use Rattle.cola_run.specs.Store.{IsStore, held_of, spent_of, Kept, kept_of
 ghost use Rattle.cola_run.specs.Turns.{buffer_for, buffer_index};
 
 use crate::device_cells::{
-    cell_or_bad, cells_of_slot, finish_on_device, has_in_tail, place_in_tails, push_on_device,
-    read_by_buffer,
+    cell_or_bad, cells_of_slot, finish_on_device, has_in_tail, place_in_tails, push_in_front,
+    push_on_device, read_by_buffer, saved, set_shadow, shadow_of,
 };
 use crate::run_store::RunStore;
 use cola_cell::{Cell, CellSink, CellSource, Item, PushFault, ReadFault, Reader, Shadow};
@@ -93,7 +93,7 @@ impl<D: Device> RunStore<D> {
         if level < self.geometry.front_levels() {
             return self.read_in_front(level, slot, index);
         }
-        let shadow = self.shadows[level as usize];
+        let shadow = shadow_of(&self.shadows, level);
         if has_in_tail(&self.geometry, shadow, slot, index) {
             return self.read_in_tail(level, slot, index);
         }
@@ -106,14 +106,6 @@ impl<D: Device> RunStore<D> {
             slot,
             index,
         )
-    }
-
-    /// Appends a cell to the shadow of a level that is in memory.
-    fn push_in_front(&mut self, level: u8, cell: &Cell) {
-        let shadow = self.shadows[level as usize];
-        let number = self.geometry.place(level, shadow.slot, shadow.len);
-        self.front.write(number, cell);
-        self.shadows[level as usize] = crate::device_cells::longer(&self.geometry, shadow);
     }
 }
 
@@ -155,11 +147,9 @@ impl<D: Device> CellSource for RunStore<D> {
 
 impl<D: Device> CellSink for RunStore<D> {
     fn restart(&mut self, level: u8, slot: u8) {
-        self.shadows[level as usize] = Shadow {
-            slot,
-            len: 0,
-            saved: true,
-        };
+        let len = 0;
+        let saved = true;
+        set_shadow(&mut self.shadows, level, Shadow { slot, len, saved });
     }
 
     fn push<L: Ledger>(
@@ -169,13 +159,19 @@ impl<D: Device> CellSink for RunStore<D> {
         cell: &Cell,
         steps: &mut Steps<L>,
     ) -> Result<(), PushFault> {
-        if self.shadows[level as usize].len == cells_of_slot(level) {
+        if shadow_of(&self.shadows, level).len == cells_of_slot(level) {
             return Err(PushFault::Overfull(level));
         }
         steps.tick();
         self.ticked = self.ticked.wrapping_add(1);
         if level < self.geometry.front_levels() {
-            self.push_in_front(level, cell);
+            push_in_front(
+                &mut self.front,
+                &self.geometry,
+                &mut self.shadows,
+                level,
+                cell,
+            );
             return Ok(());
         }
         push_on_device(
@@ -190,7 +186,8 @@ impl<D: Device> CellSink for RunStore<D> {
 
     fn finish(&mut self, level: u8) -> Result<(), PushFault> {
         if level < self.geometry.front_levels() {
-            self.shadows[level as usize].saved = true;
+            let shadow = shadow_of(&self.shadows, level);
+            set_shadow(&mut self.shadows, level, saved(shadow));
             return Ok(());
         }
         finish_on_device(
@@ -204,6 +201,6 @@ impl<D: Device> CellSink for RunStore<D> {
 
     fn shadow_len(&self, level: u8) -> u32 {
         let _ = &self.geometry;
-        self.shadows[level as usize].len
+        shadow_of(&self.shadows, level).len
     }
 }

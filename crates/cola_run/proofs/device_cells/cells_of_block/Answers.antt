@@ -2,9 +2,7 @@ use Rattle.std.proofs.Common.{◌≤◌, ◌^◌, arith}
 use Rattle.std.specs.Prelude.{min}
 use Rattle.std.proofs.lemmas.Nat.{one_shl}
 use Rattle.std.proofs.Math.Pow.{pow_mono}
-use Rattle.cola_run.proofs.Pushes.{push-backed}
-use Rattle.cola_run.proofs.Finishes.{finish-backed}
-use Rattle.cola_run.proofs.Standing.{shadow-backed}
+use Rattle.cola_run.proofs.Sinks.{writes-none}
 use Rattle.cola_run.proofs.device_cells.cells_of_block.Goals as goal
 
 pub returns-clause-least : goal.returns-clause-least
