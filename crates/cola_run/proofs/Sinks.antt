@@ -1,6 +1,6 @@
 -- That restarts, pushes and finishes of a store meet the trait.
 use Rattle.std.proofs.Common.{◌≡◌, ◌≢◌, ◌⊎◌, inl, inr, ℕ, ◌+◌, ◌-◌, ◌*◌, ◌/◌, ◌%◌, ◌^◌, ◌<◌, ◌≤◌, ◌==◌, not, Bool, true, false, if◌then◌else◌, List, length, map, take, drop, Option, None, Some, IfSome, option_map, Result, Ok, Err, is_ok, refl, sym, ap, subst, ◌∙◌, arith}
-use Rattle.std.proofs.lemmas.Bool.{cases_lt, cases_eq, eqb-false, false≢true}
+use Rattle.std.proofs.lemmas.Bool.{cases_lt, cases_eq, eqb-true, eqb-false, false≢true}
 use Rattle.std.proofs.lemmas.List.{length-map, drop-drop}
 use Rattle.std.proofs.Math.Nat.{mul-le-mul_right}
 use Rattle.cola_outside.specs.Faults.{Rose}
@@ -10,6 +10,7 @@ use Rattle.cola_cell.specs.declared.fault.PushFault.{PushFault}
 use Rattle.cola_cell.specs.declared.fault.PushFault.TheVariants.{Device, Overfull}
 use Rattle.cola_cell.specs.declared.sink.Shadow.{Shadow}
 use Rattle.cola_cell.specs.Flat.{shadow_at}
+use Rattle.cola_cell.specs.Format.{width}
 use Rattle.cola_cell.specs.Held.{Held, span}
 use Rattle.cola_cell.specs.Places.{slot_size, number_of, IsPlace, Block, block_of}
 use Rattle.cola_cell.specs.Spent.{Buffer, Spent, Ticks}
@@ -22,8 +23,8 @@ use Rattle.cola_front.specs.Front.{FrontCells}
 use Rattle.cola_layout.specs.declared.geometry.Geometry.{Geometry}
 use Rattle.cola_layout.specs.Geometry.{IsBlock}
 use Rattle.cola_layout.proofs.Powers.{power-le}
-use Rattle.cola_buffers.specs.Blocks.{Blocks, forgotten}
-use Rattle.cola_run.specs.Cells.{IsOnDevice, Lower, Cells, AreCells, block_cells, block_bytes, file_bytes, block_number, spots_of, IsShape, IsBacked}
+use Rattle.cola_buffers.specs.Blocks.{Blocks, Made, forgotten}
+use Rattle.cola_run.specs.Cells.{IsOnDevice, Lower, Cells, AreCells, block_cells, block_bytes, file_bytes, file_blocks, device_levels, block_number, spots_of, IsShape, IsBacked}
 use Rattle.cola_run.specs.Store.{Store, IsStore, cells_of, held_of, spent_of, Kept, kept_of, Beside, beside, last_of}
 use Rattle.cola_run.specs.Parts.{OneShadow, fills, TailPushed, TailFinished, WroteTail, tail_of, MetFault, IsPushed, IsFinished}
 use Rattle.cola_run.specs.Turns.{Writing}
@@ -140,10 +141,50 @@ writes-none counts store now ticks block buffers same ticked =
       record { written_is = writes; lasts_stay = lasts },
     )
 
--- what a call on a shadow meets
-pub record Meets {D K : Type 0} (bytes : D → Option (List ℕ)) (kept : D → K) (old new : Store D) : Type 0 where
-  pub keeps : kept_of bytes kept new ≡ kept_of bytes kept old
-  pub sound : IsStore (bytes new.buffers.cache.device) new
+-- the cause of a refused call, and that an accepted one met no fault
+abbrev HasCauseOf : {T : Type 0} → Result T PushFault → ℕ → ℕ → Type 0
+HasCauseOf (Ok value) before now = Unit {0}
+HasCauseOf (Err fault) before now = Rose before now
+
+cause-of : {T : Type 0} (r : Result T PushFault) {before now : Counts} → Called before now 0 1 r → HasCauseOf r before.faults now.faults
+cause-of (Ok value) called = tt
+cause-of (Err fault) called = called.cause
+
+calm-of : {T : Type 0} (r : Result T PushFault) {before now : Counts} → Called before now 0 1 r → WriteCalm before.faults now.faults r
+calm-of (Ok value) called = called.none_hidden
+calm-of (Err Device) called = tt
+calm-of (Err (Overfull l)) called = ?
+
+-- as many buffers hold a block or none after one was written
+lasts-many : (t : Bool) (block : ℕ) (lasts now : List (Option ℕ)) → now ≡ (if t then map (forgotten block) lasts else lasts) → length now ≡ length lasts
+lasts-many true block lasts now e = ap (λ (xs : List (Option ℕ)). length xs) e ∙ length-map lasts (forgotten block)
+lasts-many false block lasts now e = ap (λ (xs : List (Option ℕ)). length xs) e
+
+-- a store is sound whose cells are, and whose blocks have the same sizes
+sound-by : {D : Type 0} (bytes : D → Option (List ℕ)) (store now : Store D) → IsStore (bytes store.buffers.cache.device) store → now.geometry ≡ store.geometry → now.front ≡ store.front
+    → IsShape store.geometry store.front now.shadows now.tails → IfSome (bytes now.buffers.cache.device) (IsBacked store.geometry now.shadows now.tails)
+    → now.buffers.cache.size ≡ store.buffers.cache.size → now.buffers.many ≡ store.buffers.many → length now.buffers.lasts ≡ length store.buffers.lasts → IsStore (bytes now.buffers.cache.device) now
+sound-by bytes store now sound same front shape backed size many lasts = record {
+  cells = record {
+    shape = subst (λ (f : FrontCells). IsShape now.geometry f now.shadows now.tails) (sym front) (subst (λ (g : Geometry). IsShape g store.front now.shadows now.tails) (sym same) shape);
+    backed = subst (λ (g : Geometry). IfSome (bytes now.buffers.cache.device) (IsBacked g now.shadows now.tails)) (sym same) backed;
+  };
+  size = size ∙ sound.size ∙ ap (λ (g : Geometry). block_bytes g) (sym same);
+  many = many ∙ sound.many ∙ ap (λ (g : Geometry). file_blocks g) (sym same);
+  buffers_many = lasts ∙ sound.buffers_many ∙ ap (λ (g : Geometry). 1 + 3 * device_levels g) (sym same);
+}
+
+-- what a call on one shadow leaves around it
+around-by : {D : Type 0} (bytes : D → Option (List ℕ)) (store now : Store D) (level : ℕ) → now.geometry ≡ store.geometry → now.buffers.made ≡ store.buffers.made
+    → ((l : ℕ) → l ≢ level → shadow_at now.shadows l ≡ shadow_at store.shadows l) → Both (bytes store.buffers.cache.device) (bytes now.buffers.cache.device) (λ _ _. Unit {0})
+    → StaysAround (held_of bytes store) (held_of bytes now) level
+around-by bytes store now level same made others told = record {
+  fixed_is =
+      ap (λ (g : Geometry). record { levels = g.bottom + 1; doublings = g.block_exp - 3; format = g.format; made = record { reads = now.buffers.made.reads; faults = now.buffers.made.faults } }) same
+      ∙ ap (λ (m : Made). record { levels = store.geometry.bottom + 1; doublings = store.geometry.block_exp - 3; format = store.geometry.format; made = record { reads = m.reads; faults = m.faults } }) made;
+  shadows_stay = others;
+  telling_is = telling-is (cells_of (bytes store.buffers.cache.device) store) (cells_of (bytes now.buffers.cache.device) now) (λ _ _. Unit {0}) told;
+}
 
 -- a push to a level on the device
 module _ {D K T : Type 0} (bytes : D → Option (List ℕ)) (counts : D → Counts) (kept : D → K) (store now : Store D) (level : ℕ) (cell : Cell) (result : Result T PushFault)
@@ -173,3 +214,63 @@ module _ {D K T : Type 0} (bytes : D → Option (List ℕ)) (counts : D → Coun
       by-test : (t : Bool) → TailPushed t result g now.tails level shadow.slot shadow.len (bytes store.buffers.cache.device) (bytes now.buffers.cache.device) → Both (bytes store.buffers.cache.device) (bytes now.buffers.cache.device) (λ _ _. Unit {0})
       by-test true w = both-so (bytes store.buffers.cache.device) (bytes now.buffers.cache.device) (WroteSome result (block_number g level shadow.slot shadow.len * block_bytes g) (tail_of g now.tails level)) (λ _ _. Unit {0}) (λ _ _ _. tt) w
       by-test false w = subst (λ (x : Option (List ℕ)). Both (bytes store.buffers.cache.device) x (λ _ _. Unit {0})) (sym w.0) (both-same (bytes store.buffers.cache.device) (λ _ _. Unit {0}) (λ _. tt))
+
+  abbrev lower : Lower
+  lower = (cells_of (bytes store.buffers.cache.device) store).lower
+
+  abbrev lower-now : Lower
+  lower-now = (cells_of (bytes now.buffers.cache.device) now).lower
+
+  pub pushed-sound : IsStore (bytes now.buffers.cache.device) now
+  pushed-sound =
+      sound-by bytes store now sound same front (push-shape g store.front lower lower-now level cell result shape device room pushed) (push-backed g store.front lower lower-now level cell result shape device room pushed sound.cells.backed)
+      writing.stays.size writing.stays.many (lasts-many (fills g shadow.len) (block_number g level shadow.slot shadow.len) store.buffers.lasts now.buffers.lasts writing.lasts_are)
+
+  pub pushed-keeps : kept_of bytes kept now ≡ kept_of bytes kept store
+  pushed-keeps = kept-by bytes kept store now same writing.stays.blocks writing.kept_is (by-test (fills g shadow.len) pushed.device)
+    where
+      tails-now : length now.tails ≡ width g.format * (block_cells g * device_levels g)
+      tails-now = (push-shape g store.front lower lower-now level cell result shape device room pushed).tails_many
+
+      by-test : (t : Bool) → TailPushed t result g now.tails level shadow.slot shadow.len (bytes store.buffers.cache.device) (bytes now.buffers.cache.device)
+          → option_map (beside g) (bytes now.buffers.cache.device) ≡ option_map (beside g) (bytes store.buffers.cache.device)
+      by-test true w =
+          beside-tail result g now.tails level shadow.slot shadow.len (bytes store.buffers.cache.device) (bytes now.buffers.cache.device) shape.block device.whole place
+          (tail-many g now.tails level shape.block device tails-now) (long-of g store.shadows store.tails (bytes store.buffers.cache.device) sound.cells.backed) w
+      by-test false w = ap (λ (x : Option (List ℕ)). option_map (beside g) x) w.0
+
+  -- what the cells of the store were and are, with one geometry and one front
+  spots-now : (l s i : ℕ) → spots_of (cells_of (bytes now.buffers.cache.device) now) l s i ≡ spots_of (record { geometry = g; front = store.front; lower = lower-now }) l s i
+  spots-now l s i = ap (λ (x : Geometry). spots_of (record { geometry = x; front = now.front; lower = lower-now }) l s i) same ∙ ap (λ (x : FrontCells). spots_of (record { geometry = g; front = x; lower = lower-now }) l s i) front
+
+  pub pushed-around : StaysAround (held_of bytes store) (held_of bytes now) level
+  pushed-around = around-by bytes store now level same writing.stays.made (λ l apart. pushed.shadow.others l apart) told-both
+
+  answers : (r : Result T PushFault) → r ≡ result → MetFault r → HasCauseOf r (counts store.buffers.cache.device).faults (counts now.buffers.cache.device).faults → PushAnswers (held_of bytes store) (held_of bytes now) (spent_of counts store) (spent_of counts now) level cell r
+  answers (Ok value) e fault cause = (room, spots-now level shadow.slot shadow.len ∙ push-end g store.front lower lower-now level cell result shape device room pushed sound.cells.backed value (sym e))
+  answers (Err Device) e fault cause = (room, cause)
+  answers (Err (Overfull l)) e fault cause = absurd fault
+
+  pub pushed-meets : Pushes (held_of bytes store) (held_of bytes now) (spent_of counts store) (spent_of counts now) level cell result
+  pushed-meets = record {
+    around = pushed-around;
+    answer = answers result refl pushed.fault (cause-of result writing.called);
+    calm = calm-of result writing.called;
+    shadow_is = pushed.shadow.is ∙ ap (λ (n : ℕ). after_push n shadow result) (sym (span-is g shape.block));
+    others_stay = λ l s i apart. spots-now l s i ∙ push-stays g store.front lower lower-now level cell result shape device room pushed sound.cells.backed l s i apart;
+  }
+
+  pub pushed-spends : PushSpends (held_of bytes store) (spent_of counts store) (spent_of counts now) level result
+  pushed-spends = record {
+    writes = spends-writes counts kept store now level shadow.slot shadow.len (fills g shadow.len) result (push_ticks result) shape.block device.whole (λ _. place) writing same ticked;
+    only_full = λ part.
+        spends-nothing counts kept store now level shadow.slot shadow.len (fills g shadow.len) result (push_ticks result) shape.block device.whole (λ _. place) writing same ticked
+        (not-full (λ e. part (ap (λ (n : ℕ). (shadow.len + 1) % n) (span-is g shape.block) ∙ e)));
+  }
+    where
+      not-full : ((shadow.len + 1) % block_cells g ≢ 0) → fills g shadow.len ≡ false
+      not-full apart = by-test (fills g shadow.len) refl
+        where
+          by-test : (t : Bool) → fills g shadow.len ≡ t → t ≡ false
+          by-test true e = absurd (apart (eqb-true ((shadow.len + 1) % block_cells g) 0 e))
+          by-test false e = refl
