@@ -10,3 +10,6 @@ pub mod Calls
 pub mod Lasts
 pub mod Reading
 pub mod Sinks
+pub mod Pushing
+pub mod Finishing
+pub mod Fronting
