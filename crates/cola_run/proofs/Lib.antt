@@ -13,3 +13,4 @@ pub mod Sinks
 pub mod Pushing
 pub mod Finishing
 pub mod Fronting
+pub mod Loads

@@ -2,3 +2,5 @@ pub mod Cells
 pub mod Store
 pub mod Parts
 pub mod Turns
+pub mod Saving
+pub mod Loading

@@ -3,6 +3,7 @@
 
 mod device_cells;
 mod run_store;
+mod saving;
 mod traits;
 
 pub use run_store::RunStore;
