@@ -14,3 +14,5 @@ pub mod Pushing
 pub mod Finishing
 pub mod Fronting
 pub mod Loads
+pub mod Fronts
+pub mod LoadLoop

@@ -2,6 +2,7 @@
 use Rattle.std.proofs.Common.{◌≡◌, ◌≢◌, ◌⊎◌, inl, inr, ℕ, ◌+◌, ◌-◌, ◌*◌, ◌/◌, ◌%◌, ◌^◌, ◌<◌, ◌≤◌, Bool, true, false, List, length, Option, None, Some, IfSome, option_map, Result, Ok, Err, is_ok, refl, sym, ap, subst, ◌∙◌, arith}
 use Rattle.std.proofs.lemmas.Bool.{cases_eq, cases_lt, false≢true}
 use Rattle.std.proofs.lemmas.Nat.{pow_pos}
+use Rattle.std.proofs.Math.Nat.{zero-mod}
 use Rattle.cola_outside.specs.Told.{Both}
 use Rattle.cola_cell.specs.declared.fault.PushFault.{PushFault}
 use Rattle.cola_cell.specs.declared.sink.Shadow.{Shadow}
@@ -28,7 +29,8 @@ use Rattle.cola_run.proofs.Spots.{in-tail, both-so, both-same}
 use Rattle.cola_run.proofs.Steps.{tail-first, tail-holds, tail-many}
 use Rattle.cola_run.proofs.Lowers.{around-same, TailsStay, backed-by, shape-by}
 use Rattle.cola_run.proofs.Standing.{shadow-shape, shadow-backed}
-use Rattle.cola_run.proofs.Sinks.{beside-tail, long-of}
+use Rattle.cola_run.specs.Turns.{Writing}
+use Rattle.cola_run.proofs.Sinks.{beside-tail, long-of, lasts-many}
 use Rattle.cola_run.proofs.Finishes.{ends-within, finish-stays, finish-shape, finish-backed}
 
 -- sizes that stay
@@ -250,4 +252,20 @@ read-two g a b c sound x y = record {
         | inr d ↦ inr (let n = x.lens_stay l in omega (arith, d, n))
       ])
       ∙ x.spots_stay front h k l s i apart;
+}
+
+-- nothing ends with a block
+pub zero-rest : (n : ℕ) → 0 % n ≡ 0
+zero-rest n = zero-mod n
+
+-- a call that writes one block, as one of so many
+pub writing-of : {D K T E F : Type 0} {wrote : Bool} {block : ℕ} {value : T} (counts : D → Counts) (kept : D → K) (before now : Blocks D) → Writing {T = T} {E = E} counts kept wrote before now block (Ok value)
+    → IsWriting {T = Unit {0}} {E = F} counts kept before now 1 (Ok tt)
+writing-of {wrote = wrote} {block = block} counts kept before now w = record {
+  called = record {
+    faults_stay = w.called.faults_stay; cause = tt; none_hidden = w.called.none_hidden; reads_stay = w.called.reads_stay; reads_rise = w.called.reads_rise; writes_stay = w.called.writes_stay; writes_rise = w.called.writes_rise;
+  };
+  kept_is = w.kept_is;
+  many = lasts-many wrote block before.lasts now.lasts w.lasts_are;
+  stays = w.stays;
 }

@@ -9,6 +9,8 @@ ghost use Rattle.cola_device.specs.Bytes.{splice, Wrote};
 ghost use Rattle.cola_device.specs.Counts.{Called};
 ghost use Rattle.cola_buffers.specs.Blocks.{Stays};
 ghost use Rattle.cola_front.specs.Front.{FrontCells, IsFront, SameShape, IsLoaded as IsFrontLoaded, block_size, cell_at, image};
+ghost use Rattle.cola_clock.specs.Clock.{visible_slot};
+ghost use Rattle.cola_layout.specs.Marks.{marks_of};
 ghost use Rattle.cola_layout.specs.declared.header.Header.{Header as AnyHeader};
 ghost use Rattle.cola_run.specs.Cells.{IsOnDevice, IsShadow, IsShape, IsBacked, block_cells, block_bytes, file_blocks, device_levels};
 ghost use Rattle.cola_run.specs.Store.{IsStore, held_of, kept_of};
@@ -23,7 +25,26 @@ use cola_cell::{Item, ReadFault, Shadow};
 use cola_clock::visible_slot;
 use cola_device::{Device, DeviceFault, MAX_TRANSFER};
 use cola_front::Front;
-use cola_layout::{Geometry, Header};
+use cola_layout::{Geometry, Header, Marks};
+
+/// The marks of a level by a header, whose runs fit their slots.
+fn marks_at(header: &Header, level: u8) -> Marks
+    requires { level ≤ header.now.geometry.bottom }
+    ensures value { result ≡ marks_of header.now.levels.items level }
+    ensures visible { result.visible ≤ slot_size level }
+    ensures shadow { result.shadow ≤ slot_size level }
+{
+    header.levels[level as usize]
+}
+
+/// In which slot the visible run of a level stands by a header.
+fn visible_at(header: &Header, level: u8) -> u8
+    requires { level ≤ header.now.geometry.bottom }
+    ensures value { result ≡ visible_slot header.now.clock level }
+    ensures within { result < 2 }
+{
+    visible_slot(header.clock, level)
+}
 
 /// How the shadow of a level stands by a header.
 fn shadow_of_header(header: &Header, level: u8) -> Shadow
@@ -32,8 +53,8 @@ fn shadow_of_header(header: &Header, level: u8) -> Shadow
     ensures stands { IsShadow level result }
 {
     Shadow {
-        slot: 1 - visible_slot(header.clock, level),
-        len: header.levels[level as usize].shadow,
+        slot: 1 - visible_at(header, level),
+        len: marks_at(header, level).shadow,
         saved: true,
     }
 }
@@ -44,10 +65,11 @@ fn len_of_run(header: &Header, level: u8, slot: u8) -> u32
     ensures value { result ≡ run_len header.now level slot }
     ensures within { result ≤ slot_size level }
 {
-    if slot == visible_slot(header.clock, level) {
-        return header.levels[level as usize].visible;
+    let marks = marks_at(header, level);
+    if slot == visible_at(header, level) {
+        return marks.visible;
     }
-    header.levels[level as usize].shadow
+    marks.shadow
 }
 
 /// The first cell of a run of the front whose bytes spell none, by its number.
