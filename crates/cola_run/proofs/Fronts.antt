@@ -15,7 +15,8 @@ use Rattle.cola_clock.specs.Clock.{visible_slot}
 use Rattle.cola_layout.specs.Marks.{marks_of}
 use Rattle.cola_layout.proofs.Levels.{fits-here}
 use Rattle.cola_layout.proofs.Powers.{next_power, power-le}
-use Rattle.cola_run.specs.Saving.{file_spots, run_len, IsFrontRun, AreFrontRunsSpelled, IsLowestBad}
+use Rattle.cola_image.specs.Cells.{file_spots}
+use Rattle.cola_run.specs.Saving.{run_len, IsFrontRun, AreFrontRunsSpelled, IsLowestBad}
 use Rattle.cola_run.specs.Loading.{BadInRun, BadInLevel, BadInFront, NoneBadInFront}
 
 -- a run of the front fits its slot

@@ -16,3 +16,5 @@ pub mod Fronting
 pub mod Loads
 pub mod Fronts
 pub mod LoadLoop
+pub mod Heads
+pub mod Flushes
