@@ -18,3 +18,4 @@ pub mod Fronts
 pub mod LoadLoop
 pub mod Heads
 pub mod Flushes
+pub mod News
