@@ -407,8 +407,9 @@ fn push_three<W: CellSink, L: Ledger>(
     assert_eq!(rt; first.is_ok() || first == Err(PushFault::Device), true);
     let once = count_found(work, 3, slot, 26, steps);
     let twice = count_found(work, 3, slot, 26, steps);
-    assert_eq!(rt; twice, Ok(26));
     assert_eq!(rt; once == Ok(26) || once == Err(ReadFault::Device), true);
+    assert_eq!(rt; twice == Ok(26) || twice == Err(ReadFault::Device), true);
+    assert_eq!(rt; once.is_ok() || twice.is_ok(), true);
     Ok(())
 }
 
@@ -428,9 +429,9 @@ fn file_after(
     let mut store = loaded(alloc, &header, bytes, failing, 0).ok_or("no store")?;
     let slot = shadow_slot(&header);
     push_three::<RunStore<MemoryDevice>, Brand>(rt, &mut store, slot, Blank::new(1))?;
-    let first = store.flush(&header_bytes(Format::One, 3)).is_ok();
-    let second = store.flush(&header_bytes(Format::One, 3)).is_ok();
-    assert_eq!(rt; first || second, true);
+    if store.flush(&header_bytes(Format::One, 3)).is_err() {
+        assert_eq!(rt; store.flush(&header_bytes(Format::One, 3)).is_ok(), true);
+    }
     Ok(store.into_device().into_bytes())
 }
 
@@ -440,7 +441,7 @@ fn each_call_is_refused_in_turn(rt: HostRuntime) -> Result<(), Fail> {
     let alloc = rt.alloc();
     let (_, bytes) = file_of(&rt, alloc, Format::One, 3)?;
     let expected = file_after(&rt, alloc, bytes.clone()?, 100)?;
-    for refused in 1..20u64 {
+    for refused in 1..25u64 {
         let file = file_after(&rt, alloc, bytes.clone()?, refused)?;
         assert_eq!(rt; file == expected, true);
     }
