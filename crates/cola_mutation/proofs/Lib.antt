@@ -17,4 +17,5 @@ pub mod Refusing
 pub mod Results
 pub mod Beginning
 pub mod Causes
+pub mod Reading
 pub mod Examples

@@ -7,7 +7,13 @@ ghost use Rattle.cola_clock.specs.Marks.{Marks, AreChainMarks};
 ghost use Rattle.cola_spec.specs.Map.{Map};
 ghost use Rattle.cola_cell.specs.declared.fault.StepFault.TheVariants.{Device, BadCell, Overfull};
 ghost use Rattle.cola_cell.specs.Costs.{HasBad};
-ghost use Rattle.cola_cell.specs.Held.{Held, IsTelling};
+ghost use Rattle.std.specs.declared.option.Option.{Option};
+ghost use Rattle.cola_runs.specs.Search.{AreSampled};
+ghost use Rattle.cola_laws.specs.Chain.{visibles, value_at};
+ghost use Rattle.cola_laws.specs.Sound.{HasAtMost};
+ghost use Rattle.cola_cell.specs.Held.{Held, Stamped, IsTelling};
+ghost use Rattle.cola_cell.specs.Order.{key_cmp};
+ghost use Rattle.cola_level.specs.Standing.{all_stood};
 ghost use Rattle.cola_cell.specs.Places.{slot_size};
 ghost use Rattle.cola_image.specs.Standing.{found_in, LevelsStandFor};
 ghost use Rattle.cola_level.specs.declared.level.Level.{Level};
@@ -29,6 +35,15 @@ pub fn levels_stand_for_maps()
     ensures runs { (held : Held) (most t : ℕ) (levels : List Level) (m : Map) → StandsFor held most t levels (found_in m) → LevelsStandFor most t (all_marks_of levels) held.spots m }
     ensures levels { (held : Held) (most t : ℕ) (levels : List Level) (m : Map) → IsTelling held → ((l : ℕ) → l < length levels → is_over t l ≡ true → (held.shadows l).saved ≡ true) →
         LevelsStandFor most t (all_marks_of levels) held.spots m → StandsFor held most t levels (found_in m) }
+{}
+
+/// The visible runs of levels that stand for a map are in the state that a search by links wants, and have for each key what
+/// the map has; and the map has at most as many keys as the store is for.
+pub fn standing_levels_answer()
+    ensures sampled { (held : Held) (most t : ℕ) (levels : List Level) (m : List ℕ → Option Stamped) → StandsFor held most t levels m → AreSampled key_cmp (visibles (all_stood held t 0 (all_marks_of levels))) }
+    ensures answers { (held : Held) (most t : ℕ) (levels : List Level) (m : List ℕ → Option Stamped) → StandsFor held most t levels m → (q : List ℕ) →
+        value_at key_cmp (visibles (all_stood held t 0 (all_marks_of levels))) q ≡ m q }
+    ensures few { (held : Held) (most t : ℕ) (levels : List Level) (m : List ℕ → Option Stamped) → StandsFor held most t levels m → HasAtMost key_cmp most m }
 {}
 
 /// What a refusal says of the object: its count of faults rose; the bytes of the cell of this number spell none; the
