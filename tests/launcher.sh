@@ -109,14 +109,14 @@ check 'words, working folder and input are passed as they are' \
     wrote_text $'<0>\n<two words>\n<>\n<*>\n<a\nb>\n<-->\n<$x>\n'"$PWD"$'\nsome input\n'
 check 'a build says how long it usually takes' grep -q '^cola: .*minutes' "$room/err"
 check 'what rt says of a build is on standard error' grep -q '^rt: proving' "$room/err"
-for wanted in 0 1 2 3 4 9 18 255; do
+for wanted in 0 1 2 3 4 5 8 9 18 255; do
     run "$copy/cola" "$wanted" </dev/null
     check "status $wanted is kept" ended "$wanted"
 done
 check 'a built program is not built again' builds 1
 run "$copy/cola" 0 </dev/null
 check 'a built program that ends with 0 runs with no word of the launcher' is_silent
-for status_named in 1 3 4 9; do
+for status_named in 1 3 4 5 8 9; do
     run "$copy/cola" "$status_named" </dev/null
     check "status $status_named has a meaning" complained "status $status_named: [a-z].*docs/COMMANDS.md"
 done

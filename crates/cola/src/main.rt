@@ -1,14 +1,15 @@
-//! The program `cola`: its words, standard input and standard output, and the exit status.
+//! The program `cola`: its words, its files, standard input and standard output, and the exit status.
 #![tactic(auto)]
 
 ghost use Rattle.std.specs.Prelude.{◌≡◌, ◌<◌};
 
 use cola_command::serve;
+use cola_filedev::FileDevice;
 use cola_io::{StdSink, StdSource};
 use cola_outside::Steps;
 use std::marker::Brand;
 use std::process::ExitCode;
-use std::rt::Env;
+use std::rt::{Env, Files};
 use std::sync::ledger::{Blank, Ledger};
 use std::{env, io};
 
@@ -21,7 +22,20 @@ fn take_words<R: Env + AllocGlobal>(rt: &R) -> Option<Vec<String>> {
     Some(words)
 }
 
-/// Serves the words over standard input and standard output, with steps on a ledger of their own.
+/// Whether a mode makes its file where it is not there.
+fn makes_file(mode: &str) -> bool {
+    matches!(mode, "create" | "gen" | "load")
+}
+
+/// The file that the second word names, opened by the first call on it; none where a mode has none.
+fn first_file<'a, R: Files>(rt: &'a R, words: &'a [String]) -> FileDevice<'a, R> {
+    if words.len() < 2 || words[0].as_str() == "mem" {
+        return FileDevice::none(rt);
+    }
+    FileDevice::new(rt, words[1].as_str(), makes_file(words[0].as_str()))
+}
+
+/// Serves the words over their file, standard input and standard output, with steps on a ledger of their own.
 fn run<L: Ledger>(blank: Blank, rt: &HostRuntime, words: &[String]) -> u8
     requires name { blank.name ≡ L.name }
     requires parts { blank.parts ≡ L.parts }
@@ -30,7 +44,18 @@ fn run<L: Ledger>(blank: Blank, rt: &HostRuntime, words: &[String]) -> u8
     let mut source = StdSource::new(rt.reader());
     let mut sink = StdSink::new(io::writer(rt));
     let mut steps = Steps::<L>::begin(blank);
-    serve(rt.alloc(), words, &mut source, &mut sink, &mut steps)
+    let first = first_file(rt, words);
+    let second = FileDevice::none(rt);
+    let served = serve(
+        rt.alloc(),
+        words,
+        &mut source,
+        &mut sink,
+        first,
+        second,
+        &mut steps,
+    );
+    served.status
 }
 
 fn main(rt: HostRuntime) -> ExitCode {

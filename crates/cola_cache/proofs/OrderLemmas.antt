@@ -450,3 +450,46 @@ length-used count block blocks absent room =
 pub none-room : (count block : ℕ) (blocks : List ℕ) → length blocks ≤ count → (0 < count → ⊥) → (IsAbsent block blocks → length blocks < count) → ⊥
 none-room count block [] few none room = none (omega (arith, room tt))
 none-room count block (other ∷ others) few none room = none (omega arith)
+
+-- what a buffer holds stays so as another goes to the front
+pub holds-others : (buffer other block : ℕ) (held : Option ℕ) (entries : Buffers) → other ≢ buffer → Holds entries other block → Holds ((buffer, held) ∷ others buffer entries) other block
+holds-others buffer other block held entries apart holds =
+    let no : nat_eq other buffer ≡ false = grind (arith, nat_tests, apart) in
+    ap (λ test. cond test (Some held) (lookup (nat_eq other) (others buffer entries))) no ∙ (lookup-others buffer other entries apart ∙ holds)
+
+-- what a buffer holds stays so as another goes last
+pub holds-before : (buffer other block : ℕ) (entries : Buffers) → Holds entries other block → Holds (entries ++ (buffer, None) ∷ []) other block
+holds-before buffer other block [] holds = cc
+holds-before buffer other block (entry ∷ entries) holds = (elim (nat_eq other entry.0) as (λ test. cond test (Some entry.1) (lookup (nat_eq other) entries) ≡ Some (Some block) → cond test (Some entry.1) (lookup (nat_eq other) (entries ++ (buffer, None) ∷ [])) ≡ Some (Some block)) [
+  | true ↦ λ same. same
+  | false ↦ λ below. holds-before buffer other block entries below
+]) holds
+
+-- a buffer that goes last holds no block
+pub lookup-last : (buffer : ℕ) (entries : Buffers) → IsFree buffer entries → lookup (nat_eq buffer) (entries ++ (buffer, None) ∷ []) ≡ Some None
+lookup-last buffer [] free = let here : nat_eq buffer buffer ≡ true = grind (arith, nat_tests) in ap (λ test. cond test (Some none_held) None) here
+lookup-last buffer (entry ∷ entries) free =
+    let no : nat_eq buffer entry.0 ≡ false = grind (arith, nat_tests, free.0) in
+    ap (λ test. cond test (Some entry.1) (lookup (nat_eq buffer) (entries ++ (buffer, None) ∷ []))) no ∙ lookup-last buffer entries free.1
+
+no-block : (held : Option ℕ) (blocks : List ℕ) → ((block : ℕ) → held ≡ Some block → ⊥) → blocks ≡ with_block held blocks
+no-block None blocks none = refl
+no-block (Some block) blocks none = absurd (none block refl)
+
+-- without a buffer that holds no block as many are held
+pub blocks-free : (buffer : ℕ) (entries : Buffers) → ((block : ℕ) → Holds entries buffer block → ⊥) → blocks_of (others buffer entries) ≡ blocks_of entries
+blocks-free buffer [] none = refl
+blocks-free buffer ((number, held) ∷ entries) none = (elim (nat_eq buffer number) as (λ test. ((block : ℕ) → cond test (Some held) (lookup (nat_eq buffer) entries) ≡ Some (Some block) → ⊥) → blocks_of (cond test entries ((number, held) ∷ others buffer entries)) ≡ with_block held (blocks_of entries)) [
+  | true ↦ λ here. no-block held (blocks_of entries) (λ block is. here block (ap (λ (h : Option ℕ). Some h) is))
+  | false ↦ λ below. ap (with_block held) (blocks-free buffer entries below)
+]) none
+
+-- a buffer that is there, and holds no block
+pub free-is : (found : Option (Option ℕ)) → IsSome found → ((block : ℕ) → found ≡ Some (Some block) → ⊥) → found ≡ Some None
+free-is None some none = absurd (cc)
+free-is (Some None) some none = refl
+free-is (Some (Some block)) some none = absurd (none block refl)
+
+-- it holds none
+pub free-holds : (buffer : ℕ) (entries : Buffers) → lookup (nat_eq buffer) entries ≡ Some None → (block : ℕ) → Holds entries buffer block → ⊥
+free-holds buffer entries free block holds = cc

@@ -1,6 +1,7 @@
 //! A block cache over any device.
 #![tactic(auto)]
 
+mod index;
 mod order;
 #[cfg(test)]
 mod tests;

@@ -6,6 +6,7 @@ ghost use Rattle.std.specs.NonZero.{non_zero_usize_get};
 ghost use Rattle.cola_cache.specs.Order.{blocks_of, Holds, IsAbsent, IsOrder, AreBelow, is_within, outside, without, unheld};
 ghost use Rattle.cola_cache.specs.Cache.{used};
 
+use crate::index::BlockIndex;
 use lru::LruCache;
 use std::alloc::{AllocError, Global};
 use std::marker::Model;
@@ -15,18 +16,22 @@ use std::num::NonZeroUsize;
 #[derive(Drop)]
 pub(crate) struct Order {
     slots: LruCache<u32, Option<u64>>,
+    /// The blocks that the slots hold, to be found by.
+    index: BlockIndex,
     count: u32,
 }
 
 impl Model for Order {
-    ghost use Rattle.std.specs.Prelude.{◌≡◌, length};
+    ghost use Rattle.std.specs.Prelude.{◌≡◌, ◌≤◌, length};
     ghost use Rattle.cola_cache.specs.Order.{Buffers, IsOrder, AreBelow};
+    ghost use Rattle.cola_cache.specs.Index.{IsIndexOf};
 
     ghost Value = { Buffers };
 
     ghost view = { λ o. o.slots.entries };
 
-    ghost invariant = { λ o. IsOrder o.slots.entries × AreBelow o.count o.slots.entries × (length o.slots.entries ≡ o.count) };
+    ghost invariant = { λ o. IsOrder o.slots.entries × AreBelow o.count o.slots.entries × (length o.slots.entries ≡ o.count)
+        × IsIndexOf o.index.entries o.slots.entries × (o.count ≤ o.index.room) };
 }
 
 /// Gives a buffer that is there another block, or none. It comes to the front.
@@ -68,7 +73,12 @@ impl Order {
         for buffer in 0..count {
             slots.put(buffer, None)?;
         }
-        Ok(Order { slots, count })
+        let index = BlockIndex::new(alloc, count)?;
+        Ok(Order {
+            slots,
+            index,
+            count,
+        })
     }
 
     /// How many buffers there are.
@@ -87,14 +97,7 @@ impl Order {
         ensures one { IfSome result (λ buffer. (other : ℕ) → Holds self.now other block → other ≡ buffer) }
         ensures none { result ≡ None → IsAbsent block (blocks_of self.now) }
     {
-        for buffer in 0..self.count {
-            if let Some(Some(held)) = self.slots.peek(&buffer) {
-                if *held == block {
-                    return Some(buffer);
-                }
-            }
-        }
-        None
+        self.index.find(block)
     }
 
     /// Brings the buffer that holds this block to the front.
@@ -119,8 +122,22 @@ impl Order {
         ensures same { (other : ℕ) (held : ℕ) → Holds self.new other held → other ≢ result → Holds self.old other held }
     {
         let last = last_of(&self.slots);
-        place(&mut self.slots, last, Some(block));
+        self.release(last);
+        self.hold(last, block);
         last
+    }
+
+    /// Gives this block, which none holds, to a buffer that holds none, and brings it to the front.
+    fn hold(&mut self, buffer: u32, block: u64)
+        requires free { lookup (nat_eq buffer) self.old ≡ Some None }
+        requires absent { IsAbsent block (blocks_of self.old) }
+        ensures blocks { blocks_of self.new ≡ block ∷ blocks_of self.old }
+        ensures count { length self.new ≡ length self.old }
+        ensures here { (held : ℕ) → Holds self.new buffer held → held ≡ block }
+        ensures same { (other : ℕ) (held : ℕ) → Holds self.new other held → other ≢ buffer → Holds self.old other held }
+    {
+        place(&mut self.slots, buffer, Some(block));
+        self.index.insert(block, buffer);
     }
 
     /// Gives this block up, where it is held.
@@ -163,7 +180,9 @@ impl Order {
     /// Gives up the block of this buffer, where it holds one.
     fn release(&mut self, buffer: u32)
         ensures count { length self.new ≡ length self.old }
+        ensures blocks { blocks_of self.new ≡ blocks_of (remove_entry (nat_eq buffer) self.old) }
         ensures gone { (other : ℕ) (held : ℕ) → Holds self.new other held → Holds self.old other held × (other ≢ buffer) }
+        ensures free { IsSome (lookup (nat_eq buffer) self.old) → lookup (nat_eq buffer) self.new ≡ Some None }
     {
         match self.block_in(buffer) {
             Some(block) => self.empty(buffer, block),
@@ -188,8 +207,11 @@ impl Order {
         ensures blocks { blocks_of self.new ≡ without block (blocks_of self.old) }
         ensures count { length self.new ≡ length self.old }
         ensures same { (other : ℕ) (held : ℕ) → Holds self.new other held → Holds self.old other held × (held ≢ block) }
+        ensures others { blocks_of self.new ≡ blocks_of (remove_entry (nat_eq buffer) self.old) }
+        ensures free { lookup (nat_eq buffer) self.new ≡ Some None }
     {
         place(&mut self.slots, buffer, None);
         self.slots.demote(&buffer);
+        self.index.remove(block);
     }
 }

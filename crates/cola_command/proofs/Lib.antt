@@ -1,3 +1,4 @@
 pub mod PlainLemmas
 pub mod Joined
-pub mod Served
+pub mod Serving
+pub mod NewFiles

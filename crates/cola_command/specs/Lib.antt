@@ -1,3 +1,3 @@
 pub mod Memory
 pub mod Ends
-pub mod Words
+pub mod Serves

@@ -1,10 +1,13 @@
-//! What follows from how a session over a table in memory ends, and its numbers.
-ghost use Rattle.std.specs.Prelude.{◌≡◌, ◌⊎◌, ℕ};
+//! What follows from how a session over a table in memory, or making a file, ends, and the numbers of a session.
+ghost use Rattle.std.specs.Prelude.{◌≡◌, ◌⊎◌, ℕ, length, IsSomeAnd};
+ghost use Rattle.cola_cell.specs.declared.format.Format.{Format};
+ghost use Rattle.cola_outside.specs.Faults.{Rose};
 ghost use Rattle.cola_spec.specs.Lines.{line_limit};
 ghost use Rattle.cola_command.specs.Memory.{input_limit};
-ghost use Rattle.cola_command.specs.Words.{most_keys};
 ghost use Rattle.cola_command.specs.Ends.{Ends, NothingFails};
+ghost use Rattle.cola_command.specs.Serves.{CreateEnds};
 
+use cola_device::Device;
 use cola_io::{Sink, Source};
 
 /// Completeness: over a source that tells fewer than 2^40 bytes, with no fault of the source or the
@@ -13,10 +16,15 @@ pub fn memory_sessions_complete<S: Source, K: Sink>()
     ensures { (keys status steps steps' : ℕ) (source source' : S) (sink sink' : K) → Ends S.Source K.Sink keys source source' sink sink' steps steps' status → NothingFails S.Source K.Sink source source' sink sink' → (status ≡ 0) ⊎ (status ≡ 1) }
 {}
 
-/// The numbers that the contracts of a session name: 2^40 bytes of input, 160 bytes of a line before
-/// its end, and 65536 keys of a table in memory.
+/// Completeness of making a file: on a device that tells that it is empty, with no fault of it, the
+/// status is 0.
+pub fn new_files_complete<D: Device>()
+    ensures { (format : Format) (keys block_exp status : ℕ) (device device' : D) → CreateEnds D.Device format keys block_exp device device' status → IsSomeAnd (D.bytes device) (λ bytes. length bytes ≡ 0) → (Rose (D.counts device).faults (D.counts device').faults → ⊥) → status ≡ 0 }
+{}
+
+/// The numbers that the contracts of a session name: 2^40 bytes of input, and 160 bytes of a line before
+/// its end.
 pub fn session_limits()
     ensures input { input_limit ≡ 1099511627776 }
     ensures line { line_limit ≡ 160 }
-    ensures keys { most_keys ≡ 65536 }
 {}

@@ -4,7 +4,6 @@
 mod laws;
 mod memory;
 mod program;
-mod words;
 
-pub use laws::{memory_sessions_complete, session_limits};
-pub use program::serve;
+pub use laws::{memory_sessions_complete, new_files_complete, session_limits};
+pub use program::{Served, serve};

@@ -1,15 +1,16 @@
 //! Ranges over a hundred chains, against the plain slow program, and over the worked runs.
-ghost use Rattle.std.specs.Prelude.{◌≡◌, ◌<◌, ◌≤◌, length, IfSome, IfOk};
-ghost use Rattle.std.specs.List.{AllByRecursion};
+ghost use Rattle.std.specs.Prelude.{◌≡◌, ◌<◌, ◌≤◌, All, length, IfOk, IfSome};
 ghost use Rattle.cola_cell.specs.declared.format.Format.TheVariants.{One};
 ghost use Rattle.cola_cell.specs.Format.{CellFits, ItemFits, KeyFits, ValueFits};
 ghost use Rattle.cola_cell.specs.Places.{slot_size};
 ghost use Rattle.cola_cell.specs.Flat.{held_of};
 ghost use Rattle.cola_look.specs.Runs.{HasRun};
+ghost use Rattle.cola_cursor.specs.Seeking.{LevelsRise};
 ghost use Rattle.cola_cursor.specs.Standing.{Stands};
 
 use crate::cursor::Cursor;
-use cola_cell::{Cell, CellSource, FlatCells, Item, Key, ReadFault, Run, Value};
+use arrayvec::ArrayVec;
+use cola_cell::{Cell, CellSource, FlatCells, Item, Key, Run, Value};
 use cola_outside::Steps;
 use cola_pairs::plain::live_pairs;
 use cola_runs::plain::cells::{PlainCell, PlainItem, PlainPart};
@@ -95,11 +96,24 @@ fn place(cells: &mut FlatCells, level: u8, list: &List) -> Option<Run>
     })
 }
 
+// A list of these runs, which rise by level.
+fn rising_runs(four: &[Run; 4]) -> ArrayVec<Run, 23>
+    ensures { result.items ≡ four.now }
+{
+    let mut runs = ArrayVec::new();
+    runs.push(four[0]);
+    runs.push(four[1]);
+    runs.push(four[2]);
+    runs.push(four[3]);
+    runs
+}
+
 // Places the lists of levels 0 to 3 and answers their runs.
-fn place_all(rt: &impl Abort, cells: &mut FlatCells, lists: &[List]) -> Option<[Run; 4]>
+fn place_all(rt: &impl Abort, cells: &mut FlatCells, lists: &[List]) -> Option<ArrayVec<Run, 23>>
     requires levels { cells.old.levels ≡ 4 }
     requires four { length lists.now ≡ 4 }
-    ensures { IfSome result (AllByRecursion (HasRun (held_of cells.new))) }
+    ensures runs { IfSome result (λ runs. All (HasRun (held_of cells.new)) runs.items) }
+    ensures rise { IfSome result (λ runs. LevelsRise 0 runs.items) }
 {
     assert!(rt; lists[0].len() <= 4);
     assert!(rt; lists[1].len() <= 8);
@@ -109,7 +123,7 @@ fn place_all(rt: &impl Abort, cells: &mut FlatCells, lists: &[List]) -> Option<[
     let one = place(cells, 1, &lists[1])?;
     let two = place(cells, 2, &lists[2])?;
     let three = place(cells, 3, &lists[3])?;
-    Some([zero, one, two, three])
+    Some(rising_runs(&[zero, one, two, three]))
 }
 
 // A number that looks drawn at random.
@@ -213,7 +227,8 @@ fn gives_from<W: CellSource, L: Ledger>(
     pairs: &[(u8, u8)],
     steps: &mut Steps<L>,
 ) -> Result<(), Fail>
-    requires runs { AllByRecursion (HasRun (W.held work.old)) runs.now.items }
+    requires runs { All (HasRun (W.held work.old)) runs.now.items }
+    requires rise { LevelsRise 0 runs.now.items }
     ensures { W.held work.new ≡ W.held work.old }
 {
     let lo = key_of(low).ok_or("no key")?;
@@ -237,7 +252,8 @@ fn compare<W: CellSource, L: Ledger>(
     high: Option<u8>,
     steps: &mut Steps<L>,
 ) -> Result<(), Fail>
-    requires runs { AllByRecursion (HasRun (W.held work.old)) runs.now.items }
+    requires runs { All (HasRun (W.held work.old)) runs.now.items }
+    requires rise { LevelsRise 0 runs.now.items }
     ensures { W.held work.new ≡ W.held work.old }
 {
     let pairs = live_pairs(alloc, lists, &low, &high)?;
@@ -255,7 +271,8 @@ fn compare_all<W: CellSource, L: Ledger>(
     seed: u8,
     steps: &mut Steps<L>,
 ) -> Result<(), Fail>
-    requires runs { AllByRecursion (HasRun (W.held work.old)) runs.now.items }
+    requires runs { All (HasRun (W.held work.old)) runs.now.items }
+    requires rise { LevelsRise 0 runs.now.items }
 {
     let below = seed % 14;
     let above = 2 * (seed / 14 % 7);

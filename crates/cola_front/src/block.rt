@@ -9,8 +9,8 @@ ghost use Rattle.cola_front.specs.Front.{cell_bytes, stored, stored_all, ComesBa
 
 use cola_cell::{Cell, Format, Item, decode, decode_wide, encode, encode_wide};
 
-/// The cell at a place of a block, or none where its bytes spell none.
-pub(crate) fn cell_in(format: Format, block: &[u8], place: usize) -> Option<Cell>
+/// The cell at a place of a block, which is counted in cells, or none where its bytes spell none.
+pub fn cell_in(format: Format, block: &[u8], place: usize) -> Option<Cell>
     requires { width format * place + width format ≤ length block.now }
     ensures { result ≡ decoded format (cell_bytes format block.now place) }
 {
@@ -58,8 +58,8 @@ fn spelled_wide(cell: &Option<Cell>) -> [u8; 128]
     }
 }
 
-/// Puts the bytes of a place into a block.
-pub(crate) fn put_cell(format: Format, block: &mut [u8], place: usize, cell: &Option<Cell>)
+/// Puts the bytes of a place into a block, which is counted in cells: zeros where no cell stands.
+pub fn put_cell(format: Format, block: &mut [u8], place: usize, cell: &Option<Cell>)
     requires inside { width format * place + width format ≤ length block.old }
     requires comes_back { ComesBack format cell.now }
     ensures { block.new ≡ splice block.old (width format * place) (stored format cell.now) }

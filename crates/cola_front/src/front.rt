@@ -1,5 +1,5 @@
 //! The front of a store: its blocks 0 and 1 in memory.
-ghost use Rattle.std.specs.Prelude.{◌≡◌, ◌⊎◌, ℕ, ◌+◌, ◌*◌, ◌^◌, ◌≤◌, ◌<◌, Option, None, Some, IfOk, IfSome, OnOk, OnErr, slice_set, length, take, drop, replicate, ◌++◌};
+ghost use Rattle.std.specs.Prelude.{◌≡◌, ◌⊎◌, ℕ, ◌+◌, ◌-◌, ◌*◌, ◌^◌, ◌≤◌, ◌<◌, Option, None, Some, IfOk, IfSome, OnOk, OnErr, slice_set, length, take, drop, replicate, ◌++◌};
 ghost use Rattle.cola_outside.specs.Told.{Both};
 ghost use Rattle.cola_cell.specs.Format.{CellFits};
 ghost use Rattle.cola_cell.specs.Decoded.{decoded};
@@ -87,6 +87,47 @@ impl Front {
         self.format.width() * self.block
     }
 
+    /// Takes the places from `from` on that lie in the block which begins at the place `first`.
+    fn take(&mut self, block: &[u8], first: usize, from: usize)
+        requires begin { first ≤ from }
+        requires behind { 8 ≤ from }
+        requires number { first ≡ 0 ⊎ first ≡ self.old.block }
+        requires end { from ≤ first + self.old.block }
+        requires whole { length block.now ≡ block_size self.old }
+        ensures taken { (place : ℕ) → from ≤ place → place < first + self.old.block → cell_at self.new place ≡ decoded self.old.format (cell_bytes self.old.format block.now (place - first)) }
+        ensures below { (place : ℕ) → place < from → cell_at self.new place ≡ cell_at self.old place }
+        ensures above { (place : ℕ) → first + self.old.block ≤ place → cell_at self.new place ≡ cell_at self.old place }
+        ensures shape { SameShape self.old self.new }
+        ensures whole { length block.now ≡ block_size self.old }
+    {
+        let to = first + self.block;
+        take_cells(self.format, &mut self.cells, block, first, from, to);
+    }
+
+    /// Gives the places behind the header what the bytes of block 0 spell.
+    pub fn take_first(&mut self, block: &[u8])
+        requires whole { length block.now ≡ block_size self.old }
+        ensures taken { (place : ℕ) → 8 ≤ place → place < self.old.block → cell_at self.new place ≡ decoded self.old.format (cell_bytes self.old.format block.now place) }
+        ensures above { (place : ℕ) → self.old.block ≤ place → cell_at self.new place ≡ cell_at self.old place }
+        ensures shape { SameShape self.old self.new }
+    {
+        // It says that a block has the header's eight cells at least.
+        let _ = self.block_bytes();
+        self.take(block, 0, 8);
+    }
+
+    /// Gives the places of block 1 what its bytes spell.
+    pub fn take_second(&mut self, block: &[u8])
+        requires whole { length block.now ≡ block_size self.old }
+        ensures taken { (place : ℕ) → self.old.block ≤ place → place < 2 * self.old.block → cell_at self.new place ≡ decoded self.old.format (cell_bytes self.old.format block.now (place - self.old.block)) }
+        ensures below { (place : ℕ) → place < self.old.block → cell_at self.new place ≡ cell_at self.old place }
+        ensures shape { SameShape self.old self.new }
+    {
+        let _ = self.block_bytes();
+        let second = self.block;
+        self.take(block, second, second);
+    }
+
     /// Reads one of the two blocks, and takes the places from `from` on that lie in it.
     fn load_block<D: Device>(
         &mut self,
@@ -109,12 +150,11 @@ impl Front {
     {
         let size = self.block_bytes();
         let at = self.format.width() * first;
-        let to = first + self.block;
         let mut room = [0u8; MAX_TRANSFER];
         let block = &mut room[..size];
         match device.read(at as u64, block) {
             Ok(()) => {
-                take_cells(self.format, &mut self.cells, block, first, from, to);
+                self.take(block, first, from);
                 Ok(())
             }
             Err(fault) => Err(fault),
@@ -166,8 +206,8 @@ impl Front {
         self.cells[place as usize] = Some(*cell);
     }
 
-    /// Fills a block with the bytes of block 1.
-    fn put_second(&self, block: &mut [u8])
+    /// Fills a block with the bytes of block 1. Places without a cell are zeros.
+    pub fn put_second(&self, block: &mut [u8])
         requires { length block.old ≡ block_size self.now }
         ensures put { block.new ≡ second_block self.now }
         ensures many { length block.new ≡ block_size self.now }
@@ -176,8 +216,8 @@ impl Front {
         put_cells(self.format, block, &self.cells, self.block, self.block);
     }
 
-    /// Fills a block with the bytes of block 0: the header, and what stands behind it.
-    fn put_first(&self, header: &[u8; 512], block: &mut [u8])
+    /// Fills a block with the bytes of block 0: the header, zeros up to cell 8, and what stands behind it.
+    pub fn put_first(&self, header: &[u8; 512], block: &mut [u8])
         requires { length block.old ≡ block_size self.now }
         ensures put { block.new ≡ header.now ++ drop 512 (stored_all self.now.format (take self.now.block self.now.cells)) }
         ensures many { length block.new ≡ block_size self.now }

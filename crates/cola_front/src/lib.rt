@@ -1,7 +1,7 @@
 //! Blocks 0 and 1 of a store in memory: the cells behind the header, which are read and written without the device.
 #![tactic(auto)]
 
-mod block;
+pub mod block;
 mod front;
 pub mod laws;
 #[cfg(test)]

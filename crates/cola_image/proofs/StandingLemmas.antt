@@ -1,13 +1,12 @@
 -- When levels and files stand for a map.
-use Rattle.std.proofs.Common.{◌≡◌, ℕ, zero, suc, ◌+◌, ◌*◌, ◌^◌, ◌≤◌, ◌<◌, true, List, [], ◌∷◌, length, take, map, replicate, Option, Some, None, option_map, refl, sym, ap, subst, ◌∙◌, arith}
+use Rattle.std.proofs.Common.{◌≡◌, ℕ, zero, suc, ◌+◌, ◌*◌, ◌^◌, ◌≤◌, true, List, [], ◌∷◌, length, take, replicate, Option, Some, None, option_map, refl, sym, ap, subst, ◌∙◌, arith}
 use Rattle.std.specs.FinMap as finite
-use Rattle.std.specs.FinMap.{FinMap, same_map}
+use Rattle.std.specs.FinMap.{same_map}
 use Rattle.std.specs.Cmp.Lexicographic.{nat_list_cmp_total}
 use Rattle.std.proofs.Math.Path.{fun_ext}
 use Rattle.std.proofs.lemmas.Option.{same_Some}
 use Rattle.cola_cell.specs.Format.{width}
 use Rattle.cola_cell.specs.Held.{Stamped, Spots}
-use Rattle.cola_clock.specs.Clock.{visible_slot}
 use Rattle.cola_clock.specs.Marks.{Marks}
 use Rattle.cola_laws.specs.Chain.{Level, visibles, value_at}
 use Rattle.cola_laws.specs.Plain.{empty_level, empty_levels, IsSoundChain}
@@ -16,7 +15,7 @@ use Rattle.cola_laws.proofs.Empty.{empty-sound}
 use Rattle.cola_layout.specs.Header.{Fields, IsSpelling}
 use Rattle.cola_layout.specs.Marks as layout
 use Rattle.cola_layout.proofs.Refusing.{spelling-one}
-use Rattle.cola_spec.specs.Map.{Map, Stored, IsMap, key_cmp, count, empty_map}
+use Rattle.cola_spec.specs.Map.{Map, Stored, key_cmp, count, empty_map}
 use Rattle.cola_spec.proofs.Entries.{same_key}
 use Rattle.cola_spec.proofs.MapLaws.{empty_is_map}
 use Rattle.cola_table.specs.Stamps.{stamped_of, stored_of}

@@ -9,7 +9,7 @@ use Rattle.cola_laws.specs.Plain.{IsSoundChain}
 use Rattle.cola_laws.specs.Slots.{levels_of}
 use Rattle.cola_layout.specs.Header.{Fields, IsSpelling}
 use Rattle.cola_layout.specs.Marks.{all_numbers}
-use Rattle.cola_spec.specs.Map.{Map, Stored, IsMap, key_cmp, count}
+use Rattle.cola_spec.specs.Map.{Map, IsMap, key_cmp, count}
 use Rattle.cola_table.specs.Stamps.{stamped_of}
 use Rattle.cola_table.specs.Terms.{shape_of}
 use Rattle.cola_told.specs.Cells.{AreTold}

@@ -6,10 +6,12 @@ ghost use Rattle.cola_cell.specs.Held.{Spots};
 ghost use Rattle.cola_clock.specs.Marks.{Marks};
 ghost use Rattle.cola_layout.specs.Geometry.{IsBottom};
 ghost use Rattle.cola_layout.specs.Header.{Fields, IsSpelling};
-ghost use Rattle.cola_layout.specs.Marks.{no_marks};
+ghost use Rattle.cola_layout.specs.Marks.{all_numbers, no_marks};
 ghost use Rattle.cola_spec.specs.Bounds.{levels_of};
 ghost use Rattle.cola_spec.specs.Map.{Map, empty_map};
-ghost use Rattle.cola_image.specs.Standing.{AreRunsAlike, LevelsStandFor, HeaderStandsFor, FileStandsFor};
+ghost use Rattle.cola_image.specs.Cells.{file_spots};
+ghost use Rattle.cola_image.specs.Standing.{AreRunsAlike, AreRunsTold, LevelsStandFor, HeaderStandsFor, FileStandsFor};
+ghost use Rattle.cola_image.specs.Worked.{puts_to, map_after, file_of_four, file_of_eight, file_of_eleven, file_of_sixteen, crowded_file, crowded_header};
 
 /// A file stands for one map at most.
 pub fn one_map_of_a_file()
@@ -35,4 +37,22 @@ pub fn empty_file_stands()
 /// accesses are counted are those of its file.
 pub fn levels_are_counted()
     ensures { (keys bottom : ℕ) → IsBottom keys bottom → levels_of keys ≡ bottom + 1 }
+{}
+
+/// Worked files, byte by byte, of a store for 32 keys: after four, eight, eleven and sixteen puts, of the keys k01 and so on
+/// with the values 1 and so on, each stands for the map after these puts.
+pub fn worked_files_stand()
+    ensures four { FileStandsFor file_of_four (map_after (puts_to 4)) }
+    ensures eight { FileStandsFor file_of_eight (map_after (puts_to 8)) }
+    ensures eleven { FileStandsFor file_of_eleven (map_after (puts_to 11)) }
+    ensures sixteen { FileStandsFor file_of_sixteen (map_after (puts_to 16)) }
+{}
+
+/// A worked file that stands for no map, though its first 512 bytes spell the header of a closed file, and it is as long
+/// as that says: its level 0 is full of old items at clock 0.
+pub fn full_top_stands_for_nothing()
+    ensures spelled { IsSpelling crowded_header (take 512 crowded_file) }
+    ensures whole { width crowded_header.format * 2 ^ (crowded_header.bottom + 4) ≤ length crowded_file }
+    ensures told { AreRunsTold (file_spots crowded_header.format crowded_file) crowded_header.clock 0 (all_numbers crowded_header.levels) }
+    ensures none { (m : Map) → ¬ FileStandsFor crowded_file m }
 {}

@@ -2,7 +2,8 @@
 ghost use Rattle.std.specs.Prelude.{◌≡◌, ◌<◌, None};
 
 use super::made_lines;
-use cola_command::serve;
+use cola_command::{Served, serve};
+use cola_device::MemoryDevice;
 use cola_io::{MemorySink, MemorySource, Sink, Source, SourceFault};
 use cola_outside::Steps;
 use cola_plain::session::mem_session;
@@ -59,18 +60,37 @@ fn run_on<S: Source, K: Sink, L: Ledger>(
     words: &[String],
     source: &mut S,
     sink: &mut K,
-) -> u8
+    device: MemoryDevice,
+) -> Served<MemoryDevice>
     requires name { blank.name ≡ L.name }
     requires parts { blank.parts ≡ L.parts }
     requires some { 0 < L.parts }
 {
     let mut steps = Steps::<L>::begin(blank);
-    serve(alloc, words, source, sink, &mut steps)
+    let second = MemoryDevice::holding(Vec::new(alloc), Vec::new(alloc));
+    serve(alloc, words, source, sink, device, second, &mut steps)
 }
 
 /// A session with steps of its own.
-fn run<S: Source, K: Sink>(alloc: Global, words: &[String], source: &mut S, sink: &mut K) -> u8 {
-    run_on::<S, K, Brand>(Blank::new(1), alloc, words, source, sink)
+fn run<S: Source, K: Sink>(
+    alloc: Global,
+    words: &[String],
+    source: &mut S,
+    sink: &mut K,
+    device: MemoryDevice,
+) -> Served<MemoryDevice> {
+    run_on::<S, K, Brand>(Blank::new(1), alloc, words, source, sink, device)
+}
+
+/// The status of a session, which calls no device.
+fn run_in_memory<S: Source, K: Sink>(
+    alloc: Global,
+    words: &[String],
+    source: &mut S,
+    sink: &mut K,
+) -> u8 {
+    let device = MemoryDevice::holding(Vec::new(alloc), Vec::new(alloc));
+    run(alloc, words, source, sink, device).status
 }
 
 /// The output and the status of a session over a table for so many keys.
@@ -84,7 +104,7 @@ fn session(
     let words = words(alloc, "mem", keys)?;
     let mut source = memory_source(alloc, text, source_fails)?;
     let mut sink = MemorySink::new(alloc, 8192, Vec::from_slice(alloc, sink_fails)?)?;
-    let status = run(alloc, words.as_slice(), &mut source, &mut sink);
+    let status = run_in_memory(alloc, words.as_slice(), &mut source, &mut sink);
     Ok((Vec::from_slice(alloc, sink.bytes())?, status))
 }
 
@@ -181,7 +201,7 @@ fn made_sessions(rt: HostRuntime) -> Result<(), Fail> {
             piece,
         };
         let mut sink = MemorySink::new(alloc, 8192, Vec::new(alloc))?;
-        let status = run(
+        let status = run_in_memory(
             alloc,
             words(alloc, "mem", "8")?.as_slice(),
             &mut source,
@@ -244,5 +264,66 @@ fn many_lines(rt: HostRuntime) -> Result<(), Fail> {
         text.as_slice(),
         b"bad\ncount 0\n".as_slice(),
     )?;
+    Ok(())
+}
+
+/// The words of a text, between single spaces, served over a device with an input that no new file
+/// reads: the status and the device.
+fn without_input(
+    rt: &impl Abort,
+    alloc: Global,
+    text: &str,
+    device: MemoryDevice,
+) -> Result<(u8, MemoryDevice), AllocError> {
+    let mut words = Vec::new(alloc);
+    for word in text.split(' ') {
+        words.push(String::from_str(alloc, word)?)?;
+    }
+    let mut source = memory_source(alloc, b"count\n".as_slice(), &[])?;
+    let mut sink = MemorySink::new(alloc, 64, Vec::new(alloc))?;
+    let served = run(alloc, words.as_slice(), &mut source, &mut sink, device);
+    assert!(rt; source.calls == 0);
+    assert!(rt; sink.bytes().is_empty());
+    Ok((served.status, served.device))
+}
+
+#[test]
+fn new_files(rt: HostRuntime) -> Result<(), Fail> {
+    let alloc = rt.alloc();
+    let rows: [(&str, u8, usize); 10] = [
+        ("create F --keys 1", 0, 8192),
+        ("create F --keys 33", 0, 16384),
+        ("create F --version 2 --block 6 --keys 33", 0, 32768),
+        ("create F --keys 0", 2, 0),
+        ("create F --keys 16777217", 2, 0),
+        ("create F --keys 32 --block 6", 2, 0),
+        ("create F --keys=32", 2, 0),
+        ("create F --keys 32 --keys 32", 2, 0),
+        ("create F", 2, 0),
+        ("", 2, 0),
+    ];
+    for (text, status, size) in rows {
+        let device = MemoryDevice::new(alloc, 32768, Vec::new(alloc))?;
+        let (ended, device) = without_input(&rt, alloc, text, device)?;
+        assert!(rt; ended == status);
+        assert!(rt; device.as_bytes().len() == size);
+        assert!(rt; (device.calls() == 0) == (status == 2));
+    }
+    Ok(())
+}
+
+#[test]
+fn files_that_are_not_made(rt: HostRuntime) -> Result<(), Fail> {
+    let alloc = rt.alloc();
+    for call in 1..5 {
+        let device = MemoryDevice::new(alloc, 8192, vec![in alloc; call]?)?;
+        let (ended, device) = without_input(&rt, alloc, "create F --keys 1", device)?;
+        assert!(rt; ended == 5);
+        assert!(rt; device.calls() == call);
+    }
+    let device = MemoryDevice::holding(b"x".to_vec(alloc)?, Vec::new(alloc));
+    let (ended, device) = without_input(&rt, alloc, "create F --keys 1", device)?;
+    assert!(rt; ended == 8);
+    assert!(rt; device.as_bytes() == b"x".as_slice());
     Ok(())
 }

@@ -1,12 +1,12 @@
 -- The limit of a block, and the lowest level of a store.
-use Rattle.std.proofs.Common.{◌≡◌, ℕ, ◌+◌, ◌^◌, ◌<◌, ◌≤◌, min, Some, None, inl, inr, arith}
+use Rattle.std.proofs.Common.{◌≡◌, ◌∙◌, sym, ℕ, ◌+◌, ◌^◌, ◌<◌, ◌≤◌, min, Some, None, inl, inr, arith}
 use Rattle.std.proofs.lemmas.Bool.{cases_lt}
 use Rattle.std.proofs.lemmas.Bool.Decides.{nat_tests}
 use Rattle.std.proofs.Math.Pow.{pow_mono}
 use Rattle.cola_layout.specs.Geometry.{IsBottom, AreKeys, IsBlock, Refuses}
 use Rattle.cola_layout.specs.declared.fault.LayoutFault.{LayoutFault}
 use Rattle.cola_layout.specs.declared.fault.LayoutFault.TheVariants.{Keys, Block}
-use Rattle.cola_words.specs.Sizes.{block_limit, block_exp_for}
+use Rattle.cola_words.specs.Sizes.{SuitStore, block_limit, block_exp_for}
 
 limit_5 : (keys : ℕ) → keys ≤ 32 → block_limit keys ≡ 5
 limit_5 keys most = grind (arith, nat_tests)
@@ -78,3 +78,10 @@ sizes_refused keys block Block (are, (bottom, is, inr large)) =
     let limit = limit_of_levels keys bottom is in
     let above : block_limit keys < block = omega (arith, limit) in
     grind (arith, nat_tests)
+
+-- nothing speaks against sizes that a geometry has
+pub suit_store : (keys block bottom : ℕ) → AreKeys keys → IsBottom keys bottom → IsBlock block bottom → SuitStore keys block
+suit_store keys block bottom are is fits fault refused = absurd (differ (sizes_suit keys block bottom are is fits ∙ sym (sizes_refused keys block fault refused)))
+  where
+    differ : Some block ≡ None → ⊥
+    differ e = cc

@@ -1,12 +1,12 @@
 -- The modes that the words of the command line name. A word is the list of its bytes.
-use Rattle.std.specs.Prelude.{ℕ, nat_le, ◌&&◌, Bool, not, if◌then◌else◌, List, [], ◌∷◌, Option, Some, None, bytes_eq, codes}
+use Rattle.std.specs.Prelude.{ℕ, nat_le, ◌&&◌, Bool, not, if◌then◌else◌, List, [], ◌∷◌, Option, Some, None, bytes_eq, codes, ⊤}
 use Rattle.std.specs.Option.{option_map, option_and_then, is_some, unwrap_or}
 use Rattle.cola_words.specs.declared.options.Options.{Options}
 use Rattle.cola_words.specs.declared.options.NewFile.{NewFile}
 use Rattle.cola_words.specs.declared.mode.Mode.{Mode}
 use Rattle.cola_words.specs.declared.mode.Mode.TheVariants.{Mem, Create, Run, Gen, Upgrade, Check, Load, Grow, Rebuild}
 use Rattle.cola_words.specs.Options.{is_path, number_in, options_in}
-use Rattle.cola_words.specs.Sizes.{new_file_of}
+use Rattle.cola_words.specs.Sizes.{SuitStore, new_file_of}
 
 -- the words behind one that names a file
 abbrev pub behind_path : List (List ℕ) → Option (List (List ℕ))
@@ -101,3 +101,15 @@ named first words =
 abbrev pub mode_of : List (List ℕ) → Option Mode
 mode_of [] = None
 mode_of (first ∷ words) = named first words
+
+-- where a mode makes a file, there is a store of its sizes
+abbrev pub HasSizes : Mode → Type 0
+HasSizes (Create keys block_exp format) = SuitStore keys block_exp
+HasSizes (Load keys block_exp format) = SuitStore keys block_exp
+HasSizes (Grow keys block_exp) = SuitStore keys block_exp
+HasSizes (Gen keys) = SuitStore keys 5
+HasSizes (Mem keys) = ⊤
+HasSizes (Run cache cost mirror) = ⊤
+HasSizes Upgrade = ⊤
+HasSizes Check = ⊤
+HasSizes Rebuild = ⊤

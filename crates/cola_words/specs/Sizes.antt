@@ -3,6 +3,8 @@ use Rattle.std.specs.Prelude.{ℕ, nat_eq, nat_le, nat_lt, ◌^◌, ◌&&◌, Bo
 use Rattle.std.specs.Option.{option_map, option_and_then, is_some, unwrap_or}
 use Rattle.cola_cell.specs.declared.format.Format.{Format}
 use Rattle.cola_cell.specs.declared.format.Format.TheVariants.{One, Two}
+use Rattle.cola_layout.specs.declared.fault.LayoutFault.{LayoutFault}
+use Rattle.cola_layout.specs.Geometry.{Refuses}
 use Rattle.cola_words.specs.declared.options.Options.{Options}
 use Rattle.cola_words.specs.declared.options.NewFile.{NewFile}
 
@@ -18,6 +20,10 @@ block_limit keys =
 -- a file may be for so many keys, with blocks of 2^block cells
 abbrev pub are_sizes : ℕ → ℕ → Bool
 are_sizes keys block = nat_le 1 keys && nat_le keys (2 ^ 24) && (nat_le 3 block && nat_le block (block_limit keys))
+
+-- there is a store for so many keys with such blocks: nothing speaks against its geometry
+abbrev pub SuitStore : ℕ → ℕ → Type 0
+SuitStore keys block = (fault : LayoutFault) → Refuses keys block fault → ⊥
 
 -- the exponent of a block in a store for so many keys, where it suits them
 abbrev pub block_exp_for : ℕ → ℕ → Option ℕ

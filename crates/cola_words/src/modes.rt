@@ -1,6 +1,7 @@
 //! The mode that the words of the command line name.
-ghost use Rattle.std.specs.Prelude.{◌≡◌, map, string_bytes};
+ghost use Rattle.std.specs.Prelude.{◌≡◌, map, string_bytes, IfSome};
 ghost use Rattle.cola_words.specs.Modes as spec;
+ghost use Rattle.cola_words.specs.Modes.{HasSizes};
 
 use crate::given::read_options;
 use crate::mode::Mode;
@@ -10,13 +11,16 @@ use crate::words::{behind_path, number};
 
 /// The mode, where there are no more words.
 fn ended(mode: Mode, words: &[String]) -> Option<Mode>
-    ensures { result ≡ spec.ended mode (map string_bytes words.now) }
+    requires { HasSizes mode }
+    ensures value { result ≡ spec.ended mode (map string_bytes words.now) }
+    ensures sizes { IfSome result HasSizes }
 {
     if words.is_empty() { Some(mode) } else { None }
 }
 
 fn mem(words: &[String]) -> Option<Mode>
-    ensures { result ≡ spec.mem_of (map string_bytes words.now) }
+    ensures value { result ≡ spec.mem_of (map string_bytes words.now) }
+    ensures sizes { IfSome result HasSizes }
 {
     if words.len() != 1 {
         return None;
@@ -29,7 +33,8 @@ fn mem(words: &[String]) -> Option<Mode>
 }
 
 fn create(words: &[String]) -> Option<Mode>
-    ensures { result ≡ spec.create_of (map string_bytes words.now) }
+    ensures value { result ≡ spec.create_of (map string_bytes words.now) }
+    ensures sizes { IfSome result HasSizes }
 {
     let rest = behind_path(words)?;
     let options = read_options(rest, 2)?;
@@ -42,7 +47,8 @@ fn create(words: &[String]) -> Option<Mode>
 }
 
 fn load(words: &[String]) -> Option<Mode>
-    ensures { result ≡ spec.load_of (map string_bytes words.now) }
+    ensures value { result ≡ spec.load_of (map string_bytes words.now) }
+    ensures sizes { IfSome result HasSizes }
 {
     let rest = behind_path(words)?;
     let options = read_options(rest, 2)?;
@@ -56,7 +62,8 @@ fn load(words: &[String]) -> Option<Mode>
 
 /// A session with its options.
 fn run_with(options: &Options) -> Option<Mode>
-    ensures { result ≡ spec.run_with options.now }
+    ensures value { result ≡ spec.run_with options.now }
+    ensures sizes { IfSome result HasSizes }
 {
     if options.keys.is_some() || options.block.is_some() || options.version.is_some() {
         return None;
@@ -73,7 +80,8 @@ fn run_with(options: &Options) -> Option<Mode>
 }
 
 fn run(words: &[String]) -> Option<Mode>
-    ensures { result ≡ spec.run_of (map string_bytes words.now) }
+    ensures value { result ≡ spec.run_of (map string_bytes words.now) }
+    ensures sizes { IfSome result HasSizes }
 {
     let rest = behind_path(words)?;
     let options = read_options(rest, 2)?;
@@ -82,7 +90,8 @@ fn run(words: &[String]) -> Option<Mode>
 
 /// The stated workload with its options: neither the block nor the version can be chosen.
 fn gen_with(options: &Options) -> Option<Mode>
-    ensures { result ≡ spec.gen_with options.now }
+    ensures value { result ≡ spec.gen_with options.now }
+    ensures sizes { IfSome result HasSizes }
 {
     if options.block.is_some() || options.version.is_some() {
         return None;
@@ -94,7 +103,8 @@ fn gen_with(options: &Options) -> Option<Mode>
 }
 
 fn generate(words: &[String]) -> Option<Mode>
-    ensures { result ≡ spec.gen_of (map string_bytes words.now) }
+    ensures value { result ≡ spec.gen_of (map string_bytes words.now) }
+    ensures sizes { IfSome result HasSizes }
 {
     let rest = behind_path(words)?;
     let options = read_options(rest, 2)?;
@@ -103,7 +113,8 @@ fn generate(words: &[String]) -> Option<Mode>
 
 /// A copy with its options: the version is that of the file, and cannot be chosen.
 fn grow_with(options: &Options) -> Option<Mode>
-    ensures { result ≡ spec.grow_with options.now }
+    ensures value { result ≡ spec.grow_with options.now }
+    ensures sizes { IfSome result HasSizes }
 {
     if options.version.is_some() {
         return None;
@@ -116,7 +127,8 @@ fn grow_with(options: &Options) -> Option<Mode>
 }
 
 fn grow(words: &[String]) -> Option<Mode>
-    ensures { result ≡ spec.grow_of (map string_bytes words.now) }
+    ensures value { result ≡ spec.grow_of (map string_bytes words.now) }
+    ensures sizes { IfSome result HasSizes }
 {
     let rest = behind_path(behind_path(words)?)?;
     let options = read_options(rest, 3)?;
@@ -124,7 +136,8 @@ fn grow(words: &[String]) -> Option<Mode>
 }
 
 fn check(words: &[String]) -> Option<Mode>
-    ensures { result ≡ spec.check_of (map string_bytes words.now) }
+    ensures value { result ≡ spec.check_of (map string_bytes words.now) }
+    ensures sizes { IfSome result HasSizes }
 {
     let rest = behind_path(words)?;
     ended(Mode::Check, rest)
@@ -132,7 +145,9 @@ fn check(words: &[String]) -> Option<Mode>
 
 /// A mode of two files with no options.
 fn two_files(mode: Mode, words: &[String]) -> Option<Mode>
-    ensures { result ≡ spec.two_files mode (map string_bytes words.now) }
+    requires { HasSizes mode }
+    ensures value { result ≡ spec.two_files mode (map string_bytes words.now) }
+    ensures sizes { IfSome result HasSizes }
 {
     let rest = behind_path(behind_path(words)?)?;
     ended(mode, rest)
@@ -140,7 +155,8 @@ fn two_files(mode: Mode, words: &[String]) -> Option<Mode>
 
 /// The mode of a first word and the words behind it.
 fn named(first: &[u8], words: &[String]) -> Option<Mode>
-    ensures { result ≡ spec.named first.now (map string_bytes words.now) }
+    ensures value { result ≡ spec.named first.now (map string_bytes words.now) }
+    ensures sizes { IfSome result HasSizes }
 {
     if first == b"mem".as_slice() {
         return mem(words);
@@ -183,7 +199,8 @@ fn named(first: &[u8], words: &[String]) -> Option<Mode>
 /// `--version`, and `gen` wants `--keys` alone. `run` takes `--cache`, from 0 to 4096, else 0, `--cost`
 /// and `--mirror`.
 pub fn read_words(words: &[String]) -> Option<Mode>
-    ensures { result ≡ spec.mode_of (map string_bytes words.now) }
+    ensures value { result ≡ spec.mode_of (map string_bytes words.now) }
+    ensures sizes { IfSome result HasSizes }
 {
     let (first, rest) = words.split_first()?;
     named(first.as_bytes(), rest)

@@ -3,7 +3,7 @@ use Rattle.cola_io.specs.Streams.{Appended}
 use Rattle.cola_io.specs.Reading.{fresh}
 use Rattle.cola_io.specs.Reads.{bytes_read}
 use Rattle.cola_command.specs.Memory.{state_of, line_read, replies_to, state_after, lines_bound, StepsWithin, input_limit}
-use Rattle.cola_command.proofs.Served.{Served, served_none, served_line, ends_whole, ends_by_source, ends_spent, ends_by_sink, holds_line, line_no_fault, line_faults, fewer_left, begun}
+use Rattle.cola_command.proofs.Serving.{Served, served_none, served_line, ends_whole, ends_by_source, ends_spent, ends_by_sink, holds_line, line_no_fault, line_faults, fewer_left, begun}
 use Rattle.cola_command.proofs.program.serve_lines.Goals as goal
 
 pub lines-init : goal.lines-init

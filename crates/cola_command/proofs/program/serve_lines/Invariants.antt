@@ -2,7 +2,7 @@ use Rattle.std.proofs.Common.{◌≡◌, ◌+◌, List, length}
 use Rattle.cola_io.specs.Reads.{Read}
 use Rattle.cola_spec.specs.Lines.{Line}
 use Rattle.cola_command.specs.Memory.{state_of}
-use Rattle.cola_command.proofs.Served.{Served}
+use Rattle.cola_command.proofs.Serving.{Served}
 use Rattle.cola_command.proofs.program.serve_lines.Given as goal
 
 abbrev pub invariant-lines : goal.invariant-lines

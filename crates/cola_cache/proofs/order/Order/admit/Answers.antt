@@ -1,36 +1,30 @@
-use Rattle.std.proofs.Common.{◌≡◌, ◌<◌, length, Some, refl, ◌∙◌, arith}
+use Rattle.std.proofs.Common.{◌<◌, ◌∷◌, ℕ, List, nat_eq, length, refl, sym, ◌∙◌, ap, subst, arith}
+use Rattle.std.specs.Prelude.{IsSome}
+use Rattle.std.specs.Map.{lookup}
 use Rattle.cola_cache.specs.Order.{IsAbsent, blocks_of}
-use Rattle.cola_cache.proofs.OrderLemmas.{others, below-placed, length-placed, last-is, lookup-evicted, order-admitted, blocks-admitted, holds-placed, holds-front, below-lookup}
+use Rattle.cola_cache.proofs.OrderLemmas.{absent-others, last-is, lookup-evicted, blocks-admitted, below-lookup}
 use Rattle.cola_cache.proofs.order.Order.admit.Goals as goal
 
-pub place-requires : goal.place-requires
-place-requires c =
+pub hold-requires-clause-free : goal.hold-requires-clause-free
+hold-requires-clause-free c =
     let last = last-is c.self.inside.slots.entries c.last_of-last.result c.last_of-last.ensures in
-    let there = lookup-evicted c.last_of-last.result last.0 c.self.inside.slots.entries c.self.invariant.0 last.1 in rw there refl
+    let there : IsSome (lookup (nat_eq c.last_of-last.result) c.self.inside.slots.entries) = rw (lookup-evicted c.last_of-last.result last.0 c.self.inside.slots.entries c.self.invariant.0 last.1) refl in
+    c.release.ensures.free (rw (← c.self.view_is) there)
 
-pub invariant_of-self : goal.invariant_of-self
-invariant_of-self c =
-    let last = last-is c.self.inside.slots.entries c.last_of-last.result c.last_of-last.ensures in
-    let there = lookup-evicted c.last_of-last.result last.0 c.self.inside.slots.entries c.self.invariant.0 last.1 in
-    let absent : IsAbsent c.args.block (blocks_of c.self.inside.slots.entries) = rw c.self.view_is c.requires.absent in
-    rw c.place.ensures (
-      order-admitted c.last_of-last.result c.args.block c.self.inside.slots.entries c.self.invariant.0 absent,
-      below-placed c.last_of-last.result c.self.inside.count last.0 (Some c.args.block) c.self.inside.slots.entries there c.self.invariant.1,
-      length-placed c.last_of-last.result last.0 (Some c.args.block) c.self.inside.slots.entries there ∙ c.self.invariant.2,
-    )
+pub hold-requires-clause-absent : goal.hold-requires-clause-absent
+hold-requires-clause-absent c =
+    subst (λ (blocks : List ℕ). IsAbsent c.args.block blocks) (sym c.release.ensures.blocks) (absent-others c.last_of-last.result c.args.block c.args.self.now c.requires.absent)
 
 pub returns-clause-blocks : goal.returns-clause-blocks
 returns-clause-blocks c =
     let last = last-is c.self.inside.slots.entries c.last_of-last.result c.last_of-last.ensures in
     let absent : IsAbsent c.args.block (blocks_of c.self.inside.slots.entries) = rw c.self.view_is c.requires.absent in
     let some : 0 < length c.self.inside.slots.entries = rw c.self.view_is c.requires.some in
-    rw (c.place.ensures, ← c.self.view_is) (blocks-admitted c.last_of-last.result c.args.block last.0 c.self.inside.slots.entries c.self.invariant.0 absent last.1 some)
+    c.hold.ensures.blocks ∙ (ap (λ (blocks : List ℕ). c.args.block ∷ blocks) c.release.ensures.blocks
+    ∙ rw (← c.self.view_is) (blocks-admitted c.last_of-last.result c.args.block last.0 c.self.inside.slots.entries c.self.invariant.0 absent last.1 some))
 
 pub returns-clause-count : goal.returns-clause-count
-returns-clause-count c =
-    let last = last-is c.self.inside.slots.entries c.last_of-last.result c.last_of-last.ensures in
-    let there = lookup-evicted c.last_of-last.result last.0 c.self.inside.slots.entries c.self.invariant.0 last.1 in
-    rw (c.place.ensures, ← c.self.view_is) (length-placed c.last_of-last.result last.0 (Some c.args.block) c.self.inside.slots.entries there)
+returns-clause-count c = c.hold.ensures.count ∙ c.release.ensures.count
 
 pub returns-clause-below : goal.returns-clause-below
 returns-clause-below c =
@@ -40,9 +34,7 @@ returns-clause-below c =
     rw (← c.self.view_is) (omega (arith, c.self.invariant.2, less))
 
 pub returns-clause-here : goal.returns-clause-here
-returns-clause-here c = λ held now.
-    let front : Some c.args.block ≡ Some held = holds-front c.last_of-last.result held (Some c.args.block) (others c.last_of-last.result c.self.inside.slots.entries) (rw c.place.ensures at now) in (cc)
+returns-clause-here c = c.hold.ensures.here
 
 pub returns-clause-same : goal.returns-clause-same
-returns-clause-same c = λ other held now apart.
-    rw (← c.self.view_is) (holds-placed c.last_of-last.result other held (Some c.args.block) c.self.inside.slots.entries (rw c.place.ensures at now) apart)
+returns-clause-same c = λ other held now apart. (c.release.ensures.gone other held (c.hold.ensures.same other held now apart)).0

@@ -1,6 +1,7 @@
-use Rattle.std.proofs.Common.{refl, subst}
+use Rattle.std.proofs.Common.{nat_eq, refl, sym, subst}
+use Rattle.std.specs.Map.{lookup}
 use Rattle.cola_cache.specs.Order.{Holds}
-use Rattle.cola_cache.proofs.OrderLemmas.{holds-one}
+use Rattle.cola_cache.proofs.OrderLemmas.{holds-one, blocks-free, free-is}
 use Rattle.cola_cache.proofs.order.Order.release.Goals as goal
 
 pub returns-in-Some-clause-gone : goal.returns-in-Some-clause-gone
@@ -10,3 +11,9 @@ returns-in-Some-clause-gone c = λ other held now.
 
 pub returns-in-None-clause-gone : goal.returns-in-None-clause-gone
 returns-in-None-clause-gone c = λ other held now. (now, λ same. c.in-None.ensures.none refl held (subst (λ number. Holds c.args.self.now number held) same now))
+
+pub returns-in-None-clause-blocks : goal.returns-in-None-clause-blocks
+returns-in-None-clause-blocks c = sym (blocks-free c.args.buffer c.args.self.now (c.in-None.ensures.none refl))
+
+pub returns-in-None-clause-free : goal.returns-in-None-clause-free
+returns-in-None-clause-free c = λ there. free-is (lookup (nat_eq c.args.buffer) c.args.self.now) there (c.in-None.ensures.none refl)

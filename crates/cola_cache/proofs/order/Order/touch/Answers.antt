@@ -1,6 +1,7 @@
 use Rattle.std.proofs.Common.{Some, refl, ◌∙◌}
 use Rattle.cola_cache.specs.Order.{Holds}
 use Rattle.cola_cache.proofs.OrderLemmas.{order-touched, below-placed, length-placed, length-touched, blocks-touched, holds-touched}
+use Rattle.cola_cache.proofs.IndexLemmas.{index-touched}
 use Rattle.cola_cache.proofs.order.Order.touch.Goals as goal
 
 pub place-requires : goal.place-requires
@@ -13,6 +14,8 @@ invariant_of-self c =
       order-touched c.args.buffer c.args.block c.self.inside.slots.entries c.self.invariant.0 holds,
       below-placed c.args.buffer c.self.inside.count (Some c.args.block) (Some c.args.block) c.self.inside.slots.entries holds c.self.invariant.1,
       length-placed c.args.buffer (Some c.args.block) (Some c.args.block) c.self.inside.slots.entries holds ∙ c.self.invariant.2,
+      index-touched c.args.buffer c.args.block c.self.inside.index.entries c.self.inside.slots.entries c.self.invariant.3 holds,
+      c.self.invariant.4,
     )
 
 pub returns-clause-blocks : goal.returns-clause-blocks

@@ -1,0 +1,4 @@
+pub mod Keys
+pub mod Commands
+pub mod Turns
+pub mod Answered
