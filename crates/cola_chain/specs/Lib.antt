@@ -1,0 +1,4 @@
+pub mod Contents
+pub mod Account
+pub mod Runs
+pub mod Headers
