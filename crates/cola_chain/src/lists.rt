@@ -13,6 +13,7 @@ use cola_clock::visible_slot;
 use cola_layout::Marks;
 use cola_level::Level;
 use cola_merge::Merger;
+use std::alloc::Global;
 
 /// A level with these marks, none of whose source cells was read yet.
 fn level_of(marks: &Marks) -> Level

@@ -107,10 +107,13 @@ kept_beside {a} {b} l g d =
 
 built_traded : (s u : State) (t own : ℕ) (c : Cell) (next : Marks) (under : List Marks) (n : Merger) → Grows s.held u.held 0 → (s.held.shadows 0).len ≡ 0 → (u.held.shadows 0).len ≤ 4 →
     ((buffer : Buffer) → merge.IsBeside (top_at t own c (next ∷ [])) buffer → KeepsBlocks 0 (top_at t own c (next ∷ [])).slot buffer s.spent.lasts u.spent.lasts) →
+    s.spent.turned ≤ u.spent.turned → s.spent.written ≤ u.spent.written →
     (u.spent.turned + blocks_left s.held.fixed.doublings u.spent.lasts (top_at t own c (next ∷ [])) n ≤ s.spent.turned + blocks_left s.held.fixed.doublings s.spent.lasts (top_at t own c (next ∷ [])) fresh) →
     (u.spent.written + (s.held.shadows 0).len / span s.held ≤ s.spent.written + (u.held.shadows 0).len / span s.held) →
     IsTopBuilt s.held.fixed.doublings t (next ∷ under) (transfers s) (transfers u)
-built_traded s u t own c next under n grows empty few lasts turned written = record {
+built_traded s u t own c next under n grows empty few lasts turned_stays written_stays turned written = record {
+  reads_stay = turned_stays;
+  writes_stay = written_stays;
   reads =
       let left = left_built s t own c next under in
       omega (arith, turned, left);
@@ -148,7 +151,7 @@ builds_ok a p t c s u top built next n empty h e =
       told = λ tells. h.told tells (untold_none s.held empty);
       whole = λ going. whole_done a s u t top.visible c next n p h.ready h.consumes (h.whole going);
       only = λ going fits. tt;
-      traded = λ under. built_traded s u t top.visible c next under n h.frames empty few h.lasts h.turned h.written;
+      traded = λ under. built_traded s u t top.visible c next under n h.frames empty few h.lasts h.spends.turned_stays h.spends.written_stays h.turned h.written;
       refused = tt;
       calm = h.calm;
       costs = costs_built s u t top.visible c next n (Ok p) h.ready h.begins h.spends;
