@@ -1,1 +1,4 @@
-
+pub mod Lists
+pub mod Account
+pub mod Searching
+pub mod Headers

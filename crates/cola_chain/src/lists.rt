@@ -13,7 +13,6 @@ use cola_clock::visible_slot;
 use cola_layout::Marks;
 use cola_level::Level;
 use cola_merge::Merger;
-use std::alloc::Global;
 
 /// A level with these marks, none of whose source cells was read yet.
 fn level_of(marks: &Marks) -> Level
@@ -57,7 +56,7 @@ pub(crate) fn levels_of(marks: &[Marks]) -> ArrayVec<Level, 23>
     requires { length marks.now ≤ 23 }
     ensures { result.items ≡ levels_with (all_numbers marks.now) }
 {
-    let mut levels = ArrayVec::new_in(Global);
+    let mut levels = ArrayVec::new();
     for level in marks {
         levels.push(level_of(level));
     }
