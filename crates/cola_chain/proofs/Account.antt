@@ -25,7 +25,7 @@ use Rattle.cola_run.specs.Cells.{block_cells}
 use Rattle.cola_run.proofs.Reading.{span-is}
 use Rattle.cola_chain.specs.Contents.{Contents, Kept, held_of, spent_of, kept_of}
 use Rattle.cola_chain.specs.Account.{ArePaid, sums_of, IsPaid, AreBounded, added}
-use Rattle.cola_chain.proofs.Lists.{marks-length}
+use Rattle.cola_chain.proofs.LevelLists.{marks-length}
 
 -- ---- transfers that are counted from other numbers on
 

@@ -1,4 +1,4 @@
-pub mod Lists
+pub mod LevelLists
 pub mod Account
 pub mod Searching
 pub mod Headers

@@ -16,3 +16,6 @@ pub mod Fronting
 pub mod Loads
 pub mod Fronts
 pub mod LoadLoop
+pub mod Heads
+pub mod Flushes
+pub mod News

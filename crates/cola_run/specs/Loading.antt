@@ -1,5 +1,5 @@
 -- What the steps of loading and flushing do to the parts of a run store.
-use Rattle.std.specs.Prelude.{◌≡◌, ◌≢◌, ◌⊎◌, ℕ, ◌*◌, ◌≤◌, ◌<◌, Bool, true, if◌then◌else◌, List, ◌++◌, length, option_map, Option, None, Some, IfSome, Result, is_ok}
+use Rattle.std.specs.Prelude.{◌≡◌, ◌≢◌, ◌⊎◌, ℕ, ◌<◌, true, if◌then◌else◌, List, length, option_map, Option, None, IfSome, Result, is_ok}
 use Rattle.cola_outside.specs.Told.{Both}
 use Rattle.cola_cell.specs.declared.sink.Shadow.{Shadow}
 use Rattle.cola_cell.specs.Flat.{shadow_at}
@@ -13,7 +13,7 @@ use Rattle.cola_layout.specs.declared.header.Header.{Header}
 use Rattle.cola_buffers.specs.Blocks.{Blocks, Stays}
 use Rattle.cola_run.specs.Cells.{Lower, IsOnDevice, IsShape, IsBacked, spots_of}
 use Rattle.cola_run.specs.Store.{beside}
-use Rattle.cola_run.specs.Saving.{IsFrontRun, run_len}
+use Rattle.cola_run.specs.Saving.{IsFrontRun, run_len, SameBehind}
 
 -- the first place of a run of the front at which no cell stands, by its number
 pub record BadInRun (front : FrontCells) (level slot len number : ℕ) : Type 0 where
@@ -82,3 +82,12 @@ pub record StayRead (geometry : Geometry) (old new : Lower) : Type 0 where
 -- every level on the device below this one has its shadow there
 abbrev pub AreSavedBelow : Geometry → List Shadow → ℕ → Type 0
 AreSavedBelow geometry shadows end = (level : ℕ) → IsOnDevice geometry level → level < end → (shadow_at shadows level).saved ≡ true
+
+-- what a flush leaves of what lies below the front: each shadow, but for what of it is on the device; all cells but those behind a shadow in its slot; and the bytes behind the file
+pub record SameCells (geometry : Geometry) (front : FrontCells) (old new : Lower) : Type 0 where
+  pub behind : Both old.told new.told (SameBehind geometry)
+  pub slots_stay : (level : ℕ) → (shadow_at new.shadows level).slot ≡ (shadow_at old.shadows level).slot
+  pub lens_stay : (level : ℕ) → (shadow_at new.shadows level).len ≡ (shadow_at old.shadows level).len
+  pub shadows_many : length new.shadows ≡ length old.shadows
+  pub spots_stay : (level slot index : ℕ) → (slot ≢ (shadow_at old.shadows level).slot) ⊎ (index < (shadow_at old.shadows level).len)
+      → spots_of (record { geometry = geometry; front = front; lower = new }) level slot index ≡ spots_of (record { geometry = geometry; front = front; lower = old }) level slot index

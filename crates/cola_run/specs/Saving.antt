@@ -1,28 +1,20 @@
 -- What loading and flushing a run store leave.
-use Rattle.std.specs.Prelude.{◌≡◌, ◌≢◌, ◌⊎◌, ℕ, ◌+◌, ◌-◌, ◌*◌, ◌^◌, ◌≤◌, ◌<◌, ◌==◌, if◌then◌else◌, List, [], ◌∷◌, ◌++◌, length, take, drop, replicate, Option, IfSome, Result, Ok, Err, OnOk, true, ⊤}
+use Rattle.std.specs.Prelude.{◌≡◌, ◌≢◌, ◌⊎◌, ℕ, ◌+◌, ◌-◌, ◌*◌, ◌≤◌, ◌<◌, ◌==◌, if◌then◌else◌, List, ◌++◌, length, take, drop, replicate, Option, IfSome, Result, Ok, Err, true}
 use Rattle.cola_outside.specs.Faults.{Rose}
-use Rattle.cola_outside.specs.Told.{Both}
-use Rattle.cola_cell.specs.declared.format.Format.{Format}
 use Rattle.cola_cell.specs.declared.fault.ReadFault.{ReadFault}
 use Rattle.cola_cell.specs.declared.fault.ReadFault.TheVariants.{Device, BadCell}
 use Rattle.cola_cell.specs.declared.sink.Shadow.{Shadow}
-use Rattle.cola_cell.specs.Decoded.{spot_of_bytes}
-use Rattle.cola_cell.specs.Flat.{shadow_at}
 use Rattle.cola_cell.specs.Format.{width}
 use Rattle.cola_cell.specs.Held.{Held, Spots, Bad}
 use Rattle.cola_cell.specs.Places.{number_of, IsPlace}
 use Rattle.cola_cell.specs.Spent.{ReadCalm}
 use Rattle.cola_clock.specs.Clock.{visible_slot}
 use Rattle.cola_device.specs.declared.counts.Counts.{Counts}
-use Rattle.cola_front.specs.Front.{cell_bytes}
+use Rattle.cola_image.specs.Cells.{file_spots}
 use Rattle.cola_layout.specs.declared.geometry.Geometry.{Geometry}
 use Rattle.cola_layout.specs.declared.header.Header.{Header}
 use Rattle.cola_layout.specs.Marks.{marks_of}
 use Rattle.cola_run.specs.Cells.{file_bytes}
-
--- what a file's bytes tell of each place
-abbrev pub file_spots : Format → List ℕ → Spots
-file_spots format bytes level slot index = spot_of_bytes format (cell_bytes format bytes (number_of level slot index))
 
 -- these spots are those of the file at every place
 abbrev pub AreFileSpots : Geometry → Spots → List ℕ → Type 0

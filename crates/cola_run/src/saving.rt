@@ -12,11 +12,11 @@ ghost use Rattle.cola_front.specs.Front.{FrontCells, IsFront, SameShape, IsLoade
 ghost use Rattle.cola_clock.specs.Clock.{visible_slot};
 ghost use Rattle.cola_layout.specs.Marks.{marks_of};
 ghost use Rattle.cola_layout.specs.declared.header.Header.{Header as AnyHeader};
-ghost use Rattle.cola_run.specs.Cells.{IsOnDevice, IsShadow, IsShape, IsBacked, block_cells, block_bytes, file_blocks, device_levels};
+ghost use Rattle.cola_run.specs.Cells.{IsOnDevice, IsShadow, IsShape, IsBacked, AreCells, spots_of, block_cells, block_bytes, file_blocks, device_levels};
 ghost use Rattle.cola_run.specs.Store.{IsStore, held_of, kept_of};
 ghost use Rattle.cola_run.specs.Parts.{OneShadow};
 ghost use Rattle.cola_run.specs.Saving.{header_shadow, run_len, IsFrontRun, LoadAnswers, LoadSpends, IsLoaded, SameReads, IsFlushed, SameBehind};
-ghost use Rattle.cola_run.specs.Loading.{BadInRun, BadInLevel, BadInFront, NoneBadInFront, IsReading, IsWriting, loaded_shadow, StaySound, StayRead, AreSavedBelow};
+ghost use Rattle.cola_run.specs.Loading.{BadInRun, BadInLevel, BadInFront, NoneBadInFront, IsReading, IsWriting, loaded_shadow, StaySound, StayRead, SameCells, AreSavedBelow};
 
 use crate::device_cells::{begin_of_tail, block_at, cells_of_block, finish_on_device, set_shadow};
 use crate::run_store::RunStore;
@@ -123,10 +123,7 @@ fn first_bad(front: &Front, geometry: &Geometry, header: &Header) -> Option<u64>
 }
 
 /// Reads blocks 0 and 1 into the front.
-fn load_front<D: Device>(
-    buffers: &mut Buffers<D>,
-    front: &mut Front,
-) -> Result<(), DeviceFault>
+fn load_front<D: Device>(buffers: &mut Buffers<D>, front: &mut Front) -> Result<(), DeviceFault>
     requires buffer { 0 < length buffers.old.lasts }
     requires many { 1 < buffers.old.many }
     requires size { buffers.old.cache.size ≡ block_size front.old }
@@ -294,5 +291,143 @@ fn save_front<D: Device>(
             buffers.write_block(0, block)
         }
         Err(fault) => Err(fault),
+    }
+}
+
+/// Takes the front and the shadows as they stand on the device by a header.
+fn load_parts<D: Device>(
+    buffers: &mut Buffers<D>,
+    geometry: &Geometry,
+    front: &mut Front,
+    shadows: &mut [Shadow],
+    tails: &mut [u8],
+    header: &Header,
+) -> Result<(), ReadFault>
+    requires geometry { header.now.geometry ≡ geometry.now }
+    requires shape { IsShape geometry.now front.old shadows.old tails.old }
+    requires buffer { 0 < length buffers.old.lasts }
+    requires size { buffers.old.cache.size ≡ block_bytes geometry.now }
+    requires many { buffers.old.many ≡ file_blocks geometry.now }
+    ensures front { OnOk result (IfSome (D.bytes buffers.old.cache.device) (λ bytes. IsFrontLoaded bytes front.new)) }
+    ensures shadows { OnOk result ((level : ℕ) → level ≤ geometry.now.bottom → shadow_at shadows.new level ≡ header_shadow header.now level) }
+    ensures answer { LoadAnswers header.now (D.bytes buffers.old.cache.device) (D.counts buffers.old.cache.device).faults (D.counts buffers.new.cache.device).faults result }
+    ensures shape { SameShape front.old front.new }
+    ensures sound { StaySound geometry.now (record { told = D.bytes buffers.old.cache.device; shadows = shadows.old; tails = tails.old })
+        (record { told = D.bytes buffers.new.cache.device; shadows = shadows.new; tails = tails.new }) }
+    ensures bytes_stay { D.bytes buffers.new.cache.device ≡ D.bytes buffers.old.cache.device }
+    ensures kept { D.kept buffers.new.cache.device ≡ D.kept buffers.old.cache.device }
+    ensures stays { Stays buffers.old buffers.new }
+    ensures lasts { length buffers.new.lasts ≡ length buffers.old.lasts }
+    ensures spends { LoadSpends (D.counts buffers.old.cache.device) (D.counts buffers.new.cache.device) (geometry.now.bottom + 3) result }
+{
+    match load_front(buffers, front) {
+        Ok(()) => match load_shadows(buffers, geometry, shadows, tails, header) {
+            Ok(()) => match first_bad(front, geometry, header) {
+                Some(number) => Err(ReadFault::BadCell(number)),
+                None => Ok(()),
+            },
+            Err(_) => Err(ReadFault::Device),
+        },
+        Err(_) => Err(ReadFault::Device),
+    }
+}
+
+/// Writes what is not on the device yet, and then the front with the header.
+fn flush_parts<D: Device>(
+    buffers: &mut Buffers<D>,
+    geometry: &Geometry,
+    front: &Front,
+    shadows: &mut [Shadow],
+    tails: &[u8],
+    header: &[u8; 512],
+) -> Result<(), DeviceFault>
+    requires shape { IsShape geometry.now front.now shadows.old tails.now }
+    requires backed { IfSome (D.bytes buffers.old.cache.device) (IsBacked geometry.now shadows.old tails.now) }
+    requires size { buffers.old.cache.size ≡ block_bytes geometry.now }
+    requires many { buffers.old.many ≡ file_blocks geometry.now }
+    ensures flushed { OnOk result (IfSome (D.bytes buffers.new.cache.device) (IsFlushed geometry.now header.now
+        (spots_of (record { geometry = geometry.now; front = front.now; lower = record { told = D.bytes buffers.new.cache.device; shadows = shadows.new; tails = tails.now } })))) }
+    ensures cells { AreCells (record { geometry = geometry.now; front = front.now; lower = record { told = D.bytes buffers.new.cache.device; shadows = shadows.new; tails = tails.now } }) }
+    ensures reads { SameCells geometry.now front.now (record { told = D.bytes buffers.old.cache.device; shadows = shadows.old; tails = tails.now })
+        (record { told = D.bytes buffers.new.cache.device; shadows = shadows.new; tails = tails.now }) }
+    ensures writing { IsWriting D.counts D.kept buffers.old buffers.new (geometry.now.bottom + 3) result }
+{
+    match save_tails(buffers, geometry, shadows, tails) {
+        Ok(()) => match buffers.settle() {
+            Ok(()) => match save_front(buffers, front, header) {
+                Ok(()) => buffers.settle(),
+                Err(fault) => Err(fault),
+            },
+            Err(fault) => Err(fault),
+        },
+        Err(fault) => Err(fault),
+    }
+}
+
+impl<D: Device> RunStore<D> {
+    /// Takes the cells of the store from its file, which has this header: reads blocks 0 and 1, and for each level on the
+    /// device whose shadow ends within a block that block. `BadCell` where these reads succeed and a cell of a run of the
+    /// front is no spelling: the lowest such. After an error nothing is said of the cells of the store. No byte of the
+    /// device changes.
+    pub fn load(&mut self, header: &Header) -> Result<(), ReadFault>
+        requires { header.now.geometry ≡ self.old.geometry }
+        ensures loaded { OnOk result (IsLoaded header.now (held_of D.bytes self.new) (D.bytes self.old.buffers.cache.device)) }
+        ensures answer { LoadAnswers header.now (D.bytes self.old.buffers.cache.device) (D.counts self.old.buffers.cache.device).faults (D.counts self.new.buffers.cache.device).faults result }
+        ensures bytes_stay { D.bytes self.new.buffers.cache.device ≡ D.bytes self.old.buffers.cache.device }
+        ensures kept { kept_of D.bytes D.kept self.new ≡ kept_of D.bytes D.kept self.old }
+        ensures fixed { (held_of D.bytes self.new).fixed ≡ (held_of D.bytes self.old).fixed }
+        ensures ticked { self.new.ticked ≡ self.old.ticked }
+        ensures spends { LoadSpends (D.counts self.old.buffers.cache.device) (D.counts self.new.buffers.cache.device) (self.old.geometry.bottom + 3) result }
+    {
+        load_parts(
+            &mut self.buffers,
+            &self.geometry,
+            &mut self.front,
+            &mut self.shadows,
+            &mut self.tails,
+            header,
+        )
+    }
+
+    /// Writes the state byte of a store in use, and settles. No cell of the store changes.
+    pub fn mark_in_use(&mut self) -> Result<(), DeviceFault>
+        ensures wrote { Wrote result 14 (1 ∷ []) (D.bytes self.old.buffers.cache.device) (D.bytes self.new.buffers.cache.device) }
+        ensures fixed { (held_of D.bytes self.new).fixed ≡ (held_of D.bytes self.old).fixed }
+        ensures shadows { (held_of D.bytes self.new).shadows ≡ (held_of D.bytes self.old).shadows }
+        ensures cells_stay { (level slot index : ℕ) → (held_of D.bytes self.new).spots level slot index ≡ (held_of D.bytes self.old).spots level slot index }
+        ensures geometry { self.new.geometry ≡ self.old.geometry }
+        ensures cache { self.new.buffers.cache.blocks ≡ self.old.buffers.cache.blocks }
+        ensures kept { D.kept self.new.buffers.cache.device ≡ D.kept self.old.buffers.cache.device }
+        ensures ticked { self.new.ticked ≡ self.old.ticked }
+        ensures counts { Called (D.counts self.old.buffers.cache.device) (D.counts self.new.buffers.cache.device) 0 1 result }
+    {
+        let _ = &self.geometry;
+        match self.buffers.write_byte(14, 1) {
+            Ok(()) => self.buffers.settle(),
+            Err(fault) => Err(fault),
+        }
+    }
+
+    /// Makes the file that of the store, with this header: writes every tail that is not on the device yet, and then the
+    /// two blocks of the front, of which the first begins with the header. After an error the store reads as before, and
+    /// the call may be repeated.
+    pub fn flush(&mut self, header: &[u8; 512]) -> Result<(), DeviceFault>
+        ensures flushed { OnOk result (IfSome (D.bytes self.new.buffers.cache.device) (IsFlushed self.old.geometry header.now (held_of D.bytes self.new).spots)) }
+        ensures reads { SameReads (held_of D.bytes self.old) (held_of D.bytes self.new) }
+        ensures behind { Both (D.bytes self.old.buffers.cache.device) (D.bytes self.new.buffers.cache.device) (SameBehind self.old.geometry) }
+        ensures geometry { self.new.geometry ≡ self.old.geometry }
+        ensures cache { self.new.buffers.cache.blocks ≡ self.old.buffers.cache.blocks }
+        ensures kept { D.kept self.new.buffers.cache.device ≡ D.kept self.old.buffers.cache.device }
+        ensures ticked { self.new.ticked ≡ self.old.ticked }
+        ensures counts { Called (D.counts self.old.buffers.cache.device) (D.counts self.new.buffers.cache.device) 0 (self.old.geometry.bottom + 3) result }
+    {
+        flush_parts(
+            &mut self.buffers,
+            &self.geometry,
+            &self.front,
+            &mut self.shadows,
+            &self.tails,
+            header,
+        )
     }
 }
