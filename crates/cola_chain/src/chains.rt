@@ -1,10 +1,10 @@
 //! The chain of a store.
-ghost use Rattle.std.specs.Prelude.{◌≡◌, ℕ, ◌+◌, ◌-◌, ◌*◌, ◌/◌, ◌^◌, ◌≤◌, ◌<◌, List, length, All, Option, true, false, IfOk, IfErr, OnOk, OnErr, MatchResult};
+ghost use Rattle.std.specs.Prelude.{◌≡◌, ℕ, ◌+◌, ◌-◌, ◌*◌, ◌/◌, ◌^◌, ◌≤◌, ◌<◌, List, length, All, Option, true, false, IfSome, IfOk, IfErr, OnOk, OnErr, MatchResult};
 ghost use Rattle.cola_spec.specs.Map.{Map};
 ghost use Rattle.cola_clock.specs.Clock.{visible_slot};
 ghost use Rattle.cola_laws.specs.Plain.{next_clock};
 ghost use Rattle.cola_cell.specs.Format.{KeyFits, ItemFits};
-ghost use Rattle.cola_cell.specs.Held.{Stamped, Spots, IsTelling};
+ghost use Rattle.cola_cell.specs.Held.{Held, Stamped, IsTelling};
 ghost use Rattle.cola_layout.specs.Marks.{all_numbers};
 ghost use Rattle.cola_image.specs.Standing.{LevelsStandFor, found_in};
 ghost use Rattle.cola_look.specs.Runs.{HasRun};
@@ -13,10 +13,11 @@ ghost use Rattle.cola_level.specs.Work.{IsCalm, IsDevice};
 ghost use Rattle.cola_mutation.specs.Work.{state_of, Costs};
 ghost use Rattle.cola_mutation.specs.Standing.{StandsFor, KeepsProgress, HasRefusal};
 ghost use Rattle.cola_mutation.specs.Steps.{IsMapOf, ChangesMap, KeepsMap, step_ticks};
+ghost use Rattle.cola_image.specs.Cells.{file_spots};
 ghost use Rattle.cola_run.specs.Store as run;
+ghost use Rattle.cola_run.specs.Saving.{IsLoaded, SameReads, AreFileSpots};
 ghost use Rattle.cola_chain.specs.Account.{IsPaid, IsBounded, CountsStep};
 ghost use Rattle.cola_chain.specs.Contents.{held_of, spent_of, kept_of};
-ghost use Rattle.cola_chain.specs.Headers.{IsLoadedBy, AreSpotsOf};
 ghost use Rattle.cola_chain.specs.Runs.{visible_runs, visible_lists, AreSearched};
 
 use crate::counting::{add, rise};
@@ -80,7 +81,8 @@ impl<D: Device> Chain<D> {
     /// The chain of a store that was loaded by this header: its levels have the header's marks, at the header's clock. It
     /// has counted nothing yet.
     pub fn new(runs: RunStore<D>, header: &Header) -> Chain<D>
-        requires { IsLoadedBy header.now runs }
+        requires geometry { runs.geometry ≡ header.now.geometry }
+        requires loaded { IsLoaded header.now (run.held_of D.bytes runs) (D.bytes runs.buffers.cache.device) }
         ensures store { result.store ≡ runs }
         ensures clock { result.clock ≡ header.now.clock }
         ensures marks { all_marks_of result.levels ≡ all_numbers header.now.levels.items }
@@ -88,10 +90,10 @@ impl<D: Device> Chain<D> {
         ensures counted { result.counted ≡ true }
         // its account is paid at once, whatever its merges have still to do
         ensures paid { IsPaid D.bytes D.counts result }
-        // and what it means, where the store tells its cells and its levels stand for a map
-        ensures stands { (most : ℕ) (m : Map) → IsTelling (held_of D.bytes result) →
-            LevelsStandFor most header.now.clock (all_numbers header.now.levels.items) (held_of D.bytes result).spots m →
-            StandsFor (held_of D.bytes result) most result.clock result.levels (found_in m) }
+        // and what it means, where the device tells its bytes and the levels of the file stand for a map
+        ensures stands { IfSome (D.bytes runs.buffers.cache.device) (λ bytes. (most : ℕ) (m : Map) → IsTelling (held_of D.bytes result) →
+            LevelsStandFor most header.now.clock (all_numbers header.now.levels.items) (file_spots header.now.geometry.format bytes) m →
+            StandsFor (held_of D.bytes result) most result.clock result.levels (found_in m)) }
     {
         Chain {
             runs,
@@ -183,10 +185,11 @@ impl<D: Device> Chain<D> {
         ensures clock { result.clock ≡ self.now.clock }
         ensures last { result.last ≡ 0 }
         ensures marks { all_numbers result.levels.items ≡ all_marks_of self.now.levels }
-        // a file with this header and the chain's cells has levels that stand for the map for which the chain's do
-        ensures stands { (most : ℕ) (m : Map) (spots : Spots) → StandsFor (held_of D.bytes self.now) most self.now.clock self.now.levels (found_in m) →
-            AreSpotsOf (result.geometry.bottom + 1) (held_of D.bytes self.now).spots spots →
-            LevelsStandFor most result.clock (all_numbers result.levels.items) spots m }
+        // a file with this header and the cells of the chain's runs, as a flush leaves it, has levels that stand for the map
+        // for which the chain's do
+        ensures stands { (most : ℕ) (m : Map) (flushed : Held) (bytes : List ℕ) → StandsFor (held_of D.bytes self.now) most self.now.clock self.now.levels (found_in m) →
+            SameReads (held_of D.bytes self.now) flushed → AreFileSpots self.now.store.geometry flushed.spots bytes →
+            LevelsStandFor most result.clock (all_numbers result.levels.items) (file_spots result.geometry.format bytes) m }
     {
         let levels = marks_of_levels(self.levels.as_slice());
         Header {
