@@ -1,10 +1,14 @@
 -- The account of a chain: counted from other numbers it is the same, a step keeps it, and it gives the bounds.
-use Rattle.std.proofs.Common.{◌≡◌, ◌≢◌, ℕ, zero, suc, ◌+◌, ◌-◌, ◌*◌, ◌/◌, ◌%◌, ◌^◌, ◌<◌, ◌≤◌, min, Bool, true, false, ◌||◌, List, [], ◌∷◌, length, Option, refl, ap, sym, subst, ◌∙◌, arith}
+use Rattle.std.proofs.Common.{◌≡◌, ◌≢◌, ℕ, zero, suc, ◌+◌, ◌-◌, ◌*◌, ◌/◌, ◌%◌, ◌^◌, ◌<◌, ◌≤◌, min, Bool, true, false, ◌||◌, nat_lt, List, [], ◌∷◌, length, take, drop, Option, refl, ap, sym, subst, ◌∙◌, arith}
+use Rattle.std.specs.List.{refill}
+use Rattle.std.proofs.lemmas.List.{take-append-le}
+use Rattle.std.proofs.Math.Seq.{take-length}
 use Rattle.cola_clock.specs.Clock.{works}
 use Rattle.cola_clock.specs.Marks.{Marks, merge_steps, AreLevelMarks, AreAllMarks, AreChainMarks, all_marks_after}
 use Rattle.cola_laws.specs.Plain.{next_clock}
 use Rattle.cola_cell.specs.declared.cell.Reader.TheVariants.{Own, Incoming, Sample}
-use Rattle.cola_cell.specs.Held.{Held, Fixed}
+use Rattle.cola_cell.specs.Held.{Held, Fixed, span}
+use Rattle.cola_cell.specs.Places.{slot_size}
 use Rattle.cola_cell.specs.Spent.{Spent, Buffer, Search, By}
 use Rattle.cola_device.specs.declared.counts.Counts.{Counts}
 use Rattle.cola_layout.specs.declared.geometry.Geometry.{Geometry}
@@ -194,7 +198,7 @@ paid-begins held spent t [] chain saved = tt
 paid-begins held spent t (top ∷ below) chain saved =
     λ few few_reads few_writes.
     paid-new held.fixed.doublings t top.visible (all_marks_of below) (sums_of held spent 0 0) refl refl chain.marks.0.visible_fits chain.marks.1
-    (λ l h. ap (λ (x : Bool). x || _) (saved l (let e = marks-length below in omega (arith, h, e))))
+    (λ l h. ap (λ (x : Bool). x || nat_lt (slot_size l) (span held)) (saved l (let e = marks-length below in omega (arith, h, e))))
 
 -- ---- the bounds
 
@@ -240,3 +244,25 @@ paid-stays {D} {K} bytes counts kept old new held_is kept_is lasts p =
           (subst (λ (k : Kept K). ArePaid (held_of bytes old).fixed.doublings k.accepted k.clock k.levels (sums_of (held_of bytes new) (spent_of counts new) new.reads new.writes)) (sym kept_is)
           (subst (λ (x : Transfers). ArePaid (held_of bytes old).fixed.doublings old.accepted old.clock old.levels x) (sym same) p.paid));
     }
+
+-- ---- a chain after a step
+
+pub paid-step : {D : Type 0} (bytes : D → Option (List ℕ)) (counts : D → Counts) (old new : Contents D) (from to : ℕ) → 2 ≤ length old.levels → IsChain (held_of bytes new) new.clock new.levels → new.clock ≡ next_clock (length old.levels) old.clock →
+    (held_of bytes new).fixed ≡ (held_of bytes old).fixed → (spent_of counts old).turned ≤ (spent_of counts new).turned → (spent_of counts old).written ≤ (spent_of counts new).written →
+    AllTrade old.clock (record { held = held_of bytes old; spent = spent_of counts old; steps = from }) (record { held = held_of bytes new; spent = spent_of counts new; steps = to }) old.levels new.levels →
+    new.accepted ≡ added old.accepted 1 → new.reads ≡ added old.reads ((spent_of counts new).turned - (spent_of counts old).turned) → new.writes ≡ added old.writes ((spent_of counts new).written - (spent_of counts old).written) →
+    IsPaid bytes counts old → IsPaid bytes counts new
+paid-step bytes counts old new from to many chain clock fixed turned written trades accepted reads writes paid = record {
+  paid =
+      let s : State = record { held = held_of bytes old; spent = spent_of counts old; steps = from } in
+      let u : State = record { held = held_of bytes new; spent = spent_of counts new; steps = to } in
+      let done = paid-next s u old.clock new.clock old.accepted old.reads old.writes old.levels new.levels many chain clock fixed turned written trades paid.paid in
+      subst (λ (n : ℕ). ArePaid (held_of bytes new).fixed.doublings n new.clock new.levels (sums_of (held_of bytes new) (spent_of counts new) new.reads new.writes)) (sym accepted)
+      (subst (λ (n : ℕ). ArePaid (held_of bytes new).fixed.doublings (added old.accepted 1) new.clock new.levels (sums_of (held_of bytes new) (spent_of counts new) n new.writes)) (sym reads)
+      (subst (λ (n : ℕ). ArePaid (held_of bytes new).fixed.doublings (added old.accepted 1) new.clock new.levels
+          (sums_of (held_of bytes new) (spent_of counts new) (added old.reads ((spent_of counts new).turned - (spent_of counts old).turned)) n)) (sym writes) done));
+}
+
+-- what a slice that was lent leaves in its owner
+pub refilled : {X : Type 0} (xs ws : List X) → length ws ≡ length xs → refill (length xs) xs ws ≡ ws
+refilled xs ws h = take-append-le (length xs) ws (drop (length ws) xs) (omega (arith, h)) ∙ ap (λ (n : ℕ). take n ws) (sym h) ∙ take-length ws

@@ -1,7 +1,9 @@
 -- The visible runs of a chain as a search takes them.
-use Rattle.std.proofs.Common.{◌≡◌, ◌≢◌, ℕ, zero, suc, ◌+◌, ◌-◌, ◌<◌, ◌≤◌, ◌^◌, Bool, true, false, cond, List, [], ◌∷◌, length, Option, refl, ap, sym, subst, ◌∙◌, arith}
+use Rattle.std.proofs.Common.{◌≡◌, ◌≢◌, ℕ, zero, suc, ◌+◌, ◌-◌, ◌<◌, ◌≤◌, ◌^◌, Bool, true, false, cond, List, [], ◌∷◌, length, All, Option, refl, ap, sym, subst, ◌∙◌, arith}
 use Rattle.std.specs.List.{AllByRecursion}
 use Rattle.std.specs.Ordering.{is_lt}
+use Rattle.std.proofs.lemmas.List.Elements.{All-from_recursion}
+use Rattle.std.proofs.Math.Pow.{pow_mono}
 use Rattle.cola_clock.specs.Clock.{period, is_odd, visible_slot}
 use Rattle.cola_clock.specs.Marks.{Marks, AreAllMarks}
 use Rattle.cola_runs.specs.Search as laws
@@ -64,3 +66,11 @@ searched held most t (top ∷ below) m chain stands = record {
   near = begins-near held t 0 (top ∷ below) chain.marks;
   values = stands.sound.sound.stands;
 }
+
+pub visible-has : (held : Held) (t : ℕ) (levels : List Level) (runs : List Run) → IsChain held t levels → runs ≡ visible_runs t 0 levels → All (HasRun held) runs
+visible-has held t levels runs chain e =
+    let n = chain.counted in
+    subst (λ (rs : List Run). All (HasRun held) rs) (sym e) (All-from_recursion (HasRun held) (visible_runs t 0 levels) (runs-have held t 0 0 levels chain.marks (omega (arith, n))))
+
+pub clock-few : (t n : ℕ) → t < 2 ^ n → n ≤ 23 → t < 8388608
+clock-few t n h few = let p = pow_mono few in omega (arith, h, p)

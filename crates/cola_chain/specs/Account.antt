@@ -29,7 +29,7 @@ pub record IsPaid {D : Type 0} (bytes : D → Option (List ℕ)) (counts : D →
 
 -- what a chain is: its levels stand on its store at its clock, and as long as its steps are counted its account is paid
 pub record IsContents {D : Type 0} (bytes : D → Option (List ℕ)) (counts : D → Counts) (chain : Contents D) : Type 0 where
-  pub chain : IsChain (held_of bytes chain) chain.clock chain.levels
+  pub stands : IsChain (held_of bytes chain) chain.clock chain.levels
   pub paid : chain.counted ≡ true → IsPaid bytes counts chain
 
 -- the bounds on reads and writes of so many steps, where none of the three stands at the last value of 64 bits: 14 cells read and 4 written for each step and level, in whole blocks, and the blocks of the file once written and four times read
