@@ -25,6 +25,7 @@ pub record State (T : Type 0) : Type 0 where
   pub tally : Tally
   pub steps : ℕ
 
+-- the state of these three
 abbrev pub at : {T : Type 0} → T → Tally → ℕ → State T
 at table tally steps = record { table = table; tally = tally; steps = steps }
 

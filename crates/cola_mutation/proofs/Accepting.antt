@@ -1,10 +1,10 @@
 -- An accepted mutation leaves a chain at the next clock.
-use Rattle.std.proofs.Common.{◌≡◌, ◌≢◌, ◌⊎◌, inl, inr, ℕ, zero, suc, ◌+◌, ◌-◌, ◌*◌, ◌/◌, ◌%◌, ◌^◌, ◌<◌, ◌≤◌, Bool, true, false, ◌&&◌, ◌==◌, cond, List, [], ◌∷◌, length, Result, Ok, Err, refl, ap, sym, subst, ◌∙◌, arith}
+use Rattle.std.proofs.Common.{◌≡◌, ◌≢◌, ◌⊎◌, inl, inr, ℕ, zero, suc, ◌+◌, ◌-◌, ◌/◌, ◌%◌, ◌^◌, ◌<◌, ◌≤◌, false, List, [], ◌∷◌, length, Result, Ok, Err, refl, ap, sym, subst, ◌∙◌, arith}
 use Rattle.std.proofs.lemmas.Nat.{pow_pos}
-use Rattle.std.proofs.lemmas.Bool.{true≢false, false≢true}
+use Rattle.std.proofs.lemmas.Bool.{true≢false}
 use Rattle.std.proofs.lemmas.Bool.Decides.{eqb_tells}
 use Rattle.cola_clock.specs.Clock.{works, flips, ends, window_step, window_length, visible_slot, working_levels, SameSchedule}
-use Rattle.cola_clock.specs.Marks.{Marks, merge_steps, AreCursorsAtRest, AreAllMarks, AreChainMarks, all_marks_after}
+use Rattle.cola_clock.specs.Marks.{Marks, merge_steps, AreCursorsAtRest, AreAllMarks, AreChainMarks}
 use Rattle.cola_clock.proofs.Laws.{flips-zero}
 use Rattle.cola_clock.proofs.Wrap.{schedule-wrap, slot-turns}
 use Rattle.cola_clock.proofs.Counts.{working_levels-half}
@@ -19,14 +19,13 @@ use Rattle.cola_merge.specs.Heads.{fresh}
 use Rattle.cola_merge.specs.States.{Grows}
 use Rattle.cola_level.specs.declared.level.Level.{Level}
 use Rattle.cola_level.specs.Marks.{marks_of, all_marks_of}
-use Rattle.cola_mutation.specs.Levels.{Fits, AreFit, IsTop, AreAllFit, IsChain}
-use Rattle.cola_mutation.specs.Work.{State, Keeps, IsQuiet, HaveTurned, TakeTurns, with_shadow, Builds, one_working, many_working}
+use Rattle.cola_mutation.specs.Levels.{AreFit, IsChain}
+use Rattle.cola_mutation.specs.Work.{State, Keeps, TakeTurns, with_shadow, Builds, one_working, many_working}
 use Rattle.cola_mutation.specs.Ends.{ended, all_ended, AreDone, Restarted}
 use Rattle.cola_mutation.specs.Standing.{first_marks, ThenBuilds, Prepares, PreparesAll}
 use Rattle.cola_mutation.proofs.Keeping.{fits_stay}
 use Rattle.cola_mutation.proofs.Marking.{ends_at_end}
 use Rattle.cola_mutation.proofs.Advancing.{visible_apart}
-use Rattle.cola_mutation.proofs.Restarting.{ended_flips}
 use Rattle.cola_mutation.proofs.Readying.{slot_below, length_levels}
 use Rattle.cola_mutation.proofs.Following.{all_marks_ended, length_marks, length_ended, merger_choice, all_fit_next, all_fit_same}
 

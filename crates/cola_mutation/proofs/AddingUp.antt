@@ -1,7 +1,6 @@
 -- How the turns of levels add up, apart from what they mean to the laws.
-use Rattle.std.proofs.Common.{◌≡◌, ◌≢◌, ◌⊎◌, inl, inr, ℕ, suc, ◌+◌, ◌-◌, ◌*◌, ◌^◌, ◌<◌, ◌≤◌, Bool, true, false, List, [], ◌∷◌, length, Result, Ok, Err, IfErr, OnOk, refl, ap, sym, subst, ◌∙◌, arith}
+use Rattle.std.proofs.Common.{◌≡◌, inl, inr, ℕ, suc, ◌+◌, ◌*◌, ◌≤◌, true, List, ◌∷◌, Result, Ok, Err, IfErr, ap, sym, subst, ◌∙◌, arith}
 use Rattle.std.proofs.lemmas.Bool.Decides.{eqb_tells}
-use Rattle.cola_outside.specs.Faults.{Rose}
 use Rattle.cola_clock.specs.Clock.{works, ends}
 use Rattle.cola_clock.specs.Marks.{merge_steps, AreLevelMarks, AreAllMarks}
 use Rattle.cola_clock.proofs.Laws.{ends-works}
@@ -20,7 +19,6 @@ use Rattle.cola_level.specs.declared.level.Level.{Level}
 use Rattle.cola_level.specs.Marks.{marks_of, all_marks_of}
 use Rattle.cola_level.specs.Aims.{aim_at}
 use Rattle.cola_level.specs.Work.{taken, IsCalm}
-use Rattle.cola_mutation.specs.Levels.{Fits, AreFit}
 use Rattle.cola_mutation.specs.Work.{State, transfers, Keeps, HasTurned, HaveTurned, SpendsWithin, Costs, IsRefused, AreSavedAtEnd, IsQuiet}
 use Rattle.cola_mutation.proofs.Marking.{aim_same, level_marks_below, ends_used_up}
 

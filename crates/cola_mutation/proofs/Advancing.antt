@@ -1,6 +1,6 @@
 -- How the turns of levels add up to what the laws of levels say.
-use Rattle.std.proofs.Common.{◌≡◌, ◌≢◌, ◌⊎◌, inl, inr, ℕ, zero, suc, ◌+◌, ◌-◌, ◌*◌, ◌/◌, ◌<◌, ◌≤◌, Bool, true, false, cond, List, [], ◌∷◌, length, Result, Ok, Err, IfErr, refl, ap, sym, subst, ◌∙◌, arith}
-use Rattle.cola_clock.specs.Clock.{period, is_odd, works, visible_slot}
+use Rattle.std.proofs.Common.{◌≡◌, ◌≢◌, ◌⊎◌, inl, inr, ℕ, suc, ◌+◌, ◌-◌, ◌*◌, ◌<◌, Bool, true, false, cond, List, [], ◌∷◌, Result, Ok, Err, sym, subst, ◌∙◌, arith}
+use Rattle.cola_clock.specs.Clock.{period, is_odd, visible_slot}
 use Rattle.cola_clock.specs.Marks.{Marks, merge_steps}
 use Rattle.cola_clock.proofs.Wrap.{slot-of_parity}
 use Rattle.cola_laws.specs.Chain.{Level as LawLevel}
@@ -8,21 +8,19 @@ use Rattle.cola_laws.specs.Sound.{ArePaced}
 use Rattle.cola_laws.specs.Mutation.{IsAdvanced, AreAdvanced, AreWorkable}
 use Rattle.cola_laws.proofs.Mutations.{fewer-advanced, none-advanced}
 use Rattle.cola_cell.specs.declared.fault.StepFault.{StepFault}
-use Rattle.cola_cell.specs.declared.sink.Shadow.{Shadow}
 use Rattle.cola_cell.specs.Order.{key_cmp}
-use Rattle.cola_cell.specs.Held.{Held, Fixed, Spot, Stamped, LawCell, HasPlace, is_untold, IsTelling}
+use Rattle.cola_cell.specs.Held.{Held, Fixed, Spot, Stamped, LawCell, IsTelling}
 use Rattle.cola_cell.specs.Places.{IsPlace}
 use Rattle.cola_told.specs.Cells.{IsTold, AreTold, IsShadowTold}
 use Rattle.cola_told.proofs.CellLists.{cells-same}
 use Rattle.cola_image.specs.Standing.{AreRunsTold, AreRunsAlike}
 use Rattle.cola_image.proofs.CellsLemmas.{levels-alike, runs-told}
 use Rattle.cola_merge.specs.Heads.{AreFeedsTold}
-use Rattle.cola_transfers.specs.Chain.{sampled_slot}
 use Rattle.cola_level.specs.declared.level.Level.{Level}
 use Rattle.cola_level.specs.Marks.{marks_of, all_marks_of}
 use Rattle.cola_level.specs.Aims.{aim_at}
-use Rattle.cola_level.specs.Standing.{slot_cells, visible_cells, stood, all_stood, CanAdvance}
-use Rattle.cola_level.specs.Work.{taken, Advances, IsDevice}
+use Rattle.cola_level.specs.Standing.{slot_cells, visible_cells, stood, all_stood}
+use Rattle.cola_level.specs.Work.{taken, Advances}
 use Rattle.cola_mutation.specs.Levels.{Fits}
 use Rattle.cola_mutation.specs.Work.{Keeps, IsBeside, IsQuiet, HasTurned, CanTurn, CanAllTurn, AllAdvance}
 use Rattle.cola_mutation.proofs.AddingUp.{taken_few}

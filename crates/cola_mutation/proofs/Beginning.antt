@@ -1,18 +1,16 @@
 -- Levels that are read back from their marks.
-use Rattle.std.proofs.Common.{◌≡◌, ◌≢◌, ◌⊎◌, inl, inr, ℕ, zero, suc, ◌+◌, ◌-◌, ◌*◌, ◌^◌, ◌<◌, ◌≤◌, Bool, true, false, List, [], ◌∷◌, length, refl, ap, sym, subst, ◌∙◌, arith}
-use Rattle.cola_clock.specs.Clock.{period, is_odd, works, is_over, visible_slot}
-use Rattle.cola_clock.specs.Marks.{Marks, AreCursorsAtRest, AreMarksInside, AreLevelMarks, AreAllMarks, AreChainMarks, sample_end, merge_steps}
+use Rattle.std.proofs.Common.{◌≡◌, ℕ, suc, ◌+◌, ◌^◌, ◌<◌, ◌≤◌, Bool, true, false, List, [], ◌∷◌, length, refl, ap, sym, subst, ◌∙◌, arith}
+use Rattle.cola_clock.specs.Clock.{period, is_odd, works, is_over}
+use Rattle.cola_clock.specs.Marks.{Marks, AreCursorsAtRest, AreMarksInside, AreLevelMarks, AreAllMarks, AreChainMarks, sample_end}
 use Rattle.cola_clock.proofs.Laws.{before_else}
 use Rattle.cola_cell.specs.Held.{Held}
 use Rattle.cola_cell.specs.Places.{slot_size}
-use Rattle.cola_merge.specs.declared.merging.Merger.{Merger}
 use Rattle.cola_merge.specs.Heads.{head_at, fresh, IsReady}
-use Rattle.cola_level.specs.declared.level.Level.{Level}
-use Rattle.cola_level.specs.Marks.{marks_of, all_marks_of, level_with}
+use Rattle.cola_level.specs.Marks.{all_marks_of, level_with}
 use Rattle.cola_level.specs.Aims.{aim_at}
 use Rattle.cola_level.proofs.Sources.{sample_len}
-use Rattle.cola_mutation.specs.Levels.{Fits, AreFit, IsTop, IsChain, levels_with, ArePlaced}
-use Rattle.cola_mutation.proofs.Readying.{FirstFits, first_fits, ready_fresh}
+use Rattle.cola_mutation.specs.Levels.{Fits, AreFit, IsChain, levels_with, ArePlaced}
+use Rattle.cola_mutation.proofs.Readying.{first_fits, ready_fresh}
 
 pub marks_back : (ms : List Marks) → all_marks_of (levels_with ms) ≡ ms
 marks_back [] = refl

@@ -1,25 +1,24 @@
 -- The build of level 0, from what the merge says.
-use Rattle.std.proofs.Common.{◌≡◌, ◌≢◌, ◌⊎◌, inl, inr, ℕ, zero, suc, ◌+◌, ◌-◌, ◌*◌, ◌/◌, ◌^◌, ◌<◌, ◌≤◌, nat_lt, Bool, true, false, ◌||◌, cond, List, [], ◌∷◌, length, Result, Ok, Err, IfErr, OnOk, refl, ap, sym, subst, ◌∙◌, arith}
+use Rattle.std.proofs.Common.{◌≡◌, ◌≢◌, inl, ℕ, ◌+◌, ◌-◌, ◌*◌, ◌/◌, ◌^◌, ◌<◌, ◌≤◌, nat_lt, Bool, ◌||◌, cond, List, [], ◌∷◌, length, Result, Ok, Err, OnOk, refl, ap, ◌∙◌, arith}
 use Rattle.std.proofs.lemmas.Nat.{pow_pos, div_below}
 use Rattle.std.proofs.lemmas.Bool.{lt-ltb}
-use Rattle.cola_clock.specs.Clock.{period, is_odd, visible_slot}
+use Rattle.cola_clock.specs.Clock.{visible_slot}
 use Rattle.cola_clock.specs.Marks.{Marks}
 use Rattle.cola_cell.specs.declared.cell.Cell.{Cell}
-use Rattle.cola_cell.specs.declared.cell.Reader.{Reader}
 use Rattle.cola_cell.specs.declared.cell.Reader.TheVariants.{Own, Incoming, Sample}
 use Rattle.cola_cell.specs.declared.fault.StepFault.{StepFault}
 use Rattle.cola_cell.specs.declared.fault.StepFault.TheVariants.{Device, BadCell, Overfull}
 use Rattle.cola_cell.specs.declared.sink.Shadow.{Shadow}
 use Rattle.cola_cell.specs.Held.{Held, Fixed, IsTelling, span}
 use Rattle.cola_cell.specs.Places.{slot_size}
-use Rattle.cola_cell.specs.Spent.{Buffer, By, Spent}
+use Rattle.cola_cell.specs.Spent.{Buffer, By}
 use Rattle.cola_told.specs.Cells.{IsShadowTold, shadow_cells}
 use Rattle.cola_merge.specs.declared.aims.Aim.{Aim}
 use Rattle.cola_merge.specs.declared.aims.Progress.{Progress}
 use Rattle.cola_merge.specs.declared.aims.Progress.TheVariants.{Done, More}
 use Rattle.cola_merge.specs.declared.merging.Merger.{Merger}
 use Rattle.cola_merge.specs.Blocks.{blocks_left, groups, is_last}
-use Rattle.cola_merge.specs.Heads.{fresh, consumed, IsReady, IsUsedUp}
+use Rattle.cola_merge.specs.Heads.{fresh, consumed, IsReady}
 use Rattle.cola_merge.specs.States as merge
 use Rattle.cola_merge.specs.States.{StepCause, StepCalm, Grows, Spends, KeepsBlocks}
 use Rattle.cola_merge.specs.Advance.{Consumes, IsGoing, IsWhole, whole_run, IsDeviceFault, HasStepCause, IsThrifty}
@@ -29,7 +28,7 @@ use Rattle.cola_level.specs.declared.level.Level.{Level}
 use Rattle.cola_level.specs.Aims.{top_at}
 use Rattle.cola_level.specs.Standing.{is_kept}
 use Rattle.cola_level.specs.Work.{IsDevice}
-use Rattle.cola_mutation.specs.Work.{State, transfers, Costs, IsRefused, with_shadow, Builds}
+use Rattle.cola_mutation.specs.Work.{State, transfers, Costs, with_shadow, Builds}
 
 -- what a call of the merge says of its states, for an aim
 pub record Says (s u : State) (aim : Aim) (m n : Merger) (quota : ℕ) (r : Result Progress StepFault) : Type 0 where

@@ -1,19 +1,15 @@
 -- Levels that end a mutation stand at the next clock.
-use Rattle.std.proofs.Common.{◌≡◌, ◌≢◌, ◌⊎◌, inl, inr, ℕ, zero, suc, ◌+◌, ◌-◌, ◌*◌, ◌%◌, ◌^◌, ◌<◌, ◌≤◌, Bool, true, false, cond, not, List, [], ◌∷◌, length, refl, ap, sym, subst, ◌∙◌, arith}
+use Rattle.std.proofs.Common.{◌≡◌, inl, inr, ℕ, suc, ◌+◌, ◌-◌, ◌*◌, ◌<◌, ◌≤◌, Bool, true, false, cond, List, [], ◌∷◌, length, refl, ap, sym, subst, ◌∙◌, arith}
 use mathlib.Core.Path.{ap₂}
-use Rattle.std.proofs.lemmas.Bool.{true≢false, false≢true}
-use Rattle.cola_clock.specs.Clock.{period, is_odd, works, flips, ends, is_over, visible_slot, SameSchedule}
-use Rattle.cola_clock.specs.Marks.{Marks, merge_steps, AreCursorsAtRest, AreAllMarks, AreChainMarks, marks_after, all_marks_after}
-use Rattle.cola_clock.specs.declared.state.Part.TheVariants.{All, Young}
-use Rattle.cola_clock.proofs.Laws.{adjacent-rest, flips-zero, ends-works, ends-over, over-not_works, window-keeps_above, window-keeps_self, window-keeps_below, window-next, is_odd-next_stay, flips-over}
-use Rattle.cola_clock.proofs.Wrap.{slot-stays, slot-turns, schedule-wrap}
-use Rattle.cola_clock.proofs.MarkLaws.{marks-next, marks-wrapped}
-use Rattle.cola_cell.specs.declared.cell.Run.{Run}
+use Rattle.std.proofs.lemmas.Bool.{true≢false}
+use Rattle.cola_clock.specs.Clock.{period, is_odd, works, flips, ends, visible_slot, SameSchedule}
+use Rattle.cola_clock.specs.Marks.{Marks, AreAllMarks, all_marks_after}
+use Rattle.cola_clock.specs.declared.state.Part.TheVariants.{All}
+use Rattle.cola_clock.proofs.Laws.{adjacent-rest, ends-works, ends-over, over-not_works, window-keeps_above, window-keeps_self, window-keeps_below, window-next, is_odd-next_stay}
+use Rattle.cola_clock.proofs.Wrap.{slot-stays, slot-turns}
 use Rattle.cola_cell.specs.declared.sink.Shadow.{Shadow}
 use Rattle.cola_cell.specs.Held.{Held, Fixed}
 use Rattle.cola_cell.specs.Places.{slot_size}
-use Rattle.cola_cell.specs.Shadows.{emptied}
-use Rattle.cola_merge.specs.declared.aims.Feed.{Feed}
 use Rattle.cola_merge.specs.declared.aims.Feed.TheVariants as feed
 use Rattle.cola_merge.specs.declared.aims.Aim.{Aim}
 use Rattle.cola_merge.specs.declared.merging.Merger.{Merger}
@@ -21,9 +17,9 @@ use Rattle.cola_merge.specs.Heads.{head_at, fresh, IsReady}
 use Rattle.cola_transfers.specs.Chain.{sampled_slot}
 use Rattle.cola_level.specs.declared.level.Level.{Level}
 use Rattle.cola_level.specs.Marks.{marks_of, all_marks_of, out_of_window, flipped}
-use Rattle.cola_level.specs.Aims.{aim_at, own_items, marks_young, is_bottom}
-use Rattle.cola_mutation.specs.Levels.{Fits, AreFit, IsTop}
-use Rattle.cola_mutation.specs.Ends.{ended, all_ended, IsStaying, Restarted}
+use Rattle.cola_level.specs.Aims.{aim_at, own_items, marks_young}
+use Rattle.cola_mutation.specs.Levels.{Fits, AreFit}
+use Rattle.cola_mutation.specs.Ends.{ended, all_ended, Restarted}
 use Rattle.cola_mutation.proofs.Keeping.{FeedsStay, ready_stays}
 use Rattle.cola_mutation.proofs.Readying.{FirstFits, first_fits, ready_fresh, slot_below}
 use Rattle.cola_mutation.proofs.Restarting.{ended_flips, ended_leaves, ended_stays}

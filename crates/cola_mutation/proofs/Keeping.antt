@@ -1,26 +1,24 @@
 -- What the work of some levels leaves of the others.
-use Rattle.std.proofs.Common.{◌≡◌, ◌≢◌, ◌⊎◌, inl, inr, ℕ, suc, ◌+◌, ◌-◌, ◌*◌, ◌/◌, ◌%◌, ◌<◌, ◌≤◌, Bool, true, false, cond, List, [], ◌∷◌, length, Option, Some, None, refl, ap, sym, subst, ◌∙◌, arith}
-use Rattle.std.proofs.lemmas.Bool.{true≢false, false≢true}
+use Rattle.std.proofs.Common.{◌≡◌, ◌≢◌, ◌⊎◌, inl, inr, ℕ, suc, ◌+◌, ◌*◌, ◌<◌, Bool, true, false, List, [], ◌∷◌, Option, Some, None, refl, ap, sym, subst, ◌∙◌, arith}
+use Rattle.std.proofs.lemmas.Bool.{true≢false}
 use Rattle.std.proofs.lemmas.Bool.Decides.{eqb_tells}
-use Rattle.cola_clock.specs.Clock.{period, is_odd, works, visible_slot}
+use Rattle.cola_clock.specs.Clock.{works, visible_slot}
 use Rattle.cola_clock.specs.Marks.{Marks}
 use Rattle.cola_clock.proofs.Laws.{adjacent-rest}
 use Rattle.cola_cell.specs.declared.cell.Cell.{Cell}
-use Rattle.cola_cell.specs.declared.cell.Run.{Run}
 use Rattle.cola_cell.specs.declared.sink.Shadow.{Shadow}
 use Rattle.cola_cell.specs.Format.{CellFits}
 use Rattle.cola_cell.specs.Held.{Held, Fixed, Spot, Told, Tells, as_cell}
 use Rattle.cola_merge.specs.declared.aims.Feed.{Feed}
-use Rattle.cola_merge.specs.declared.aims.Feed.TheVariants as feed
 use Rattle.cola_merge.specs.declared.aims.Aim.{Aim}
 use Rattle.cola_merge.specs.declared.heads.Head.{Head}
 use Rattle.cola_merge.specs.declared.merging.Merger.{Merger}
-use Rattle.cola_merge.specs.Feeds.{feed_spots, feed_len, IsFeed}
+use Rattle.cola_merge.specs.Feeds.{feed_spots, IsFeed}
 use Rattle.cola_merge.specs.Heads.{IsHeldCell, IsHead, IsReady}
 use Rattle.cola_merge.specs.States.{Grows}
 use Rattle.cola_transfers.specs.Chain.{sampled_slot}
 use Rattle.cola_level.specs.declared.level.Level.{Level}
-use Rattle.cola_level.specs.Marks.{marks_of, all_marks_of}
+use Rattle.cola_level.specs.Marks.{all_marks_of}
 use Rattle.cola_level.specs.Aims.{aim_at}
 use Rattle.cola_mutation.specs.Levels.{Fits, AreFit}
 use Rattle.cola_mutation.specs.Work.{Keeps, IsBeside, IsQuiet}

@@ -1,22 +1,19 @@
 -- Runs that stay told, and alike, while a mutation builds level 0 and ends.
-use Rattle.std.proofs.Common.{◌≡◌, ◌≢◌, ◌⊎◌, inl, inr, ℕ, zero, suc, ◌+◌, ◌-◌, ◌*◌, ◌%◌, ◌^◌, ◌<◌, ◌≤◌, Bool, true, false, cond, not, List, [], ◌∷◌, length, refl, ap, sym, subst, ◌∙◌, arith}
+use Rattle.std.proofs.Common.{◌≡◌, ◌≢◌, inl, inr, ℕ, suc, ◌+◌, ◌-◌, ◌<◌, ◌≤◌, Bool, true, false, cond, List, [], ◌∷◌, length, refl, ap, sym, subst, ◌∙◌, arith}
 use Rattle.std.proofs.lemmas.Bool.Decides.{eqb_tells}
-use Rattle.std.proofs.lemmas.Bool.{true≢false}
-use Rattle.cola_clock.specs.Clock.{flips, ends, works, is_over, visible_slot, SameSchedule}
+use Rattle.cola_clock.specs.Clock.{flips, ends, visible_slot, SameSchedule}
 use Rattle.cola_clock.specs.Marks.{Marks, marks_after, all_marks_after}
 use Rattle.cola_clock.proofs.Wrap.{slot-stays, slot-turns}
 use Rattle.cola_cell.specs.Held.{Held, Spot, Spots}
 use Rattle.cola_cell.specs.Shadows.{IsKept}
-use Rattle.cola_told.specs.Cells.{IsTold, AreTold}
-use Rattle.cola_image.specs.Standing.{AreRunsTold, IsSlotAlike, AreRunsAlike}
+use Rattle.cola_told.specs.Cells.{AreTold}
+use Rattle.cola_image.specs.Standing.{AreRunsTold, AreRunsAlike}
 use Rattle.cola_merge.specs.States.{Grows}
 use Rattle.cola_level.specs.declared.level.Level.{Level}
-use Rattle.cola_level.specs.Marks.{all_marks_of}
-use Rattle.cola_mutation.specs.Levels.{Fits, AreFit}
+use Rattle.cola_mutation.specs.Levels.{AreFit}
 use Rattle.cola_mutation.specs.Ends.{Restarted}
 use Rattle.cola_mutation.specs.Work.{Keeps}
 use Rattle.cola_mutation.proofs.Advancing.{visible_apart}
-use Rattle.cola_mutation.proofs.Readying.{slot_below}
 
 -- ---- alike
 

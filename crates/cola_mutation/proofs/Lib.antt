@@ -17,3 +17,4 @@ pub mod Refusing
 pub mod Results
 pub mod Beginning
 pub mod Causes
+pub mod Examples

@@ -1,5 +1,5 @@
 -- The keys of a finite map, as the laws of levels take them.
-use Rattle.std.proofs.Common.{◌≡◌, ℕ, suc, ◌≤◌, Bool, true, false, ◌&&◌, cond, List, [], ◌∷◌, length, map, Option, Some, None, option_map, IsSome, is_some, refl, sym, ap, subst, ◌∙◌, inl, inr, arith, T}
+use Rattle.std.proofs.Common.{◌≡◌, ℕ, suc, ◌≤◌, Bool, true, false, ◌&&◌, cond, List, [], ◌∷◌, length, Option, Some, None, option_map, IsSome, refl, ap, subst, ◌∙◌, inl, inr, arith, T}
 use Rattle.std.proofs.Math.Path.{fun_ext}
 use Rattle.std.specs.declared.cmp.Ordering.{Ordering}
 use Rattle.std.specs.declared.cmp.Ordering.TheVariants.{Less, Equal, Greater}
@@ -9,7 +9,6 @@ use Rattle.std.specs.Cmp.Lexicographic.{nat_list_cmp_total}
 use Rattle.std.specs.List.{AllByRecursion}
 use Rattle.std.specs.List.Sorted.{IsStrictlySortedBy}
 use Rattle.std.specs.FinMap as finite
-use Rattle.std.specs.FinMap.{FinMap}
 use Rattle.std.specs.FinMap.Entries.{find, is_sorted, below_all}
 use Rattle.cola_cell.specs.declared.cell.Item.TheVariants.{Value, Tombstone}
 use Rattle.cola_cell.specs.Held.{Stamped, as_item}

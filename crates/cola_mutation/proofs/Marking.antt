@@ -1,24 +1,20 @@
 -- The marks of a level while the levels behind it work, and what they say where its window ends.
-use Rattle.std.proofs.Common.{◌≡◌, ◌⊎◌, inl, inr, ℕ, zero, suc, ◌+◌, ◌-◌, ◌*◌, ◌/◌, ◌^◌, ◌<◌, ◌≤◌, min, nat_le, Bool, true, false, cond, List, [], ◌∷◌, length, refl, ap, sym, subst, ◌∙◌, arith}
+use Rattle.std.proofs.Common.{◌≡◌, ℕ, suc, ◌+◌, ◌*◌, ◌/◌, ◌≤◌, Bool, true, cond, List, [], ◌∷◌, refl, ap, sym, subst, arith}
 use Rattle.std.proofs.lemmas.Bool.{leb-true}
 use Rattle.cola_clock.specs.Clock.{period, is_odd, works, window_step, ends}
 use Rattle.cola_clock.specs.Marks.{Marks, merge_steps, consumed, sample_end, AreMarksInside, AreLevelMarks, AreAllMarks}
 use Rattle.cola_clock.proofs.Laws.{adjacent-rest, ends-works}
 use Rattle.cola_cell.specs.Held.{Held}
 use Rattle.cola_cell.specs.Places.{slot_size}
-use Rattle.cola_cell.specs.declared.cell.Run.{Run}
-use Rattle.cola_merge.specs.declared.aims.Feed.{Feed}
-use Rattle.cola_merge.specs.declared.aims.Feed.TheVariants as feed
 use Rattle.cola_merge.specs.declared.aims.Aim.{Aim}
 use Rattle.cola_merge.specs.Feeds.{feed_len}
 use Rattle.cola_merge.specs.Heads.{IsReady, IsUsedUp}
-use Rattle.cola_transfers.specs.Chain.{has_ended}
 use Rattle.cola_transfers.proofs.PaidLaws.{done-all}
 use Rattle.cola_level.specs.declared.level.Level.{Level}
-use Rattle.cola_level.specs.Marks.{marks_of, all_marks_of, IsOwnRunConsumed}
+use Rattle.cola_level.specs.Marks.{marks_of, all_marks_of}
 use Rattle.cola_level.specs.Aims.{aim_at}
 use Rattle.cola_mutation.specs.Levels.{Fits}
-use Rattle.cola_mutation.specs.Work.{HasTurned, HaveTurned}
+use Rattle.cola_mutation.specs.Work.{HaveTurned}
 
 -- ---- what a level reads of those behind it
 

@@ -1,15 +1,13 @@
 -- What a mutation means to the laws of levels, up to the build of level 0.
-use Rattle.std.proofs.Common.{◌≡◌, ◌≢◌, ◌⊎◌, inl, inr, ℕ, zero, suc, ◌+◌, ◌-◌, ◌*◌, ◌%◌, ◌^◌, ◌<◌, ◌≤◌, Bool, true, false, cond, List, [], ◌∷◌, length, map, Option, Result, Ok, Err, IfErr, refl, ap, sym, subst, ◌∙◌, arith}
+use Rattle.std.proofs.Common.{◌≡◌, inl, ℕ, suc, ◌+◌, ◌*◌, ◌^◌, ◌≤◌, false, List, [], ◌∷◌, length, Option, refl, ap, sym, subst, ◌∙◌, arith}
 use Rattle.std.specs.Cmp.Lexicographic.{nat_list_cmp_total}
 use Rattle.std.specs.List.Sorted.{IsStrictlySortedBy}
-use Rattle.cola_clock.specs.Clock.{period, is_odd, works, is_over, visible_slot}
+use Rattle.cola_clock.specs.Clock.{period, is_odd, visible_slot}
 use Rattle.cola_clock.specs.Marks.{Marks}
-use Rattle.cola_runs.specs.Cells.{IsRising}
 use Rattle.cola_runs.specs.Weave.{Part, weave}
-use Rattle.cola_runs.specs.Steps.{Build, begun, IsUnderWay}
+use Rattle.cola_runs.specs.Steps.{Build, IsUnderWay}
 use Rattle.cola_runs.proofs.Builds.{begun_is_under_way}
 use Rattle.cola_laws.specs.Chain.{part_of, next_runs, first_keys}
-use Rattle.cola_laws.specs.Chain.{Level as LawLevel}
 use Rattle.cola_laws.specs.Sound.{IsSoundFrom}
 use Rattle.cola_laws.specs.Mutation.{AreAdvanced, IsBuildable, new_run}
 use Rattle.cola_laws.proofs.Workable.{all-workable, top-buildable}
@@ -17,11 +15,10 @@ use Rattle.cola_laws.proofs.Mutations.{advance}
 use Rattle.cola_cell.specs.declared.cell.Cell.{Cell}
 use Rattle.cola_cell.specs.declared.cell.Cell.TheVariants as cell
 use Rattle.cola_cell.specs.declared.cell.Item.{Item}
-use Rattle.cola_cell.specs.declared.fault.StepFault.{StepFault}
-use Rattle.cola_cell.specs.Held.{Held, Stamped, LawCell, Spot, IsTelling, as_item}
+use Rattle.cola_cell.specs.Held.{Held, Stamped, LawCell, IsTelling, as_item}
 use Rattle.cola_cell.specs.Order.{key_cmp}
 use Rattle.cola_cell.specs.Places.{slot_size}
-use Rattle.cola_told.specs.Cells.{AreTold, IsShadowTold}
+use Rattle.cola_told.specs.Cells.{AreTold}
 use Rattle.cola_image.specs.Standing.{AreRunsTold}
 use Rattle.cola_merge.specs.declared.aims.Feed.TheVariants as feed
 use Rattle.cola_merge.specs.Feeds as merge
@@ -32,7 +29,7 @@ use Rattle.cola_merge.proofs.ToldRuns.{fresh_begun}
 use Rattle.cola_level.specs.declared.level.Level.{Level}
 use Rattle.cola_level.specs.Marks.{marks_of, all_marks_of}
 use Rattle.cola_level.specs.Aims.{top_at, sample_of}
-use Rattle.cola_level.specs.Standing.{slot_cells, visible_cells, stood, all_stood}
+use Rattle.cola_level.specs.Standing.{visible_cells, stood, all_stood}
 use Rattle.cola_level.proofs.Sources.{keys_of_next, part_of_aim}
 use Rattle.cola_mutation.specs.Work.{Keeps, IsQuiet, CanAllTurn}
 use Rattle.cola_mutation.specs.Standing.{StandsFor}

@@ -1,25 +1,22 @@
 -- Merges that may be called, since they have not begun.
-use Rattle.std.proofs.Common.{◌≡◌, ◌≢◌, ◌⊎◌, inl, inr, ℕ, zero, suc, ◌+◌, ◌-◌, ◌*◌, ◌/◌, ◌^◌, ◌<◌, ◌≤◌, Bool, true, false, cond, List, [], ◌∷◌, length, refl, ap, sym, subst, ◌∙◌, arith}
+use Rattle.std.proofs.Common.{◌≡◌, inl, inr, ℕ, suc, ◌+◌, ◌-◌, ◌<◌, ◌≤◌, Bool, true, false, cond, List, [], ◌∷◌, length, refl, ap, sym, subst, ◌∙◌, arith}
 use Rattle.std.specs.Prelude.{⊤, slice_index_or}
-use Rattle.cola_clock.specs.Clock.{period, is_odd, works, visible_slot}
-use Rattle.cola_clock.specs.Marks.{Marks, AreLevelMarks, AreAllMarks, AreChainMarks}
+use Rattle.cola_clock.specs.Clock.{period, is_odd, visible_slot}
+use Rattle.cola_clock.specs.Marks.{Marks, AreAllMarks}
 use Rattle.cola_clock.proofs.Wrap.{slot-of_parity}
 use Rattle.cola_cell.specs.declared.cell.Cell.{Cell}
-use Rattle.cola_cell.specs.declared.fault.StepFault.{StepFault}
 use Rattle.cola_cell.specs.Format.{CellFits}
 use Rattle.cola_cell.specs.Held.{Held, Fixed}
 use Rattle.cola_cell.specs.Places.{slot_size}
 use Rattle.cola_merge.specs.declared.aims.Feed.{Feed}
 use Rattle.cola_merge.specs.Feeds.{IsFeed}
 use Rattle.cola_merge.specs.Heads.{fresh, fresh_head, IsHead, IsReady}
-use Rattle.cola_transfers.specs.Chain.{sampled_slot}
 use Rattle.cola_level.specs.declared.level.Level.{Level}
 use Rattle.cola_level.specs.Marks.{marks_of, all_marks_of}
 use Rattle.cola_level.specs.Aims.{aim_at, top_at, sample_of}
-use Rattle.cola_level.specs.Work.{taken}
-use Rattle.cola_mutation.specs.Levels.{IsTop, IsChain}
+use Rattle.cola_mutation.specs.Levels.{IsChain}
 use Rattle.cola_mutation.specs.Standing.{first_marks}
-use Rattle.cola_mutation.specs.Work.{Keeps, IsQuiet, HaveTurned, TakeTurns}
+use Rattle.cola_mutation.specs.Work.{Keeps, IsQuiet, HaveTurned}
 use Rattle.cola_mutation.proofs.Advancing.{visible_apart}
 
 parity_below : (b : Bool) (v : ℕ) → v ≡ cond b 1 0 → v < 2

@@ -1,24 +1,24 @@
 -- A refused mutation leaves a chain at its clock, for the same map.
-use Rattle.std.proofs.Common.{◌≡◌, ◌≢◌, ◌⊎◌, inl, inr, ℕ, zero, suc, ◌+◌, ◌-◌, ◌*◌, ◌/◌, ◌%◌, ◌^◌, ◌<◌, ◌≤◌, Bool, true, false, List, [], ◌∷◌, length, Option, Result, Ok, Err, IfErr, refl, ap, sym, subst, ◌∙◌, arith}
+use Rattle.std.proofs.Common.{◌≡◌, ◌≢◌, ◌⊎◌, inl, inr, ℕ, zero, suc, ◌+◌, ◌-◌, ◌*◌, ◌/◌, ◌^◌, ◌<◌, ◌≤◌, List, [], ◌∷◌, length, Option, Result, Ok, Err, IfErr, refl, ap, sym, subst, ◌∙◌, arith}
 use Rattle.std.proofs.lemmas.Bool.Decides.{eqb_tells}
-use Rattle.cola_clock.specs.Clock.{is_over, works, visible_slot}
-use Rattle.cola_clock.specs.Marks.{Marks, merge_steps, AreMarksIdle, AreLevelMarks, AreAllMarks}
+use Rattle.cola_clock.specs.Clock.{visible_slot}
+use Rattle.cola_clock.specs.Marks.{AreMarksIdle}
 use Rattle.cola_clock.proofs.MarkLaws.{marks-fewer}
 use Rattle.cola_laws.specs.Chain.{Level as LawLevel}
-use Rattle.cola_laws.specs.Sound.{IsIdle, IsSound}
+use Rattle.cola_laws.specs.Sound.{IsSound}
 use Rattle.cola_laws.specs.Mutation.{AreAdvanced}
 use Rattle.cola_laws.proofs.Mutations.{refusal, all-fewer}
 use Rattle.cola_cell.specs.declared.cell.Cell.{Cell}
 use Rattle.cola_cell.specs.declared.cell.Item.{Item}
 use Rattle.cola_cell.specs.declared.fault.StepFault.{StepFault}
 use Rattle.cola_cell.specs.declared.sink.Shadow.{Shadow}
-use Rattle.cola_cell.specs.Held.{Held, Fixed, Spot, Stamped, LawCell}
+use Rattle.cola_cell.specs.Held.{Held, Fixed, Spot, Stamped}
 use Rattle.cola_cell.specs.Order.{key_cmp}
 use Rattle.cola_cell.specs.Places.{slot_size}
 use Rattle.cola_cell.specs.Spent.{Spent}
-use Rattle.cola_cell.specs.Shadows.{emptied, Restarts}
-use Rattle.cola_told.specs.Cells.{IsTold, AreTold}
-use Rattle.cola_image.specs.Standing.{AreRunsTold, AreRunsAlike}
+use Rattle.cola_cell.specs.Shadows.{Restarts}
+use Rattle.cola_told.specs.Cells.{IsTold}
+use Rattle.cola_image.specs.Standing.{AreRunsAlike}
 use Rattle.cola_image.proofs.CellsLemmas.{levels-alike, runs-told}
 use Rattle.cola_merge.specs.States.{Grows, StepCalm}
 use Rattle.cola_merge.specs.Heads.{fresh}
@@ -28,9 +28,9 @@ use Rattle.cola_level.specs.Aims.{top_at}
 use Rattle.cola_level.specs.declared.level.Level.{Level}
 use Rattle.cola_level.specs.Marks.{marks_of, all_marks_of}
 use Rattle.cola_level.specs.Standing.{slot_cells, visible_cells, stood, all_stood}
-use Rattle.cola_level.specs.Work.{taken, IsCalm, IsDevice}
-use Rattle.cola_mutation.specs.Levels.{IsTop, IsChain}
-use Rattle.cola_mutation.specs.Work.{State, state_of, Keeps, IsQuiet, SpendsWithin, many_working, IsRefused, TakeTurns, AllAdvance, Builds}
+use Rattle.cola_level.specs.Work.{taken, IsDevice}
+use Rattle.cola_mutation.specs.Levels.{IsChain}
+use Rattle.cola_mutation.specs.Work.{State, state_of, Keeps, SpendsWithin, many_working, IsRefused, TakeTurns, AllAdvance}
 use Rattle.cola_mutation.specs.Standing.{StandsFor, first_marks, ThenBuilds, Prepares, HasRefusal}
 use Rattle.cola_mutation.proofs.Keeping.{keeps_then}
 use Rattle.cola_mutation.proofs.AddingUp.{spends_then, spends_more, refused_later, calm_then}

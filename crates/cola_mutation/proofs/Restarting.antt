@@ -1,6 +1,6 @@
 -- Flips and ends of windows, one level after another.
-use Rattle.std.proofs.Common.{◌≡◌, ◌≢◌, ◌⊎◌, inl, inr, ℕ, zero, suc, ◌+◌, ◌-◌, ◌*◌, ◌^◌, ◌<◌, ◌≤◌, Bool, true, false, ◌&&◌, not, cond, List, [], ◌∷◌, length, refl, ap, sym, subst, ◌∙◌, arith, IsTrue}
-use Rattle.std.proofs.lemmas.Bool.{true≢false, false≢true}
+use Rattle.std.proofs.Common.{◌≡◌, ◌≢◌, ◌⊎◌, inl, inr, ℕ, suc, ◌+◌, ◌-◌, ◌*◌, ◌^◌, ◌<◌, ◌≤◌, Bool, true, false, ◌&&◌, not, cond, refl, ap, sym, subst, ◌∙◌, arith, IsTrue}
+use Rattle.std.proofs.lemmas.Bool.{true≢false}
 use Rattle.std.proofs.lemmas.Bool.Decides.{eqb_tells, leb_tells}
 use Rattle.cola_clock.specs.Clock.{flips, ends, visible_slot}
 use Rattle.cola_clock.proofs.Laws.{flips-zero, ends-flips}
@@ -10,7 +10,7 @@ use Rattle.cola_cell.specs.Places.{slot_size}
 use Rattle.cola_cell.specs.Shadows.{emptied, IsKept, Restarts}
 use Rattle.cola_level.specs.declared.level.Level.{Level}
 use Rattle.cola_level.specs.Marks.{out_of_window, flipped}
-use Rattle.cola_mutation.specs.Ends.{ended, all_ended, IsStaying, Restarted}
+use Rattle.cola_mutation.specs.Ends.{ended, IsStaying, Restarted}
 
 -- ---- one level
 

@@ -1,10 +1,10 @@
 -- What one mutation leaves, by its answer, over lists of levels.
-use Rattle.std.proofs.Common.{◌≡◌, ◌≢◌, ℕ, zero, suc, ◌+◌, ◌-◌, ◌*◌, ◌/◌, ◌%◌, ◌^◌, ◌<◌, ◌≤◌, List, [], ◌∷◌, length, Option, Result, Ok, Err, refl, ap, sym, subst, ◌∙◌, arith}
+use Rattle.std.proofs.Common.{◌≡◌, ℕ, suc, ◌-◌, ◌/◌, ◌%◌, ◌^◌, ◌<◌, ◌≤◌, List, [], ◌∷◌, length, Option, Ok, Err, refl, ap, sym, subst, ◌∙◌, arith}
 use Rattle.std.proofs.Math.Pow.{pow_mono}
 use Rattle.cola_clock.specs.Clock.{visible_slot}
 use Rattle.cola_cell.specs.declared.cell.Item.{Item}
 use Rattle.cola_cell.specs.declared.fault.StepFault.{StepFault}
-use Rattle.cola_cell.specs.Held.{Held, Stamped}
+use Rattle.cola_cell.specs.Held.{Stamped}
 use Rattle.cola_cell.specs.Shadows.{Restarts}
 use Rattle.cola_cell.specs.Spent.{Spent}
 use Rattle.cola_merge.specs.States.{StepCalm}
@@ -13,7 +13,7 @@ use Rattle.cola_level.specs.Work.{IsDevice}
 use Rattle.cola_mutation.specs.Levels.{IsChain}
 use Rattle.cola_mutation.specs.Work.{State, SpendsWithin, Costs, with_shadow}
 use Rattle.cola_mutation.specs.Ends.{all_ended, Restarted}
-use Rattle.cola_mutation.specs.Standing.{StandsFor, PreparesAll, KeepsProgress, HasRefusal, AllTrade}
+use Rattle.cola_mutation.specs.Standing.{PreparesAll, KeepsProgress, HasRefusal, AllTrade}
 use Rattle.cola_mutation.specs.Steps.{IsMapOf, ChangesMap, KeepsMap, step_ticks}
 use Rattle.cola_mutation.proofs.Readying.{length_levels}
 use Rattle.cola_mutation.proofs.Following.{length_ended}

@@ -1,39 +1,36 @@
 -- An accepted mutation of levels that stand for a map leaves levels that stand for the map with the key changed.
-use Rattle.std.proofs.Common.{◌≡◌, ◌≢◌, ◌⊎◌, inl, inr, ℕ, zero, suc, ◌+◌, ◌-◌, ◌*◌, ◌%◌, ◌^◌, ◌<◌, ◌≤◌, Bool, true, false, cond, List, [], ◌∷◌, length, Option, Ok, refl, ap, sym, subst, ◌∙◌, arith}
-use Rattle.std.proofs.lemmas.Bool.{true≢false, false≢true}
+use Rattle.std.proofs.Common.{◌≡◌, ◌⊎◌, inl, inr, ℕ, zero, suc, ◌+◌, ◌-◌, ◌%◌, ◌^◌, ◌<◌, ◌≤◌, Bool, true, false, List, ◌∷◌, length, Option, Ok, refl, ap, sym, subst, ◌∙◌, arith}
+use Rattle.std.proofs.lemmas.Bool.{true≢false}
 use Rattle.std.specs.Cmp.Lexicographic.{nat_list_cmp_total}
 use Rattle.cola_clock.specs.Clock.{period, is_odd, works, flips, ends, is_over, visible_slot, SameSchedule}
-use Rattle.cola_clock.specs.Marks.{Marks, merge_steps, marks_after, all_marks_after}
+use Rattle.cola_clock.specs.Marks.{Marks, merge_steps, all_marks_after}
 use Rattle.cola_clock.proofs.Laws.{flips-over, over-not_works, flips-not_over, not_over-next}
 use Rattle.cola_clock.proofs.Wrap.{schedule-wrap}
 use Rattle.cola_runs.specs.Weave.{Part, weave}
 use Rattle.cola_laws.specs.Chain.{part_of, next_runs, first_keys, updated}
 use Rattle.cola_laws.specs.Chain.{Level as LawLevel}
-use Rattle.cola_laws.specs.Sound.{HasAtMost, IsSoundFrom}
+use Rattle.cola_laws.specs.Sound.{HasAtMost}
 use Rattle.cola_laws.specs.Mutation.{AreAdvanced, IsBuilt, new_run}
 use Rattle.cola_laws.specs.Plain.{IsSoundChain}
 use Rattle.cola_laws.proofs.Mutations.{advanced-part, advanced-next_runs}
 use Rattle.cola_laws.proofs.SlotSteps.{mutation-in-slots}
 use Rattle.cola_cell.specs.declared.cell.Item.{Item}
 use Rattle.cola_cell.specs.declared.sink.Shadow.{Shadow}
-use Rattle.cola_cell.specs.Held.{Held, Fixed, Spot, Spots, Stamped, LawCell, IsTelling, as_item, is_untold}
+use Rattle.cola_cell.specs.Held.{Held, Fixed, Spot, Stamped, LawCell, as_item}
 use Rattle.cola_cell.specs.Order.{key_cmp}
-use Rattle.cola_cell.specs.Places.{slot_size, IsPlace}
+use Rattle.cola_cell.specs.Places.{IsPlace}
 use Rattle.cola_cell.specs.Shadows.{IsKept}
 use Rattle.cola_told.specs.Cells.{IsTold, AreTold, shadow_cells}
 use Rattle.cola_told.proofs.CellLists.{cells-same}
 use Rattle.cola_image.specs.Standing.{AreRunsTold, IsSlotAlike, AreRunsAlike}
 use Rattle.cola_image.proofs.CellsLemmas.{levels-alike, runs-told}
 use Rattle.cola_merge.specs.declared.merging.Merger.{Merger}
-use Rattle.cola_merge.specs.Heads.{fresh}
-use Rattle.cola_merge.specs.Advance.{whole_run}
 use Rattle.cola_level.specs.declared.level.Level.{Level}
 use Rattle.cola_level.specs.Marks.{marks_of, all_marks_of}
-use Rattle.cola_level.specs.Aims.{top_at}
 use Rattle.cola_level.specs.Standing.{slot_cells, visible_cells, stood, all_stood}
 use Rattle.cola_mutation.specs.Levels.{IsChain}
-use Rattle.cola_mutation.specs.Work.{State, Keeps, with_shadow, AllAdvance}
-use Rattle.cola_mutation.specs.Ends.{ended, all_ended, Restarted}
+use Rattle.cola_mutation.specs.Work.{State, with_shadow, AllAdvance}
+use Rattle.cola_mutation.specs.Ends.{all_ended, Restarted}
 use Rattle.cola_mutation.specs.Standing.{StandsFor}
 use Rattle.cola_mutation.proofs.Advancing.{cells_stay, visible_apart, telling_stays}
 use Rattle.cola_mutation.proofs.Readying.{top_quiet, length_levels}
@@ -41,7 +38,7 @@ use Rattle.cola_mutation.proofs.Building.{small_slot}
 use Rattle.cola_mutation.proofs.Following.{all_marks_ended, length_marks, length_ended}
 use Rattle.cola_mutation.proofs.Lasting.{alike_grown, alike_then, alike_restarted, slots_of, told_next, told_same}
 use Rattle.cola_mutation.proofs.Meaning.{can_all_turn, sound_after, new_cell, whole_is, CanBuild, can_build}
-use Rattle.cola_mutation.proofs.Accepting.{Accepted, marks_worked, keeps_top}
+use Rattle.cola_mutation.proofs.Accepting.{Accepted, keeps_top}
 
 -- ---- the clock
 

@@ -1,18 +1,16 @@
 -- What an accepted mutation does to the transfers.
-use Rattle.std.proofs.Common.{◌≡◌, ◌≢◌, ◌⊎◌, inl, inr, ℕ, zero, suc, ◌+◌, ◌-◌, ◌*◌, ◌/◌, ◌%◌, ◌^◌, ◌<◌, ◌≤◌, Bool, true, false, List, [], ◌∷◌, length, Ok, refl, ap, sym, subst, ◌∙◌, arith}
-use Rattle.cola_clock.specs.Clock.{flips}
-use Rattle.cola_clock.specs.Marks.{Marks}
+use Rattle.std.proofs.Common.{◌≡◌, inr, ℕ, suc, ◌+◌, ◌*◌, ◌/◌, ◌<◌, ◌≤◌, List, ◌∷◌, length, ap, sym, subst, arith}
 use Rattle.cola_cell.specs.declared.cell.Cell.{Cell}
 use Rattle.cola_cell.specs.declared.sink.Shadow.{Shadow}
 use Rattle.cola_cell.specs.Held.{Held, Fixed}
 use Rattle.cola_cell.specs.Spent.{Spent}
-use Rattle.cola_transfers.specs.Chain.{Transfers, Readers, IsTopBuilt, AreFlipped, IsMutated}
+use Rattle.cola_transfers.specs.Chain.{IsTopBuilt, AreFlipped}
 use Rattle.cola_level.specs.declared.level.Level.{Level}
-use Rattle.cola_level.specs.Marks.{marks_of, all_marks_of}
-use Rattle.cola_level.specs.Standing.{is_kept, transfers_of}
+use Rattle.cola_level.specs.Marks.{all_marks_of}
+use Rattle.cola_level.specs.Standing.{transfers_of}
 use Rattle.cola_level.proofs.Writing.{saved_kept, kept_same}
 use Rattle.cola_mutation.specs.Levels.{IsChain}
-use Rattle.cola_mutation.specs.Work.{State, state_of, transfers, with_shadow, many_working, SpendsWithin}
+use Rattle.cola_mutation.specs.Work.{State, transfers, with_shadow, many_working, SpendsWithin}
 use Rattle.cola_mutation.specs.Ends.{all_ended, Restarted}
 use Rattle.cola_mutation.specs.Standing.{Trades}
 use Rattle.cola_mutation.proofs.AddingUp.{spends_then, spends_more}

@@ -1,12 +1,11 @@
 -- One level's turn, and the turns of all levels.
-use Rattle.std.proofs.Common.{◌≡◌, ◌≢◌, ◌⊎◌, inl, inr, ℕ, zero, suc, ◌+◌, ◌-◌, ◌*◌, ◌<◌, ◌≤◌, Bool, true, false, cond, List, [], ◌∷◌, length, Result, Ok, Err, IfErr, OnOk, refl, ap, sym, subst, ◌∙◌, arith}
-use Rattle.std.proofs.lemmas.Bool.{true≢false, false≢true}
+use Rattle.std.proofs.Common.{◌≡◌, inl, inr, ℕ, suc, ◌*◌, ◌<◌, ◌≤◌, Bool, true, false, cond, List, [], ◌∷◌, Result, Ok, Err, IfErr, OnOk, refl, ap, sym, subst, ◌∙◌, arith}
+use Rattle.std.proofs.lemmas.Bool.{true≢false}
 use Rattle.std.specs.Result.{IsErrAnd}
-use Rattle.cola_clock.specs.Clock.{period, is_odd, works, visible_slot}
+use Rattle.cola_clock.specs.Clock.{works}
 use Rattle.cola_clock.specs.Marks.{Marks, merge_steps, AreLevelMarks, AreAllMarks}
 use Rattle.cola_laws.proofs.Facts.{rests-advanced}
 use Rattle.cola_cell.specs.declared.fault.StepFault.{StepFault}
-use Rattle.cola_cell.specs.declared.sink.Shadow.{Shadow}
 use Rattle.cola_cell.specs.Order.{key_cmp}
 use Rattle.cola_cell.specs.Held.{Held, Fixed}
 use Rattle.cola_cell.specs.Places.{slot_size}
@@ -18,11 +17,11 @@ use Rattle.cola_level.specs.declared.level.Level.{Level}
 use Rattle.cola_level.specs.Marks.{marks_of, all_marks_of}
 use Rattle.cola_level.specs.Aims.{aim_at}
 use Rattle.cola_level.specs.Standing.{visible_cells, stood, all_stood, CanAdvance}
-use Rattle.cola_level.specs.Work.{taken, Advances, IsCalm, IsDevice, IsSavedAtEnd, SpendsFor}
+use Rattle.cola_level.specs.Work.{taken, Advances, IsCalm, IsSavedAtEnd, SpendsFor}
 use Rattle.cola_mutation.specs.Levels.{Fits, AreFit}
-use Rattle.cola_mutation.specs.Work.{State, transfers, Keeps, IsBeside, IsQuiet, HasTurned, HaveTurned, Costs, one_working, many_working, IsRefused, CanTurn, TakesTurn, CanAllTurn, AllAdvance, AreSavedAtEnd, TakeTurns}
+use Rattle.cola_mutation.specs.Work.{State, transfers, IsBeside, IsQuiet, HaveTurned, Costs, one_working, many_working, IsRefused, TakesTurn, TakeTurns}
 use Rattle.cola_mutation.proofs.Keeping.{keeps_same, keeps_then, keeps_weaker, keeps_grown, quiet_beside, quiet_below, aim_level, fits_stay, all_fit_stay}
-use Rattle.cola_mutation.proofs.Marking.{fits_below, level_marks_below}
+use Rattle.cola_mutation.proofs.Marking.{fits_below}
 use Rattle.cola_mutation.proofs.AddingUp.{spends_none, spends_more, costs_then, refused_later, calm_then, marks_then, saved_then, worked_then}
 use Rattle.cola_mutation.proofs.Advancing.{advance_then, advance_refused}
 use Rattle.cola_clock.proofs.Laws.{adjacent-rest}

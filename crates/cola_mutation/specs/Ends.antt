@@ -1,5 +1,5 @@
 -- The end of an accepted mutation: levels flip, and windows end.
-use Rattle.std.specs.Prelude.{◌≡◌, ◌≢◌, ◌⊎◌, ℕ, suc, ◌+◌, ◌≤◌, ◌<◌, true, false, cond, List, [], ◌∷◌, length, ⊤}
+use Rattle.std.specs.Prelude.{◌≡◌, ◌≢◌, ◌⊎◌, ℕ, suc, ◌+◌, ◌≤◌, ◌<◌, true, false, cond, List, [], ◌∷◌, ⊤}
 use Rattle.cola_clock.specs.Clock.{flips, ends, visible_slot}
 use Rattle.cola_cell.specs.Held.{Held, is_untold}
 use Rattle.cola_cell.specs.Shadows.{emptied, IsKept}

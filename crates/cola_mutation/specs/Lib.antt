@@ -3,3 +3,4 @@ pub mod Work
 pub mod Ends
 pub mod Standing
 pub mod Steps
+pub mod Examples

@@ -1,19 +1,18 @@
 -- When levels on an object stand for a map, and what one mutation of them says.
-use Rattle.std.specs.Prelude.{◌≡◌, ◌≢◌, ℕ, suc, ◌+◌, ◌-◌, ◌*◌, ◌/◌, ◌%◌, ◌^◌, ◌≤◌, ◌<◌, true, List, [], ◌∷◌, length, map, ⊤, Option, Result, Ok, Err, IfErr, OnOk, OnErr}
-use Rattle.cola_clock.specs.Clock.{is_over, visible_slot}
+use Rattle.std.specs.Prelude.{◌≡◌, ℕ, ◌<◌, true, List, [], ◌∷◌, length, ⊤, Option, Result, Ok, Err}
+use Rattle.cola_clock.specs.Clock.{is_over}
 use Rattle.cola_clock.specs.Marks.{Marks, merge_steps, AreAllMarks, all_marks_after, no_marks}
 use Rattle.cola_laws.specs.Plain.{IsSoundChain}
 use Rattle.cola_cell.specs.declared.cell.Cell.{Cell}
 use Rattle.cola_cell.specs.declared.fault.StepFault.{StepFault}
 use Rattle.cola_cell.specs.Held.{Held, Stamped, IsTelling}
-use Rattle.cola_cell.specs.Spent.{Spent}
 use Rattle.cola_cell.specs.Order.{key_cmp}
 use Rattle.cola_cell.specs.Shadows.{Restarts}
 use Rattle.cola_image.specs.Standing.{AreRunsTold}
-use Rattle.cola_transfers.specs.Chain.{Transfers, IsMutated}
+use Rattle.cola_transfers.specs.Chain.{IsMutated}
 use Rattle.cola_level.specs.declared.level.Level.{Level}
 use Rattle.cola_level.specs.Marks.{marks_of, all_marks_of}
-use Rattle.cola_level.specs.Standing.{all_stood, transfers_of}
+use Rattle.cola_level.specs.Standing.{all_stood}
 use Rattle.cola_mutation.specs.Work.{State, state_of, transfers, HaveTurned, IsRefused, TakeTurns, Builds}
 
 -- levels on an object that tells its cells stand for a map at clock t, in a store for at most so many keys: their runs are told, a shadow whose window is over is on the device, and the levels are sound for the map

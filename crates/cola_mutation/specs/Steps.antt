@@ -1,5 +1,5 @@
 -- What one mutation says by its answer.
-use Rattle.std.specs.Prelude.{◌≡◌, ℕ, ◌+◌, ◌*◌, ◌/◌, ◌^◌, ◌≤◌, List, length, Option}
+use Rattle.std.specs.Prelude.{ℕ, ◌+◌, ◌*◌, ◌/◌, ◌^◌, ◌≤◌, List, length, Option}
 use Rattle.cola_laws.specs.Chain.{updated}
 use Rattle.cola_laws.specs.Sound.{HasAtMost}
 use Rattle.cola_cell.specs.declared.cell.Item.{Item}

@@ -1,6 +1,6 @@
 -- What the levels' work in one mutation does, one level after another, and what the build of level 0 does.
-use Rattle.std.specs.Prelude.{◌≡◌, ◌≢◌, ◌⊎◌, ℕ, suc, ◌+◌, ◌*◌, ◌-◌, ◌%◌, ◌^◌, ◌≤◌, ◌<◌, Bool, true, false, if◌then◌else◌, List, [], ◌∷◌, length, ⊤, Result, Ok, Err, IfErr, OnOk, OnErr}
-use Rattle.cola_clock.specs.Clock.{period, is_odd, works, ends, visible_slot}
+use Rattle.std.specs.Prelude.{◌≡◌, ◌≢◌, ◌⊎◌, ℕ, suc, ◌+◌, ◌*◌, ◌%◌, ◌^◌, ◌≤◌, ◌<◌, true, false, if◌then◌else◌, List, [], ◌∷◌, length, ⊤, Result, IfErr, OnOk, OnErr}
+use Rattle.cola_clock.specs.Clock.{works, ends, visible_slot}
 use Rattle.cola_clock.specs.Marks.{Marks, AreLevelMarks, AreAllMarks}
 use Rattle.cola_laws.specs.Sound.{ArePaced}
 use Rattle.cola_laws.specs.Mutation.{AreAdvanced, AreWorkable}

@@ -5,6 +5,8 @@ mod ending;
 pub mod laws;
 pub mod maps;
 mod stepping;
+#[cfg(test)]
+mod tests;
 mod topping;
 mod working;
 

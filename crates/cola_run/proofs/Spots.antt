@@ -1,5 +1,5 @@
 -- What is told of a place: of one in the front, one in a tail, and one on the device.
-use Rattle.std.proofs.Common.{eq-eqb, ◌≡◌, inl, inr, ℕ, ◌+◌, ◌/◌, ◌<◌, ◌≤◌, ◌==◌, nat_lt, ◌&&◌, Bool, true, false, if◌then◌else◌, List, Option, None, Some, IfSome, refl, sym, ap, ◌∙◌}
+use Rattle.std.proofs.Common.{eq-eqb, ◌≡◌, inl, inr, ℕ, ◌+◌, ◌/◌, ◌<◌, ◌≤◌, ◌==◌, nat_lt, ◌&&◌, Bool, true, false, if◌then◌else◌, List, Option, None, Some, IfSome, is_some, refl, sym, ap, ◌∙◌}
 use Rattle.std.proofs.lemmas.Bool.{eqb-true, false≢true, ltb-true, lt-ltb, le-ltb, cases_lt}
 use Rattle.cola_outside.specs.Told.{Both}
 use Rattle.cola_cell.specs.declared.cell.Cell.{Cell}
@@ -189,3 +189,10 @@ pub with-told : (x : Spot) (c : LawCell) → is_untold x ≡ false → Told c �
 with-told Untold c e = absurd (false≢true (sym e))
 with-told Bad c e = refl
 with-told (Told b) c e = refl
+
+pub told-there : (cells : Cells) → is_some cells.lower.told ≡ true → (l s i : ℕ) → is_untold (spots_of cells l s i) ≡ false
+told-there cells told l s i = by-case cells.lower.told told
+  where
+    by-case : (x : Option (List ℕ)) → is_some x ≡ true → is_untold (told_spot cells x l s i) ≡ false
+    by-case None e = absurd (false≢true e)
+    by-case (Some bytes) e = known-told cells bytes l s i

@@ -2,8 +2,11 @@
 #![tactic(auto)]
 
 mod device_cells;
+pub mod laws;
 mod run_store;
 mod saving;
+#[cfg(test)]
+mod tests;
 mod traits;
 
 pub use run_store::RunStore;

@@ -131,6 +131,20 @@ impl<D: Device> RunStore<D> {
         }
     }
 
+    /// The geometry of the store.
+    pub fn geometry(&self) -> &Geometry
+        ensures { result.now ≡ self.now.geometry }
+    {
+        &self.geometry
+    }
+
+    /// The format of the store's cells.
+    pub fn format(&self) -> Format
+        ensures { result ≡ self.now.geometry.format }
+    {
+        self.geometry.format
+    }
+
     /// How many reads and writes the device made. Where the cache has room for every block of the file and the device
     /// met no fault since the store was made, it made no more reads since then than the file has blocks.
     pub fn transfers(&self) -> (u64, u64)

@@ -38,7 +38,7 @@ fn marks_at(header: &Header, level: u8) -> Marks
 }
 
 /// In which slot the visible run of a level stands by a header.
-fn visible_at(header: &Header, level: u8) -> u8
+pub(crate) fn visible_at(header: &Header, level: u8) -> u8
     requires { level ≤ header.now.geometry.bottom }
     ensures value { result ≡ visible_slot header.now.clock level }
     ensures within { result < 2 }

@@ -1,4 +1,4 @@
-use Rattle.std.proofs.Common.{ap, subst, Err}
+use Rattle.std.proofs.Common.{subst, Err}
 use Rattle.cola_layout.specs.declared.fault.LayoutFault.TheVariants.{Keys, Block}
 use Rattle.cola_store.specs.Create.{Created}
 use Rattle.cola_store.specs.declared.fault.CreateFault.{CreateFault}

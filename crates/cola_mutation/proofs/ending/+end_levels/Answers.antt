@@ -1,9 +1,9 @@
 -- The end of a mutation at all levels, the first and then the others.
-use Rattle.std.proofs.Common.{◌≡◌, ℕ, suc, ◌+◌, ◌<◌, ◌≤◌, List, [], ◌∷◌, length, refl, sym, ap, subst, ◌∙◌, arith}
+use Rattle.std.proofs.Common.{◌≡◌, ℕ, suc, ◌+◌, ◌≤◌, List, ◌∷◌, length, sym, ap, subst, ◌∙◌, arith}
 use Rattle.cola_cell.specs.Held.{Fixed}
 use Rattle.cola_level.specs.declared.level.Level.{Level}
 use Rattle.cola_mutation.specs.Ends.{ended, all_ended, AreDone, Restarted}
-use Rattle.cola_mutation.proofs.Restarting.{restarted_none, restarted_then}
+use Rattle.cola_mutation.proofs.Restarting.{restarted_then}
 use Rattle.cola_mutation.proofs.ending.+end_levels.Goals as goal
 
 one_more : (n : ℕ) → n + 1 ≡ suc n

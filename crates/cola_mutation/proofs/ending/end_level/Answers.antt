@@ -1,5 +1,5 @@
 -- One level at the end of a mutation.
-use Rattle.std.proofs.Common.{◌≡◌, ℕ, ◌-◌, Bool, true, false, refl, sym, ap, subst, ◌∙◌, arith}
+use Rattle.std.proofs.Common.{ℕ, true, false, sym, subst, ◌∙◌}
 use Rattle.cola_cell.specs.Shadows.{Restarts}
 use Rattle.cola_mutation.proofs.Restarting.{ended_flips, ended_leaves, ended_stays, ends_at, zero_flips, restarted_one, restarted_not}
 use Rattle.cola_mutation.proofs.ending.end_level.Goals as goal

@@ -1,14 +1,8 @@
 -- The turns of the levels of 1 and more, and then the build of level 0.
-use Rattle.std.proofs.Common.{◌≡◌, ℕ, suc, ◌+◌, ◌-◌, ◌<◌, ◌≤◌, List, [], ◌∷◌, length, Result, Ok, Err, refl, sym, ap, subst, ◌∙◌, arith}
-use Rattle.cola_cell.specs.declared.fault.StepFault.{StepFault}
-use Rattle.cola_clock.specs.Marks.{Marks}
+use Rattle.std.proofs.Common.{List, subst, arith}
 use Rattle.cola_level.specs.declared.level.Level.{Level}
-use Rattle.cola_level.specs.Marks.{marks_of, all_marks_of}
 use Rattle.cola_mutation.specs.Levels.{IsChain}
-use Rattle.cola_mutation.specs.Work.{state_of, Builds}
-use Rattle.cola_mutation.specs.Standing.{first_marks, Prepares, PreparesAll}
-use Rattle.cola_mutation.proofs.Turning.{err_is}
-use Rattle.cola_mutation.proofs.Readying.{ready_after, ready_first, first_at, length_levels}
+use Rattle.cola_mutation.proofs.Readying.{ready_after, ready_first, length_levels}
 use Rattle.cola_mutation.proofs.stepping.build_shadows.Goals as goal
 
 pub build_top-requires-clause-ready : goal.build_top-requires-clause-ready

@@ -1,16 +1,15 @@
 -- One mutation.
-use Rattle.std.proofs.Common.{◌≡◌, ◌≢◌, ℕ, suc, ◌+◌, ◌-◌, ◌*◌, ◌/◌, ◌%◌, ◌^◌, ◌<◌, ◌≤◌, List, length, Result, Ok, Err, refl, sym, ap, subst, ◌∙◌, arith}
+use Rattle.std.proofs.Common.{◌≡◌, ℕ, suc, ◌-◌, ◌%◌, ◌^◌, List, length, refl, sym, ap, subst, ◌∙◌, arith}
 use Rattle.cola_clock.specs.Clock.{visible_slot}
 use Rattle.cola_cell.specs.Shadows.{Restarts}
 use Rattle.cola_level.specs.declared.level.Level.{Level}
 use Rattle.cola_mutation.specs.Levels.{IsChain}
 use Rattle.cola_mutation.specs.Work.{state_of}
-use Rattle.cola_mutation.specs.Ends.{Restarted}
 use Rattle.cola_mutation.specs.Standing.{AllTrade}
 use Rattle.cola_mutation.specs.Steps.{ChangesMap}
 use Rattle.cola_mutation.proofs.Accepting.{done_all}
 use Rattle.cola_mutation.proofs.Meaning.{new_cell}
-use Rattle.cola_mutation.proofs.Results.{StepsOn, StaysBack, steps_on, stays_back, clock_fits}
+use Rattle.cola_mutation.proofs.Results.{steps_on, stays_back, clock_fits}
 use Rattle.cola_mutation.proofs.stepping.step.Goals as goal
 
 pub build_shadows-requires-clause-clock_in : goal.build_shadows-requires-clause-clock_in

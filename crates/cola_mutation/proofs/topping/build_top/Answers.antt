@@ -1,8 +1,7 @@
 -- The build of level 0.
-use Rattle.std.proofs.Common.{◌≡◌, ℕ, suc, ◌+◌, ◌*◌, ◌^◌, List, [], ◌∷◌, Result, Ok, Err, refl, sym, ap, subst, ◌∙◌, arith}
+use Rattle.std.proofs.Common.{ℕ, [], ◌∷◌, Result, Ok, Err, sym, ap, subst}
 use Rattle.cola_cell.specs.declared.fault.StepFault.{StepFault}
 use Rattle.cola_merge.specs.declared.aims.Aim.{Aim}
-use Rattle.cola_merge.specs.declared.aims.Progress.{Progress}
 use Rattle.cola_merge.specs.declared.merging.Merger.{Merger}
 use Rattle.cola_merge.specs.Heads.{fresh, IsReady}
 use Rattle.cola_level.specs.Marks.{marks_of}

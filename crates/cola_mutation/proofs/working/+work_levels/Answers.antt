@@ -1,9 +1,8 @@
 -- The turns of all levels, the first and then the others.
-use Rattle.std.proofs.Common.{◌≡◌, ℕ, suc, ◌+◌, ◌<◌, ◌≤◌, List, [], ◌∷◌, length, Result, Ok, Err, refl, sym, ap, subst, ◌∙◌, arith}
+use Rattle.std.proofs.Common.{◌≡◌, ℕ, suc, ◌+◌, List, ◌∷◌, Result, sym, subst, arith}
 use Rattle.cola_cell.specs.declared.fault.StepFault.{StepFault}
 use Rattle.cola_level.specs.declared.level.Level.{Level}
-use Rattle.cola_level.specs.Marks.{all_marks_of}
-use Rattle.cola_mutation.specs.Levels.{Fits, AreFit}
+use Rattle.cola_mutation.specs.Levels.{AreFit}
 use Rattle.cola_mutation.specs.Work.{state_of, TakeTurns}
 use Rattle.cola_mutation.proofs.Turning.{turns_refused, turns_then, rest_fit, err_is}
 use Rattle.cola_mutation.proofs.working.+work_levels.Goals as goal

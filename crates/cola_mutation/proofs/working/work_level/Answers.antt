@@ -1,12 +1,12 @@
 -- One level's turn.
-use Rattle.std.proofs.Common.{◌≡◌, ℕ, suc, ◌+◌, ◌-◌, Bool, true, refl, sym, ap, subst, ◌∙◌, arith}
+use Rattle.std.proofs.Common.{◌≡◌, ℕ, suc, ◌+◌, ◌-◌, Bool, true, sym, ap, subst, ◌∙◌, arith}
 use Rattle.cola_clock.specs.Clock.{works}
 use Rattle.cola_merge.specs.declared.aims.Aim.{Aim}
 use Rattle.cola_merge.specs.Heads.{IsReady}
 use Rattle.cola_level.specs.Marks.{all_marks_of}
 use Rattle.cola_level.specs.Aims.{aim_at}
 use Rattle.cola_mutation.specs.Work.{state_of}
-use Rattle.cola_mutation.proofs.Turning.{Says, turn_works, turn_rests}
+use Rattle.cola_mutation.proofs.Turning.{Says, turn_works}
 use Rattle.cola_mutation.proofs.working.work_level.Goals as goal
 
 one_more : (n : ℕ) → n + 1 ≡ suc n
