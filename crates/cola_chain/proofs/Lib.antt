@@ -1,0 +1,5 @@
+pub mod LevelLists
+pub mod Account
+pub mod Headers
+pub mod Searching
+pub mod Beginning

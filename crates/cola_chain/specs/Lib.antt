@@ -1,0 +1,3 @@
+pub mod Contents
+pub mod Account
+pub mod Runs

@@ -1,0 +1,10 @@
+//! The chain of a store: its levels and its clock over the cells of its runs, and the steps by which it changes.
+#![tactic(auto)]
+
+mod chains;
+pub mod laws;
+mod lists;
+mod reading;
+mod counting;
+
+pub use chains::Chain;

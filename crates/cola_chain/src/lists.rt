@@ -1,0 +1,104 @@
+//! Levels of a header, and what a chain tells of its levels: their marks and their visible runs.
+ghost use Rattle.std.specs.Prelude.{◌≡◌, ◌≤◌, ◌<◌, ◌^◌, ◌+◌, length};
+ghost use Rattle.cola_clock.specs.Clock.{visible_slot};
+ghost use Rattle.cola_layout.specs.Marks.{numbers_of, all_numbers};
+ghost use Rattle.cola_level.specs.Aims.{visible_run};
+ghost use Rattle.cola_level.specs.Marks.{marks_of, all_marks_of, level_with};
+ghost use Rattle.cola_mutation.specs.Levels.{levels_with};
+ghost use Rattle.cola_chain.specs.Runs.{visible_runs};
+
+use arrayvec::ArrayVec;
+use cola_cell::Run;
+use cola_clock::visible_slot;
+use cola_layout::Marks;
+use cola_level::Level;
+use cola_merge::Merger;
+
+/// A level with these marks, none of whose source cells was read yet.
+fn level_of(marks: &Marks) -> Level
+    ensures { result ≡ level_with (numbers_of marks.now) }
+{
+    Level {
+        visible: marks.visible,
+        shadow: marks.shadow,
+        merger: Merger::resume(marks.own, marks.incoming, marks.sample),
+    }
+}
+
+/// The marks of a level.
+fn marks_of_level(level: &Level) -> Marks
+    ensures { numbers_of result ≡ marks_of level.now }
+{
+    Marks {
+        visible: level.visible,
+        shadow: level.shadow,
+        own: level.merger.own(),
+        incoming: level.merger.incoming(),
+        sample: level.merger.sample(),
+    }
+}
+
+/// The visible run of a level.
+fn run_of(level: &Level, number: u8, clock: u64) -> Run
+    requires number_in { number ≤ 22 }
+    requires clock_in { clock < 2 ^ 23 }
+    ensures { result ≡ visible_run clock number level.now.visible }
+{
+    Run {
+        level: number,
+        slot: visible_slot(clock, number),
+        len: level.visible,
+    }
+}
+
+/// Makes these levels those with these marks.
+fn set_levels(levels: &mut [Level], marks: &[Marks])
+    requires { length levels.old ≡ length marks.now }
+    ensures { levels.new ≡ levels_with (all_numbers marks.now) }
+{
+    let Some((level, below)) = levels.split_first_mut() else {
+        return;
+    };
+    let Some((first, rest)) = marks.split_first() else {
+        return;
+    };
+    *level = level_of(first);
+    set_levels(below, rest);
+}
+
+/// The levels with these marks.
+pub(crate) fn levels_of(marks: &[Marks]) -> ArrayVec<Level, 23>
+    requires { length marks.now ≤ 23 }
+    ensures { result.items ≡ levels_with (all_numbers marks.now) }
+{
+    let mut levels = ArrayVec::from([Level::default(); 23]);
+    levels.truncate(marks.len());
+    set_levels(levels.as_mut_slice(), marks);
+    levels
+}
+
+/// The marks of these levels.
+pub(crate) fn marks_of_levels(levels: &[Level]) -> ArrayVec<Marks, 23>
+    requires { length levels.now ≤ 23 }
+    ensures numbers { all_numbers result.items ≡ all_marks_of levels.now }
+    ensures many { length result.items ≡ length levels.now }
+{
+    let mut marks = ArrayVec::new();
+    for level in levels {
+        marks.push(marks_of_level(level));
+    }
+    marks
+}
+
+/// The visible runs of these levels, from level 0 on.
+pub(crate) fn runs_of(levels: &[Level], clock: u64) -> ArrayVec<Run, 23>
+    requires levels_in { length levels.now ≤ 23 }
+    requires clock_in { clock < 2 ^ 23 }
+    ensures { result.items ≡ visible_runs clock 0 levels.now }
+{
+    let mut runs = ArrayVec::new();
+    for (number, level) in levels.iter().enumerate() {
+        runs.push(run_of(level, number as u8, clock));
+    }
+    runs
+}

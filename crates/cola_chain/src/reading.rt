@@ -1,0 +1,64 @@
+//! Reads of a chain's cells.
+ghost use Rattle.std.specs.Prelude.{◌≡◌, ◌+◌, ◌%◌, ◌^◌, ◌≤◌, false};
+ghost use Rattle.cola_cell.specs.Held.{HasPlace};
+ghost use Rattle.cola_cell.specs.Spent.{Search, By, Reads};
+ghost use Rattle.cola_chain.specs.Contents.{held_of, spent_of, Kept, kept_of};
+
+use crate::chains::Chain;
+use cola_cell::{Cell, CellSource, ReadFault, Reader};
+use cola_device::Device;
+use cola_outside::Steps;
+use std::sync::ledger::Ledger;
+
+impl<D: Device> CellSource for Chain<D> {
+    ghost held = { held_of D.bytes };
+
+    ghost spent = { spent_of D.counts };
+
+    ghost Kept = { Kept D.Kept };
+
+    ghost kept = { kept_of D.bytes D.kept };
+
+    /// The cell at a place, for a search or a cursor. The steps of the chain stay counted as they were.
+    fn read<L: Ledger>(
+        &mut self,
+        level: u8,
+        slot: u8,
+        index: u32,
+        steps: &mut Steps<L>,
+    ) -> Result<Cell, ReadFault>
+        requires { HasPlace (held_of D.bytes self.old) level slot index }
+        ensures cells_stay { held_of D.bytes self.new ≡ held_of D.bytes self.old }
+        ensures kept { kept_of D.bytes D.kept self.new ≡ kept_of D.bytes D.kept self.old }
+        ensures one_tick { steps.new ≡ steps.old + 1 }
+        ensures reads { Reads (held_of D.bytes self.old) (spent_of D.counts self.old) (spent_of D.counts self.new) Search level slot index result }
+        ensures counted { self.new.counted ≡ self.old.counted }
+    {
+        self.runs.read(level, slot, index, steps)
+    }
+
+    /// The cell at a place, for a source of a merge that is none of the chain's: it moves the block that a reader of the
+    /// chain's own merges holds, so from here on the chain's steps are not counted.
+    fn read_for<L: Ledger>(
+        &mut self,
+        reader: Reader,
+        level: u8,
+        slot: u8,
+        index: u32,
+        steps: &mut Steps<L>,
+    ) -> Result<Cell, ReadFault>
+        requires { HasPlace (held_of D.bytes self.old) level slot index }
+        ensures cells_stay { held_of D.bytes self.new ≡ held_of D.bytes self.old }
+        ensures kept { kept_of D.bytes D.kept self.new ≡ kept_of D.bytes D.kept self.old }
+        ensures one_tick { steps.new ≡ steps.old + 1 }
+        ensures reads { Reads (held_of D.bytes self.old) (spent_of D.counts self.old) (spent_of D.counts self.new) (By reader level) level slot index result }
+        ensures counted { self.new.counted ≡ false }
+    {
+        self.counted = false;
+        self.runs.read_for(reader, level, slot, index, steps)
+    }
+
+    fn ticked(&self) -> u64 {
+        self.runs.ticked()
+    }
+}
