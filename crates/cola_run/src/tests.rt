@@ -299,7 +299,11 @@ fn a_file_comes_back(
 ) -> Result<(), Fail> {
     let (geometry, bytes) = file_of(rt, alloc, format, block_exp)?;
     let wide = format.width();
-    assert_eq!(rt; &bytes[..512], header_bytes(format, block_exp).as_slice());
+    if wide < 64 || bytes.len() < 8192 || bytes.len() < 128 * wide {
+        return Err(Fail::new("size"));
+    }
+    let head = &bytes[..512];
+    assert_eq!(rt; head, header_bytes(format, block_exp).as_slice());
     assert_eq!(rt; bytes[512..8 * wide].iter().all(|byte| *byte == 0), true);
     assert_eq!(rt; bytes[128 * wide..].iter().all(|byte| *byte == 0x5a), true);
     let header = Header::decode(&header_bytes(format, block_exp)).ok_or("no header")?;
@@ -307,7 +311,7 @@ fn a_file_comes_back(
     find_runs::<RunStore<MemoryDevice>, Brand>(rt, &mut store, 23, Blank::new(1))?;
     assert_eq!(rt; store.mark_in_use().is_ok(), true);
     let device = store.into_device();
-    assert_eq!(rt; device.as_bytes()[14], 1);
+    assert_eq!(rt; device.as_bytes().get(14), Some(&1));
     assert_eq!(rt; geometry == header.geometry, true);
     Ok(())
 }
