@@ -3,4 +3,3 @@ use Rattle.cola_run.proofs.tests.a_full_cache_reads_each_block_once.Given as goa
 
 abbrev pub ghosts-find_runs : goal.ghosts-find_runs
 ghosts-find_runs g a = record { name = a.blank.name; parts = a.blank.parts }
-
