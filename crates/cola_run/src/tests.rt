@@ -290,6 +290,14 @@ fn file_of(
     Ok((geometry, bytes))
 }
 
+/// Whether bytes begin with a header.
+fn begins_with(bytes: &[u8], header: &[u8; 512]) -> bool {
+    if bytes.len() < 512 {
+        return false;
+    }
+    &bytes[..512] == header.as_slice()
+}
+
 // A file has the header and zeros up to cell 8, and nothing behind its cells changed.
 fn a_file_comes_back(
     rt: &impl Abort,
@@ -299,7 +307,10 @@ fn a_file_comes_back(
 ) -> Result<(), Fail> {
     let (geometry, bytes) = file_of(rt, alloc, format, block_exp)?;
     let wide = format.width();
-    assert_eq!(rt; &bytes[..512], header_bytes(format, block_exp).as_slice());
+    if wide < 64 || bytes.len() < 8192 || bytes.len() < 128 * wide {
+        return Err(Fail::new("size"));
+    }
+    assert_eq!(rt; begins_with(&bytes, &header_bytes(format, block_exp)), true);
     assert_eq!(rt; bytes[512..8 * wide].iter().all(|byte| *byte == 0), true);
     assert_eq!(rt; bytes[128 * wide..].iter().all(|byte| *byte == 0x5a), true);
     let header = Header::decode(&header_bytes(format, block_exp)).ok_or("no header")?;
@@ -307,7 +318,7 @@ fn a_file_comes_back(
     find_runs::<RunStore<MemoryDevice>, Brand>(rt, &mut store, 23, Blank::new(1))?;
     assert_eq!(rt; store.mark_in_use().is_ok(), true);
     let device = store.into_device();
-    assert_eq!(rt; device.as_bytes()[14], 1);
+    assert_eq!(rt; device.as_bytes().get(14), Some(&1));
     assert_eq!(rt; geometry == header.geometry, true);
     Ok(())
 }

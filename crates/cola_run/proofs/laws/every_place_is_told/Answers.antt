@@ -1,4 +1,4 @@
-use Rattle.std.proofs.Common.{◌≡◌, sym, ◌∙◌}
+use Rattle.std.proofs.Common.{◌∙◌}
 use Rattle.cola_run.specs.Store.{cells_of}
 use Rattle.cola_run.proofs.Spots.{told-there}
 use Rattle.cola_run.proofs.laws.every_place_is_told.Goals as goal
