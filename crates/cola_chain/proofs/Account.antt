@@ -176,13 +176,13 @@ paid-next s u t next m b d (top ∷ below) (first ∷ after) many chain clock fi
     let old : Transfers = shifted s.spent.turned b s.spent.written d (transfers s) in
     let new : Transfers = shifted s.spent.turned b s.spent.written d (transfers u) in
     let begin : IsPaidCounting dbl m t top.visible (all_marks_of below) old =
-        subst (λ (x : ℕ). IsPaidCounting dbl m t top.visible (all_marks_of below) (record { reads = x; writes = d + (s.spent.written - s.spent.written); readers = (transfers s).readers; kept = (transfers s).kept })) (sym (no_more s.spent.turned b))
-        (subst (λ (x : ℕ). IsPaidCounting dbl m t top.visible (all_marks_of below) (record { reads = b; writes = x; readers = (transfers s).readers; kept = (transfers s).kept })) (sym (no_more s.spent.written d)) paid) in
+    subst (λ (x : ℕ). IsPaidCounting dbl m t top.visible (all_marks_of below) (record { reads = x; writes = d + (s.spent.written - s.spent.written); readers = (transfers s).readers; kept = (transfers s).kept })) (sym (no_more s.spent.turned b))
+    (subst (λ (x : ℕ). IsPaidCounting dbl m t top.visible (all_marks_of below) (record { reads = b; writes = x; readers = (transfers s).readers; kept = (transfers s).kept })) (sym (no_more s.spent.written d)) paid) in
     let mutated = mutated_shifted s.spent.turned b s.spent.written d dbl t top.visible (all_marks_of below) trade.worked (transfers s) (transfers u) (omega arith) (omega arith) trade.mutated in
     let fits : first.visible ≤ slot_cells 0 = chain.marks.0.visible_fits in
     let done : IsPaidCounting dbl (min (suc m) last_value) (suc t % 2 ^ suc (length trade.worked)) first.visible (all_marks_after t 1 trade.worked) (counted new) =
-        counting-next dbl m t top.visible first.visible (all_marks_of below) trade.worked old new fits trade.marks mutated
-        (moved_stays s.spent.turned b s.spent.turned u.spent.turned turned) (moved_stays s.spent.written d s.spent.written u.spent.written written) begin in
+    counting-next dbl m t top.visible first.visible (all_marks_of below) trade.worked old new fits trade.marks mutated
+    (moved_stays s.spent.turned b s.spent.turned u.spent.turned turned) (moved_stays s.spent.written d s.spent.written u.spent.written written) begin in
     let many_is : length trade.worked ≡ length below = worked_length dbl t 0 top.visible (all_marks_of below) trade.worked (transfers s) trade.mutated.after_work trade.mutated.levels ∙ marks-length below in
     let clock_is : suc t % 2 ^ suc (length trade.worked) ≡ next = ap (λ (n : ℕ). suc t % 2 ^ suc n) many_is ∙ sym clock in
     subst (λ (f : Fixed). IsPaidCounting f.doublings (added m 1) next first.visible (all_marks_of after) (counted new)) (sym fixed)
@@ -231,13 +231,13 @@ paid-stays {D} {K} bytes counts kept old new held_is kept_is lasts p =
     let incoming : (l : ℕ) → (spent_of counts new).lasts (By Incoming l) ≡ (spent_of counts old).lasts (By Incoming l) = λ l. lasts (By Incoming l) (λ e. let f : ⊥ = cc in f) in
     let sample : (l : ℕ) → (spent_of counts new).lasts (By Sample l) ≡ (spent_of counts old).lasts (By Sample l) = λ l. lasts (By Sample l) (λ e. let f : ⊥ = cc in f) in
     let readers_is : (transfers_of (held_of bytes new) (spent_of counts new)).readers ≡ (transfers_of (held_of bytes old) (spent_of counts old)).readers =
-        λ i. record {
-          own = λ level slot number. is_last (own level i) level slot number;
-          incoming = λ level slot number. is_last (incoming level i) level slot number;
-          sample = λ level slot number. is_last (sample level i) level slot number;
-        } in
+    λ i. record {
+      own = λ level slot number. is_last (own level i) level slot number;
+      incoming = λ level slot number. is_last (incoming level i) level slot number;
+      sample = λ level slot number. is_last (sample level i) level slot number;
+    } in
     let same : sums_of (held_of bytes new) (spent_of counts new) new.reads new.writes ≡ sums_of (held_of bytes old) (spent_of counts old) old.reads old.writes =
-        λ i. record { reads = (kept_is i).reads; writes = (kept_is i).writes; readers = readers_is i; kept = λ level. is_kept (held_is i) level } in
+    λ i. record { reads = (kept_is i).reads; writes = (kept_is i).writes; readers = readers_is i; kept = λ level. is_kept (held_is i) level } in
     record {
       paid =
           subst (λ (x : Held). ArePaid x.fixed.doublings new.accepted new.clock new.levels (sums_of (held_of bytes new) (spent_of counts new) new.reads new.writes)) (sym held_is)
@@ -260,7 +260,7 @@ paid-step bytes counts old new from to many chain clock fixed turned written tra
       subst (λ (n : ℕ). ArePaid (held_of bytes new).fixed.doublings n new.clock new.levels (sums_of (held_of bytes new) (spent_of counts new) new.reads new.writes)) (sym accepted)
       (subst (λ (n : ℕ). ArePaid (held_of bytes new).fixed.doublings (added old.accepted 1) new.clock new.levels (sums_of (held_of bytes new) (spent_of counts new) n new.writes)) (sym reads)
       (subst (λ (n : ℕ). ArePaid (held_of bytes new).fixed.doublings (added old.accepted 1) new.clock new.levels
-          (sums_of (held_of bytes new) (spent_of counts new) (added old.reads ((spent_of counts new).turned - (spent_of counts old).turned)) n)) (sym writes) done));
+      (sums_of (held_of bytes new) (spent_of counts new) (added old.reads ((spent_of counts new).turned - (spent_of counts old).turned)) n)) (sym writes) done));
 }
 
 -- what a slice that was lent leaves in its owner

@@ -2,9 +2,9 @@
 #![tactic(auto)]
 
 mod chains;
+mod counting;
 pub mod laws;
 mod lists;
 mod reading;
-mod counting;
 
 pub use chains::Chain;

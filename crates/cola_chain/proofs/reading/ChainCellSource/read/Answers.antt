@@ -13,11 +13,8 @@ invariant_of-self g c =
     let old : Contents g.row.D.Denot = record { store = s.runs; levels = s.levels.items; clock = s.clock; accepted = s.accepted; reads = s.reads; writes = s.writes; counted = s.counted } in
     let new : Contents g.row.D.Denot = record { store = c.read.new.self; levels = s.levels.items; clock = s.clock; accepted = s.accepted; reads = s.reads; writes = s.writes; counted = s.counted } in
     let kept : kept_of g.D.Device.bytes g.D.Device.kept new ≡ kept_of g.D.Device.bytes g.D.Device.kept old =
-        ap (λ (k : run.Kept g.D.Device.Kept). record { store = k; levels = s.levels.items; clock = s.clock; accepted = s.accepted; reads = s.reads; writes = s.writes }) c.read.ensures.kept in
-    (
-      c.self.invariant.0 ∙ sym (ap (λ (k : run.Kept g.D.Device.Kept). k.geometry) c.read.ensures.kept),
-      record {
-        stands = subst (λ (h : Held). IsChain h s.clock s.levels.items) (sym c.read.ensures.cells_stay) c.self.invariant.1.stands;
-        paid = λ counted. paid-stays g.D.Device.bytes g.D.Device.counts g.D.Device.kept old new c.read.ensures.cells_stay kept c.read.ensures.reads.others_stay (c.self.invariant.1.paid counted);
-      },
-    )
+    ap (λ (k : run.Kept g.D.Device.Kept). record { store = k; levels = s.levels.items; clock = s.clock; accepted = s.accepted; reads = s.reads; writes = s.writes }) c.read.ensures.kept in
+    record {
+      stands = subst (λ (h : Held). IsChain h s.clock s.levels.items) (sym c.read.ensures.cells_stay) c.self.invariant.stands;
+      paid = λ counted. paid-stays g.D.Device.bytes g.D.Device.counts g.D.Device.kept old new c.read.ensures.cells_stay kept c.read.ensures.reads.others_stay (c.self.invariant.paid counted);
+    }
