@@ -1,10 +1,10 @@
 -- The account of a chain: counted from other numbers it is the same, a step keeps it, and it gives the bounds.
-use Rattle.std.proofs.Common.{◌≡◌, ◌≢◌, ℕ, zero, suc, ◌+◌, ◌-◌, ◌*◌, ◌/◌, ◌%◌, ◌^◌, ◌<◌, ◌≤◌, min, Bool, true, false, ◌||◌, nat_lt, List, [], ◌∷◌, length, take, drop, Option, refl, ap, sym, subst, ◌∙◌, arith}
+use Rattle.std.proofs.Common.{◌≡◌, ◌≢◌, ℕ, suc, ◌+◌, ◌-◌, ◌*◌, ◌/◌, ◌%◌, ◌^◌, ◌<◌, ◌≤◌, min, Bool, true, false, ◌||◌, nat_lt, List, [], ◌∷◌, length, take, drop, Option, refl, ap, sym, subst, ◌∙◌, arith}
 use Rattle.std.specs.List.{refill}
 use Rattle.std.proofs.lemmas.List.{take-append-le}
 use Rattle.std.proofs.Math.Seq.{take-length}
 use Rattle.cola_clock.specs.Clock.{works}
-use Rattle.cola_clock.specs.Marks.{Marks, merge_steps, AreLevelMarks, AreAllMarks, AreChainMarks, all_marks_after}
+use Rattle.cola_clock.specs.Marks.{Marks, all_marks_after}
 use Rattle.cola_laws.specs.Plain.{next_clock}
 use Rattle.cola_cell.specs.declared.cell.Reader.TheVariants.{Own, Incoming, Sample}
 use Rattle.cola_cell.specs.Held.{Held, Fixed, span}
@@ -12,19 +12,18 @@ use Rattle.cola_cell.specs.Places.{slot_size}
 use Rattle.cola_cell.specs.Spent.{Spent, Buffer, Search, By}
 use Rattle.cola_device.specs.declared.counts.Counts.{Counts}
 use Rattle.cola_layout.specs.declared.geometry.Geometry.{Geometry}
-use Rattle.cola_layout.specs.Geometry.{IsBlock}
 use Rattle.cola_merge.specs.Blocks.{is_last}
 use Rattle.cola_transfers.specs.Blocks.{slot_cells, IsWrittenDown}
 use Rattle.cola_transfers.specs.Blocks as blocks
-use Rattle.cola_transfers.specs.Credit.{parts, file_cells, last_value}
-use Rattle.cola_transfers.specs.Chain.{Readers, Transfers, IsLevelWorked, IsLevelAtRest, IsLevelsTurn, AreLevelsWorked, IsTopBuilt, AreFlipped, IsMutated, IsPaidCounting, counted}
+use Rattle.cola_transfers.specs.Credit.{parts, last_value}
+use Rattle.cola_transfers.specs.Chain.{Transfers, IsLevelWorked, IsLevelsTurn, AreLevelsWorked, IsTopBuilt, AreFlipped, IsMutated, IsPaidCounting, counted}
 use Rattle.cola_transfers.proofs.PaidLaws.{paid-new, counting-next, bound-reads, bound-writes}
 use Rattle.cola_level.specs.declared.level.Level.{Level}
-use Rattle.cola_level.specs.Marks.{marks_of, all_marks_of}
+use Rattle.cola_level.specs.Marks.{all_marks_of}
 use Rattle.cola_level.specs.Standing.{transfers_of, is_kept}
 use Rattle.cola_mutation.specs.Levels.{IsChain}
 use Rattle.cola_mutation.specs.Work.{State, transfers}
-use Rattle.cola_mutation.specs.Standing.{Trades, AllTrade}
+use Rattle.cola_mutation.specs.Standing.{AllTrade}
 use Rattle.cola_run.specs.Cells.{block_cells}
 use Rattle.cola_run.proofs.Reading.{span-is}
 use Rattle.cola_chain.specs.Contents.{Contents, Kept, held_of, spent_of, kept_of}

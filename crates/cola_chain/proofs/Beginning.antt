@@ -1,8 +1,8 @@
 -- A chain as it begins, from a store that was loaded by a header.
-use Rattle.std.proofs.Common.{◌≡◌, ◌≢◌, ℕ, zero, suc, ◌+◌, ◌-◌, ◌<◌, ◌≤◌, ◌^◌, true, List, [], ◌∷◌, length, map, get_or, Option, None, Some, refl, ap, sym, subst, ◌∙◌, arith}
+use Rattle.std.proofs.Common.{◌≡◌, ℕ, suc, ◌+◌, ◌-◌, ◌<◌, ◌^◌, true, List, [], ◌∷◌, length, get_or, Option, None, Some, ap, sym, subst, ◌∙◌, arith}
 use Rattle.std.specs.Prelude.{IfSome}
 use Rattle.std.proofs.lemmas.List.{length-map}
-use Rattle.cola_clock.specs.Clock.{visible_slot, is_over}
+use Rattle.cola_clock.specs.Clock.{visible_slot}
 use Rattle.cola_clock.specs.Marks.{Marks as LevelMarks}
 use Rattle.cola_spec.specs.Map.{Map}
 use Rattle.cola_cell.specs.declared.sink.Shadow.{Shadow}
@@ -14,7 +14,6 @@ use Rattle.cola_layout.specs.Marks.{numbers_of, all_numbers, no_marks}
 use Rattle.cola_image.specs.Cells.{file_spots}
 use Rattle.cola_image.specs.Standing.{LevelsStandFor, found_in}
 use Rattle.cola_image.proofs.StandingLemmas.{stand-alike}
-use Rattle.cola_level.specs.declared.level.Level.{Level}
 use Rattle.cola_level.specs.Marks.{all_marks_of}
 use Rattle.cola_mutation.specs.Levels.{IsChain, levels_with, ArePlaced}
 use Rattle.cola_mutation.specs.Standing.{StandsFor}

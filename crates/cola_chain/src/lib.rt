@@ -6,5 +6,7 @@ mod counting;
 pub mod laws;
 mod lists;
 mod reading;
+#[cfg(test)]
+mod tests;
 
 pub use chains::Chain;

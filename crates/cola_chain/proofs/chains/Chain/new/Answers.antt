@@ -1,4 +1,4 @@
-use Rattle.std.proofs.Common.{◌≡◌, ℕ, ◌+◌, ◌<◌, true, List, length, Option, refl, sym, ap, subst, ◌∙◌, arith}
+use Rattle.std.proofs.Common.{◌≡◌, ℕ, List, length, sym, ap, subst, ◌∙◌, arith}
 use Rattle.std.specs.Prelude.{IfSome}
 use Rattle.cola_spec.specs.Map.{Map}
 use Rattle.cola_cell.specs.Held.{IsTelling}
@@ -12,7 +12,7 @@ use Rattle.cola_mutation.specs.Levels.{IsChain, levels_with}
 use Rattle.cola_mutation.specs.Standing.{StandsFor}
 use Rattle.cola_mutation.proofs.Beginning.{marks_back}
 use Rattle.cola_run.specs.Store as run
-use Rattle.cola_chain.specs.Account.{ArePaid, sums_of, IsPaid, IsContents}
+use Rattle.cola_chain.specs.Account.{ArePaid, sums_of}
 use Rattle.cola_chain.proofs.Account.{paid-begins}
 use Rattle.cola_chain.proofs.Beginning.{chain-begins, all-saved, stands-begin}
 use Rattle.cola_chain.proofs.chains.Chain.new.Goals as goal

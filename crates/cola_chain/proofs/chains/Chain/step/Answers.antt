@@ -1,5 +1,4 @@
-use Rattle.std.proofs.Common.{◌≡◌, ℕ, ◌+◌, ◌-◌, ◌<◌, true, List, length, Option, refl, sym, ap, subst, ◌∙◌, arith}
-use Rattle.std.specs.Prelude.{IfErr}
+use Rattle.std.proofs.Common.{◌≡◌, ℕ, ◌-◌, List, length, Option, sym, ap, subst, ◌∙◌}
 use Rattle.std.specs.List.{refill}
 use Rattle.cola_cell.specs.Held.{Stamped}
 use Rattle.cola_level.specs.declared.level.Level.{Level}
@@ -10,8 +9,8 @@ use Rattle.cola_mutation.specs.Work.{state_of}
 use Rattle.cola_mutation.specs.Standing.{AllTrade}
 use Rattle.cola_mutation.specs.Steps.{IsMapOf, ChangesMap, KeepsMap}
 use Rattle.cola_run.specs.Store as run
-use Rattle.cola_chain.specs.Contents.{Contents, held_of, spent_of}
-use Rattle.cola_chain.specs.Account.{IsPaid, IsContents, added}
+use Rattle.cola_chain.specs.Contents.{Contents}
+use Rattle.cola_chain.specs.Account.{IsPaid, added}
 use Rattle.cola_chain.proofs.Account.{paid-step, refilled}
 use Rattle.cola_chain.proofs.chains.Chain.step.Goals as goal
 

@@ -1,8 +1,6 @@
-use Rattle.std.proofs.Common.{◌≡◌, ℕ, ◌+◌, ◌<◌, true, length, sym, ap, subst, ◌∙◌}
-use Rattle.cola_transfers.specs.Credit.{last_value}
+use Rattle.std.proofs.Common.{◌≡◌, true, subst}
 use Rattle.cola_chain.specs.Contents.{Contents}
-use Rattle.cola_chain.specs.Account.{IsPaid, IsBounded, sums_of}
-use Rattle.cola_chain.specs.Contents.{held_of, spent_of}
+use Rattle.cola_chain.specs.Account.{IsPaid, IsBounded}
 use Rattle.cola_chain.proofs.Account.{bounded}
 use Rattle.cola_chain.proofs.chains.Chain.transfers.Goals as goal
 

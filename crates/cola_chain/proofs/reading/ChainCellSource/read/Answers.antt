@@ -1,9 +1,8 @@
-use Rattle.std.proofs.Common.{◌≡◌, ℕ, List, refl, sym, ap, subst, ◌∙◌}
+use Rattle.std.proofs.Common.{◌≡◌, sym, ap, subst}
 use Rattle.cola_cell.specs.Held.{Held}
 use Rattle.cola_mutation.specs.Levels.{IsChain}
 use Rattle.cola_run.specs.Store as run
-use Rattle.cola_chain.specs.Contents.{Contents, Kept, held_of, kept_of}
-use Rattle.cola_chain.specs.Account.{IsContents}
+use Rattle.cola_chain.specs.Contents.{Contents, kept_of}
 use Rattle.cola_chain.proofs.Account.{paid-stays}
 use Rattle.cola_chain.proofs.reading.ChainCellSource.read.Goals as goal
 
