@@ -16,7 +16,7 @@ ghost use Rattle.cola_mutation.specs.Steps.{IsMapOf, ChangesMap, KeepsMap, step_
 ghost use Rattle.cola_image.specs.Cells.{file_spots};
 ghost use Rattle.cola_run.specs.Store as run;
 ghost use Rattle.cola_run.specs.Saving.{IsLoaded, SameReads, AreFileSpots};
-ghost use Rattle.cola_chain.specs.Account.{IsPaid, IsBounded, CountsStep};
+ghost use Rattle.cola_chain.specs.Account.{IsPaid, IsContents, IsBounded, CountsStep};
 ghost use Rattle.cola_chain.specs.Contents.{held_of, spent_of, kept_of};
 ghost use Rattle.cola_chain.specs.Runs.{visible_runs, visible_lists, AreSearched};
 
@@ -106,6 +106,7 @@ impl<D: Device> Chain<D> {
 
     /// The visible runs, from level 0 on, as a search and a cursor take them.
     pub fn visible(&self) -> ArrayVec<Run, 23>
+        ensures sound { IsContents D.bytes D.counts self.now }
         ensures runs { result.items ≡ visible_runs self.now.clock 0 self.now.levels }
         ensures has { All (HasRun (held_of D.bytes self.now)) result.items }
         ensures searched { (most : ℕ) (m : List ℕ → Option Stamped) → StandsFor (held_of D.bytes self.now) most self.now.clock self.now.levels m →
@@ -211,7 +212,7 @@ impl<D: Device> Chain<D> {
     pub fn transfers(&self) -> (u64, u64)
         ensures reads { result.0 ≡ self.now.reads }
         ensures writes { result.1 ≡ self.now.writes }
-        ensures counted { self.now.counted ≡ true → IsPaid D.bytes D.counts self.now }
+        ensures sound { IsContents D.bytes D.counts self.now }
         ensures bounds { IsPaid D.bytes D.counts self.now → IsBounded self.now }
     {
         (self.reads, self.writes)

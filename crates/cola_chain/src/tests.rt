@@ -330,18 +330,18 @@ fn steps_made_anew<L: Ledger>(
     Ok(count_right(&mut chain, 370, 32, &mut steps))
 }
 
+/// The same in both formats, in blocks of 8 and of 32 cells.
+fn all_made_anew(rt: &impl Abort, alloc: Global) -> Result<(), Fail> {
+    for (block_exp, format) in [(3u8, Format::One), (5, Format::Two)] {
+        let right = steps_made_anew::<Brand>(alloc, format, block_exp, Blank::new(1))?;
+        assert_eq!(rt; right, 32);
+    }
+    Ok(())
+}
+
 #[test]
 fn a_chain_is_made_anew(rt: HostRuntime) -> Result<(), Fail> {
-    let alloc = rt.alloc();
-    assert_eq!(&rt;
-        steps_made_anew::<Brand>(alloc, Format::One, 3, Blank::new(1))?,
-        32
-    );
-    assert_eq!(&rt;
-        steps_made_anew::<Brand>(alloc, Format::Two, 5, Blank::new(1))?,
-        32
-    );
-    Ok(())
+    all_made_anew(&rt, rt.alloc())
 }
 
 /// So many mutations by a fixed generator, beside a plain table. Answers how many of the searches after each were right.
@@ -376,7 +376,9 @@ fn count_same<D: Device, L: Ledger>(
     chain: &mut Chain<D>,
     table: &[u16],
     steps: &mut Steps<L>,
-) -> usize {
+) -> usize
+    requires { length table.now ≤ 1000 }
+{
     let mut same = 0usize;
     for (key, number) in table.iter().enumerate() {
         if found(chain, key as u16, steps) == Some(*number) {
@@ -398,9 +400,10 @@ fn store_of_keys<L: Ledger>(
     requires name { blank.name ≡ L.name }
     requires parts { blank.parts ≡ L.parts }
     requires some { 0 < L.parts }
-    requires keys { 0 < keys }
-    requires few { keys ≤ 1000 }
 {
+    if keys == 0 || keys > 1000 {
+        return Err(Fail::new("keys"));
+    }
     let chain = new_chain(alloc, keys as u64, block_exp, format, Vec::new(alloc))?;
     let mut chain = chain.ok_or("no chain")?;
     let mut table = vec![in alloc; 0u16; keys as usize]?;
@@ -416,35 +419,42 @@ fn store_of_keys<L: Ledger>(
     Ok(())
 }
 
-#[test]
-fn ten_thousand_mutations(rt: HostRuntime) -> Result<(), Fail> {
-    let alloc = rt.alloc();
-    store_of_keys::<Brand>(&rt, alloc, 32, 3, Format::One, Blank::new(1))?;
-    store_of_keys::<Brand>(&rt, alloc, 32, 5, Format::One, Blank::new(1))?;
-    store_of_keys::<Brand>(&rt, alloc, 32, 3, Format::Two, Blank::new(1))?;
-    store_of_keys::<Brand>(&rt, alloc, 32, 5, Format::Two, Blank::new(1))?;
-    store_of_keys::<Brand>(&rt, alloc, 200, 3, Format::One, Blank::new(1))?;
-    store_of_keys::<Brand>(&rt, alloc, 200, 5, Format::One, Blank::new(1))?;
-    store_of_keys::<Brand>(&rt, alloc, 200, 3, Format::Two, Blank::new(1))?;
-    store_of_keys::<Brand>(&rt, alloc, 200, 5, Format::Two, Blank::new(1))
+/// The stores for so many keys, in both formats and two sizes of blocks.
+fn stores_of_keys(rt: &impl Abort, alloc: Global, keys: u16) -> Result<(), Fail> {
+    for (block_exp, format) in [
+        (3u8, Format::One),
+        (5, Format::One),
+        (3, Format::Two),
+        (5, Format::Two),
+    ] {
+        store_of_keys::<Brand>(rt, alloc, keys, block_exp, format, Blank::new(1))?;
+    }
+    Ok(())
 }
 
-/// A read of a reader from outside, and then one step. Answers the two numbers of transfers of the accepted steps.
-fn read_from_outside<D: Device, L: Ledger>(
-    chain: &mut Chain<D>,
-    steps: &mut Steps<L>,
-) -> (u64, u64) {
-    let _cell = chain.read_for(Reader::Own, 0, 0, 0, steps);
-    put(chain, 1, 1, steps);
-    chain.transfers()
+#[test]
+fn ten_thousand_mutations(rt: HostRuntime) -> Result<(), Fail> {
+    stores_of_keys(&rt, rt.alloc(), 32)?;
+    stores_of_keys(&rt, rt.alloc(), 200)
+}
+
+/// A read of a reader from outside, and then one step. Answers the reads and writes of the accepted steps.
+fn read_from_outside<L: Ledger>(alloc: Global, blank: Blank) -> Result<(u64, u64), Fail>
+    requires name { blank.name ≡ L.name }
+    requires parts { blank.parts ≡ L.parts }
+    requires some { 0 < L.parts }
+{
+    let chain = new_chain(alloc, 32, 3, Format::One, Vec::new(alloc))?;
+    let mut chain = chain.ok_or("no chain")?;
+    let mut steps = Steps::<L>::begin(blank);
+    let _cell = chain.read_for(Reader::Own, 0, 0, 0, &mut steps);
+    put(&mut chain, 1, 1, &mut steps).ok_or("refused")?;
+    Ok(chain.transfers())
 }
 
 #[test]
 fn a_reader_may_be_moved_from_outside(rt: HostRuntime) -> Result<(), Fail> {
-    let chain = new_chain(rt.alloc(), 32, 3, Format::One, Vec::new(rt.alloc()))?;
-    let mut chain = chain.ok_or("no chain")?;
-    let mut steps = Steps::<Brand>::begin(Blank::new(1));
-    assert_eq!(&rt; read_from_outside(&mut chain, &mut steps), (0, 0));
-    assert_eq!(&rt; chain.ticked() > 0, true);
+    let blank = Blank::new(1);
+    assert_eq!(&rt; read_from_outside::<Brand>(rt.alloc(), blank)?, (0, 0));
     Ok(())
 }

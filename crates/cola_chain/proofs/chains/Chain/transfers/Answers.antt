@@ -1,11 +1,11 @@
 use Rattle.std.proofs.Common.{◌≡◌, true, subst}
 use Rattle.cola_chain.specs.Contents.{Contents}
-use Rattle.cola_chain.specs.Account.{IsPaid, IsBounded}
+use Rattle.cola_chain.specs.Account.{IsContents, IsPaid, IsBounded}
 use Rattle.cola_chain.proofs.Account.{bounded}
 use Rattle.cola_chain.proofs.chains.Chain.transfers.Goals as goal
 
-pub returns-clause-counted : goal.returns-clause-counted
-returns-clause-counted g c = subst (λ (x : Contents g.row.D.Denot). x.counted ≡ true → IsPaid g.D.Device.bytes g.D.Device.counts x) c.self.view_is c.self.invariant.paid
+pub returns-clause-sound : goal.returns-clause-sound
+returns-clause-sound g c = subst (λ (x : Contents g.row.D.Denot). IsContents g.D.Device.bytes g.D.Device.counts x) c.self.view_is c.self.invariant
 
 pub returns-clause-bounds : goal.returns-clause-bounds
 returns-clause-bounds g c =

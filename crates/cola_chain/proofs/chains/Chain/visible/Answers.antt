@@ -6,6 +6,7 @@ use Rattle.cola_level.specs.declared.level.Level.{Level}
 use Rattle.cola_mutation.specs.Standing.{StandsFor}
 use Rattle.cola_run.specs.Store as run
 use Rattle.cola_chain.specs.Contents.{Contents, held_of}
+use Rattle.cola_chain.specs.Account.{IsContents}
 use Rattle.cola_chain.specs.Runs.{visible_runs, visible_lists, AreSearched}
 use Rattle.cola_chain.proofs.Searching.{visible-has, searched, clock-few}
 use Rattle.cola_chain.proofs.chains.Chain.visible.Goals as goal
@@ -28,3 +29,6 @@ returns-clause-searched g c =
     (λ most m stands.
     subst (λ (rs : List Run). AreSearched (run.held_of g.D.Device.bytes c.self.inside.runs) rs (visible_lists (run.held_of g.D.Device.bytes c.self.inside.runs) c.self.inside.clock c.self.inside.levels.items) m) (sym (c.runs_of.ensures ∙ ap (visible_runs c.self.inside.clock 0) c.as_slice.ensures.value))
     (searched (run.held_of g.D.Device.bytes c.self.inside.runs) most c.self.inside.clock c.self.inside.levels.items m c.self.invariant.stands stands))
+
+pub returns-clause-sound : goal.returns-clause-sound
+returns-clause-sound g c = subst (λ (x : Contents g.row.D.Denot). IsContents g.D.Device.bytes g.D.Device.counts x) c.self.view_is c.self.invariant
