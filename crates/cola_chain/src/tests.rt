@@ -376,13 +376,13 @@ fn count_same<D: Device, L: Ledger>(
     chain: &mut Chain<D>,
     table: &[u16],
     steps: &mut Steps<L>,
-) -> usize
+) -> u16
     requires { length table.now ≤ 1000 }
 {
-    let mut same = 0usize;
+    let mut same = 0u16;
     for (key, number) in table.iter().enumerate() {
         if found(chain, key as u16, steps) == Some(*number) {
-            same += 1;
+            same = same.wrapping_add(1);
         }
     }
     same
@@ -410,7 +410,7 @@ fn store_of_keys<L: Ledger>(
     let mut steps = Steps::<L>::begin(blank);
     let steps = &mut steps;
     assert_eq!(rt; generated(&mut chain, &mut table, 1250, steps), Some(1250));
-    assert_eq!(rt; count_same(&mut chain, &table, steps), keys as usize);
+    assert_eq!(rt; count_same(&mut chain, &table, steps), keys);
     let (reads, writes) = chain.transfers();
     let levels = chain.runs().geometry().levels() as u64;
     assert!(rt; reads <= 14 * 1250 * levels / 8 + 4 * 1024);
