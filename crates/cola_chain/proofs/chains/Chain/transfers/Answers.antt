@@ -1,4 +1,4 @@
-use Rattle.std.proofs.Common.{◌≡◌, true, subst}
+use Rattle.std.proofs.Common.{subst}
 use Rattle.cola_chain.specs.Contents.{Contents}
 use Rattle.cola_chain.specs.Account.{IsContents, IsPaid, IsBounded}
 use Rattle.cola_chain.proofs.Account.{bounded}
