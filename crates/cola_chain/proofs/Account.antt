@@ -1,10 +1,10 @@
 -- The account of a chain: counted from other numbers it is the same, a step keeps it, and it gives the bounds.
-use Rattle.std.proofs.Common.{◌≡◌, ◌≢◌, ℕ, zero, suc, ◌+◌, ◌-◌, ◌*◌, ◌/◌, ◌%◌, ◌^◌, ◌<◌, ◌≤◌, min, Bool, true, false, ◌||◌, nat_lt, List, [], ◌∷◌, length, take, drop, Option, refl, ap, sym, subst, ◌∙◌, arith}
+use Rattle.std.proofs.Common.{◌≡◌, ◌≢◌, ℕ, suc, ◌+◌, ◌-◌, ◌*◌, ◌/◌, ◌%◌, ◌^◌, ◌<◌, ◌≤◌, min, Bool, true, false, ◌||◌, nat_lt, List, [], ◌∷◌, length, take, drop, Option, refl, ap, sym, subst, ◌∙◌, arith}
 use Rattle.std.specs.List.{refill}
 use Rattle.std.proofs.lemmas.List.{take-append-le}
 use Rattle.std.proofs.Math.Seq.{take-length}
 use Rattle.cola_clock.specs.Clock.{works}
-use Rattle.cola_clock.specs.Marks.{Marks, merge_steps, AreLevelMarks, AreAllMarks, AreChainMarks, all_marks_after}
+use Rattle.cola_clock.specs.Marks.{Marks, all_marks_after}
 use Rattle.cola_laws.specs.Plain.{next_clock}
 use Rattle.cola_cell.specs.declared.cell.Reader.TheVariants.{Own, Incoming, Sample}
 use Rattle.cola_cell.specs.Held.{Held, Fixed, span}
@@ -12,19 +12,18 @@ use Rattle.cola_cell.specs.Places.{slot_size}
 use Rattle.cola_cell.specs.Spent.{Spent, Buffer, Search, By}
 use Rattle.cola_device.specs.declared.counts.Counts.{Counts}
 use Rattle.cola_layout.specs.declared.geometry.Geometry.{Geometry}
-use Rattle.cola_layout.specs.Geometry.{IsBlock}
 use Rattle.cola_merge.specs.Blocks.{is_last}
 use Rattle.cola_transfers.specs.Blocks.{slot_cells, IsWrittenDown}
 use Rattle.cola_transfers.specs.Blocks as blocks
-use Rattle.cola_transfers.specs.Credit.{parts, file_cells, last_value}
-use Rattle.cola_transfers.specs.Chain.{Readers, Transfers, IsLevelWorked, IsLevelAtRest, IsLevelsTurn, AreLevelsWorked, IsTopBuilt, AreFlipped, IsMutated, IsPaidCounting, counted}
+use Rattle.cola_transfers.specs.Credit.{parts, last_value}
+use Rattle.cola_transfers.specs.Chain.{Transfers, IsLevelWorked, IsLevelsTurn, AreLevelsWorked, IsTopBuilt, AreFlipped, IsMutated, IsPaidCounting, counted}
 use Rattle.cola_transfers.proofs.PaidLaws.{paid-new, counting-next, bound-reads, bound-writes}
 use Rattle.cola_level.specs.declared.level.Level.{Level}
-use Rattle.cola_level.specs.Marks.{marks_of, all_marks_of}
+use Rattle.cola_level.specs.Marks.{all_marks_of}
 use Rattle.cola_level.specs.Standing.{transfers_of, is_kept}
 use Rattle.cola_mutation.specs.Levels.{IsChain}
 use Rattle.cola_mutation.specs.Work.{State, transfers}
-use Rattle.cola_mutation.specs.Standing.{Trades, AllTrade}
+use Rattle.cola_mutation.specs.Standing.{AllTrade}
 use Rattle.cola_run.specs.Cells.{block_cells}
 use Rattle.cola_run.proofs.Reading.{span-is}
 use Rattle.cola_chain.specs.Contents.{Contents, Kept, held_of, spent_of, kept_of}
@@ -176,13 +175,13 @@ paid-next s u t next m b d (top ∷ below) (first ∷ after) many chain clock fi
     let old : Transfers = shifted s.spent.turned b s.spent.written d (transfers s) in
     let new : Transfers = shifted s.spent.turned b s.spent.written d (transfers u) in
     let begin : IsPaidCounting dbl m t top.visible (all_marks_of below) old =
-        subst (λ (x : ℕ). IsPaidCounting dbl m t top.visible (all_marks_of below) (record { reads = x; writes = d + (s.spent.written - s.spent.written); readers = (transfers s).readers; kept = (transfers s).kept })) (sym (no_more s.spent.turned b))
-        (subst (λ (x : ℕ). IsPaidCounting dbl m t top.visible (all_marks_of below) (record { reads = b; writes = x; readers = (transfers s).readers; kept = (transfers s).kept })) (sym (no_more s.spent.written d)) paid) in
+    subst (λ (x : ℕ). IsPaidCounting dbl m t top.visible (all_marks_of below) (record { reads = x; writes = d + (s.spent.written - s.spent.written); readers = (transfers s).readers; kept = (transfers s).kept })) (sym (no_more s.spent.turned b))
+    (subst (λ (x : ℕ). IsPaidCounting dbl m t top.visible (all_marks_of below) (record { reads = b; writes = x; readers = (transfers s).readers; kept = (transfers s).kept })) (sym (no_more s.spent.written d)) paid) in
     let mutated = mutated_shifted s.spent.turned b s.spent.written d dbl t top.visible (all_marks_of below) trade.worked (transfers s) (transfers u) (omega arith) (omega arith) trade.mutated in
     let fits : first.visible ≤ slot_cells 0 = chain.marks.0.visible_fits in
     let done : IsPaidCounting dbl (min (suc m) last_value) (suc t % 2 ^ suc (length trade.worked)) first.visible (all_marks_after t 1 trade.worked) (counted new) =
-        counting-next dbl m t top.visible first.visible (all_marks_of below) trade.worked old new fits trade.marks mutated
-        (moved_stays s.spent.turned b s.spent.turned u.spent.turned turned) (moved_stays s.spent.written d s.spent.written u.spent.written written) begin in
+    counting-next dbl m t top.visible first.visible (all_marks_of below) trade.worked old new fits trade.marks mutated
+    (moved_stays s.spent.turned b s.spent.turned u.spent.turned turned) (moved_stays s.spent.written d s.spent.written u.spent.written written) begin in
     let many_is : length trade.worked ≡ length below = worked_length dbl t 0 top.visible (all_marks_of below) trade.worked (transfers s) trade.mutated.after_work trade.mutated.levels ∙ marks-length below in
     let clock_is : suc t % 2 ^ suc (length trade.worked) ≡ next = ap (λ (n : ℕ). suc t % 2 ^ suc n) many_is ∙ sym clock in
     subst (λ (f : Fixed). IsPaidCounting f.doublings (added m 1) next first.visible (all_marks_of after) (counted new)) (sym fixed)
@@ -231,13 +230,13 @@ paid-stays {D} {K} bytes counts kept old new held_is kept_is lasts p =
     let incoming : (l : ℕ) → (spent_of counts new).lasts (By Incoming l) ≡ (spent_of counts old).lasts (By Incoming l) = λ l. lasts (By Incoming l) (λ e. let f : ⊥ = cc in f) in
     let sample : (l : ℕ) → (spent_of counts new).lasts (By Sample l) ≡ (spent_of counts old).lasts (By Sample l) = λ l. lasts (By Sample l) (λ e. let f : ⊥ = cc in f) in
     let readers_is : (transfers_of (held_of bytes new) (spent_of counts new)).readers ≡ (transfers_of (held_of bytes old) (spent_of counts old)).readers =
-        λ i. record {
-          own = λ level slot number. is_last (own level i) level slot number;
-          incoming = λ level slot number. is_last (incoming level i) level slot number;
-          sample = λ level slot number. is_last (sample level i) level slot number;
-        } in
+    λ i. record {
+      own = λ level slot number. is_last (own level i) level slot number;
+      incoming = λ level slot number. is_last (incoming level i) level slot number;
+      sample = λ level slot number. is_last (sample level i) level slot number;
+    } in
     let same : sums_of (held_of bytes new) (spent_of counts new) new.reads new.writes ≡ sums_of (held_of bytes old) (spent_of counts old) old.reads old.writes =
-        λ i. record { reads = (kept_is i).reads; writes = (kept_is i).writes; readers = readers_is i; kept = λ level. is_kept (held_is i) level } in
+    λ i. record { reads = (kept_is i).reads; writes = (kept_is i).writes; readers = readers_is i; kept = λ level. is_kept (held_is i) level } in
     record {
       paid =
           subst (λ (x : Held). ArePaid x.fixed.doublings new.accepted new.clock new.levels (sums_of (held_of bytes new) (spent_of counts new) new.reads new.writes)) (sym held_is)
@@ -260,7 +259,7 @@ paid-step bytes counts old new from to many chain clock fixed turned written tra
       subst (λ (n : ℕ). ArePaid (held_of bytes new).fixed.doublings n new.clock new.levels (sums_of (held_of bytes new) (spent_of counts new) new.reads new.writes)) (sym accepted)
       (subst (λ (n : ℕ). ArePaid (held_of bytes new).fixed.doublings (added old.accepted 1) new.clock new.levels (sums_of (held_of bytes new) (spent_of counts new) n new.writes)) (sym reads)
       (subst (λ (n : ℕ). ArePaid (held_of bytes new).fixed.doublings (added old.accepted 1) new.clock new.levels
-          (sums_of (held_of bytes new) (spent_of counts new) (added old.reads ((spent_of counts new).turned - (spent_of counts old).turned)) n)) (sym writes) done));
+      (sums_of (held_of bytes new) (spent_of counts new) (added old.reads ((spent_of counts new).turned - (spent_of counts old).turned)) n)) (sym writes) done));
 }
 
 -- what a slice that was lent leaves in its owner

@@ -1,8 +1,8 @@
 -- A chain as it begins, from a store that was loaded by a header.
-use Rattle.std.proofs.Common.{◌≡◌, ◌≢◌, ℕ, zero, suc, ◌+◌, ◌-◌, ◌<◌, ◌≤◌, ◌^◌, true, List, [], ◌∷◌, length, map, get_or, Option, None, Some, refl, ap, sym, subst, ◌∙◌, arith}
+use Rattle.std.proofs.Common.{◌≡◌, ℕ, suc, ◌+◌, ◌-◌, ◌<◌, ◌^◌, true, List, [], ◌∷◌, length, get_or, Option, None, Some, ap, sym, subst, ◌∙◌, arith}
 use Rattle.std.specs.Prelude.{IfSome}
 use Rattle.std.proofs.lemmas.List.{length-map}
-use Rattle.cola_clock.specs.Clock.{visible_slot, is_over}
+use Rattle.cola_clock.specs.Clock.{visible_slot}
 use Rattle.cola_clock.specs.Marks.{Marks as LevelMarks}
 use Rattle.cola_spec.specs.Map.{Map}
 use Rattle.cola_cell.specs.declared.sink.Shadow.{Shadow}
@@ -14,7 +14,6 @@ use Rattle.cola_layout.specs.Marks.{numbers_of, all_numbers, no_marks}
 use Rattle.cola_image.specs.Cells.{file_spots}
 use Rattle.cola_image.specs.Standing.{LevelsStandFor, found_in}
 use Rattle.cola_image.proofs.StandingLemmas.{stand-alike}
-use Rattle.cola_level.specs.declared.level.Level.{Level}
 use Rattle.cola_level.specs.Marks.{all_marks_of}
 use Rattle.cola_mutation.specs.Levels.{IsChain, levels_with, ArePlaced}
 use Rattle.cola_mutation.specs.Standing.{StandsFor}
@@ -37,7 +36,7 @@ placed held t j (m ∷ ms) at =
       ap (λ (s : Shadow). s.len) first,
       ap (λ (s : Shadow). s.slot) first,
       placed held t (suc j) ms
-      (λ k h. let f : j + suc k ≡ suc j + k = omega arith in subst (λ (n : ℕ). held.shadows n ≡ beside_run t n (get_or ms k no_marks)) f (at (suc k) (omega (arith, h)))),
+          (λ k h. let f : j + suc k ≡ suc j + k = omega arith in subst (λ (n : ℕ). held.shadows n ≡ beside_run t n (get_or ms k no_marks)) f (at (suc k) (omega (arith, h)))),
     )
 
 module _ {D : Type 0} (bytes : D → Option (List ℕ)) (header : Header) (store : Store D) (told : Option (List ℕ)) (geometry_is : store.geometry ≡ header.geometry) (loaded : IsLoaded header (run.held_of bytes store) told) where
@@ -65,10 +64,10 @@ module _ {D : Type 0} (bytes : D → Option (List ℕ)) (header : Header) (store
       let n = numbers-many in
       let back = marks_back (all_numbers header.levels.items) in
       let here : LevelsStandFor most header.clock (all_numbers header.levels.items) (run.held_of bytes store).spots m =
-          stand-alike most header.clock (all_numbers header.levels.items) (file_spots header.geometry.format file) (run.held_of bytes store).spots m
-          (alike-places (header.geometry.bottom + 1) (file_spots header.geometry.format file) (run.held_of bytes store).spots header.clock 0 0 (all_numbers header.levels.items) header.marks_fit (omega (arith, n)) same) stand in
+      stand-alike most header.clock (all_numbers header.levels.items) (file_spots header.geometry.format file) (run.held_of bytes store).spots m
+      (alike-places (header.geometry.bottom + 1) (file_spots header.geometry.format file) (run.held_of bytes store).spots header.clock 0 0 (all_numbers header.levels.items) header.marks_fit (omega (arith, n)) same) stand in
       let there : LevelsStandFor most header.clock (all_marks_of (levels_with (all_numbers header.levels.items))) (run.held_of bytes store).spots m =
-          subst (λ (ms : List LevelMarks). LevelsStandFor most header.clock ms (run.held_of bytes store).spots m) (sym back) here in
+      subst (λ (ms : List LevelMarks). LevelsStandFor most header.clock ms (run.held_of bytes store).spots m) (sym back) here in
       record { tells = tells; told = there.told; saved = λ l h over. all-saved l h; sound = there.sound }
 
   by-told : (u : Option (List ℕ)) → IfSome u (AreFileSpots header.geometry (run.held_of bytes store).spots) →

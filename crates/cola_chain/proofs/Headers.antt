@@ -1,14 +1,14 @@
 -- A chain and the header of its file.
-use Rattle.std.proofs.Common.{◌≡◌, ◌≢◌, ◌⊎◌, inl, inr, ℕ, zero, suc, ◌+◌, ◌-◌, ◌<◌, ◌≤◌, ◌^◌, Bool, true, false, cond, List, [], ◌∷◌, length, refl, ap, sym, subst, ◌∙◌, arith}
+use Rattle.std.proofs.Common.{◌≡◌, inl, inr, ℕ, suc, ◌+◌, ◌-◌, ◌<◌, ◌≤◌, Bool, true, false, cond, List, [], ◌∷◌, length, refl, arith}
 use Rattle.cola_clock.specs.Clock.{period, is_odd, visible_slot}
-use Rattle.cola_clock.specs.Marks.{Marks, AreAllMarks, AreChainMarks}
+use Rattle.cola_clock.specs.Marks.{Marks, AreAllMarks}
 use Rattle.cola_clock.proofs.Wrap.{slot-of_parity}
 use Rattle.cola_cell.specs.Held.{Held, Spots}
-use Rattle.cola_cell.specs.Places.{slot_size, IsPlace}
-use Rattle.cola_image.specs.Standing.{IsSlotAlike, AreRunsAlike}
+use Rattle.cola_cell.specs.Places.{IsPlace}
+use Rattle.cola_image.specs.Standing.{AreRunsAlike}
 use Rattle.cola_level.specs.declared.level.Level.{Level}
-use Rattle.cola_level.specs.Marks.{marks_of, all_marks_of}
-use Rattle.cola_mutation.specs.Levels.{Fits, AreFit, IsChain}
+use Rattle.cola_level.specs.Marks.{all_marks_of}
+use Rattle.cola_mutation.specs.Levels.{AreFit, IsChain}
 use Rattle.cola_mutation.proofs.Advancing.{visible_apart}
 use Rattle.cola_run.specs.Saving.{SameReads}
 

@@ -1,21 +1,19 @@
 -- The visible runs of a chain as a search takes them.
-use Rattle.std.proofs.Common.{◌≡◌, ◌≢◌, ℕ, zero, suc, ◌+◌, ◌-◌, ◌<◌, ◌≤◌, ◌^◌, Bool, true, false, cond, List, [], ◌∷◌, length, All, Option, refl, ap, sym, subst, ◌∙◌, arith}
+use Rattle.std.proofs.Common.{◌≡◌, ℕ, suc, ◌+◌, ◌<◌, ◌≤◌, ◌^◌, Bool, true, false, cond, List, [], ◌∷◌, length, All, Option, sym, subst, arith}
 use Rattle.std.specs.List.{AllByRecursion}
 use Rattle.std.specs.Ordering.{is_lt}
 use Rattle.std.proofs.lemmas.List.Elements.{All-from_recursion}
 use Rattle.std.proofs.Math.Pow.{pow_mono}
-use Rattle.cola_clock.specs.Clock.{period, is_odd, visible_slot}
-use Rattle.cola_clock.specs.Marks.{Marks, AreAllMarks}
+use Rattle.cola_clock.specs.Clock.{visible_slot}
+use Rattle.cola_clock.specs.Marks.{AreAllMarks}
 use Rattle.cola_runs.specs.Search as laws
 use Rattle.cola_runs.specs.Cells.{key_of}
 use Rattle.cola_laws.specs.Chain.{visibles}
 use Rattle.cola_laws.proofs.Facts.{visible-sampled}
 use Rattle.cola_cell.specs.declared.cell.Run.{Run}
 use Rattle.cola_cell.specs.Held.{Held, LawCell, Stamped}
-use Rattle.cola_cell.specs.Listed.{IsRun}
 use Rattle.cola_cell.specs.Order.{key_cmp}
-use Rattle.cola_cell.specs.Places.{slot_size}
-use Rattle.cola_told.specs.Cells.{cells, AreTold}
+use Rattle.cola_told.specs.Cells.{cells}
 use Rattle.cola_told.proofs.CellLists.{length-cells}
 use Rattle.cola_told.proofs.ToldRuns.{told_is}
 use Rattle.cola_image.specs.Standing.{AreRunsTold}
@@ -23,7 +21,7 @@ use Rattle.cola_look.specs.Runs.{HasRun, AreRuns}
 use Rattle.cola_search.specs.Find.{BeginsNear}
 use Rattle.cola_level.specs.declared.level.Level.{Level}
 use Rattle.cola_level.specs.Aims.{visible_run}
-use Rattle.cola_level.specs.Marks.{marks_of, all_marks_of}
+use Rattle.cola_level.specs.Marks.{all_marks_of}
 use Rattle.cola_level.specs.Standing.{all_stood}
 use Rattle.cola_mutation.specs.Levels.{IsChain}
 use Rattle.cola_mutation.specs.Standing.{StandsFor}

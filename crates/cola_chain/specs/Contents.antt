@@ -1,10 +1,9 @@
 -- What contracts see of a chain, and what a chain is between two steps.
-use Rattle.std.specs.Prelude.{◌≡◌, ℕ, ◌≤◌, Bool, true, List, Option}
+use Rattle.std.specs.Prelude.{ℕ, Bool, List, Option}
 use Rattle.cola_cell.specs.Held.{Held}
 use Rattle.cola_cell.specs.Spent.{Spent}
 use Rattle.cola_device.specs.declared.counts.Counts.{Counts}
 use Rattle.cola_level.specs.declared.level.Level.{Level}
-use Rattle.cola_mutation.specs.Levels.{IsChain}
 use Rattle.cola_run.specs.Store as run
 use Rattle.cola_run.specs.Store.{Store}
 

@@ -1,5 +1,5 @@
 -- The visible runs of levels, in the order in which they are searched.
-use Rattle.std.specs.Prelude.{◌≡◌, ℕ, suc, List, [], ◌∷◌, Option, All}
+use Rattle.std.specs.Prelude.{◌≡◌, ℕ, suc, List, [], ◌∷◌, Option}
 use Rattle.cola_runs.specs.Search.{AreSampled}
 use Rattle.cola_laws.specs.Chain.{visibles, value_at}
 use Rattle.cola_cell.specs.declared.cell.Run.{Run}

@@ -16,7 +16,7 @@ ghost use Rattle.cola_mutation.specs.Steps.{IsMapOf, ChangesMap, KeepsMap, step_
 ghost use Rattle.cola_image.specs.Cells.{file_spots};
 ghost use Rattle.cola_run.specs.Store as run;
 ghost use Rattle.cola_run.specs.Saving.{IsLoaded, SameReads, AreFileSpots};
-ghost use Rattle.cola_chain.specs.Account.{IsPaid, IsBounded, CountsStep};
+ghost use Rattle.cola_chain.specs.Account.{IsPaid, IsContents, IsBounded, CountsStep};
 ghost use Rattle.cola_chain.specs.Contents.{held_of, spent_of, kept_of};
 ghost use Rattle.cola_chain.specs.Runs.{visible_runs, visible_lists, AreSearched};
 
@@ -25,7 +25,7 @@ use crate::lists::{levels_of, marks_of_levels, runs_of};
 use arrayvec::ArrayVec;
 use cola_cell::{Item, Key, Run, StepFault};
 use cola_device::Device;
-use cola_layout::{Geometry, Header};
+use cola_layout::Header;
 use cola_level::Level;
 use cola_outside::Steps;
 use cola_run::RunStore;
@@ -40,7 +40,6 @@ use std::sync::ledger::Ledger;
 #[derive(Drop)]
 pub struct Chain<D: Device> {
     pub(crate) runs: RunStore<D>,
-    pub(crate) geometry: Geometry,
     pub(crate) levels: ArrayVec<Level, 23>,
     pub(crate) clock: u64,
     pub(crate) accepted: u64,
@@ -50,7 +49,6 @@ pub struct Chain<D: Device> {
 }
 
 impl<D: Device> Model for Chain<D> {
-    ghost use Rattle.std.specs.Prelude.{◌≡◌};
     ghost use Rattle.cola_chain.specs.Contents.{Contents};
     ghost use Rattle.cola_chain.specs.Account.{IsContents};
 
@@ -66,7 +64,7 @@ impl<D: Device> Model for Chain<D> {
       counted = c.counted;
     } };
 
-    ghost invariant = { λ c. (c.geometry ≡ c.runs.geometry) × IsContents D.bytes D.counts (record {
+    ghost invariant = { λ c. IsContents D.bytes D.counts (record {
       store = c.runs;
       levels = c.levels.items;
       clock = c.clock;
@@ -97,7 +95,6 @@ impl<D: Device> Chain<D> {
     {
         Chain {
             runs,
-            geometry: header.geometry,
             levels: levels_of(header.levels.as_slice()),
             clock: header.clock,
             accepted: 0,
@@ -109,6 +106,7 @@ impl<D: Device> Chain<D> {
 
     /// The visible runs, from level 0 on, as a search and a cursor take them.
     pub fn visible(&self) -> ArrayVec<Run, 23>
+        ensures sound { IsContents D.bytes D.counts self.now }
         ensures runs { result.items ≡ visible_runs self.now.clock 0 self.now.levels }
         ensures has { All (HasRun (held_of D.bytes self.now)) result.items }
         ensures searched { (most : ℕ) (m : List ℕ → Option Stamped) → StandsFor (held_of D.bytes self.now) most self.now.clock self.now.levels m →
@@ -159,7 +157,14 @@ impl<D: Device> Chain<D> {
         ensures paid { OnOk result (IsPaid D.bytes D.counts self.old → IsPaid D.bytes D.counts self.new) }
     {
         let before = self.runs.transfers();
-        match cola_mutation::step(&mut self.runs, self.levels.as_mut_slice(), self.clock, key, item, steps) {
+        match cola_mutation::step(
+            &mut self.runs,
+            self.levels.as_mut_slice(),
+            self.clock,
+            key,
+            item,
+            steps,
+        ) {
             Ok(next) => {
                 let after = self.runs.transfers();
                 self.clock = next;
@@ -193,7 +198,7 @@ impl<D: Device> Chain<D> {
     {
         let levels = marks_of_levels(self.levels.as_slice());
         Header {
-            geometry: self.geometry,
+            geometry: *self.runs.geometry(),
             closed,
             count,
             clock: self.clock,
@@ -207,7 +212,7 @@ impl<D: Device> Chain<D> {
     pub fn transfers(&self) -> (u64, u64)
         ensures reads { result.0 ≡ self.now.reads }
         ensures writes { result.1 ≡ self.now.writes }
-        ensures counted { self.now.counted ≡ true → IsPaid D.bytes D.counts self.now }
+        ensures sound { IsContents D.bytes D.counts self.now }
         ensures bounds { IsPaid D.bytes D.counts self.now → IsBounded self.now }
     {
         (self.reads, self.writes)

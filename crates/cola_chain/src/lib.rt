@@ -2,9 +2,11 @@
 #![tactic(auto)]
 
 mod chains;
+mod counting;
 pub mod laws;
 mod lists;
 mod reading;
-mod counting;
+#[cfg(test)]
+mod tests;
 
 pub use chains::Chain;

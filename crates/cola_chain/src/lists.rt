@@ -1,9 +1,8 @@
 //! Levels of a header, and what a chain tells of its levels: their marks and their visible runs.
 ghost use Rattle.std.specs.Prelude.{◌≡◌, ◌≤◌, ◌<◌, ◌^◌, ◌+◌, length};
-ghost use Rattle.cola_clock.specs.Clock.{visible_slot};
-ghost use Rattle.cola_layout.specs.Marks.{numbers_of, all_numbers};
+ghost use Rattle.cola_layout.specs.Marks.{all_numbers};
 ghost use Rattle.cola_level.specs.Aims.{visible_run};
-ghost use Rattle.cola_level.specs.Marks.{marks_of, all_marks_of, level_with};
+ghost use Rattle.cola_level.specs.Marks.{all_marks_of};
 ghost use Rattle.cola_mutation.specs.Levels.{levels_with};
 ghost use Rattle.cola_chain.specs.Runs.{visible_runs};
 
@@ -12,31 +11,6 @@ use cola_cell::Run;
 use cola_clock::visible_slot;
 use cola_layout::Marks;
 use cola_level::Level;
-use cola_merge::Merger;
-
-/// A level with these marks, none of whose source cells was read yet.
-fn level_of(marks: &Marks) -> Level
-    ensures { result ≡ level_with (numbers_of marks.now) }
-{
-    Level {
-        visible: marks.visible,
-        shadow: marks.shadow,
-        merger: Merger::resume(marks.own, marks.incoming, marks.sample),
-    }
-}
-
-/// The marks of a level.
-fn marks_of_level(level: &Level) -> Marks
-    ensures { numbers_of result ≡ marks_of level.now }
-{
-    Marks {
-        visible: level.visible,
-        shadow: level.shadow,
-        own: level.merger.own(),
-        incoming: level.merger.incoming(),
-        sample: level.merger.sample(),
-    }
-}
 
 /// The visible run of a level.
 fn run_of(level: &Level, number: u8, clock: u64) -> Run
@@ -62,7 +36,7 @@ fn set_levels(levels: &mut [Level], marks: &[Marks])
     let Some((first, rest)) = marks.split_first() else {
         return;
     };
-    *level = level_of(first);
+    *level = Level::of(first);
     set_levels(below, rest);
 }
 
@@ -85,7 +59,7 @@ pub(crate) fn marks_of_levels(levels: &[Level]) -> ArrayVec<Marks, 23>
 {
     let mut marks = ArrayVec::new();
     for level in levels {
-        marks.push(marks_of_level(level));
+        marks.push(level.marks());
     }
     marks
 }

@@ -1,4 +1,4 @@
-use Rattle.std.proofs.Common.{◌≡◌, ℕ, ◌+◌, ◌<◌, true, List, length, Option, refl, sym, ap, subst, ◌∙◌, arith}
+use Rattle.std.proofs.Common.{◌≡◌, ℕ, List, length, sym, ap, subst, ◌∙◌, arith}
 use Rattle.std.specs.Prelude.{IfSome}
 use Rattle.cola_spec.specs.Map.{Map}
 use Rattle.cola_cell.specs.Held.{IsTelling}
@@ -12,7 +12,7 @@ use Rattle.cola_mutation.specs.Levels.{IsChain, levels_with}
 use Rattle.cola_mutation.specs.Standing.{StandsFor}
 use Rattle.cola_mutation.proofs.Beginning.{marks_back}
 use Rattle.cola_run.specs.Store as run
-use Rattle.cola_chain.specs.Account.{ArePaid, sums_of, IsPaid, IsContents}
+use Rattle.cola_chain.specs.Account.{ArePaid, sums_of}
 use Rattle.cola_chain.proofs.Account.{paid-begins}
 use Rattle.cola_chain.proofs.Beginning.{chain-begins, all-saved, stands-begin}
 use Rattle.cola_chain.proofs.chains.Chain.new.Goals as goal
@@ -31,7 +31,7 @@ paid g c =
     (λ l h. all-saved g.D.Device.bytes c.args.header.now c.args.runs _ c.requires.geometry c.requires.loaded l (omega (arith, e, h)))
 
 pub invariant_of-result : goal.invariant_of-result
-invariant_of-result g c = (sym c.requires.geometry, record { stands = chain g c; paid = λ counted. record { paid = paid g c } })
+invariant_of-result g c = record { stands = chain g c; paid = λ counted. record { paid = paid g c } }
 
 pub returns-clause-marks : goal.returns-clause-marks
 returns-clause-marks g c = ap (λ (ls : List Level). all_marks_of ls) (levels-are g c) ∙ marks_back (all_numbers c.args.header.now.levels.items)
@@ -42,6 +42,6 @@ returns-clause-paid g c = record { paid = paid g c }
 pub returns-clause-stands : goal.returns-clause-stands
 returns-clause-stands g c =
     subst (λ (ls : List Level). IfSome (g.D.Device.bytes c.args.runs.buffers.cache.device) (λ file. (most : ℕ) (m : Map) → IsTelling (run.held_of g.D.Device.bytes c.args.runs) →
-        LevelsStandFor most c.args.header.now.clock (all_numbers c.args.header.now.levels.items) (file_spots c.args.header.now.geometry.format file) m →
-        StandsFor (run.held_of g.D.Device.bytes c.args.runs) most c.args.header.now.clock ls (found_in m))) (sym (levels-are g c))
+    LevelsStandFor most c.args.header.now.clock (all_numbers c.args.header.now.levels.items) (file_spots c.args.header.now.geometry.format file) m →
+    StandsFor (run.held_of g.D.Device.bytes c.args.runs) most c.args.header.now.clock ls (found_in m))) (sym (levels-are g c))
     (stands-begin g.D.Device.bytes c.args.header.now c.args.runs _ c.requires.geometry c.requires.loaded)

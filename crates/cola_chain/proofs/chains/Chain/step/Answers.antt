@@ -1,5 +1,4 @@
-use Rattle.std.proofs.Common.{◌≡◌, ℕ, ◌+◌, ◌-◌, ◌<◌, true, List, length, Option, refl, sym, ap, subst, ◌∙◌, arith}
-use Rattle.std.specs.Prelude.{IfErr}
+use Rattle.std.proofs.Common.{◌≡◌, ℕ, ◌-◌, List, length, Option, sym, ap, subst, ◌∙◌}
 use Rattle.std.specs.List.{refill}
 use Rattle.cola_cell.specs.Held.{Stamped}
 use Rattle.cola_level.specs.declared.level.Level.{Level}
@@ -10,8 +9,8 @@ use Rattle.cola_mutation.specs.Work.{state_of}
 use Rattle.cola_mutation.specs.Standing.{AllTrade}
 use Rattle.cola_mutation.specs.Steps.{IsMapOf, ChangesMap, KeepsMap}
 use Rattle.cola_run.specs.Store as run
-use Rattle.cola_chain.specs.Contents.{Contents, held_of, spent_of}
-use Rattle.cola_chain.specs.Account.{IsPaid, IsContents, added}
+use Rattle.cola_chain.specs.Contents.{Contents}
+use Rattle.cola_chain.specs.Account.{IsPaid, added}
 use Rattle.cola_chain.proofs.Account.{paid-step, refilled}
 use Rattle.cola_chain.proofs.chains.Chain.step.Goals as goal
 
@@ -30,9 +29,9 @@ paid g c chain was =
     let held = run.held_of g.D.Device.bytes in
     let many = ap (λ (ls : List Level). length ls) c.as_mut_slice.ensures.value in
     let trades : AllTrade s.clock (state_of (held s.runs) (spent s.runs) c.args.steps.now) (state_of (held c.step.new.work) (spent c.step.new.work) c.step.new.steps) s.levels.items (refill (length s.levels.items) s.levels.items c.step.new.levels) =
-        subst (λ (ls : List Level). AllTrade s.clock (state_of (held s.runs) (spent s.runs) c.args.steps.now) (state_of (held c.step.new.work) (spent c.step.new.work) c.step.new.steps) s.levels.items ls) (sym (levels-are g c))
-        (subst (λ (ls : List Level). AllTrade s.clock (state_of (held s.runs) (spent s.runs) c.args.steps.now) (state_of (held c.step.new.work) (spent c.step.new.work) c.step.new.steps) ls c.step.new.levels) c.as_mut_slice.ensures.value c.in-Ok.ensures.trades) in
-    paid-step g.D.Device.bytes g.D.Device.counts old new c.args.steps.now c.step.new.steps c.self.invariant.1.stands.many chain
+    subst (λ (ls : List Level). AllTrade s.clock (state_of (held s.runs) (spent s.runs) c.args.steps.now) (state_of (held c.step.new.work) (spent c.step.new.work) c.step.new.steps) s.levels.items ls) (sym (levels-are g c))
+    (subst (λ (ls : List Level). AllTrade s.clock (state_of (held s.runs) (spent s.runs) c.args.steps.now) (state_of (held c.step.new.work) (spent c.step.new.work) c.step.new.steps) ls c.step.new.levels) c.as_mut_slice.ensures.value c.in-Ok.ensures.trades) in
+    paid-step g.D.Device.bytes g.D.Device.counts old new c.args.steps.now c.step.new.steps c.self.invariant.stands.many chain
     (c.in-Ok.ensures.clock ∙ ap (λ (ls : List Level). next_clock (length ls) s.clock) c.as_mut_slice.ensures.value) c.step.ensures.fixed c.step.ensures.costs.turned_stays c.step.ensures.costs.written_stays trades
     c.add-self-inside.ensures
     (c.add-self-inside-in-Ok.ensures ∙ ap (added s.reads) (c.rise.ensures ∙ ap (λ (n : ℕ). n - c.transfers-before.result.0) c.transfers-after.ensures.reads ∙ ap (λ (n : ℕ). (spent c.step.new.work).turned - n) c.transfers-before.ensures.reads))
@@ -43,10 +42,7 @@ stands : (g : _) (c : goal.After-self-in-Ok-4-1 g) → IsChain (run.held_of g.D.
 stands g c = subst (λ (ls : List Level). IsChain (run.held_of g.D.Device.bytes c.step.new.work) c.in-Ok.next ls) (sym (levels-are g c)) c.in-Ok.ensures.chain
 
 pub invariant_of-self : goal.invariant_of-self
-invariant_of-self g c = (
-  c.self.invariant.0 ∙ sym (ap (λ (k : run.Kept g.D.Device.Kept). k.geometry) c.step.ensures.kept),
-  record { stands = stands g c; paid = λ counted. paid g c (stands g c) (c.self.invariant.1.paid counted) },
-)
+invariant_of-self g c = record { stands = stands g c; paid = λ counted. paid g c (stands g c) (c.self.invariant.paid counted) }
 
 pub returns-in-Ok-clause-changes : goal.returns-in-Ok-clause-changes
 returns-in-Ok-clause-changes g c =
@@ -58,7 +54,7 @@ returns-in-Ok-clause-changes g c =
 pub returns-in-Ok-clause-paid : goal.returns-in-Ok-clause-paid
 returns-in-Ok-clause-paid g c =
     subst (λ (x : Contents g.row.D.Denot). IsPaid g.D.Device.bytes g.D.Device.counts x →
-        IsPaid g.D.Device.bytes g.D.Device.counts (record { store = c.step.new.work; levels = refill (length c.self.inside.levels.items) c.self.inside.levels.items c.step.new.levels; clock = c.in-Ok.next; accepted = c.add-self-inside.result; reads = c.add-self-inside-in-Ok.result; writes = c.add-self-inside-in-Ok-2.result; counted = c.self.inside.counted })) c.self.view_is
+    IsPaid g.D.Device.bytes g.D.Device.counts (record { store = c.step.new.work; levels = refill (length c.self.inside.levels.items) c.self.inside.levels.items c.step.new.levels; clock = c.in-Ok.next; accepted = c.add-self-inside.result; reads = c.add-self-inside-in-Ok.result; writes = c.add-self-inside-in-Ok-2.result; counted = c.self.inside.counted })) c.self.view_is
     (paid g c (stands g c))
 
 pub returns-in-Err-clause-keeps : goal.returns-in-Err-clause-keeps

@@ -1,4 +1,4 @@
-use Rattle.std.proofs.Common.{◌≡◌, ℕ, ◌+◌, ◌<◌, List, length, All, Option, sym, ap, subst, ◌∙◌, arith}
+use Rattle.std.proofs.Common.{ℕ, List, length, All, Option, sym, ap, subst, ◌∙◌, arith}
 use Rattle.cola_cell.specs.declared.cell.Run.{Run}
 use Rattle.cola_cell.specs.Held.{Stamped}
 use Rattle.cola_look.specs.Runs.{HasRun}
@@ -6,6 +6,7 @@ use Rattle.cola_level.specs.declared.level.Level.{Level}
 use Rattle.cola_mutation.specs.Standing.{StandsFor}
 use Rattle.cola_run.specs.Store as run
 use Rattle.cola_chain.specs.Contents.{Contents, held_of}
+use Rattle.cola_chain.specs.Account.{IsContents}
 use Rattle.cola_chain.specs.Runs.{visible_runs, visible_lists, AreSearched}
 use Rattle.cola_chain.proofs.Searching.{visible-has, searched, clock-few}
 use Rattle.cola_chain.proofs.chains.Chain.visible.Goals as goal
@@ -14,17 +15,20 @@ pub runs_of-requires-clause-clock_in : goal.runs_of-requires-clause-clock_in
 runs_of-requires-clause-clock_in g c =
     let e = ap (λ (ls : List Level). length ls) c.as_slice.ensures.value in
     let f = c.as_slice.ensures.fits in
-    clock-few c.self.inside.clock (length c.self.inside.levels.items) c.self.invariant.1.stands.clock_in (omega (arith, e, f))
+    clock-few c.self.inside.clock (length c.self.inside.levels.items) c.self.invariant.stands.clock_in (omega (arith, e, f))
 
 pub returns-clause-has : goal.returns-clause-has
 returns-clause-has g c =
     subst (λ (x : Contents g.row.D.Denot). All (HasRun (held_of g.D.Device.bytes x)) c.runs_of.result.items) c.self.view_is
-    (visible-has (run.held_of g.D.Device.bytes c.self.inside.runs) c.self.inside.clock c.self.inside.levels.items c.runs_of.result.items c.self.invariant.1.stands (c.runs_of.ensures ∙ ap (visible_runs c.self.inside.clock 0) c.as_slice.ensures.value))
+    (visible-has (run.held_of g.D.Device.bytes c.self.inside.runs) c.self.inside.clock c.self.inside.levels.items c.runs_of.result.items c.self.invariant.stands (c.runs_of.ensures ∙ ap (visible_runs c.self.inside.clock 0) c.as_slice.ensures.value))
 
 pub returns-clause-searched : goal.returns-clause-searched
 returns-clause-searched g c =
     subst (λ (x : Contents g.row.D.Denot). (most : ℕ) (m : List ℕ → Option Stamped) → StandsFor (held_of g.D.Device.bytes x) most x.clock x.levels m →
-        AreSearched (held_of g.D.Device.bytes x) c.runs_of.result.items (visible_lists (held_of g.D.Device.bytes x) x.clock x.levels) m) c.self.view_is
+    AreSearched (held_of g.D.Device.bytes x) c.runs_of.result.items (visible_lists (held_of g.D.Device.bytes x) x.clock x.levels) m) c.self.view_is
     (λ most m stands.
     subst (λ (rs : List Run). AreSearched (run.held_of g.D.Device.bytes c.self.inside.runs) rs (visible_lists (run.held_of g.D.Device.bytes c.self.inside.runs) c.self.inside.clock c.self.inside.levels.items) m) (sym (c.runs_of.ensures ∙ ap (visible_runs c.self.inside.clock 0) c.as_slice.ensures.value))
-    (searched (run.held_of g.D.Device.bytes c.self.inside.runs) most c.self.inside.clock c.self.inside.levels.items m c.self.invariant.1.stands stands))
+    (searched (run.held_of g.D.Device.bytes c.self.inside.runs) most c.self.inside.clock c.self.inside.levels.items m c.self.invariant.stands stands))
+
+pub returns-clause-sound : goal.returns-clause-sound
+returns-clause-sound g c = subst (λ (x : Contents g.row.D.Denot). IsContents g.D.Device.bytes g.D.Device.counts x) c.self.view_is c.self.invariant

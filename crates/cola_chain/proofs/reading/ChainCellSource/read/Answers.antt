@@ -1,9 +1,8 @@
-use Rattle.std.proofs.Common.{◌≡◌, ℕ, List, refl, sym, ap, subst, ◌∙◌}
+use Rattle.std.proofs.Common.{◌≡◌, sym, ap, subst}
 use Rattle.cola_cell.specs.Held.{Held}
 use Rattle.cola_mutation.specs.Levels.{IsChain}
 use Rattle.cola_run.specs.Store as run
-use Rattle.cola_chain.specs.Contents.{Contents, Kept, held_of, kept_of}
-use Rattle.cola_chain.specs.Account.{IsContents}
+use Rattle.cola_chain.specs.Contents.{Contents, kept_of}
 use Rattle.cola_chain.proofs.Account.{paid-stays}
 use Rattle.cola_chain.proofs.reading.ChainCellSource.read.Goals as goal
 
@@ -13,11 +12,8 @@ invariant_of-self g c =
     let old : Contents g.row.D.Denot = record { store = s.runs; levels = s.levels.items; clock = s.clock; accepted = s.accepted; reads = s.reads; writes = s.writes; counted = s.counted } in
     let new : Contents g.row.D.Denot = record { store = c.read.new.self; levels = s.levels.items; clock = s.clock; accepted = s.accepted; reads = s.reads; writes = s.writes; counted = s.counted } in
     let kept : kept_of g.D.Device.bytes g.D.Device.kept new ≡ kept_of g.D.Device.bytes g.D.Device.kept old =
-        ap (λ (k : run.Kept g.D.Device.Kept). record { store = k; levels = s.levels.items; clock = s.clock; accepted = s.accepted; reads = s.reads; writes = s.writes }) c.read.ensures.kept in
-    (
-      c.self.invariant.0 ∙ sym (ap (λ (k : run.Kept g.D.Device.Kept). k.geometry) c.read.ensures.kept),
-      record {
-        stands = subst (λ (h : Held). IsChain h s.clock s.levels.items) (sym c.read.ensures.cells_stay) c.self.invariant.1.stands;
-        paid = λ counted. paid-stays g.D.Device.bytes g.D.Device.counts g.D.Device.kept old new c.read.ensures.cells_stay kept c.read.ensures.reads.others_stay (c.self.invariant.1.paid counted);
-      },
-    )
+    ap (λ (k : run.Kept g.D.Device.Kept). record { store = k; levels = s.levels.items; clock = s.clock; accepted = s.accepted; reads = s.reads; writes = s.writes }) c.read.ensures.kept in
+    record {
+      stands = subst (λ (h : Held). IsChain h s.clock s.levels.items) (sym c.read.ensures.cells_stay) c.self.invariant.stands;
+      paid = λ counted. paid-stays g.D.Device.bytes g.D.Device.counts g.D.Device.kept old new c.read.ensures.cells_stay kept c.read.ensures.reads.others_stay (c.self.invariant.paid counted);
+    }
