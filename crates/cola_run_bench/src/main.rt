@@ -5,6 +5,7 @@
 ghost use Rattle.std.specs.Prelude.{◌≡◌, ◌<◌, ◌≤◌, IfSome};
 ghost use Rattle.cola_cell.specs.declared.format.Format.TheVariants.{One};
 ghost use Rattle.cola_cell.specs.Format.{CellFits};
+ghost use Rattle.cola_cell.specs.Held.{HasPlace};
 ghost use Rattle.cola_cell.specs.Places.{slot_size};
 
 use byteorder::{BigEndian, ByteOrder};
@@ -15,6 +16,7 @@ use cola_outside::Steps;
 use cola_run::RunStore;
 use cola_store::create;
 use std::marker::Brand;
+use std::rt::Env;
 use std::sync::ledger::{Blank, Ledger};
 use std::time::Instant;
 use std::{env, io};
@@ -42,7 +44,8 @@ fn cell_of(number: u32) -> Option<Cell>
     })
 }
 
-/// Pushes so many cells to the shadow of a level, and finishes it. Answers whether every call was carried out.
+/// Pushes so many cells to the shadow of a level. Answers whether every push was carried out.
+#[tactic(auto, using(cola_cell::proofs::RunLemmas::slot_stays))]
 fn push_all<W: CellSink, L: Ledger>(
     work: &mut W,
     level: u8,
@@ -53,7 +56,8 @@ fn push_all<W: CellSink, L: Ledger>(
     requires level_in { level < (W.CellSource.held work.old).fixed.levels }
     requires format { (W.CellSource.held work.old).fixed.format ≡ One }
     requires in_slot { slot ≡ ((W.CellSource.held work.old).shadows level).slot }
-    ensures { (W.CellSource.held work.new).fixed ≡ (W.CellSource.held work.old).fixed }
+    ensures fixed { (W.CellSource.held work.new).fixed ≡ (W.CellSource.held work.old).fixed }
+    ensures slot { ((W.CellSource.held work.new).shadows level).slot ≡ slot }
 {
     for number in 0..cells {
         if let Some(cell) = cell_of(number) {
@@ -63,7 +67,32 @@ fn push_all<W: CellSink, L: Ledger>(
             }
         }
     }
-    work.finish(level).is_ok()
+    true
+}
+
+/// The place of a turn, modulo the number of cells.
+fn place(turn: u32, cells: u32, stride: u64) -> u32
+    requires { 0 < cells }
+    ensures { result < cells }
+{
+    ((turn as u64).wrapping_mul(stride) % cells as u64) as u32
+}
+
+/// Whether the cell of its place stands at a place.
+fn is_there<W: CellSource, L: Ledger>(
+    work: &mut W,
+    level: u8,
+    slot: u8,
+    at: u32,
+    steps: &mut Steps<L>,
+) -> bool
+    requires { HasPlace (W.held work.old) level slot at }
+    ensures { W.held work.new ≡ W.held work.old }
+{
+    match work.read(level, slot, at, steps) {
+        Ok(cell) => cell.link() == at,
+        Err(_) => false,
+    }
 }
 
 /// Reads so many cells of a slot, each `stride` behind the one before, modulo their number. Answers how many were the
@@ -80,17 +109,12 @@ fn read_all<W: CellSource, L: Ledger>(
     requires slot_in { slot < 2 }
     requires some { 0 < cells }
     requires within { cells ≤ slot_size level }
-    ensures { (W.held work.new).fixed ≡ (W.held work.old).fixed }
+    ensures { W.held work.new ≡ W.held work.old }
 {
     let mut found = 0u32;
-    let mut at = 0u32;
-    for _ in 0..cells {
-        if let Ok(cell) = work.read(level, slot, at, steps)
-            && cell.link() == at
-        {
-            found = found.wrapping_add(1);
-        }
-        at = ((at as u64 + stride) % cells as u64) as u32;
+    for turn in 0..cells {
+        let at = place(turn, cells, stride);
+        found = found.wrapping_add(is_there(work, level, slot, at, steps) as u32);
     }
     found
 }
@@ -108,7 +132,7 @@ fn time_all<W: CellSink, L: Ledger>(
 {
     work.restart(level, 0);
     let start = Instant::now(rt)?;
-    let pushed = push_all(work, level, 0, cells, steps);
+    let pushed = push_all(work, level, 0, cells, steps) && work.finish(level).is_ok();
     let first = start.elapsed(rt)?;
     let many = work.shadow_len(level);
     if many == 0 {
@@ -164,15 +188,31 @@ fn number(word: &String) -> u32 {
     word.as_str().parse().unwrap_or(0)
 }
 
-fn main(rt: HostRuntime) -> io::Result<()> {
+/// The words after the program's name; none where they cannot be taken.
+fn take_words<R: Env + AllocGlobal>(rt: &R) -> Option<Vec<String>> {
     let mut words = Vec::new(rt.alloc());
-    for word in env::args(&rt)?.skip(1) {
-        let _ = words.push(word);
+    for word in env::args(rt).ok()?.skip(1) {
+        words.push(word).ok()?;
     }
+    Some(words)
+}
+
+/// The timed run that the words name; nothing where they name none.
+fn run_words<L: Ledger>(blank: Blank, rt: &HostRuntime, words: &[String]) -> io::Result<()>
+    requires name { blank.name ≡ L.name }
+    requires parts { blank.parts ≡ L.parts }
+    requires some { 0 < L.parts }
+{
     if words.len() != 3 {
         return Ok(());
     }
     let cache = number(&words[2]).min(4096);
-    let path = words[0].as_str();
-    run::<Brand>(Blank::new(1), &rt, path, number(&words[1]), cache)
+    run::<L>(blank, rt, words[0].as_str(), number(&words[1]), cache)
+}
+
+fn main(rt: HostRuntime) -> io::Result<()> {
+    let Some(words) = take_words(&rt) else {
+        return Ok(());
+    };
+    run_words::<Brand>(Blank::new(1), &rt, words.as_slice())
 }
