@@ -1,0 +1,131 @@
+-- That finishes of levels on the device meet the trait.
+use Rattle.std.proofs.Common.{◌≡◌, ◌≢◌, ◌⊎◌, inl, inr, ℕ, ◌+◌, ◌-◌, ◌*◌, ◌/◌, ◌%◌, ◌^◌, ◌<◌, ◌≤◌, ◌==◌, not, Bool, true, false, if◌then◌else◌, List, length, map, set, take, drop, Option, None, Some, IfSome, option_map, Result, Ok, Err, is_ok, refl, sym, ap, subst, ◌∙◌, arith}
+use Rattle.std.proofs.lemmas.Bool.{cases_lt, cases_eq, eqb-true, eqb-false, false≢true}
+use Rattle.std.proofs.lemmas.List.{length-map, drop-drop}
+use Rattle.std.proofs.Math.Nat.{mul-le-mul_right}
+use Rattle.cola_outside.specs.Faults.{Rose}
+use Rattle.cola_outside.specs.Told.{Both}
+use Rattle.cola_cell.specs.declared.cell.Cell.{Cell}
+use Rattle.cola_cell.specs.declared.fault.PushFault.{PushFault}
+use Rattle.cola_cell.specs.declared.fault.PushFault.TheVariants.{Device, Overfull}
+use Rattle.cola_cell.specs.declared.sink.Shadow.{Shadow}
+use Rattle.cola_cell.specs.Flat.{shadow_at}
+use Rattle.cola_cell.specs.Format.{width}
+use Rattle.cola_cell.specs.Held.{Held, span}
+use Rattle.cola_cell.specs.Places.{slot_size, number_of, IsPlace, Block, block_of}
+use Rattle.cola_cell.specs.Spent.{Buffer, Spent, Ticks}
+use Rattle.cola_cell.specs.Shadows.{emptied, IsKept, StaysAround, Restarts, after_push, PushAnswers, WriteCalm, Forgets, Pushes, push_ticks, WritesNothing, Writes, PushSpends, FinishAnswers, Finishes, FinishSpends}
+use Rattle.cola_device.specs.declared.counts.Counts.{Counts}
+use Rattle.cola_device.specs.Bytes.{splice, WroteSome}
+use Rattle.cola_device.specs.Counts.{Called}
+use Rattle.cola_device.proofs.BytesLemmas.{part-splice_below, drop-splice_end}
+use Rattle.cola_front.specs.Front.{FrontCells}
+use Rattle.cola_layout.specs.declared.geometry.Geometry.{Geometry}
+use Rattle.cola_layout.specs.Geometry.{IsBlock}
+use Rattle.cola_layout.proofs.Powers.{power-le}
+use Rattle.cola_buffers.specs.Blocks.{Blocks, Made, forgotten}
+use Rattle.cola_run.specs.Cells.{IsOnDevice, Lower, Cells, AreCells, block_cells, block_bytes, file_bytes, file_blocks, device_levels, block_number, spots_of, IsShadow, IsShape, IsBacked}
+use Rattle.cola_run.specs.Store.{Store, IsStore, cells_of, held_of, spent_of, Kept, kept_of, Beside, beside, last_of}
+use Rattle.cola_run.specs.Parts.{OneShadow, fills, TailPushed, TailFinished, WroteTail, tail_of, MetFault, IsPushed, IsFinished}
+use Rattle.cola_run.specs.Turns.{Writing}
+use Rattle.cola_run.proofs.Bytes.{room-of, block-from}
+use Rattle.cola_run.proofs.Numbers.{block-behind}
+use Rattle.cola_run.proofs.Steps.{tail-many, written-many, block-fits}
+use Rattle.cola_run.proofs.Lasts.{lasts-forget}
+use Rattle.cola_run.proofs.Reading.{span-is}
+use Rattle.cola_run.proofs.Spots.{both-so, both-same, telling-is}
+use Rattle.cola_run.proofs.Pushes.{push-stays, push-end, push-shape, push-backed}
+use Rattle.cola_run.proofs.Finishes.{ends-within, finish-stays, finish-shape, finish-backed}
+use Rattle.cola_run.proofs.Standing.{restart-others, restart-kept, restart-shape, restart-backed, front-stays, front-shape, front-backed, put-elsewhere, put-end}
+use Rattle.cola_run.proofs.Sinks.{beside-tail, long-of, kept-by, HasCauseOf, cause-of, calm-of, lasts-many, sound-by, around-by, spends-nothing, spends-writes, writes-none}
+
+-- a finish of a level on the device
+module _ {D K T : Type 0} (bytes : D → Option (List ℕ)) (counts : D → Counts) (kept : D → K) (store now : Store D) (level : ℕ) (result : Result T PushFault)
+    (sound : IsStore (bytes store.buffers.cache.device) store) (device : IsOnDevice store.geometry level)
+    (same : now.geometry ≡ store.geometry) (front : now.front ≡ store.front)
+    (finished : IsFinished store.geometry (cells_of (bytes store.buffers.cache.device) store).lower (cells_of (bytes now.buffers.cache.device) now).lower level result)
+    (writing : Writing counts kept (not (shadow_at store.shadows level).saved) store.buffers now.buffers (block_number store.geometry level (shadow_at store.shadows level).slot (shadow_at store.shadows level).len) result)
+    (ticked : Ticks store.ticked now.ticked 0) where
+  abbrev g : Geometry
+  g = store.geometry
+
+  abbrev shadow : Shadow
+  shadow = shadow_at store.shadows level
+
+  abbrev lower : Lower
+  lower = (cells_of (bytes store.buffers.cache.device) store).lower
+
+  abbrev lower-now : Lower
+  lower-now = (cells_of (bytes now.buffers.cache.device) now).lower
+
+  shape : IsShape g store.front store.shadows store.tails
+  shape = sound.cells.shape
+
+  place : not shadow.saved ≡ true → IsPlace (g.bottom + 1) level shadow.slot shadow.len
+  place e = ends-within g store.front store.shadows store.tails level shape device (unsaved shadow.saved e)
+    where
+      unsaved : (t : Bool) → not t ≡ true → t ≡ false
+      unsaved true e = absurd (false≢true e)
+      unsaved false e = refl
+
+  told-both : Both (bytes store.buffers.cache.device) (bytes now.buffers.cache.device) (λ _ _. Unit {0})
+  told-both = by-test shadow.saved finished.device
+    where
+      by-test : (t : Bool) → TailFinished t result g store.tails level shadow.slot shadow.len (bytes store.buffers.cache.device) (bytes now.buffers.cache.device) → Both (bytes store.buffers.cache.device) (bytes now.buffers.cache.device) (λ _ _. Unit {0})
+      by-test false w = both-so (bytes store.buffers.cache.device) (bytes now.buffers.cache.device) (WroteSome result (block_number g level shadow.slot shadow.len * block_bytes g) (tail_of g store.tails level)) (λ _ _. Unit {0}) (λ _ _ _. tt) w
+      by-test true w = subst (λ (x : Option (List ℕ)). Both (bytes store.buffers.cache.device) x (λ _ _. Unit {0})) (sym w.0) (both-same (bytes store.buffers.cache.device) (λ _ _. Unit {0}) (λ _. tt))
+
+  pub finished-sound : IsStore (bytes now.buffers.cache.device) now
+  finished-sound =
+      sound-by bytes store now sound same front (finish-shape g store.front lower lower-now level result shape device finished) (finish-backed g store.front lower lower-now level result shape device finished sound.cells.backed)
+      writing.stays.size writing.stays.many (lasts-many (not shadow.saved) (block_number g level shadow.slot shadow.len) store.buffers.lasts now.buffers.lasts writing.lasts_are)
+
+  pub finished-keeps : kept_of bytes kept now ≡ kept_of bytes kept store
+  finished-keeps = kept-by bytes kept store now same writing.stays.blocks writing.kept_is (by-test shadow.saved refl finished.device)
+    where
+      by-test : (t : Bool) → shadow.saved ≡ t → TailFinished t result g store.tails level shadow.slot shadow.len (bytes store.buffers.cache.device) (bytes now.buffers.cache.device)
+          → option_map (beside g) (bytes now.buffers.cache.device) ≡ option_map (beside g) (bytes store.buffers.cache.device)
+      by-test false e w =
+          beside-tail result g store.tails level shadow.slot shadow.len (bytes store.buffers.cache.device) (bytes now.buffers.cache.device) shape.block device.whole (ends-within g store.front store.shadows store.tails level shape device e)
+          (tail-many g store.tails level shape.block device shape.tails_many) (long-of g store.shadows store.tails (bytes store.buffers.cache.device) sound.cells.backed) w
+      by-test true e w = ap (λ (x : Option (List ℕ)). option_map (beside g) x) w.0
+
+  spots-now : (l s i : ℕ) → spots_of (cells_of (bytes now.buffers.cache.device) now) l s i ≡ spots_of (record { geometry = g; front = store.front; lower = lower-now }) l s i
+  spots-now l s i = ap (λ (x : Geometry). spots_of (record { geometry = x; front = now.front; lower = lower-now }) l s i) same ∙ ap (λ (x : FrontCells). spots_of (record { geometry = g; front = x; lower = lower-now }) l s i) front
+
+  answers : (r : Result T PushFault) → r ≡ result → MetFault r → HasCauseOf r (counts store.buffers.cache.device).faults (counts now.buffers.cache.device).faults →
+      FinishAnswers (held_of bytes store) (counts store.buffers.cache.device).faults (counts now.buffers.cache.device).faults level r
+  answers (Ok value) e fault cause = tt
+  answers (Err Device) e fault cause = (cause, by-test shadow.saved finished.device)
+    where
+      by-test : (t : Bool) → TailFinished t result g store.tails level shadow.slot shadow.len (bytes store.buffers.cache.device) (bytes now.buffers.cache.device) → t ≡ false
+      by-test true w = absurd (false≢true (ap (λ (r : Result T PushFault). is_ok r) e ∙ w.1))
+      by-test false w = refl
+  answers (Err (Overfull l)) e fault cause = absurd fault
+
+  pub finished-stays : (l s i : ℕ) → (l ≢ level) ⊎ (s ≢ shadow.slot) ⊎ (i < shadow.len) → (held_of bytes now).spots l s i ≡ (held_of bytes store).spots l s i
+  finished-stays l s i apart = spots-now l s i ∙ finish-stays g store.front lower lower-now level result shape device finished sound.cells.backed l s i apart
+
+  pub finished-meets : Finishes (held_of bytes store) (held_of bytes now) (spent_of counts store) (spent_of counts now) level result
+  finished-meets = record {
+    around = around-by bytes store now level same writing.stays.made (λ l apart. finished.shadow.others l apart) told-both;
+    answer = answers result refl finished.fault (cause-of result writing.called);
+    calm = calm-of result finished.fault writing.called;
+    shadow_is = finished.shadow.is;
+    others_stay = finished-stays;
+  }
+
+  pub finished-spends : FinishSpends (held_of bytes store) (spent_of counts store) (spent_of counts now) level
+  finished-spends = record {
+    writes = spends-writes counts kept store now level shadow.slot shadow.len (not shadow.saved) result 0 shape.block device.whole place writing same ticked;
+    only_needed = λ kept_is. spends-nothing counts kept store now level shadow.slot shadow.len (not shadow.saved) result 0 shape.block device.whole place writing same ticked (saved-of kept_is);
+  }
+    where
+      small : slot_size level < 8 * 2 ^ (g.block_exp - 3) → ⊥
+      small h =
+          let e = span-is g shape.block in
+          let more : 2 ^ g.block_exp ≤ 2 ^ (level + 2) = power-le g.block_exp (level + 2) device.whole in
+          omega (arith, h, e, more)
+
+      saved-of : IsKept (held_of bytes store) level → not shadow.saved ≡ false
+      saved-of k = elim k.is [ inl h ↦ ap (λ (t : Bool). not t) h | inr h ↦ absurd (small h) ]

@@ -1,0 +1,184 @@
+-- What a flush leaves, step by step.
+use Rattle.std.proofs.Common.{◌≡◌, ◌≢◌, ◌⊎◌, inl, inr, ℕ, zero, suc, ◌+◌, ◌-◌, ◌*◌, ◌^◌, ◌<◌, ◌≤◌, List, [], ◌∷◌, ◌++◌, length, take, drop, replicate, get_or, Option, None, Some, IfSome, option_map, Result, Ok, Err, refl, sym, ap, subst, ◌∙◌, arith, length-append, append_assoc}
+use Rattle.std.proofs.lemmas.List.{drop-take, drop-replicate, length-replicate, replicate-append-replicate, take_all, get_or_past}
+use Rattle.std.proofs.Math.Seq.{take-append-add, take-append_seam}
+use Rattle.std.proofs.lemmas.Bool.{cases_eq}
+use Rattle.cola_outside.specs.Told.{Both}
+use Rattle.cola_cell.specs.declared.format.Format.{Format}
+use Rattle.cola_cell.specs.declared.format.Format.TheVariants.{One, Two}
+use Rattle.cola_cell.specs.declared.cell.Cell.{Cell}
+use Rattle.cola_cell.specs.declared.sink.Shadow.{Shadow}
+use Rattle.cola_cell.specs.Decoded.{decoded}
+use Rattle.cola_cell.specs.Flat.{shadow_at}
+use Rattle.cola_cell.specs.Format.{width}
+use Rattle.cola_cell.specs.Places.{number_of, IsPlace}
+use Rattle.cola_device.specs.Bytes.{part, splice, WroteSome, Wrote}
+use Rattle.cola_device.proofs.BytesLemmas.{part-splice_inside}
+use Rattle.cola_front.specs.Front.{FrontCells, IsFront, IsLoaded, block_size, cell_at, cell_bytes, stored, stored_all, second_block, image}
+use Rattle.cola_front.proofs.Image.{image_cell}
+use Rattle.cola_front.proofs.Writes.{image_is, headed_many, second_many}
+use Rattle.cola_layout.specs.declared.geometry.Geometry.{Geometry}
+use Rattle.cola_layout.specs.Geometry.{IsBlock}
+use Rattle.cola_run.specs.Cells.{IsOnDevice, Lower, Cells, block_cells, block_bytes, file_bytes, told_spot, spots_of, IsShape, IsBacked}
+use Rattle.cola_run.specs.Store.{Beside, beside}
+use Rattle.cola_run.specs.Saving.{AreFileSpots, IsFlushed, SameBehind}
+use Rattle.cola_run.specs.Loading.{StaySound, StayRead, SameCells, AreSavedBelow}
+use Rattle.cola_run.proofs.Heads.{heads-backed, heads-behind, heads-spots, head-long, saved-spots}
+use Rattle.cola_run.proofs.Bytes.{room-of}
+
+-- the bytes of the front's two blocks
+pub image-many : (front : FrontCells) (header : List ℕ) → IsFront front → length header ≡ 512 → length (image front header) ≡ 2 * block_size front
+image-many front header is head =
+    ap (λ (xs : List ℕ). length xs) (sym (image_is front is header head))
+    ∙ length-append (header ++ drop 512 (stored_all front.format (take front.block front.cells))) (second_block front)
+    ∙ (let a = headed_many front is header head in let b = second_many front is header head in omega (arith, a, b))
+
+-- places without a cell are zeros
+stored-none : (f : Format) (cells : List (Option Cell)) (n : ℕ) → n ≤ length cells → ((place : ℕ) → place < n → get_or cells place None ≡ None) → take (width f * n) (stored_all f cells) ≡ replicate (width f * n) 0
+stored-none f cells zero few none = rw (none-at f) refl
+  where
+    none-at : (f : Format) → width f * 0 ≡ 0
+    none-at One = omega arith
+    none-at Two = omega arith
+stored-none f [] (suc n) few none = absurd (omega (arith, few))
+stored-none f (cell ∷ cells) (suc n) few none =
+    let e : width f * suc n ≡ width f + width f * n = more f n in
+    let first : stored f cell ≡ replicate (width f) 0 = ap (λ (c : Option Cell). stored f c) (none 0 (omega arith)) in
+    let many : length (replicate (width f) 0) ≡ width f = length-replicate (width f) 0 in
+    let fewer : n ≤ length cells = omega (arith, few) in
+    let rest = stored-none f cells n fewer (λ place h. none (suc place) (omega (arith, h))) in
+    ap (λ (m : ℕ). take m (stored f cell ++ stored_all f cells)) e
+    ∙ ap (λ (xs : List ℕ). take (width f + width f * n) (xs ++ stored_all f cells)) first
+    ∙ ap (λ (m : ℕ). take (m + width f * n) (replicate (width f) 0 ++ stored_all f cells)) (sym many)
+    ∙ take-append-add (replicate (width f) 0) (stored_all f cells) (width f * n)
+    ∙ ap (λ (xs : List ℕ). replicate (width f) 0 ++ xs) rest
+    ∙ replicate-append-replicate (width f) (width f * n) 0
+    ∙ ap (λ (m : ℕ). replicate m 0) (sym e)
+  where
+    more : (f : Format) (n : ℕ) → width f * suc n ≡ width f + width f * n
+    more One n = omega arith
+    more Two n = omega arith
+
+-- the header's cells in the image: its bytes, and zeros
+eight-of : (f : Format) → (512 ≤ 8 * width f) × (width f * 8 ≡ 8 * width f)
+eight-of One = (omega arith, refl)
+eight-of Two = (omega arith, refl)
+
+pub image-head : (front : FrontCells) (header : List ℕ) → IsFront front → length header ≡ 512 → take (8 * width front.format) (image front header) ≡ header ++ replicate (8 * width front.format - 512) 0
+image-head front header is head =
+    let f = front.format in
+    let all : List ℕ = stored_all f front.cells in
+    let large : 512 ≤ 8 * width f = (eight-of f).0 in
+    let split : 8 * width f ≡ length header + (8 * width f - 512) = omega (arith, head, large) in
+    let whole : 512 + (8 * width f - 512) ≡ 8 * width f = omega (arith, large) in
+    let some : 8 ≤ front.block = is.some in
+    let many : length front.cells ≡ 2 * front.block = is.many in
+    let none : take (8 * width f) all ≡ replicate (8 * width f) 0 =
+    subst (λ (m : ℕ). take m all ≡ replicate m 0) (eight-of f).1 (stored-none f front.cells 8 (omega (arith, some, many)) is.header) in
+    ap (λ (m : ℕ). take m (header ++ drop 512 all)) split
+    ∙ take-append-add header (drop 512 all) (8 * width f - 512)
+    ∙ ap (λ (xs : List ℕ). header ++ xs)
+    (sym (drop-take 512 (8 * width f - 512) all)
+    ∙ ap (λ (m : ℕ). drop 512 (take m all)) whole
+    ∙ ap (λ (xs : List ℕ). drop 512 xs) none
+    ∙ drop-replicate 512 (8 * width f) 0)
+
+-- a device on which the image was written has the front's cells and the header
+module _ (front : FrontCells) (header bytes : List ℕ) (is : IsFront front) (head : length header ≡ 512) (long : 2 * block_size front ≤ length bytes) where
+  inside : (from count : ℕ) → from + count ≤ 2 * block_size front → part (splice bytes 0 (image front header)) from count ≡ part (image front header) from count
+  inside from count h =
+      let many = image-many front header is head in
+      let e : 0 + from ≡ from = omega arith in
+      ap (λ (n : ℕ). part (splice bytes 0 (image front header)) n count) (sym e) ∙ part-splice_inside bytes 0 (image front header) from count (omega arith) (omega (arith, h, many))
+
+  room : (f : Format) (place block : ℕ) → place < 2 * block → width f * place + width f ≤ 2 * (width f * block)
+  room One place block h = omega (arith, h)
+  room Two place block h = omega (arith, h)
+
+  pub written-loaded : IsLoaded (splice bytes 0 (image front header)) front
+  written-loaded place behind within =
+      sym (ap (λ (xs : List ℕ). decoded front.format xs) (inside (width front.format * place) (width front.format) (room front.format place front.block within))
+      ∙ image_cell front header place is head behind within)
+
+  head-room : (f : Format) (block : ℕ) → 8 ≤ block → 0 + 8 * width f ≤ 2 * (width f * block)
+  head-room One block h = omega (arith, h)
+  head-room Two block h = omega (arith, h)
+
+  pub written-head : take (8 * width front.format) (splice bytes 0 (image front header)) ≡ header ++ replicate (8 * width front.format - 512) 0
+  written-head = inside 0 (8 * width front.format) (head-room front.format front.block is.some) ∙ image-head front header is head
+
+-- steps of a flush, one behind the other
+behind-two : (g : Geometry) (x y z : Option (List ℕ)) → Both x y (SameBehind g) → Both y z (SameBehind g) → Both x z (SameBehind g)
+behind-two g None None None h k = tt
+behind-two g None None (Some c) h k = absurd k
+behind-two g None (Some b) z h k = absurd h
+behind-two g (Some a) None z h k = absurd h
+behind-two g (Some a) (Some b) None h k = absurd k
+behind-two g (Some a) (Some b) (Some c) h k = record { many = k.many ∙ h.many; behind = k.behind ∙ h.behind }
+
+behind-of : (g : Geometry) (x y : Option (List ℕ)) → Both x y (λ _ _. Unit {0}) → option_map (beside g) y ≡ option_map (beside g) x → Both x y (SameBehind g)
+behind-of g None None h e = tt
+behind-of g None (Some c) h e = absurd h
+behind-of g (Some b) None h e = absurd h
+behind-of g (Some b) (Some c) h e = record { many = ap (λ (o : Option Beside). size-of o) e; behind = ap (λ (o : Option Beside). behind-at o) e }
+  where
+    size-of : Option Beside → ℕ
+    size-of None = 0
+    size-of (Some x) = x.size
+
+    behind-at : Option Beside → List ℕ
+    behind-at None = []
+    behind-at (Some x) = x.behind
+
+pub same-two : (g : Geometry) (front : FrontCells) (a b c : Lower) → SameCells g front a b → SameCells g front b c → SameCells g front a c
+same-two g front a b c x y = record {
+  behind = behind-two g a.told b.told c.told x.behind y.behind;
+  slots_stay = λ l. y.slots_stay l ∙ x.slots_stay l;
+  lens_stay = λ l. y.lens_stay l ∙ x.lens_stay l;
+  shadows_many = y.shadows_many ∙ x.shadows_many;
+  spots_stay = λ l s i apart.
+      y.spots_stay l s i (elim apart [ inl d ↦ inl (λ e. d (e ∙ x.slots_stay l)) | inr d ↦ inr (let n = x.lens_stay l in omega (arith, d, n)) ]) ∙ x.spots_stay l s i apart;
+}
+
+pub same-read : (g : Geometry) (front : FrontCells) (a b : Lower) → IsShape g front a.shadows a.tails → IfSome a.told (IsBacked g a.shadows a.tails) → length b.shadows ≡ length a.shadows → StayRead g a b → SameCells g front a b
+same-read g front a b shape backed many x = record {
+  behind = behind-of g a.told b.told x.told (x.beside_stays front shape backed);
+  slots_stay = x.slots_stay;
+  lens_stay = x.lens_stay;
+  shadows_many = many;
+  spots_stay = x.spots_stay front shape backed;
+}
+
+-- the front was written, or was to be
+pub same-head : {T E : Type 0} (g : Geometry) (front : FrontCells) (shadows : List Shadow) (tails : List ℕ) (result : Result T E) (at : ℕ) (from : List ℕ) (x y : Option (List ℕ)) → IsBlock g.block_exp g.bottom
+    → at + length from ≤ 2 * block_bytes g → IfSome x (IsBacked g shadows tails) → Wrote result at from x y
+    → SameCells g front (record { told = x; shadows = shadows; tails = tails }) (record { told = y; shadows = shadows; tails = tails })
+same-head g front shadows tails result at from x y fits within backed w = record {
+  behind = heads-behind g fits shadows tails result at from within x y w backed;
+  slots_stay = λ l. refl;
+  lens_stay = λ l. refl;
+  shadows_many = refl;
+  spots_stay = λ l s i apart. heads-spots g fits shadows tails result at from within front x y w backed l s i;
+}
+
+-- the file after an accepted flush
+pub flushed-by : (T E : Type 0) (value : T) (g : Geometry) (front : FrontCells) (shadows : List Shadow) (tails header : List ℕ) (x y : Option (List ℕ)) → IsShape g front shadows tails → IsFront front → length header ≡ 512
+    → IfSome x (IsBacked g shadows tails) → AreSavedBelow g shadows (g.bottom + 1) → Wrote {E = E} (Ok value) 0 (image front header) x y
+    → IfSome y (IsFlushed g header (spots_of (record { geometry = g; front = front; lower = record { told = y; shadows = shadows; tails = tails } })))
+flushed-by T E value g front shadows tails header None None shape is head backed saved w = tt
+flushed-by T E value g front shadows tails header None (Some y) shape is head backed saved w = absurd w
+flushed-by T E value g front shadows tails header (Some x) None shape is head backed saved w = absurd w
+flushed-by T E value g front shadows tails header (Some x) (Some y) shape is head backed saved w =
+    let v : WroteSome {E = E} (Ok value) 0 (image front header) x y = w in
+    let at : y ≡ splice x 0 (image front header) = v.others_stay ∙ ap (λ (left : List ℕ). splice x 0 left) v.exact in
+    let size : block_size front ≡ block_bytes g = ap (λ (f : Format). width f * front.block) shape.format ∙ ap (λ (n : ℕ). width g.format * n) shape.front_block in
+    let many : length (image front header) ≡ 2 * block_size front = image-many front header is head in
+    let within : 0 + length (image front header) ≤ 2 * block_bytes g = omega (arith, many, size) in
+    let ok : Result T E = Ok value in
+    let file = heads-backed g shape.block shadows tails ok 0 (image front header) within (Some x) (Some y) w backed in
+    let inside : 2 * block_size front ≤ length x = (let h = head-long g shape.block in let long = backed.long in omega (arith, h, long, size)) in
+    record {
+      header_is = ap (λ (xs : List ℕ). take (8 * width g.format) xs) at
+          ∙ subst (λ (f : Format). take (8 * width f) (splice x 0 (image front header)) ≡ header ++ replicate (8 * width f - 512) 0) shape.format (written-head front header x is head inside);
+      cells_are = λ l s i p. saved-spots g front (record { told = Some y; shadows = shadows; tails = tails }) y shape file saved (subst (λ (bytes : List ℕ). IsLoaded bytes front) (sym at) (written-loaded front header x is head inside)) l s i p;
+    }

@@ -1,0 +1,202 @@
+-- That restarts, and pushes and finishes of levels of the front, meet the trait.
+use Rattle.std.proofs.Common.{◌≡◌, ◌≢◌, ◌⊎◌, inl, inr, ℕ, ◌+◌, ◌-◌, ◌*◌, ◌/◌, ◌%◌, ◌^◌, ◌<◌, ◌≤◌, ◌==◌, not, Bool, true, false, if◌then◌else◌, List, length, map, set, take, drop, Option, None, Some, IfSome, option_map, Result, Ok, Err, is_ok, refl, sym, ap, subst, ◌∙◌, arith}
+use Rattle.std.proofs.lemmas.Bool.{cases_lt, cases_eq, eqb-true, eqb-false, false≢true}
+use Rattle.std.proofs.lemmas.List.{length-map, drop-drop}
+use Rattle.std.proofs.Math.Nat.{mul-le-mul_right}
+use Rattle.cola_outside.specs.Faults.{Rose}
+use Rattle.cola_outside.specs.Told.{Both}
+use Rattle.cola_cell.specs.declared.cell.Cell.{Cell}
+use Rattle.cola_cell.specs.declared.fault.PushFault.{PushFault}
+use Rattle.cola_cell.specs.declared.fault.PushFault.TheVariants.{Device, Overfull}
+use Rattle.cola_cell.specs.declared.sink.Shadow.{Shadow}
+use Rattle.cola_cell.specs.Flat.{shadow_at}
+use Rattle.cola_cell.specs.Format.{width}
+use Rattle.cola_cell.specs.Held.{Held, span}
+use Rattle.cola_cell.specs.Places.{slot_size, number_of, IsPlace, Block, block_of}
+use Rattle.cola_cell.specs.Spent.{Buffer, Spent, Ticks}
+use Rattle.cola_cell.specs.Shadows.{emptied, IsKept, StaysAround, Restarts, after_push, PushAnswers, WriteCalm, Forgets, Pushes, push_ticks, WritesNothing, Writes, PushSpends, FinishAnswers, Finishes, FinishSpends}
+use Rattle.cola_device.specs.declared.counts.Counts.{Counts}
+use Rattle.cola_device.specs.Bytes.{splice, WroteSome}
+use Rattle.cola_device.specs.Counts.{Called}
+use Rattle.cola_device.proofs.BytesLemmas.{part-splice_below, drop-splice_end}
+use Rattle.cola_front.specs.Front.{FrontCells}
+use Rattle.cola_layout.specs.declared.geometry.Geometry.{Geometry}
+use Rattle.cola_layout.specs.Geometry.{IsBlock}
+use Rattle.cola_layout.proofs.Powers.{power-le}
+use Rattle.cola_buffers.specs.Blocks.{Blocks, Made, forgotten}
+use Rattle.cola_run.specs.Cells.{IsOnDevice, Lower, Cells, AreCells, block_cells, block_bytes, file_bytes, file_blocks, device_levels, block_number, spots_of, IsShadow, IsShape, IsBacked}
+use Rattle.cola_run.specs.Store.{Store, IsStore, cells_of, held_of, spent_of, Kept, kept_of, Beside, beside, last_of}
+use Rattle.cola_run.specs.Parts.{OneShadow, fills, TailPushed, TailFinished, WroteTail, tail_of, MetFault, IsPushed, IsFinished}
+use Rattle.cola_run.specs.Turns.{Writing}
+use Rattle.cola_run.proofs.Bytes.{room-of, block-from}
+use Rattle.cola_run.proofs.Numbers.{block-behind}
+use Rattle.cola_run.proofs.Steps.{tail-many, written-many, block-fits}
+use Rattle.cola_run.proofs.Lasts.{lasts-forget}
+use Rattle.cola_run.proofs.Reading.{span-is}
+use Rattle.cola_run.proofs.Spots.{both-so, both-same, telling-is}
+use Rattle.cola_run.proofs.Pushes.{push-stays, push-end, push-shape, push-backed}
+use Rattle.cola_run.proofs.Finishes.{ends-within, finish-stays, finish-shape, finish-backed}
+use Rattle.cola_run.proofs.Standing.{restart-others, restart-kept, restart-shape, restart-backed, front-stays, front-shape, front-backed, put-elsewhere, put-end}
+use Rattle.cola_run.proofs.Sinks.{beside-tail, long-of, kept-by, HasCauseOf, cause-of, calm-of, lasts-many, sound-by, around-by, spends-nothing, spends-writes, writes-none}
+
+-- a change of one shadow, and perhaps of the front, that leaves the device and the tails
+module _ {D K : Type 0} (bytes : D → Option (List ℕ)) (counts : D → Counts) (kept : D → K) (store now : Store D) (level : ℕ) (shadow-now : Shadow)
+    (sound : IsStore (bytes store.buffers.cache.device) store) (same : now.geometry ≡ store.geometry) (buffers : now.buffers ≡ store.buffers) (tails : now.tails ≡ store.tails)
+    (one : OneShadow store.shadows now.shadows level shadow-now) where
+  abbrev g : Geometry
+  g = store.geometry
+
+  abbrev lower : Lower
+  lower = (cells_of (bytes store.buffers.cache.device) store).lower
+
+  abbrev lower-now : Lower
+  lower-now = (cells_of (bytes now.buffers.cache.device) now).lower
+
+  told-same : bytes now.buffers.cache.device ≡ bytes store.buffers.cache.device
+  told-same = ap (λ (b : Blocks D). bytes b.cache.device) buffers
+
+  pub same-keeps : kept_of bytes kept now ≡ kept_of bytes kept store
+  same-keeps =
+      kept-by bytes kept store now same (ap (λ (b : Blocks D). b.cache.blocks) buffers) (ap (λ (b : Blocks D). kept b.cache.device) buffers) (ap (λ (x : Option (List ℕ)). option_map (beside g) x) told-same)
+
+  pub same-around : StaysAround (held_of bytes store) (held_of bytes now) level
+  same-around =
+      around-by bytes store now level same (ap (λ (b : Blocks D). b.made) buffers) (λ l apart. one.others l apart)
+      (subst (λ (x : Option (List ℕ)). Both (bytes store.buffers.cache.device) x (λ _ _. Unit {0})) (sym told-same) (both-same (bytes store.buffers.cache.device) (λ _ _. Unit {0}) (λ _. tt)))
+
+  spots-now : (l s i : ℕ) → spots_of (cells_of (bytes now.buffers.cache.device) now) l s i ≡ spots_of (record { geometry = g; front = now.front; lower = lower-now }) l s i
+  spots-now l s i = ap (λ (x : Geometry). spots_of (record { geometry = x; front = now.front; lower = lower-now }) l s i) same
+
+  front-now : now.front ≡ store.front → (l s i : ℕ) → spots_of (cells_of (bytes now.buffers.cache.device) now) l s i ≡ spots_of (record { geometry = g; front = store.front; lower = lower-now }) l s i
+  front-now front l s i = spots-now l s i ∙ ap (λ (x : FrontCells). spots_of (record { geometry = g; front = x; lower = lower-now }) l s i) front
+
+  sound-same : now.front ≡ store.front → IsShape g store.front now.shadows now.tails → IfSome (bytes now.buffers.cache.device) (IsBacked g now.shadows now.tails) → IsStore (bytes now.buffers.cache.device) now
+  sound-same front shape backed =
+      sound-by bytes store now sound same front shape backed (ap (λ (b : Blocks D). b.cache.size) buffers) (ap (λ (b : Blocks D). b.many) buffers) (ap (λ (b : Blocks D). length b.lasts) buffers)
+
+  -- a restart
+  module _ (slot : ℕ) (front : now.front ≡ store.front) (is : shadow-now ≡ emptied slot) where
+    emptied-one : OneShadow store.shadows now.shadows level (emptied slot)
+    emptied-one = subst (λ (x : Shadow). OneShadow store.shadows now.shadows level x) is one
+
+    pub restarted-sound : slot < 2 → IsStore (bytes now.buffers.cache.device) now
+    restarted-sound within =
+        sound-same front (restart-shape g store.front lower lower-now level slot sound.cells.shape told-same tails emptied-one within)
+        (restart-backed g store.front lower lower-now level slot sound.cells.shape told-same tails emptied-one sound.cells.backed)
+
+    pub restarted-meets : Restarts (held_of bytes store) (held_of bytes now) level slot
+    restarted-meets = record {
+      around = same-around;
+      shadow_is = emptied-one.is;
+      others_stay = λ l s i apart. front-now front l s i ∙ restart-others g store.front lower lower-now level slot sound.cells.shape told-same tails emptied-one l s i apart;
+      kept_stay = λ k l s i. front-now front l s i ∙ restart-kept g store.front lower lower-now level slot sound.cells.shape told-same tails emptied-one sound.cells.backed (saved-of k) l s i;
+    }
+      where
+        saved-of : IsKept (held_of bytes store) level → g.block_exp ≤ level + 2 → (shadow_at store.shadows level).saved ≡ true
+        saved-of k high = elim k.is [
+          | inl h ↦ h
+          | inr h ↦ absurd (
+              let e = span-is g sound.cells.shape.block in
+              let more : 2 ^ g.block_exp ≤ 2 ^ (level + 2) = power-le g.block_exp (level + 2) high in
+              omega (arith, h, e, more))
+        ]
+
+  -- a finish of a level of the front
+  module _ {T : Type 0} (result : Result T PushFault) (front : now.front ≡ store.front) (low : level + 2 < g.block_exp) (within : level ≤ g.bottom) (is : shadow-now ≡ record (shadow_at store.shadows level) { saved = true }) (accepted : is_ok result ≡ true)
+      (ticked : Ticks store.ticked now.ticked 0) where
+    pub front-finished-sound : IsStore (bytes now.buffers.cache.device) now
+    front-finished-sound =
+        let stands = sound.cells.shape.shadows_fit level within in
+        sound-same front
+        (front-shape g store.front store.front lower lower-now level shadow-now sound.cells.shape told-same tails one low (subst (λ (x : Shadow). IsShadow level x) (sym is) (record { slot_in = stands.slot_in; within = stands.within })))
+        (front-backed g store.front store.front lower lower-now level shadow-now sound.cells.shape told-same tails one low sound.cells.backed)
+
+    pub front-finished-meets : Finishes (held_of bytes store) (held_of bytes now) (spent_of counts store) (spent_of counts now) level result
+    front-finished-meets = record {
+      around = same-around;
+      answer = by-answer result accepted;
+      calm = by-calm result accepted;
+      shadow_is = one.is ∙ is ∙ ap (λ (t : Bool). record (shadow_at store.shadows level) { saved = t }) (sym accepted);
+      others_stay = λ l s i _. front-now front l s i ∙ front-stays g store.front store.front lower lower-now level shadow-now sound.cells.shape told-same tails one low l s i (λ _ _. refl);
+    }
+      where
+        faults : (counts now.buffers.cache.device).faults ≡ (counts store.buffers.cache.device).faults
+        faults = ap (λ (b : Blocks D). (counts b.cache.device).faults) buffers
+
+        by-answer : (r : Result T PushFault) → is_ok r ≡ true → FinishAnswers (held_of bytes store) (counts store.buffers.cache.device).faults (counts now.buffers.cache.device).faults level r
+        by-answer (Ok value) e = tt
+        by-answer (Err fault) e = absurd (false≢true e)
+
+        by-calm : (r : Result T PushFault) → is_ok r ≡ true → WriteCalm (counts store.buffers.cache.device).faults (counts now.buffers.cache.device).faults r
+        by-calm (Ok value) e = faults
+        by-calm (Err fault) e = absurd (false≢true e)
+
+    pub front-finished-spends : FinishSpends (held_of bytes store) (spent_of counts store) (spent_of counts now) level
+    front-finished-spends =
+        let w = writes-none counts store now 0 (block_of (8 * 2 ^ (g.block_exp - 3)) level (shadow_at store.shadows level).slot (shadow_at store.shadows level).len) buffers same ticked in
+        record { writes = w.0; only_needed = λ _. w.1 }
+
+  -- a push to a level of the front
+  module _ {T : Type 0} (cell : Cell) (result : Result T PushFault) (low : level + 2 < g.block_exp) (within : level ≤ g.bottom) (room : (shadow_at store.shadows level).len < slot_size level)
+      (front : now.front ≡ record store.front { cells = set store.front.cells (number_of level (shadow_at store.shadows level).slot (shadow_at store.shadows level).len) (Some cell) })
+      (inside : number_of level (shadow_at store.shadows level).slot (shadow_at store.shadows level).len < length store.front.cells)
+      (is : shadow-now ≡ record { slot = (shadow_at store.shadows level).slot; len = (shadow_at store.shadows level).len + 1; saved = fills g (shadow_at store.shadows level).len }) (accepted : is_ok result ≡ true)
+      (ticked : Ticks store.ticked now.ticked 1) where
+    abbrev shadow : Shadow
+    shadow = shadow_at store.shadows level
+
+    abbrev put : FrontCells
+    put = record store.front { cells = set store.front.cells (number_of level shadow.slot shadow.len) (Some cell) }
+
+    place : IsPlace (g.bottom + 1) level shadow.slot shadow.len
+    place = let stands = sound.cells.shape.shadows_fit level within in record { level_in = omega (arith, within); slot_in = stands.slot_in; index_in = room }
+
+    pub front-pushed-sound : IsStore (bytes now.buffers.cache.device) now
+    front-pushed-sound =
+        let stands = sound.cells.shape.shadows_fit level within in
+        let h = front-shape g store.front store.front lower lower-now level shadow-now sound.cells.shape told-same tails one low (subst (λ (x : Shadow). IsShadow level x) (sym is) (record { slot_in = stands.slot_in; within = omega (arith, room) })) in
+        let b = front-backed g store.front store.front lower lower-now level shadow-now sound.cells.shape told-same tails one low sound.cells.backed in
+        record {
+          cells = record {
+            shape = subst (λ (f : FrontCells). IsShape now.geometry f now.shadows now.tails) (sym front) (subst (λ (x : Geometry). IsShape x put now.shadows now.tails) (sym same) (record {
+              block = h.block; shallow = h.shallow; format = h.format; front_block = h.front_block; shadows_many = h.shadows_many; shadows_fit = h.shadows_fit; tails_many = h.tails_many; unsaved = h.unsaved;
+            }));
+            backed = subst (λ (x : Geometry). IfSome (bytes now.buffers.cache.device) (IsBacked x now.shadows now.tails)) (sym same) b;
+          };
+          size = ap (λ (b : Blocks D). b.cache.size) buffers ∙ sound.size ∙ ap (λ (x : Geometry). block_bytes x) (sym same);
+          many = ap (λ (b : Blocks D). b.many) buffers ∙ sound.many ∙ ap (λ (x : Geometry). file_blocks x) (sym same);
+          buffers_many = ap (λ (b : Blocks D). length b.lasts) buffers ∙ sound.buffers_many ∙ ap (λ (x : Geometry). 1 + 3 * device_levels x) (sym same);
+        }
+
+    put-now : (l s i : ℕ) → spots_of (cells_of (bytes now.buffers.cache.device) now) l s i ≡ spots_of (record { geometry = g; front = put; lower = lower-now }) l s i
+    put-now l s i = spots-now l s i ∙ ap (λ (x : FrontCells). spots_of (record { geometry = g; front = x; lower = lower-now }) l s i) front
+
+    pub front-pushed-meets : Pushes (held_of bytes store) (held_of bytes now) (spent_of counts store) (spent_of counts now) level cell result
+    front-pushed-meets = record {
+      around = same-around;
+      answer = by-answer result accepted;
+      calm = by-calm result accepted;
+      shadow_is = one.is ∙ is ∙ by-shadow result accepted;
+      others_stay = λ l s i apart. put-now l s i ∙ front-stays g store.front put lower lower-now level shadow-now sound.cells.shape told-same tails one low l s i (λ p _. put-elsewhere g store.front cell level shadow.slot shadow.len l s i place apart p);
+    }
+      where
+        by-answer : (r : Result T PushFault) → is_ok r ≡ true → PushAnswers (held_of bytes store) (held_of bytes now) (spent_of counts store) (spent_of counts now) level cell r
+        by-answer (Ok value) e = (room, put-now level shadow.slot shadow.len ∙ put-end g store.front cell lower lower-now level shadow.slot shadow.len place low inside told-same)
+        by-answer (Err fault) e = absurd (false≢true e)
+
+        by-calm : (r : Result T PushFault) → is_ok r ≡ true → WriteCalm (counts store.buffers.cache.device).faults (counts now.buffers.cache.device).faults r
+        by-calm (Ok value) e = ap (λ (b : Blocks D). (counts b.cache.device).faults) buffers
+        by-calm (Err fault) e = absurd (false≢true e)
+
+        by-shadow : (r : Result T PushFault) → is_ok r ≡ true → record { slot = shadow.slot; len = shadow.len + 1; saved = fills g shadow.len } ≡ after_push (span (held_of bytes store)) shadow r
+        by-shadow (Ok value) e = ap (λ (n : ℕ). record { slot = shadow.slot; len = shadow.len + 1; saved = (shadow.len + 1) % n == 0 }) (sym (span-is g sound.cells.shape.block))
+        by-shadow (Err fault) e = absurd (false≢true e)
+
+    pub front-pushed-spends : PushSpends (held_of bytes store) (spent_of counts store) (spent_of counts now) level result
+    front-pushed-spends = by-result result accepted
+      where
+        by-result : (r : Result T PushFault) → is_ok r ≡ true → PushSpends (held_of bytes store) (spent_of counts store) (spent_of counts now) level r
+        by-result (Ok value) e =
+            let w = writes-none counts store now 1 (block_of (8 * 2 ^ (g.block_exp - 3)) level shadow.slot shadow.len) buffers same ticked in
+            record { writes = w.0; only_full = λ _. w.1 }
+        by-result (Err fault) e = absurd (false≢true e)

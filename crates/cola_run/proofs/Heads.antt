@@ -1,0 +1,176 @@
+-- What writes to the two blocks of the front leave; and when the cells of a store are those of its file.
+use Rattle.std.proofs.Common.{◌≡◌, ◌≢◌, ◌⊎◌, inl, inr, ℕ, ◌+◌, ◌-◌, ◌*◌, ◌^◌, ◌<◌, ◌≤◌, true, List, length, drop, Option, None, Some, IfSome, Result, Ok, Err, refl, sym, ap, subst, ◌∙◌, arith}
+use Rattle.std.specs.Prelude.{OnOk}
+use Rattle.std.proofs.lemmas.Bool.{cases_lt}
+use Rattle.std.proofs.lemmas.List.{drop-drop}
+use Rattle.cola_outside.specs.Told.{Both}
+use Rattle.cola_cell.specs.declared.format.Format.{Format}
+use Rattle.cola_cell.specs.declared.format.Format.TheVariants.{One, Two}
+use Rattle.cola_cell.specs.declared.cell.Cell.{Cell}
+use Rattle.cola_cell.specs.declared.sink.Shadow.{Shadow}
+use Rattle.cola_cell.specs.Decoded.{decoded, spot_of_bytes}
+use Rattle.cola_cell.specs.Flat.{spot_of, shadow_at}
+use Rattle.cola_cell.specs.Format.{width}
+use Rattle.cola_cell.specs.Places.{number_of, IsPlace}
+use Rattle.cola_device.specs.Bytes.{part, splice, WroteSome, Wrote}
+use Rattle.cola_device.proofs.BytesLemmas.{length-splice, part-splice_above, drop-splice_end}
+use Rattle.cola_front.specs.Front.{FrontCells, cell_at, cell_bytes, IsLoaded}
+use Rattle.cola_layout.specs.declared.geometry.Geometry.{Geometry}
+use Rattle.cola_layout.specs.Geometry.{IsBlock}
+use Rattle.cola_layout.proofs.Places.{device-behind, place-behind, front-below}
+use Rattle.cola_layout.proofs.Powers.{next_power, power-le}
+use Rattle.cola_run.specs.Cells.{IsOnDevice, Lower, Cells, block_cells, block_bytes, file_bytes, tail_number, is_in_tail, device_cell, known_spot, told_spot, spots_of, IsShape, IsBacked}
+use Rattle.cola_run.specs.Saving.{AreFileSpots, SameBehind}
+use Rattle.cola_image.specs.Cells.{file_spots}
+use Rattle.cola_run.specs.Loading.{StaySound, AreSavedBelow}
+use Rattle.cola_run.proofs.Bytes.{room-of}
+use Rattle.cola_run.proofs.Lowers.{on-device}
+use Rattle.cola_run.proofs.Spots.{IsInTail, in-tail, tail-is, device-in, device-out, device-is, spot-there, spot-front, spot-device, spots-stay, both-so}
+
+-- the bytes of the front's blocks end before those of a place on the device
+cell-behind : (f : Format) (b n m : ℕ) → 2 ^ (b + 1) ≤ n → m ≤ 2 * (width f * 2 ^ b) → m ≤ width f * n
+cell-behind One b n m h k = let t : 2 ^ (b + 1) ≡ 2 ^ b + 2 ^ b = next_power b (b + 1) (omega arith) in omega (arith, h, k, t)
+cell-behind Two b n m h k = let t : 2 ^ (b + 1) ≡ 2 ^ b + 2 ^ b = next_power b (b + 1) (omega arith) in omega (arith, h, k, t)
+
+-- and before the end of the file
+file-behind : (f : Format) (b bottom m : ℕ) → b ≤ bottom + 2 → m ≤ 2 * (width f * 2 ^ b) → m ≤ width f * 2 ^ (bottom + 4)
+file-behind f b bottom m few h = cell-behind f b (2 ^ (bottom + 4)) m (power-le (b + 1) (bottom + 4) (omega (arith, few))) h
+
+drop-behind : (bytes new : List ℕ) (at end : ℕ) → at + length new ≤ length bytes → at + length new ≤ end → drop end (splice bytes at new) ≡ drop end bytes
+drop-behind bytes new at end holds behind =
+    let e : at + length new + (end - (at + length new)) ≡ end = omega (arith, behind) in
+    ap (λ (n : ℕ). drop n (splice bytes at new)) (sym e)
+    ∙ sym (drop-drop (end - (at + length new)) (at + length new) (splice bytes at new))
+    ∙ ap (λ (xs : List ℕ). drop (end - (at + length new)) xs) (drop-splice_end bytes at new (omega (arith, holds)))
+    ∙ drop-drop (end - (at + length new)) (at + length new) bytes
+    ∙ ap (λ (n : ℕ). drop n bytes) e
+
+-- a device on which bytes of the front's blocks were written
+module _ (g : Geometry) (fits : IsBlock g.block_exp g.bottom) (bytes left : List ℕ) (at : ℕ) (long : file_bytes g ≤ length bytes) (within : at + length left ≤ 2 * block_bytes g) where
+  head-fits : at + length left ≤ file_bytes g
+  head-fits = let most = fits.fits in file-behind g.format g.block_exp g.bottom (at + length left) (omega (arith, most)) within
+
+  pub head-many : length (splice bytes at left) ≡ length bytes
+  head-many = let h = head-fits in length-splice bytes at left (omega (arith, h, long))
+
+  pub head-stays : (l s i : ℕ) → g.block_exp ≤ l + 2 → cell_bytes g.format (splice bytes at left) (number_of l s i) ≡ cell_bytes g.format bytes (number_of l s i)
+  head-stays l s i high =
+      let h = head-fits in
+      part-splice_above bytes at left (width g.format * number_of l s i) (width g.format) (omega (arith, h, long))
+      (cell-behind g.format g.block_exp (number_of l s i) (at + length left) (device-behind g.block_exp l s i high) within)
+
+  pub head-behind : drop (file_bytes g) (splice bytes at left) ≡ drop (file_bytes g) bytes
+  head-behind = let h = head-fits in drop-behind bytes left at (file_bytes g) (omega (arith, h, long)) h
+
+  pub head-backed : (shadows : List Shadow) (tails : List ℕ) → IsBacked g shadows tails bytes → IsBacked g shadows tails (splice bytes at left)
+  head-backed shadows tails b = record {
+    long = let m = head-many in omega (arith, m, long);
+    saved = λ level on is i t. head-stays level (shadow_at shadows level).slot i on.whole ∙ b.saved level on is i t;
+  }
+
+  pub head-cell : (shadows : List Shadow) (tails : List ℕ) (l s i : ℕ) → g.block_exp ≤ l + 2 → device_cell g shadows tails (splice bytes at left) l s i ≡ device_cell g shadows tails bytes l s i
+  head-cell shadows tails l s i high =
+      device-is g shadows tails bytes l s i (device_cell g shadows tails (splice bytes at left) l s i)
+      (λ q. device-in g shadows tails (splice bytes at left) l s i q)
+      (λ d. device-out g shadows tails (splice bytes at left) l s i d ∙ head-stays l s i high)
+
+-- the same where the device tells its bytes
+module _ {T E : Type 0} (g : Geometry) (fits : IsBlock g.block_exp g.bottom) (shadows : List Shadow) (tails : List ℕ) (result : Result T E) (at : ℕ) (from : List ℕ) (within : at + length from ≤ 2 * block_bytes g) where
+  pub heads-backed : (x y : Option (List ℕ)) → Wrote result at from x y → IfSome x (IsBacked g shadows tails) → IfSome y (IsBacked g shadows tails)
+  heads-backed None None w b = tt
+  heads-backed None (Some y) w b = absurd w
+  heads-backed (Some x) None w b = absurd w
+  heads-backed (Some x) (Some y) w b =
+      let v : WroteSome result at from x y = w in
+      let many = v.as_many in
+      subst (λ (bytes : List ℕ). IsBacked g shadows tails bytes) (sym v.others_stay) (head-backed g fits x v.left at b.long (omega (arith, many, within)) shadows tails b)
+
+  pub heads-sound : (x y : Option (List ℕ)) → Wrote result at from x y → StaySound g (record { told = x; shadows = shadows; tails = tails }) (record { told = y; shadows = shadows; tails = tails })
+  heads-sound x y w = record { shape = λ front h. h; backed = λ front h b. heads-backed x y w b }
+
+  pub heads-behind : (x y : Option (List ℕ)) → Wrote result at from x y → IfSome x (IsBacked g shadows tails) → Both x y (SameBehind g)
+  heads-behind None None w b = tt
+  heads-behind None (Some y) w b = absurd w
+  heads-behind (Some x) None w b = absurd w
+  heads-behind (Some x) (Some y) w b =
+      let v : WroteSome result at from x y = w in
+      let many = v.as_many in
+      subst (λ (bytes : List ℕ). SameBehind g x bytes) (sym v.others_stay)
+      (record { many = head-many g fits x v.left at b.long (omega (arith, many, within)); behind = head-behind g fits x v.left at b.long (omega (arith, many, within)) })
+
+  pub heads-spots : (front : FrontCells) (x y : Option (List ℕ)) → Wrote result at from x y → IfSome x (IsBacked g shadows tails) → (l s i : ℕ) →
+      spots_of (record { geometry = g; front = front; lower = record { told = y; shadows = shadows; tails = tails } }) l s i ≡ spots_of (record { geometry = g; front = front; lower = record { told = x; shadows = shadows; tails = tails } }) l s i
+  heads-spots front x y w b l s i =
+      spots-stay g front front (record { told = x; shadows = shadows; tails = tails }) (record { told = y; shadows = shadows; tails = tails }) l s i (λ p low. refl) (by-case x y w b)
+    where
+      by-case : (x y : Option (List ℕ)) → Wrote result at from x y → IfSome x (IsBacked g shadows tails) →
+          Both x y (λ b c. IsPlace (g.bottom + 1) l s i → g.block_exp ≤ l + 2 → device_cell g shadows tails c l s i ≡ device_cell g shadows tails b l s i)
+      by-case None None w b = tt
+      by-case None (Some y) w b = absurd w
+      by-case (Some x) None w b = absurd w
+      by-case (Some x) (Some y) w b =
+          λ p high.
+          let v : WroteSome result at from x y = w in
+          let many = v.as_many in
+          ap (λ (bytes : List ℕ). device_cell g shadows tails bytes l s i) v.others_stay ∙ head-cell g fits x v.left at b.long (omega (arith, many, within)) shadows tails l s i high
+
+exact-of : {T E : Type 0} (value : T) (r : Result T E) (at : ℕ) (from b c : List ℕ) (v : WroteSome {E = E} (Ok value) at from b c) → OnOk r (v.left ≡ from)
+exact-of value (Ok done) at from b c v = v.exact
+exact-of value (Err fault) at from b c v = tt
+
+-- bytes that were to be written, by a call that was followed by another
+pub wrote-then : {T E : Type 0} (value : T) (result : Result T E) (at : ℕ) (from : List ℕ) (x y z : Option (List ℕ)) → z ≡ y → Wrote {E = E} (Ok value) at from x y → Wrote result at from x z
+wrote-then value result at from None None z same w = subst (λ (o : Option (List ℕ)). Wrote result at from None o) (sym same) tt
+wrote-then value result at from None (Some y) z same w = absurd w
+wrote-then value result at from (Some x) None z same w = absurd w
+wrote-then {E = E} value result at from (Some x) (Some y) z same w =
+    subst (λ (o : Option (List ℕ)). Wrote result at from (Some x) o) (sym same)
+    (let v : WroteSome {E = E} (Ok value) at from x y = w in
+    record { left = v.left; as_many = v.as_many; others_stay = v.others_stay; exact = exact-of value result at from x y v })
+
+-- the cells of a store are those of its file where each shadow is on the device, and the front is as the file has it
+pub saved-spots : (g : Geometry) (front : FrontCells) (lower : Lower) (bytes : List ℕ) → IsShape g front lower.shadows lower.tails → IsBacked g lower.shadows lower.tails bytes → AreSavedBelow g lower.shadows (g.bottom + 1)
+    → IsLoaded bytes front → (l s i : ℕ) → IsPlace (g.bottom + 1) l s i → known_spot (record { geometry = g; front = front; lower = lower }) bytes l s i ≡ file_spots g.format bytes l s i
+saved-spots g front lower bytes shape backed saved loaded l s i p =
+    spot-there (record { geometry = g; front = front; lower = lower }) bytes l s i p
+    ∙ elim (cases_lt (l + 2) g.block_exp) [
+      | inl low ↦
+          let slot = p.slot_in in
+          let below : number_of l s i < 2 ^ (g.block_exp + 1) = front-below g.block_exp l s i (omega (arith, slot)) p.index_in low in
+          let twice : 2 ^ (g.block_exp + 1) ≡ 2 ^ g.block_exp + 2 ^ g.block_exp = next_power g.block_exp (g.block_exp + 1) (omega arith) in
+          let block = shape.front_block in
+          spot-front (record { geometry = g; front = front; lower = lower }) bytes l s i low
+          ∙ ap (λ (c : Option Cell). spot_of c) (loaded (number_of l s i) (place-behind l s i) (omega (arith, below, twice, block)))
+          ∙ ap (λ (f : Format). spot_of (decoded f (cell_bytes f bytes (number_of l s i)))) shape.format
+      | inr high ↦
+          let on : IsOnDevice g l = on-device g l s i p high in
+          let low : l < g.bottom + 1 = p.level_in in
+          spot-device (record { geometry = g; front = front; lower = lower }) bytes l s i high
+          ∙ ap (λ (x : List ℕ). spot_of_bytes g.format x)
+          (sym (device-is g lower.shadows lower.tails bytes l s i (cell_bytes g.format bytes (number_of l s i))
+          (λ q.
+          let sh = shadow_at lower.shadows l in
+          ap (λ (x : ℕ). cell_bytes g.format bytes (number_of l x i)) q.slot_is
+          ∙ backed.saved l on (saved l on low) i (tail-is (block_cells g) sh sh.slot i (record { slot_is = refl; block_is = q.block_is; within = q.within })))
+          (λ d. refl)))
+    ]
+
+-- the file has the front's two blocks
+pub head-long : (g : Geometry) → IsBlock g.block_exp g.bottom → 2 * block_bytes g ≤ file_bytes g
+head-long g fits = let most = fits.fits in file-behind g.format g.block_exp g.bottom (2 * block_bytes g) (omega (arith, most)) (omega arith)
+
+-- a block has 512 bytes at least
+pub block-least : (g : Geometry) → IsBlock g.block_exp g.bottom → 512 ≤ block_bytes g
+block-least g fits = by-format g.format (let h : 2 ^ 3 ≤ 2 ^ g.block_exp = power-le 3 g.block_exp fits.group in h)
+  where
+    by-format : (f : Format) → 8 ≤ 2 ^ g.block_exp → 512 ≤ width f * 2 ^ g.block_exp
+    by-format One h = omega (arith, h)
+    by-format Two h = omega (arith, h)
+
+pub saved-told : (g : Geometry) (front : FrontCells) (lower : Lower) → IsShape g front lower.shadows lower.tails → IfSome lower.told (IsBacked g lower.shadows lower.tails) → AreSavedBelow g lower.shadows (g.bottom + 1)
+    → IfSome lower.told (λ bytes. IsLoaded bytes front) → IfSome lower.told (AreFileSpots g (spots_of (record { geometry = g; front = front; lower = lower })))
+saved-told g front lower shape backed saved loaded = by-case lower.told backed loaded
+  where
+    by-case : (x : Option (List ℕ)) → IfSome x (IsBacked g lower.shadows lower.tails) → IfSome x (λ bytes. IsLoaded bytes front) → IfSome x (AreFileSpots g (λ l s i. told_spot (record { geometry = g; front = front; lower = lower }) x l s i))
+    by-case None b f = tt
+    by-case (Some bytes) b f = λ l s i p. saved-spots g front lower bytes shape b saved f l s i p

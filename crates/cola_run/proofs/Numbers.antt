@@ -1,0 +1,183 @@
+-- The numbers of places, of blocks, and of the cells of tails.
+use Rattle.std.proofs.Common.{◌≡◌, ◌≢◌, ◌⊎◌, ℕ, zero, suc, ◌+◌, ◌-◌, ◌*◌, ◌/◌, ◌%◌, ◌^◌, ◌<◌, ◌≤◌, inl, inr, refl, sym, ap, subst, ◌∙◌, arith}
+use Rattle.std.proofs.lemmas.Bool.{cases_lt, cases_order}
+use Rattle.std.proofs.lemmas.Nat.{pow_pos, pow-add, div-mul-add, mod-mul-add}
+use Rattle.std.proofs.Math.Nat.{mul_comm, mul_assoc, mul-le-mul_left, mul-add-div_right, mul-add-mod_self_right, div-add-mod, mod-lt, div-lt_iff_lt-mul, lt_of_mul-lt-mul_left}
+use Rattle.cola_cell.specs.Places.{number_of, slot_size, IsPlace}
+use Rattle.cola_layout.proofs.Powers.{next_power, power-le}
+use Rattle.cola_layout.proofs.Places.{place-differ, place-within, device-behind}
+
+-- a number is so many whole blocks and a rest that is smaller than a block
+pub record Split (block n : ℕ) : Type 0 where
+  pub is : block * (n / block) + n % block ≡ n
+  pub rest : n % block < block
+
+pub split : (block n : ℕ) → 0 < block → Split block n
+split block n some = record { is = div-add-mod n block; rest = mod-lt n some }
+
+-- a block that comes before another ends before it
+pub block-before : (block k n : ℕ) → k < n → block * k + block ≤ block * n
+block-before block k n below = 
+    let more : block * (k + 1) ≤ block * n = mul-le-mul_left block (let h : k + 1 ≤ n = omega (arith, below) in h) in
+    let e : block * (k + 1) ≡ block * k + block = omega arith in
+    omega (arith, more, e)
+
+-- numbers of different blocks stand on different sides of a block
+pub block-apart : (block k n : ℕ) → 0 < block → n / block ≢ k → (n + 1 ≤ block * k) ⊎ (block * k + block ≤ n)
+block-apart block k n some apart =
+    let s = split block n some in
+    elim (cases_order (n / block) k) [
+      | inl same ↦ absurd (apart same)
+      | inr other ↦ elim other [
+        | inl below ↦ inl (let m = block-before block (n / block) k below in let i = s.is in let r = s.rest in omega (arith, m, i, r))
+        | inr above ↦ inr (let m = block-before block k (n / block) above in let i = s.is in omega (arith, m, i))
+      ]
+    ]
+
+-- a number by its block and its place there
+pub block-of : (block k p : ℕ) → p < block → ((block * k + p) / block ≡ k) × ((block * k + p) % block ≡ p)
+block-of block k p within =
+    let e : block * k + p ≡ k * block + p = ap (λ (n : ℕ). n + p) (mul_comm block k) in
+    (ap (λ (n : ℕ). n / block) e ∙ div-mul-add k block p within, ap (λ (n : ℕ). n % block) e ∙ mod-mul-add k block p within)
+
+-- places of a level on the device
+module _ (b l s i : ℕ) (device : b ≤ l + 2) where
+  slot-parts : 2 ^ (l + 2) ≡ 2 ^ (l + 2 - b) * 2 ^ b
+  slot-parts =
+      let is : (l + 2 - b) + b ≡ l + 2 = omega (arith, device) in
+      subst (λ (n : ℕ). 2 ^ n ≡ 2 ^ (l + 2 - b) * 2 ^ b) is (pow-add 2 (l + 2 - b) b)
+
+  number-is : number_of l s i ≡ (2 + s) * 2 ^ (l + 2 - b) * 2 ^ b + i
+  number-is = ap (λ (n : ℕ). n + i) (ap (λ (n : ℕ). (2 + s) * n) slot-parts ∙ sym (mul_assoc (2 + s) (2 ^ (l + 2 - b)) (2 ^ b)))
+
+  -- the number of a place's block
+  pub block-is : number_of l s i / 2 ^ b ≡ (2 + s) * 2 ^ (l + 2 - b) + i / 2 ^ b
+  block-is = ap (λ (n : ℕ). n / 2 ^ b) number-is ∙ mul-add-div_right (pow_pos b) ((2 + s) * 2 ^ (l + 2 - b)) i
+
+  -- its place there
+  pub place-is : number_of l s i % 2 ^ b ≡ i % 2 ^ b
+  place-is = ap (λ (n : ℕ). n % 2 ^ b) number-is ∙ mul-add-mod_self_right ((2 + s) * 2 ^ (l + 2 - b)) (2 ^ b) i
+
+  -- the block's number in its slot
+  pub block-within : i < slot_size l → i / 2 ^ b < 2 ^ (l + 2 - b)
+  block-within h = (div-lt_iff_lt-mul (pow_pos b)).1 (subst (λ (n : ℕ). i < n) slot-parts h)
+
+-- indices of one block of a slot have numbers in one block, and others do not
+pub same-block : (b l s i j : ℕ) → b ≤ l + 2 → i / 2 ^ b ≡ j / 2 ^ b → number_of l s i / 2 ^ b ≡ number_of l s j / 2 ^ b
+same-block b l s i j device e = block-is b l s i device ∙ ap (λ (n : ℕ). (2 + s) * 2 ^ (l + 2 - b) + n) e ∙ sym (block-is b l s j device)
+
+-- the cell at which a place's block begins
+begin-is : (b l s i : ℕ) → b ≤ l + 2 → number_of l s (2 ^ b * (i / 2 ^ b)) ≡ 2 ^ b * (number_of l s i / 2 ^ b)
+begin-is b l s i device =
+    let number = split (2 ^ b) (number_of l s i) (pow_pos b) in
+    let index = split (2 ^ b) i (pow_pos b) in
+    let e : 2 ^ b * (number_of l s i / 2 ^ b) + number_of l s i % 2 ^ b ≡ number_of l s i = number.is in
+    let f : 2 ^ b * (i / 2 ^ b) + i % 2 ^ b ≡ i = index.is in
+    let g : number_of l s i % 2 ^ b ≡ i % 2 ^ b = place-is b l s i device in
+    omega (arith, e, f, g)
+
+begin-place : (levels b l s i : ℕ) → IsPlace levels l s i → IsPlace levels l s (2 ^ b * (i / 2 ^ b))
+begin-place levels b l s i p =
+    let f = (split (2 ^ b) i (pow_pos b)).is in
+    let h : i < slot_size l = p.index_in in
+    record { level_in = p.level_in; slot_in = p.slot_in; index_in = omega (arith, f, h) }
+
+-- places whose numbers lie in one block are in one level, one slot, and one block of that
+pub one-block : (bottom b l s i k t j : ℕ) → b ≤ l + 2 → b ≤ k + 2 → IsPlace (bottom + 1) l s i → IsPlace (bottom + 1) k t j → number_of l s i / 2 ^ b ≡ number_of k t j / 2 ^ b →
+    (l ≡ k) × (s ≡ t) × (i / 2 ^ b ≡ j / 2 ^ b)
+one-block bottom b l s i k t j first second p q e =
+    let begin : number_of l s (2 ^ b * (i / 2 ^ b)) ≡ number_of k t (2 ^ b * (j / 2 ^ b)) = begin-is b l s i first ∙ ap (λ (n : ℕ). 2 ^ b * n) e ∙ sym (begin-is b k t j second) in
+    let (levels, slots, indices) = place-differ bottom l s (2 ^ b * (i / 2 ^ b)) k t (2 ^ b * (j / 2 ^ b)) (begin-place (bottom + 1) b l s i p) (begin-place (bottom + 1) b k t j q) begin in
+    (levels, slots, same-factor (2 ^ b) (i / 2 ^ b) (j / 2 ^ b) (pow_pos b) indices)
+  where
+    same-factor : (m x y : ℕ) → 0 < m → m * x ≡ m * y → x ≡ y
+    same-factor m x y some same = elim (cases_order x y) [
+      | inl is ↦ is
+      | inr apart ↦ elim apart [
+        | inl below ↦ absurd (let h = block-before m x y below in omega (arith, h, same, some))
+        | inr above ↦ absurd (let h = block-before m y x above in omega (arith, h, same, some))
+      ]
+    ]
+
+-- a block of a level on the device lies behind the two of the front, and within the file
+pub block-behind : (b l s i : ℕ) → b ≤ l + 2 → 2 ≤ number_of l s i / 2 ^ b
+block-behind b l s i device =
+    let m : 0 < 2 ^ (l + 2 - b) = pow_pos (l + 2 - b) in
+    let e = block-is b l s i device in
+    let more : 2 * 2 ^ (l + 2 - b) ≤ (2 + s) * 2 ^ (l + 2 - b) = let x : (2 + s) * 2 ^ (l + 2 - b) ≡ 2 * 2 ^ (l + 2 - b) + s * 2 ^ (l + 2 - b) = omega arith in omega (arith, x) in
+    omega (arith, m, e, more)
+
+file-parts : (bottom b : ℕ) → b ≤ bottom + 2 → 2 ^ (bottom + 4) ≡ 2 ^ (bottom + 4 - b) * 2 ^ b
+file-parts bottom b fits =
+    let is : (bottom + 4 - b) + b ≡ bottom + 4 = omega (arith, fits) in
+    subst (λ (n : ℕ). 2 ^ n ≡ 2 ^ (bottom + 4 - b) * 2 ^ b) is (pow-add 2 (bottom + 4 - b) b)
+
+-- a block that begins within the file ends within it
+pub block-ends : (bottom b k : ℕ) → b ≤ bottom + 2 → k < 2 ^ (bottom + 4 - b) → 2 ^ b * k + 2 ^ b ≤ 2 ^ (bottom + 4)
+block-ends bottom b k fits within =
+    let h : 2 ^ b * k + 2 ^ b ≤ 2 ^ b * 2 ^ (bottom + 4 - b) = block-before (2 ^ b) k (2 ^ (bottom + 4 - b)) within in
+    let e : 2 ^ (bottom + 4) ≡ 2 ^ b * 2 ^ (bottom + 4 - b) = file-parts bottom b fits ∙ mul_comm (2 ^ (bottom + 4 - b)) (2 ^ b) in
+    omega (arith, h, e)
+
+-- the block of a place is one of the file
+pub block-in_file : (bottom b l s i : ℕ) → b ≤ bottom + 2 → IsPlace (bottom + 1) l s i → number_of l s i / 2 ^ b < 2 ^ (bottom + 4 - b)
+block-in_file bottom b l s i fits p =
+    let h : number_of l s i < 2 ^ (bottom + 4) = place-within bottom l s i p in
+    (div-lt_iff_lt-mul (pow_pos b)).1 (subst (λ (n : ℕ). number_of l s i < n) (file-parts bottom b fits) h)
+
+-- cells of the tails of different levels lie in different blocks of them
+pub tail-block : (b d i : ℕ) → ((2 ^ b * d + i % 2 ^ b) / 2 ^ b ≡ d) × ((2 ^ b * d + i % 2 ^ b) % 2 ^ b ≡ i % 2 ^ b)
+tail-block b d i = block-of (2 ^ b) d (i % 2 ^ b) (mod-lt i (pow_pos b))
+
+-- what comes next lies in the same block, or begins the next one
+pub record IsMore (block n : ℕ) : Type 0 where
+  pub block_is : (n + 1) / block ≡ n / block
+  pub place_is : (n + 1) % block ≡ n % block + 1
+  pub within : n % block + 1 < block
+
+pub record IsFull (block n : ℕ) : Type 0 where
+  pub block_is : (n + 1) / block ≡ n / block + 1
+  pub place_is : (n + 1) % block ≡ 0
+  pub full : n % block + 1 ≡ block
+
+pub next-split : (block n : ℕ) → 0 < block → IsMore block n ⊎ IsFull block n
+next-split block n some =
+    let s = split block n some in
+    let i = s.is in
+    let r = s.rest in
+    elim (cases_lt (n % block + 1) block) [
+      | inl more ↦
+          let e : n + 1 ≡ block * (n / block) + (n % block + 1) = omega (arith, i) in
+          let (q, p) = block-of block (n / block) (n % block + 1) more in
+          inl (record { block_is = ap (λ (x : ℕ). x / block) e ∙ q; place_is = ap (λ (x : ℕ). x % block) e ∙ p; within = more })
+      | inr full ↦
+          let e : n + 1 ≡ block * (n / block + 1) + 0 = (let m : block * (n / block + 1) ≡ block * (n / block) + block = omega arith in omega (arith, i, r, full, m)) in
+          let (q, p) = block-of block (n / block + 1) 0 some in
+          inr (record { block_is = ap (λ (x : ℕ). x / block) e ∙ q; place_is = ap (λ (x : ℕ). x % block) e ∙ p; full = omega (arith, r, full) })
+    ]
+
+-- numbers of one block at one place there are one
+pub one-place : (block i n : ℕ) → 0 < block → i / block ≡ n / block → i % block ≡ n % block → i ≡ n
+one-place block i n some blocks places =
+    let x = (split block i some).is in
+    let y = (split block n some).is in
+    let m : block * (i / block) ≡ block * (n / block) = ap (λ (k : ℕ). block * k) blocks in
+    omega (arith, x, y, m, places)
+
+-- the last of its block
+pub last-place : (block i n : ℕ) → 0 < block → i / block ≡ n / block → n % block + 1 ≡ block → i ≤ n
+last-place block i n some blocks full =
+    let s = split block i some in
+    let x = s.is in
+    let r = s.rest in
+    let y = (split block n some).is in
+    let m : block * (i / block) ≡ block * (n / block) = ap (λ (k : ℕ). block * k) blocks in
+    omega (arith, x, y, m, r, full)
+
+-- nothing of a block lies before its begin
+pub first-place : (block i n : ℕ) → 0 < block → i / block ≡ n / block → n % block ≡ 0 → n ≤ i
+first-place block i n some blocks begin =
+    let x = (split block i some).is in
+    let y = (split block n some).is in
+    let m : block * (i / block) ≡ block * (n / block) = ap (λ (k : ℕ). block * k) blocks in
+    omega (arith, x, y, m, begin)

@@ -1,0 +1,129 @@
+-- That pushes to levels on the device meet the trait.
+use Rattle.std.proofs.Common.{◌≡◌, ◌≢◌, ◌⊎◌, inl, inr, ℕ, ◌+◌, ◌-◌, ◌*◌, ◌/◌, ◌%◌, ◌^◌, ◌<◌, ◌≤◌, ◌==◌, not, Bool, true, false, if◌then◌else◌, List, length, map, set, take, drop, Option, None, Some, IfSome, option_map, Result, Ok, Err, is_ok, refl, sym, ap, subst, ◌∙◌, arith}
+use Rattle.std.proofs.lemmas.Bool.{cases_lt, cases_eq, eqb-true, eqb-false, false≢true}
+use Rattle.std.proofs.lemmas.List.{length-map, drop-drop}
+use Rattle.std.proofs.Math.Nat.{mul-le-mul_right}
+use Rattle.cola_outside.specs.Faults.{Rose}
+use Rattle.cola_outside.specs.Told.{Both}
+use Rattle.cola_cell.specs.declared.cell.Cell.{Cell}
+use Rattle.cola_cell.specs.declared.fault.PushFault.{PushFault}
+use Rattle.cola_cell.specs.declared.fault.PushFault.TheVariants.{Device, Overfull}
+use Rattle.cola_cell.specs.declared.sink.Shadow.{Shadow}
+use Rattle.cola_cell.specs.Flat.{shadow_at}
+use Rattle.cola_cell.specs.Format.{width}
+use Rattle.cola_cell.specs.Held.{Held, span}
+use Rattle.cola_cell.specs.Places.{slot_size, number_of, IsPlace, Block, block_of}
+use Rattle.cola_cell.specs.Spent.{Buffer, Spent, Ticks}
+use Rattle.cola_cell.specs.Shadows.{emptied, IsKept, StaysAround, Restarts, after_push, PushAnswers, WriteCalm, Forgets, Pushes, push_ticks, WritesNothing, Writes, PushSpends, FinishAnswers, Finishes, FinishSpends}
+use Rattle.cola_device.specs.declared.counts.Counts.{Counts}
+use Rattle.cola_device.specs.Bytes.{splice, WroteSome}
+use Rattle.cola_device.specs.Counts.{Called}
+use Rattle.cola_device.proofs.BytesLemmas.{part-splice_below, drop-splice_end}
+use Rattle.cola_front.specs.Front.{FrontCells}
+use Rattle.cola_layout.specs.declared.geometry.Geometry.{Geometry}
+use Rattle.cola_layout.specs.Geometry.{IsBlock}
+use Rattle.cola_layout.proofs.Powers.{power-le}
+use Rattle.cola_buffers.specs.Blocks.{Blocks, Made, forgotten}
+use Rattle.cola_run.specs.Cells.{IsOnDevice, Lower, Cells, AreCells, block_cells, block_bytes, file_bytes, file_blocks, device_levels, block_number, spots_of, IsShadow, IsShape, IsBacked}
+use Rattle.cola_run.specs.Store.{Store, IsStore, cells_of, held_of, spent_of, Kept, kept_of, Beside, beside, last_of}
+use Rattle.cola_run.specs.Parts.{OneShadow, fills, TailPushed, TailFinished, WroteTail, tail_of, MetFault, IsPushed, IsFinished}
+use Rattle.cola_run.specs.Turns.{Writing}
+use Rattle.cola_run.proofs.Bytes.{room-of, block-from}
+use Rattle.cola_run.proofs.Numbers.{block-behind}
+use Rattle.cola_run.proofs.Steps.{tail-many, written-many, block-fits}
+use Rattle.cola_run.proofs.Lasts.{lasts-forget}
+use Rattle.cola_run.proofs.Reading.{span-is}
+use Rattle.cola_run.proofs.Spots.{both-so, both-same, telling-is}
+use Rattle.cola_run.proofs.Pushes.{push-stays, push-end, push-shape, push-backed}
+use Rattle.cola_run.proofs.Finishes.{ends-within, finish-stays, finish-shape, finish-backed}
+use Rattle.cola_run.proofs.Standing.{restart-others, restart-kept, restart-shape, restart-backed, front-stays, front-shape, front-backed, put-elsewhere, put-end}
+use Rattle.cola_run.proofs.Sinks.{beside-tail, long-of, kept-by, HasCauseOf, cause-of, calm-of, lasts-many, sound-by, around-by, spends-nothing, spends-writes, writes-none}
+
+-- a push to a level on the device
+module _ {D K T : Type 0} (bytes : D → Option (List ℕ)) (counts : D → Counts) (kept : D → K) (store now : Store D) (level : ℕ) (cell : Cell) (result : Result T PushFault)
+    (sound : IsStore (bytes store.buffers.cache.device) store) (device : IsOnDevice store.geometry level) (room : (shadow_at store.shadows level).len < slot_size level)
+    (same : now.geometry ≡ store.geometry) (front : now.front ≡ store.front)
+    (pushed : IsPushed store.geometry (cells_of (bytes store.buffers.cache.device) store).lower (cells_of (bytes now.buffers.cache.device) now).lower level cell result)
+    (writing : Writing counts kept (fills store.geometry (shadow_at store.shadows level).len) store.buffers now.buffers (block_number store.geometry level (shadow_at store.shadows level).slot (shadow_at store.shadows level).len) result)
+    (ticked : Ticks store.ticked now.ticked (push_ticks result)) where
+  abbrev g : Geometry
+  g = store.geometry
+
+  abbrev shadow : Shadow
+  shadow = shadow_at store.shadows level
+
+  shape : IsShape g store.front store.shadows store.tails
+  shape = sound.cells.shape
+
+  place : IsPlace (g.bottom + 1) level shadow.slot shadow.len
+  place =
+      let low : level ≤ g.bottom = device.within in
+      let stands = shape.shadows_fit level low in
+      record { level_in = omega (arith, low); slot_in = stands.slot_in; index_in = room }
+
+  told-both : Both (bytes store.buffers.cache.device) (bytes now.buffers.cache.device) (λ _ _. Unit {0})
+  told-both = by-test (fills g shadow.len) pushed.device
+    where
+      by-test : (t : Bool) → TailPushed t result g now.tails level shadow.slot shadow.len (bytes store.buffers.cache.device) (bytes now.buffers.cache.device) → Both (bytes store.buffers.cache.device) (bytes now.buffers.cache.device) (λ _ _. Unit {0})
+      by-test true w = both-so (bytes store.buffers.cache.device) (bytes now.buffers.cache.device) (WroteSome result (block_number g level shadow.slot shadow.len * block_bytes g) (tail_of g now.tails level)) (λ _ _. Unit {0}) (λ _ _ _. tt) w
+      by-test false w = subst (λ (x : Option (List ℕ)). Both (bytes store.buffers.cache.device) x (λ _ _. Unit {0})) (sym w.0) (both-same (bytes store.buffers.cache.device) (λ _ _. Unit {0}) (λ _. tt))
+
+  abbrev lower : Lower
+  lower = (cells_of (bytes store.buffers.cache.device) store).lower
+
+  abbrev lower-now : Lower
+  lower-now = (cells_of (bytes now.buffers.cache.device) now).lower
+
+  pub pushed-sound : IsStore (bytes now.buffers.cache.device) now
+  pushed-sound =
+      sound-by bytes store now sound same front (push-shape g store.front lower lower-now level cell result shape device room pushed) (push-backed g store.front lower lower-now level cell result shape device room pushed sound.cells.backed)
+      writing.stays.size writing.stays.many (lasts-many (fills g shadow.len) (block_number g level shadow.slot shadow.len) store.buffers.lasts now.buffers.lasts writing.lasts_are)
+
+  pub pushed-keeps : kept_of bytes kept now ≡ kept_of bytes kept store
+  pushed-keeps = kept-by bytes kept store now same writing.stays.blocks writing.kept_is (by-test (fills g shadow.len) pushed.device)
+    where
+      tails-now : length now.tails ≡ width g.format * (block_cells g * device_levels g)
+      tails-now = (push-shape g store.front lower lower-now level cell result shape device room pushed).tails_many
+
+      by-test : (t : Bool) → TailPushed t result g now.tails level shadow.slot shadow.len (bytes store.buffers.cache.device) (bytes now.buffers.cache.device)
+          → option_map (beside g) (bytes now.buffers.cache.device) ≡ option_map (beside g) (bytes store.buffers.cache.device)
+      by-test true w =
+          beside-tail result g now.tails level shadow.slot shadow.len (bytes store.buffers.cache.device) (bytes now.buffers.cache.device) shape.block device.whole place
+          (tail-many g now.tails level shape.block device tails-now) (long-of g store.shadows store.tails (bytes store.buffers.cache.device) sound.cells.backed) w
+      by-test false w = ap (λ (x : Option (List ℕ)). option_map (beside g) x) w.0
+
+  -- what the cells of the store were and are, with one geometry and one front
+  spots-now : (l s i : ℕ) → spots_of (cells_of (bytes now.buffers.cache.device) now) l s i ≡ spots_of (record { geometry = g; front = store.front; lower = lower-now }) l s i
+  spots-now l s i = ap (λ (x : Geometry). spots_of (record { geometry = x; front = now.front; lower = lower-now }) l s i) same ∙ ap (λ (x : FrontCells). spots_of (record { geometry = g; front = x; lower = lower-now }) l s i) front
+
+  pub pushed-around : StaysAround (held_of bytes store) (held_of bytes now) level
+  pushed-around = around-by bytes store now level same writing.stays.made (λ l apart. pushed.shadow.others l apart) told-both
+
+  answers : (r : Result T PushFault) → r ≡ result → MetFault r → HasCauseOf r (counts store.buffers.cache.device).faults (counts now.buffers.cache.device).faults → PushAnswers (held_of bytes store) (held_of bytes now) (spent_of counts store) (spent_of counts now) level cell r
+  answers (Ok value) e fault cause = (room, spots-now level shadow.slot shadow.len ∙ push-end g store.front lower lower-now level cell result shape device room pushed sound.cells.backed value (sym e))
+  answers (Err Device) e fault cause = (room, cause)
+  answers (Err (Overfull l)) e fault cause = absurd fault
+
+  pub pushed-meets : Pushes (held_of bytes store) (held_of bytes now) (spent_of counts store) (spent_of counts now) level cell result
+  pushed-meets = record {
+    around = pushed-around;
+    answer = answers result refl pushed.fault (cause-of result writing.called);
+    calm = calm-of result pushed.fault writing.called;
+    shadow_is = pushed.shadow.is ∙ ap (λ (n : ℕ). after_push n shadow result) (sym (span-is g shape.block));
+    others_stay = λ l s i apart. spots-now l s i ∙ push-stays g store.front lower lower-now level cell result shape device room pushed sound.cells.backed l s i apart;
+  }
+
+  pub pushed-spends : PushSpends (held_of bytes store) (spent_of counts store) (spent_of counts now) level result
+  pushed-spends = record {
+    writes = spends-writes counts kept store now level shadow.slot shadow.len (fills g shadow.len) result (push_ticks result) shape.block device.whole (λ _. place) writing same ticked;
+    only_full = λ part.
+        spends-nothing counts kept store now level shadow.slot shadow.len (fills g shadow.len) result (push_ticks result) shape.block device.whole (λ _. place) writing same ticked
+        (not-full (λ e. part (ap (λ (n : ℕ). (shadow.len + 1) % n) (span-is g shape.block) ∙ e)));
+  }
+    where
+      not-full : ((shadow.len + 1) % block_cells g ≢ 0) → fills g shadow.len ≡ false
+      not-full apart = by-test (fills g shadow.len) refl
+        where
+          by-test : (t : Bool) → fills g shadow.len ≡ t → t ≡ false
+          by-test true e = absurd (apart (eqb-true ((shadow.len + 1) % block_cells g) 0 e))
+          by-test false e = refl

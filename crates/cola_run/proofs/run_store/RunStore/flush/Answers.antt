@@ -1,0 +1,40 @@
+use Rattle.std.proofs.Common.{◌≡◌, ◌≢◌, ◌⊎◌, ◌<◌, ◌≤◌, ◌+◌, ◌-◌, ◌*◌, ◌^◌, ◌/◌, ℕ, List, [], ◌∷◌, length, replicate, get_or, Option, Some, None, Result, Ok, Err, true, false, inl, inr, refl, sym, ap, subst, ◌∙◌, arith}
+use Rattle.std.specs.Prelude.{IfSome, OnOk}
+use Rattle.cola_cell.specs.declared.format.Format.{Format}
+use Rattle.cola_cell.specs.declared.sink.Shadow.{Shadow}
+use Rattle.cola_cell.specs.Flat.{shadow_at}
+use Rattle.cola_cell.specs.Format.{width}
+use Rattle.cola_device.specs.declared.device.DeviceFault.{DeviceFault}
+use Rattle.cola_device.specs.Bytes.{HasRange, Wrote}
+use Rattle.cola_front.specs.Front.{FrontCells, IsFront, block_size, image}
+use Rattle.cola_layout.specs.declared.geometry.Geometry.{Geometry}
+use Rattle.cola_layout.proofs.Powers.{power-le}
+use Rattle.cola_run.specs.Cells.{IsOnDevice, Lower, AreCells, block_cells, block_bytes, file_bytes, file_blocks, device_levels, spots_of, IsShadow, IsShape, IsBacked}
+use Rattle.cola_run.specs.Store.{Store, IsStore, cells_of, held_of, spent_of, kept_of}
+use Rattle.cola_run.specs.Saving.{IsFlushed, IsLoaded, SameReads, SameBehind, AreFileSpots, header_shadow}
+use Rattle.cola_run.specs.Loading.{SameCells}
+use Rattle.std.proofs.lemmas.List.{with_items_is}
+use Rattle.std.specs.Vec.{with_items}
+use Rattle.cola_buffers.specs.Blocks.{Made}
+use Rattle.cola_run.proofs.run_store.RunStore.flush.Goals as goal
+
+pub returns-clause-reads : goal.returns-clause-reads
+returns-clause-reads g c =
+    let i = c.self.inside in
+    let view : Store _ = record { buffers = i.buffers; geometry = i.geometry; front = i.front; shadows = i.shadows.items; tails = i.tails.items; ticked = i.ticked } in
+    let told = g.D.Device.bytes in
+    let shadows : List Shadow = (with_items i.shadows c.flush_parts.new.shadows).items in
+    let back : shadows ≡ c.flush_parts.new.shadows = with_items_is i.shadows c.flush_parts.new.shadows (c.flush_parts.auto.shadows ∙ c.deref_mut.ensures.len) in
+    let now : Store _ = record view { buffers = c.flush_parts.new.buffers; shadows = shadows } in
+    let reads : SameCells i.geometry i.front (cells_of (told i.buffers.cache.device) view).lower (cells_of (told c.flush_parts.new.buffers.cache.device) now).lower =
+    subst (λ (xs : List Shadow). SameCells i.geometry i.front (cells_of (told i.buffers.cache.device) view).lower (record { told = told c.flush_parts.new.buffers.cache.device; shadows = xs; tails = i.tails.items })) (sym back)
+    (subst (λ (xs : List Shadow). SameCells i.geometry i.front (record { told = told i.buffers.cache.device; shadows = xs; tails = i.tails.items }) (record { told = told c.flush_parts.new.buffers.cache.device; shadows = c.flush_parts.new.shadows; tails = i.tails.items })) c.deref_mut.ensures.value
+    (subst (λ (ts : List ℕ). SameCells i.geometry i.front (record { told = told i.buffers.cache.device; shadows = c.deref_mut.result.now; tails = ts }) (record { told = told c.flush_parts.new.buffers.cache.device; shadows = c.flush_parts.new.shadows; tails = ts })) c.deref.ensures.value
+    c.flush_parts.ensures.reads)) in
+    subst (λ (s : Store _). SameReads (held_of told s) (held_of told now)) c.self.view_is
+    (record {
+      fixed_is = ap (λ (m : Made). record { levels = i.geometry.bottom + 1; doublings = i.geometry.block_exp - 3; format = i.geometry.format; made = record { reads = m.reads; faults = m.faults } }) c.flush_parts.ensures.writing.stays.made;
+      slots_stay = reads.slots_stay;
+      lens_stay = reads.lens_stay;
+      spots_stay = reads.spots_stay;
+    })

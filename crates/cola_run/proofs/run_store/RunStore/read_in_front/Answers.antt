@@ -1,0 +1,42 @@
+use Rattle.std.proofs.Common.{◌≡◌, ◌<◌, ◌*◌, ◌^◌, ◌+◌, ◌≤◌, ap, sym, subst, ◌∙◌, arith, ℕ, Option}
+use Rattle.std.specs.Prelude.{IfSome}
+use Rattle.cola_cell.specs.declared.format.Format.{Format}
+use Rattle.cola_cell.specs.declared.cell.Cell.{Cell}
+use Rattle.cola_cell.specs.Format.{CellFits}
+use Rattle.cola_cell.specs.Places.{number_of, IsPlace}
+use Rattle.cola_cell.specs.Spent.{ReadAnswers}
+use Rattle.cola_front.specs.Front.{FrontCells, cell_at}
+use Rattle.cola_layout.proofs.Places.{front-below}
+use Rattle.cola_layout.proofs.Powers.{next_power}
+use Rattle.cola_run.specs.Store.{Store, held_of}
+use Rattle.cola_run.proofs.Reading.{front-says, front-fits}
+use Rattle.cola_run.proofs.run_store.RunStore.read_in_front.Goals as goal
+
+pub read-requires-clause-within : goal.read-requires-clause-within
+read-requires-clause-within g c =
+    let i = c.self.inside in
+    let b = i.geometry.block_exp in
+    let slot = c.requires.place.slot_in in
+    let low : c.args.level + 2 < b = subst (λ (s : Store _). c.args.level + 2 < s.geometry.block_exp) (sym c.self.view_is) c.requires.front in
+    let below : number_of c.args.level c.args.slot c.args.index < 2 ^ (b + 1) = front-below b c.args.level c.args.slot c.args.index (omega (arith, slot)) c.requires.place.index_in low in
+    let twice : 2 ^ (b + 1) ≡ 2 ^ b + 2 ^ b = next_power b (b + 1) (omega arith) in
+    let block : i.front.block ≡ 2 ^ b = c.self.invariant.cells.shape.front_block in
+    let number = c.place-number.ensures.value in
+    omega (arith, below, twice, block, number)
+
+pub returns : goal.returns
+returns g c =
+    let i = c.self.inside in
+    let view : Store _ = record { buffers = i.buffers; geometry = i.geometry; front = i.front; shadows = i.shadows.items; tails = i.tails.items; ticked = i.ticked } in
+    let format : i.front.format ≡ i.geometry.format = c.self.invariant.cells.shape.format in
+    let fits : IfSome c.read.result (CellFits i.geometry.format) =
+    subst (λ (f : Format). IfSome c.read.result (CellFits f)) format
+    (subst (λ (x : Option Cell). IfSome x (CellFits i.front.format)) (sym c.read.ensures.value) (front-fits i.front.format (cell_at i.front c.place-number.result) (c.read.ensures.sound.comes_back c.place-number.result))) in
+    record {
+      answer = λ faults.
+          subst (λ (s : Store _). ReadAnswers (held_of g.D.Device.bytes s) faults faults c.args.level c.args.slot c.args.index c.cell_or_bad.result) c.self.view_is
+          (front-says g.D.Device.bytes view faults c.args.level c.args.slot c.args.index c.place-number.result c.read.result c.cell_or_bad.result
+          (subst (λ (s : Store _). IsPlace (s.geometry.bottom + 1) c.args.level c.args.slot c.args.index) (sym c.self.view_is) c.requires.place)
+          (subst (λ (s : Store _). c.args.level + 2 < s.geometry.block_exp) (sym c.self.view_is) c.requires.front)
+          (c.read.ensures.value ∙ ap (λ (n : ℕ). cell_at i.front n) c.place-number.ensures.value) fits c.place-number.ensures.value c.cell_or_bad.ensures);
+    }

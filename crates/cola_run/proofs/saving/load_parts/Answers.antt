@@ -1,0 +1,54 @@
+use Rattle.std.proofs.Common.{◌≡◌, ◌≢◌, ◌⊎◌, ◌<◌, ◌≤◌, ◌+◌, ◌-◌, ◌*◌, ◌^◌, ◌/◌, ℕ, List, [], ◌∷◌, length, replicate, get_or, Option, Some, None, Result, Ok, Err, true, false, inl, inr, refl, sym, ap, subst, ◌∙◌, arith}
+use Rattle.std.specs.Prelude.{IfSome, OnOk}
+use Rattle.cola_cell.specs.declared.format.Format.{Format}
+use Rattle.cola_cell.specs.declared.sink.Shadow.{Shadow}
+use Rattle.cola_cell.specs.Flat.{shadow_at}
+use Rattle.cola_cell.specs.Format.{width}
+use Rattle.cola_device.specs.declared.device.DeviceFault.{DeviceFault}
+use Rattle.cola_device.specs.Bytes.{HasRange, Wrote}
+use Rattle.cola_front.specs.Front.{FrontCells, IsFront, block_size, image}
+use Rattle.cola_layout.specs.declared.geometry.Geometry.{Geometry}
+use Rattle.cola_layout.proofs.Powers.{power-le}
+use Rattle.cola_run.specs.Cells.{IsOnDevice, Lower, AreCells, block_cells, block_bytes, file_bytes, file_blocks, device_levels, spots_of, IsShadow, IsShape, IsBacked}
+use Rattle.cola_run.specs.Store.{Store, IsStore, cells_of, held_of, spent_of, kept_of}
+use Rattle.cola_run.specs.Saving.{IsFlushed, IsLoaded, SameReads, SameBehind, AreFileSpots, header_shadow}
+use Rattle.cola_run.specs.Loading.{SameCells}
+use Rattle.cola_run.specs.Saving.{AreFrontRunsSpelled, IsLowestBad}
+use Rattle.cola_image.specs.Cells.{file_spots}
+use Rattle.cola_layout.specs.declared.header.Header.{Header}
+use Rattle.cola_front.specs.Front.{IsLoaded as IsFrontLoaded}
+use Rattle.cola_run.specs.Loading.{BadInFront, NoneBadInFront}
+use Rattle.cola_run.proofs.Fronts.{runs-spelled, lowest-bad, runs-fit}
+use Rattle.cola_run.proofs.saving.load_parts.Goals as goal
+
+-- of a content that is told
+if-so : {A : Type 0} (x : Option A) (P Q : A → Type 0) → ((a : A) → P a → Q a) → IfSome x P → IfSome x Q
+if-so None P Q f h = tt
+if-so (Some a) P Q f h = f a h
+
+pub load_front-requires-clause-many : goal.load_front-requires-clause-many
+load_front-requires-clause-many g c =
+    let b = c.args.geometry.now.block_fits.fits in
+    let more : 2 ^ 2 ≤ file_blocks c.args.geometry.now = power-le 2 (c.args.geometry.now.bottom + 4 - c.args.geometry.now.block_exp) (omega (arith, b)) in
+    let third = c.requires.many in
+    omega (arith, more, third)
+
+pub returns-in-Some-clause-answer : goal.returns-in-Some-clause-answer
+returns-in-Some-clause-answer g c =
+    let h = c.args.header.now in
+    let fits = h.geometry.block_fits.fits in
+    let shape = c.load_front.ensures.shape in
+    let format : c.load_front.new.front.format ≡ h.geometry.format = shape.format ∙ c.requires.shape.format ∙ ap (λ (x : Geometry). x.format) (sym c.requires.geometry) in
+    let block : c.load_front.new.front.block ≡ 2 ^ h.geometry.block_exp = shape.block ∙ c.requires.shape.front_block ∙ ap (λ (x : Geometry). 2 ^ x.block_exp) (sym c.requires.geometry) in
+    if-so (g.D.Device.bytes c.args.buffers.now.cache.device) (λ bytes. IsFrontLoaded bytes c.load_front.new.front) (λ bytes. IsLowestBad h (file_spots h.geometry.format bytes) c.in-Some.number)
+    (λ bytes loaded. lowest-bad h c.load_front.new.front bytes loaded format block (runs-fit h) (omega (arith, fits)) c.in-Some.number c.in-Some.ensures.some) c.in-Ok.ensures.loaded
+
+pub returns-in-None-clause-answer : goal.returns-in-None-clause-answer
+returns-in-None-clause-answer g c =
+    let h = c.args.header.now in
+    let fits = h.geometry.block_fits.fits in
+    let shape = c.load_front.ensures.shape in
+    let format : c.load_front.new.front.format ≡ h.geometry.format = shape.format ∙ c.requires.shape.format ∙ ap (λ (x : Geometry). x.format) (sym c.requires.geometry) in
+    let block : c.load_front.new.front.block ≡ 2 ^ h.geometry.block_exp = shape.block ∙ c.requires.shape.front_block ∙ ap (λ (x : Geometry). 2 ^ x.block_exp) (sym c.requires.geometry) in
+    if-so (g.D.Device.bytes c.args.buffers.now.cache.device) (λ bytes. IsFrontLoaded bytes c.load_front.new.front) (λ bytes. AreFrontRunsSpelled h (file_spots h.geometry.format bytes))
+    (λ bytes loaded. runs-spelled h c.load_front.new.front bytes loaded format block (runs-fit h) (omega (arith, fits)) (c.first_bad.ensures.none c.in-None.is)) c.in-Ok.ensures.loaded

@@ -1,0 +1,6 @@
+pub mod Cells
+pub mod Store
+pub mod Parts
+pub mod Turns
+pub mod Saving
+pub mod Loading

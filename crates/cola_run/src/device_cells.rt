@@ -1,0 +1,287 @@
+//! The cells of the levels on the device: in the tail of a shadow, or in a block.
+ghost use Rattle.std.specs.Prelude.{◌≡◌, ◌+◌, ◌*◌, ◌/◌, ◌%◌, ◌^◌, ◌≤◌, ◌<◌, ◌==◌, not, true, false, ℕ, Option, Some, length, slice_set};
+ghost use Rattle.cola_cell.specs.Flat.{shadow_at, found};
+ghost use Rattle.cola_cell.specs.Format.{width, CellFits};
+ghost use Rattle.cola_cell.specs.Places.{slot_size, number_of, IsPlace};
+ghost use Rattle.cola_buffers.specs.Blocks.{last_in};
+ghost use Rattle.cola_run.specs.Cells.{IsOnDevice, block_cells, block_bytes, file_blocks, device_levels, tail_number, block_number, is_in_tail};
+ghost use Rattle.cola_run.specs.Parts.{Finds, OneShadow, WroteTail, MetFault, IsPushed, IsFinished, fills};
+ghost use Rattle.cola_run.specs.Turns.{Turns, Writing};
+
+use cola_buffers::Buffers;
+use cola_cell::{Cell, Item, PushFault, ReadFault, Shadow};
+use cola_device::Device;
+use cola_front::block::{cell_in, know_spelling, put_cell};
+use cola_front::Front;
+use cola_layout::Geometry;
+
+/// The number of cells of a block.
+pub(crate) fn cells_of_block(geometry: &Geometry) -> u32
+    ensures value { result ≡ block_cells geometry.now }
+    ensures least { 8 ≤ result }
+    ensures most { result ≤ 512 }
+{
+    1 << geometry.block_exp
+}
+
+/// The number of cells of a slot of a level.
+pub(crate) fn cells_of_slot(level: u8) -> u32
+    requires { level ≤ 22 }
+    ensures { result ≡ slot_size level }
+{
+    1 << (level + 2)
+}
+
+/// Whether a cell of a slot is in the tail of its level, whose shadow stands so.
+pub(crate) fn has_in_tail(geometry: &Geometry, shadow: Shadow, slot: u8, index: u32) -> bool
+    ensures { result ≡ is_in_tail (block_cells geometry.now) shadow slot index }
+{
+    let block = cells_of_block(geometry);
+    slot == shadow.slot && index / block == shadow.len / block && index < shadow.len
+}
+
+/// The number of a cell among those of the tails.
+pub(crate) fn place_in_tails(geometry: &Geometry, level: u8, index: u32) -> usize
+    requires { IsOnDevice geometry.now level }
+    ensures value { result ≡ tail_number geometry.now level index }
+    ensures within { result < block_cells geometry.now * device_levels geometry.now }
+    ensures few { block_cells geometry.now * device_levels geometry.now ≤ 10752 }
+{
+    let block = cells_of_block(geometry) as usize;
+    block * (level + 2 - geometry.block_exp) as usize + index as usize % block
+}
+
+/// Where the tail of a level begins among the tails, in bytes.
+pub(crate) fn begin_of_tail(geometry: &Geometry, level: u8) -> usize
+    requires { IsOnDevice geometry.now level }
+    ensures value { result ≡ width geometry.now.format * tail_number geometry.now level 0 }
+    ensures fits { result + block_bytes geometry.now ≤ width geometry.now.format * (block_cells geometry.now * device_levels geometry.now) }
+    ensures few { result ≤ 1376256 }
+{
+    geometry.format.width() * place_in_tails(geometry, level, 0)
+}
+
+/// How the shadow of a level stands.
+pub(crate) fn shadow_of(shadows: &[Shadow], level: u8) -> Shadow
+    requires { level < length shadows.now }
+    ensures { result ≡ shadow_at shadows.now level }
+{
+    shadows[level as usize]
+}
+
+/// Puts another shadow in the place of the level's.
+pub(crate) fn set_shadow(shadows: &mut [Shadow], level: u8, shadow: Shadow)
+    requires { level < length shadows.old }
+    ensures { OneShadow shadows.old shadows.new level shadow }
+{
+    shadows[level as usize] = shadow;
+}
+
+/// The same shadow, of which not every cell needs to be on the device.
+fn unsaved(shadow: Shadow) -> Shadow
+    ensures { result ≡ record shadow { saved = false } }
+{
+    let Shadow { slot, len, .. } = shadow;
+    let saved = false;
+    Shadow { slot, len, saved }
+}
+
+/// The same shadow, whose cells are on the device.
+pub(crate) fn saved(shadow: Shadow) -> Shadow
+    ensures { result ≡ record shadow { saved = true } }
+{
+    let Shadow { slot, len, .. } = shadow;
+    let saved = true;
+    Shadow { slot, len, saved }
+}
+
+/// The number of the block in which a place lies, counted from the first byte of the file.
+pub(crate) fn block_at(geometry: &Geometry, level: u8, slot: u8, index: u32) -> u64
+    requires { IsPlace (geometry.now.bottom + 1) level slot index }
+    ensures value { result ≡ block_number geometry.now level slot index }
+    ensures within { result < file_blocks geometry.now }
+{
+    geometry.place(level, slot, index) / cells_of_block(geometry) as u64
+}
+
+/// The cell, or the number of the cell whose bytes spell none.
+pub(crate) fn cell_or_bad(cell: Option<Cell>, number: u64) -> Result<Cell, ReadFault>
+    ensures { result ≡ found number cell }
+{
+    let _item: Option<Item> = None;
+    cell.ok_or(ReadFault::BadCell(number))
+}
+
+/// Reads a cell of a level on the device by way of a buffer.
+pub(crate) fn read_by_buffer<D: Device>(
+    buffers: &mut Buffers<D>,
+    geometry: &Geometry,
+    buffer: usize,
+    level: u8,
+    slot: u8,
+    index: u32,
+) -> Result<Cell, ReadFault>
+    requires buffer { buffer < length buffers.old.lasts }
+    requires place { IsPlace (geometry.now.bottom + 1) level slot index }
+    requires size { buffers.old.cache.size ≡ block_bytes geometry.now }
+    requires many { buffers.old.many ≡ file_blocks geometry.now }
+    ensures finds { Finds (D.bytes buffers.old.cache.device) geometry.now.format (number_of level slot index) result }
+    ensures turns { Turns D.counts buffers.old buffers.new buffer (block_number geometry.now level slot index) result }
+    ensures bytes_stay { D.bytes buffers.new.cache.device ≡ D.bytes buffers.old.cache.device }
+    ensures kept { D.kept buffers.new.cache.device ≡ D.kept buffers.old.cache.device }
+{
+    let _item: Option<Item> = None;
+    let number = geometry.place(level, slot, index);
+    match buffers.turn_to(buffer, block_at(geometry, level, slot, index)) {
+        Ok(()) => {
+            let place = number % cells_of_block(geometry) as u64;
+            let cell = cell_in(geometry.format, buffers.copy(buffer), place as usize);
+            cell_or_bad(cell, number)
+        }
+        Err(_) => Err(ReadFault::Device),
+    }
+}
+
+/// Writes the tail of a level to the block of a slot in which an index lies.
+pub(crate) fn write_tail<D: Device>(
+    buffers: &mut Buffers<D>,
+    geometry: &Geometry,
+    tails: &[u8],
+    level: u8,
+    slot: u8,
+    index: u32,
+) -> Result<(), PushFault>
+    requires level { IsOnDevice geometry.now level }
+    requires place { IsPlace (geometry.now.bottom + 1) level slot index }
+    requires tails { length tails.now ≡ width geometry.now.format * (block_cells geometry.now * device_levels geometry.now) }
+    requires size { buffers.old.cache.size ≡ block_bytes geometry.now }
+    requires many { buffers.old.many ≡ file_blocks geometry.now }
+    ensures wrote { WroteTail result geometry.now tails.now level slot index (D.bytes buffers.old.cache.device) (D.bytes buffers.new.cache.device) }
+    ensures writing { Writing D.counts D.kept true buffers.old buffers.new (block_number geometry.now level slot index) result }
+    ensures fault { MetFault result }
+{
+    let size = buffers.block_size();
+    let at = begin_of_tail(geometry, level);
+    let block = block_at(geometry, level, slot, index);
+    match buffers.write_block(block, &tails[at..at + size]) {
+        Ok(()) => Ok(()),
+        Err(_) => Err(PushFault::Device),
+    }
+}
+
+/// Whether a push to a shadow of this length fills a block.
+fn fills_block(geometry: &Geometry, len: u32) -> bool
+    requires { len < 2 ^ 24 }
+    ensures { result ≡ fills geometry.now len }
+{
+    (len + 1) % cells_of_block(geometry) == 0
+}
+
+/// A shadow that is one cell longer: it is on the device where its last block is full.
+pub(crate) fn longer(geometry: &Geometry, shadow: Shadow) -> Shadow
+    requires { shadow.len < 2 ^ 24 }
+    ensures { result ≡ record { slot = shadow.slot; len = shadow.len + 1; saved = fills geometry.now shadow.len } }
+{
+    Shadow {
+        slot: shadow.slot,
+        len: shadow.len + 1,
+        saved: fills_block(geometry, shadow.len),
+    }
+}
+
+/// Appends a cell to the shadow of a level on the device.
+pub(crate) fn push_on_device<D: Device>(
+    buffers: &mut Buffers<D>,
+    geometry: &Geometry,
+    shadows: &mut [Shadow],
+    tails: &mut [u8],
+    level: u8,
+    cell: &Cell,
+) -> Result<(), PushFault>
+    requires level { IsOnDevice geometry.now level }
+    requires shadows { level < length shadows.old }
+    requires place { IsPlace (geometry.now.bottom + 1) level (shadow_at shadows.old level).slot (shadow_at shadows.old level).len }
+    requires fits { CellFits geometry.now.format cell.now }
+    requires tails { length tails.old ≡ width geometry.now.format * (block_cells geometry.now * device_levels geometry.now) }
+    requires size { buffers.old.cache.size ≡ block_bytes geometry.now }
+    requires many { buffers.old.many ≡ file_blocks geometry.now }
+    ensures pushed { IsPushed geometry.now (record { told = D.bytes buffers.old.cache.device; shadows = shadows.old; tails = tails.old })
+        (record { told = D.bytes buffers.new.cache.device; shadows = shadows.new; tails = tails.new }) level cell.now result }
+    ensures writing { Writing D.counts D.kept (fills geometry.now (shadow_at shadows.old level).len) buffers.old buffers.new
+        (block_number geometry.now level (shadow_at shadows.old level).slot (shadow_at shadows.old level).len) result }
+{
+    let _item: Option<Item> = None;
+    know_spelling(geometry.format, cell);
+    let shadow = shadow_of(shadows, level);
+    // Until the cell is counted, not all of the tail is on the device.
+    set_shadow(shadows, level, unsaved(shadow));
+    let place = place_in_tails(geometry, level, shadow.len);
+    put_cell(geometry.format, tails, place, &Some(*cell));
+    if !fills_block(geometry, shadow.len) {
+        set_shadow(shadows, level, longer(geometry, shadow));
+        return Ok(());
+    }
+    match write_tail(buffers, geometry, tails, level, shadow.slot, shadow.len) {
+        Ok(()) => {
+            set_shadow(shadows, level, longer(geometry, shadow));
+            Ok(())
+        }
+        Err(fault) => Err(fault),
+    }
+}
+
+/// Writes the tail of a level on the device where it is not there.
+pub(crate) fn finish_on_device<D: Device>(
+    buffers: &mut Buffers<D>,
+    geometry: &Geometry,
+    shadows: &mut [Shadow],
+    tails: &[u8],
+    level: u8,
+) -> Result<(), PushFault>
+    requires level { IsOnDevice geometry.now level }
+    requires shadows { level < length shadows.old }
+    requires place { (shadow_at shadows.old level).saved ≡ false → IsPlace (geometry.now.bottom + 1) level (shadow_at shadows.old level).slot (shadow_at shadows.old level).len }
+    requires tails { length tails.now ≡ width geometry.now.format * (block_cells geometry.now * device_levels geometry.now) }
+    requires size { buffers.old.cache.size ≡ block_bytes geometry.now }
+    requires many { buffers.old.many ≡ file_blocks geometry.now }
+    ensures finished { IsFinished geometry.now (record { told = D.bytes buffers.old.cache.device; shadows = shadows.old; tails = tails.now })
+        (record { told = D.bytes buffers.new.cache.device; shadows = shadows.new; tails = tails.now }) level result }
+    ensures writing { Writing D.counts D.kept (not (shadow_at shadows.old level).saved) buffers.old buffers.new
+        (block_number geometry.now level (shadow_at shadows.old level).slot (shadow_at shadows.old level).len) result }
+{
+    let shadow = shadow_of(shadows, level);
+    if shadow.saved {
+        return Ok(());
+    }
+    match write_tail(buffers, geometry, tails, level, shadow.slot, shadow.len) {
+        Ok(()) => {
+            set_shadow(shadows, level, saved(shadow));
+            Ok(())
+        }
+        Err(fault) => Err(fault),
+    }
+}
+
+/// Appends a cell to the shadow of a level of the front.
+pub(crate) fn push_in_front(
+    front: &mut Front,
+    geometry: &Geometry,
+    shadows: &mut [Shadow],
+    level: u8,
+    cell: &Cell,
+)
+    requires level { level + 2 < geometry.now.block_exp }
+    requires shadows { level < length shadows.old }
+    requires place { IsPlace (geometry.now.bottom + 1) level (shadow_at shadows.old level).slot (shadow_at shadows.old level).len }
+    requires format { front.old.format ≡ geometry.now.format }
+    requires block { front.old.block ≡ block_cells geometry.now }
+    requires fits { CellFits geometry.now.format cell.now }
+    ensures front { front.new ≡ record front.old { cells = slice_set front.old.cells (number_of level (shadow_at shadows.old level).slot (shadow_at shadows.old level).len) (Some cell.now) } }
+    ensures shadow { OneShadow shadows.old shadows.new level (record { slot = (shadow_at shadows.old level).slot; len = (shadow_at shadows.old level).len + 1; saved = fills geometry.now (shadow_at shadows.old level).len }) }
+    ensures within { number_of level (shadow_at shadows.old level).slot (shadow_at shadows.old level).len < length front.old.cells }
+{
+    let _item: Option<Item> = None;
+    let shadow = shadow_of(shadows, level);
+    front.write(geometry.place(level, shadow.slot, shadow.len), cell);
+    set_shadow(shadows, level, longer(geometry, shadow));
+}

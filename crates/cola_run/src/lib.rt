@@ -1,0 +1,9 @@
+//! The cells of runs over a device: in the front, in the tails of shadows, and in blocks of the device.
+#![tactic(auto)]
+
+mod device_cells;
+mod run_store;
+mod saving;
+mod traits;
+
+pub use run_store::RunStore;

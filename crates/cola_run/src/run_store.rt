@@ -1,0 +1,156 @@
+//! The cells of a store over a device.
+ghost use Rattle.std.specs.Prelude.{◌≡◌, ◌+◌, ◌*◌, ◌^◌, ◌≤◌, ◌<◌, ℕ, Option, List, IfOk, IfErr, length, replicate};
+ghost use Rattle.cola_cell.specs.Flat.{shadow_at};
+ghost use Rattle.cola_cell.specs.Format.{width};
+ghost use Rattle.cola_cell.specs.Shadows.{emptied};
+ghost use Rattle.cola_device.specs.Bytes.{HasRange};
+ghost use Rattle.cola_buffers.specs.Blocks.{AreFew};
+ghost use Rattle.cola_front.specs.Front.{new_front};
+ghost use Rattle.cola_run.specs.Cells.{block_cells, block_bytes, file_bytes, file_blocks, device_levels};
+ghost use Rattle.cola_run.specs.Store.{Store, IsStore, new_store};
+
+use crate::device_cells::cells_of_block;
+use cola_buffers::Buffers;
+use cola_cell::{Format, Shadow};
+use cola_device::Device;
+use cola_front::Front;
+use cola_layout::Geometry;
+use std::alloc::{AllocError, Global};
+use std::marker::Model;
+
+/// The cells of a store's runs over the device `D`, which has the store's file.
+///
+/// The levels of the front are in memory. Of the other levels, the cells of a shadow's last block are in memory until
+/// that is full or the shadow is finished, and blocks that are read stay in memory: one for searches and one for each
+/// reader and level, above a cache of blocks. Only [`RunStore::new`] takes memory.
+#[derive(Drop)]
+pub struct RunStore<D: Device> {
+    pub(crate) buffers: Buffers<D>,
+    pub(crate) geometry: Geometry,
+    pub(crate) front: Front,
+    pub(crate) shadows: Vec<Shadow>,
+    pub(crate) tails: Vec<u8>,
+    pub(crate) ticked: u64,
+}
+
+impl<D: Device> Model for RunStore<D> {
+    ghost use Rattle.cola_run.specs.Store.{Store, IsStore};
+
+    ghost Value = { Store D };
+
+    ghost view = { λ s. record {
+      buffers = s.buffers;
+      geometry = s.geometry;
+      front = s.front;
+      shadows = s.shadows.items;
+      tails = s.tails.items;
+      ticked = s.ticked;
+    } };
+
+    ghost invariant = { λ s. IsStore (D.bytes s.buffers.cache.device) (record {
+      buffers = s.buffers;
+      geometry = s.geometry;
+      front = s.front;
+      shadows = s.shadows.items;
+      tails = s.tails.items;
+      ticked = s.ticked;
+    }) };
+}
+
+/// The exponent of a block's bytes, counted from 64 bytes on.
+fn exponent_of_bytes(geometry: &Geometry) -> u8
+    ensures bytes { 64 * 2 ^ result ≡ block_bytes geometry.now }
+    ensures least { 3 ≤ result }
+    ensures most { result ≤ 10 }
+{
+    match geometry.format {
+        Format::One => geometry.block_exp,
+        Format::Two => geometry.block_exp + 1,
+    }
+}
+
+/// How many levels are on the device.
+fn levels_on_device(geometry: &Geometry) -> u8
+    ensures value { result ≡ device_levels geometry.now }
+    ensures most { result ≤ 22 }
+    ensures least { 1 ≤ result }
+{
+    geometry.bottom + 3 - geometry.block_exp
+}
+
+/// The front, the shadows and the tails of a store: no cell stands in them yet.
+fn parts(
+    alloc: Global,
+    geometry: &Geometry,
+) -> Result<(Front, Vec<Shadow>, Vec<u8>), AllocError>
+    ensures front { IfOk result (λ made. made.0 ≡ new_front geometry.now.block_exp geometry.now.format) }
+    ensures shadows { IfOk result (λ made. made.1.items ≡ replicate (geometry.now.bottom + 1) (emptied 1)) }
+    ensures tails { IfOk result (λ made. made.2.items ≡ replicate (width geometry.now.format * (block_cells geometry.now * device_levels geometry.now)) 0) }
+{
+    let front = Front::new(alloc, geometry.block_exp, geometry.format)?;
+    let empty = Shadow {
+        slot: 1,
+        len: 0,
+        saved: true,
+    };
+    let shadows = vec![in alloc; empty; geometry.levels() as usize]?;
+    let cells = cells_of_block(geometry) as usize * levels_on_device(geometry) as usize;
+    let tails = vec![in alloc; 0u8; geometry.format.width() * cells]?;
+    Ok((front, shadows, tails))
+}
+
+impl<D: Device> RunStore<D> {
+    /// The cells of a store with this geometry over a device that has its file, behind a cache of up to `cache` blocks.
+    /// No cell is loaded yet: each shadow is empty and stands in slot 1. All memory is taken here, and no call of the
+    /// device is made. An error gives `device` back.
+    pub fn new(
+        alloc: Global,
+        device: D,
+        geometry: Geometry,
+        cache: u32,
+    ) -> Result<RunStore<D>, (D, AllocError)>
+        requires cache { cache ≤ 4096 }
+        requires inside { HasRange (D.bytes device) 0 (file_bytes geometry) }
+        ensures made { IfOk result (λ store. store ≡ new_store device (D.counts device) geometry cache) }
+        ensures back { IfErr result (λ error. error.0 ≡ device) }
+    {
+        let (front, shadows, tails) = match parts(alloc, &geometry) {
+            Ok(parts) => parts,
+            Err(error) => return Err((device, error)),
+        };
+        let blocks = geometry.cells() / cells_of_block(&geometry) as u64;
+        let many = 1 + 3 * levels_on_device(&geometry) as u32;
+        let exponent = exponent_of_bytes(&geometry);
+        match Buffers::new(alloc, device, cache, exponent, blocks, many) {
+            Ok(buffers) => Ok(RunStore {
+                buffers,
+                geometry,
+                front,
+                shadows,
+                tails,
+                ticked: 0,
+            }),
+            Err(error) => Err(error),
+        }
+    }
+
+    /// How many reads and writes the device made. Where the cache has room for every block of the file and the device
+    /// met no fault since the store was made, it made no more reads since then than the file has blocks.
+    pub fn transfers(&self) -> (u64, u64)
+        ensures reads { result.0 ≡ (D.counts self.now.buffers.cache.device).reads }
+        ensures writes { result.1 ≡ (D.counts self.now.buffers.cache.device).writes }
+        ensures few { AreFew self.now.buffers (D.counts self.now.buffers.cache.device) }
+        ensures sound { IsStore (D.bytes self.now.buffers.cache.device) self.now }
+    {
+        let _ = &self.geometry;
+        (self.buffers.reads(), self.buffers.writes())
+    }
+
+    /// The device, as it is. No call of it is made.
+    pub fn into_device(self) -> D
+        ensures { result ≡ self.buffers.cache.device }
+    {
+        let RunStore { buffers, .. } = self;
+        buffers.into_device()
+    }
+}

@@ -1,0 +1,436 @@
+//! Loading a store from its file, and flushing it to that.
+ghost use Rattle.std.specs.Prelude.{◌≡◌, ◌≢◌, ◌⊎◌, ℕ, ◌+◌, ◌*◌, ◌^◌, ◌≤◌, ◌<◌, [], ◌∷◌, Option, IfSome, None, OnOk, OnErr, MatchResult, is_ok, length, true, false};
+ghost use Rattle.cola_outside.specs.Told.{Both};
+ghost use Rattle.cola_cell.specs.Flat.{shadow_at};
+ghost use Rattle.cola_cell.specs.Format.{width};
+ghost use Rattle.cola_cell.specs.Places.{slot_size, number_of, IsPlace};
+ghost use Rattle.cola_cell.specs.Shadows.{emptied};
+ghost use Rattle.cola_device.specs.Bytes.{splice, Wrote};
+ghost use Rattle.cola_device.specs.Counts.{Called};
+ghost use Rattle.cola_buffers.specs.Blocks.{Stays};
+ghost use Rattle.cola_front.specs.Front.{FrontCells, IsFront, SameShape, IsLoaded as IsFrontLoaded, block_size, cell_at, image};
+ghost use Rattle.cola_clock.specs.Clock.{visible_slot};
+ghost use Rattle.cola_layout.specs.Marks.{marks_of};
+ghost use Rattle.cola_layout.specs.declared.header.Header.{Header as AnyHeader};
+ghost use Rattle.cola_run.specs.Cells.{IsOnDevice, IsShadow, IsShape, IsBacked, AreCells, spots_of, block_cells, block_bytes, file_blocks, device_levels};
+ghost use Rattle.cola_run.specs.Store.{IsStore, held_of, kept_of};
+ghost use Rattle.cola_run.specs.Parts.{OneShadow};
+ghost use Rattle.cola_run.specs.Saving.{header_shadow, run_len, IsFrontRun, LoadAnswers, LoadSpends, IsLoaded, SameReads, IsFlushed, SameBehind};
+ghost use Rattle.cola_run.specs.Loading.{BadInRun, BadInLevel, BadInFront, NoneBadInFront, IsReading, IsWriting, loaded_shadow, StaySound, StayRead, SameCells, AreSavedBelow};
+
+use crate::device_cells::{begin_of_tail, block_at, cells_of_block, finish_on_device, set_shadow};
+use crate::run_store::RunStore;
+use cola_buffers::Buffers;
+use cola_cell::{Item, ReadFault, Shadow};
+use cola_clock::visible_slot;
+use cola_device::{Device, DeviceFault, MAX_TRANSFER};
+use cola_front::Front;
+use cola_layout::{Geometry, Header, Marks};
+
+/// The marks of a level by a header, whose runs fit their slots.
+fn marks_at(header: &Header, level: u8) -> Marks
+    requires { level ≤ header.now.geometry.bottom }
+    ensures value { result ≡ marks_of header.now.levels.items level }
+    ensures visible { result.visible ≤ slot_size level }
+    ensures shadow { result.shadow ≤ slot_size level }
+{
+    header.levels[level as usize]
+}
+
+/// In which slot the visible run of a level stands by a header.
+fn visible_at(header: &Header, level: u8) -> u8
+    requires { level ≤ header.now.geometry.bottom }
+    ensures value { result ≡ visible_slot header.now.clock level }
+    ensures within { result < 2 }
+{
+    visible_slot(header.clock, level)
+}
+
+/// How the shadow of a level stands by a header.
+fn shadow_of_header(header: &Header, level: u8) -> Shadow
+    requires { level ≤ header.now.geometry.bottom }
+    ensures value { result ≡ header_shadow header.now level }
+    ensures stands { IsShadow level result }
+{
+    Shadow {
+        slot: 1 - visible_at(header, level),
+        len: marks_at(header, level).shadow,
+        saved: true,
+    }
+}
+
+/// How many cells the run in a slot of a level has by a header.
+fn len_of_run(header: &Header, level: u8, slot: u8) -> u32
+    requires level { level ≤ header.now.geometry.bottom }
+    ensures value { result ≡ run_len header.now level slot }
+    ensures within { result ≤ slot_size level }
+{
+    let marks = marks_at(header, level);
+    if slot == visible_at(header, level) {
+        return marks.visible;
+    }
+    marks.shadow
+}
+
+/// The first cell of a run of the front whose bytes spell none, by its number.
+fn bad_in_run(front: &Front, geometry: &Geometry, level: u8, slot: u8, len: u32) -> Option<u64>
+    requires level { level + 2 < geometry.now.block_exp }
+    requires within_bottom { level ≤ geometry.now.bottom }
+    requires slot { slot < 2 }
+    requires len { len ≤ slot_size level }
+    requires block { front.now.block ≡ block_cells geometry.now }
+    ensures some { IfSome result (λ number. BadInRun front.now level slot len number) }
+    ensures none { result ≡ None → (index : ℕ) → index < len → cell_at front.now (number_of level slot index) ≢ None }
+{
+    for index in 0..len {
+        let number = geometry.place(level, slot, index);
+        if front.read(number).is_none() {
+            return Some(number);
+        }
+    }
+    None
+}
+
+/// The first cell of the runs of a level of the front whose bytes spell none, by its number.
+fn bad_in_level(front: &Front, geometry: &Geometry, header: &Header, level: u8) -> Option<u64>
+    requires level { level + 2 < geometry.now.block_exp }
+    requires within_bottom { level ≤ geometry.now.bottom }
+    requires geometry { header.now.geometry ≡ geometry.now }
+    requires block { front.now.block ≡ block_cells geometry.now }
+    ensures some { IfSome result (λ number. BadInLevel header.now front.now level number) }
+    ensures none { result ≡ None → (slot index : ℕ) → slot < 2 → index < run_len header.now level slot → cell_at front.now (number_of level slot index) ≢ None }
+{
+    match bad_in_run(front, geometry, level, 0, len_of_run(header, level, 0)) {
+        Some(number) => Some(number),
+        None => bad_in_run(front, geometry, level, 1, len_of_run(header, level, 1)),
+    }
+}
+
+/// The first cell of the runs of the front whose bytes spell none, by its number.
+fn first_bad(front: &Front, geometry: &Geometry, header: &Header) -> Option<u64>
+    requires geometry { header.now.geometry ≡ geometry.now }
+    requires block { front.now.block ≡ block_cells geometry.now }
+    ensures some { IfSome result (λ number. BadInFront header.now front.now number) }
+    ensures none { result ≡ None → NoneBadInFront header.now front.now }
+{
+    for level in 0..geometry.front_levels() {
+        match bad_in_level(front, geometry, header, level) {
+            Some(number) => return Some(number),
+            None => {}
+        }
+    }
+    None
+}
+
+/// Reads blocks 0 and 1 into the front.
+fn load_front<D: Device>(
+    buffers: &mut Buffers<D>,
+    front: &mut Front,
+) -> Result<(), DeviceFault>
+    requires buffer { 0 < length buffers.old.lasts }
+    requires many { 1 < buffers.old.many }
+    requires size { buffers.old.cache.size ≡ block_size front.old }
+    ensures loaded { OnOk result (IfSome (D.bytes buffers.old.cache.device) (λ bytes. IsFrontLoaded bytes front.new)) }
+    ensures shape { SameShape front.old front.new }
+    ensures reading { IsReading D.bytes D.counts D.kept buffers.old buffers.new 2 result }
+{
+    match buffers.turn_to(0, 0) {
+        Ok(()) => {
+            front.take_first(buffers.copy(0));
+            match buffers.turn_to(0, 1) {
+                Ok(()) => {
+                    front.take_second(buffers.copy(0));
+                    Ok(())
+                }
+                Err(fault) => Err(fault),
+            }
+        }
+        Err(fault) => Err(fault),
+    }
+}
+
+/// An empty shadow.
+fn empty_in(slot: u8) -> Shadow
+    ensures { result ≡ emptied slot }
+{
+    let len = 0;
+    let saved = true;
+    Shadow { slot, len, saved }
+}
+
+/// Puts bytes in the place of those from a place on.
+fn put_at(bytes: &mut [u8], at: usize, new: &[u8])
+    requires { at + length new.now ≤ length bytes.old }
+    ensures { bytes.new ≡ splice bytes.old at new.now }
+{
+    bytes[at..at + new.len()].copy_from_slice(new);
+}
+
+/// Takes a shadow as it stands on the device: where it ends within a block, that is read into its tail.
+fn load_shadow<D: Device>(
+    buffers: &mut Buffers<D>,
+    geometry: &Geometry,
+    shadows: &mut [Shadow],
+    tails: &mut [u8],
+    level: u8,
+    shadow: Shadow,
+) -> Result<(), DeviceFault>
+    requires level { level ≤ geometry.now.bottom }
+    requires shadows { level < length shadows.old }
+    requires stands { IsShadow level shadow }
+    requires saved { shadow.saved ≡ true }
+    requires tails { length tails.old ≡ width geometry.now.format * (block_cells geometry.now * device_levels geometry.now) }
+    requires buffer { 0 < length buffers.old.lasts }
+    requires size { buffers.old.cache.size ≡ block_bytes geometry.now }
+    requires many { buffers.old.many ≡ file_blocks geometry.now }
+    ensures one { OneShadow shadows.old shadows.new level (loaded_shadow result shadow) }
+    ensures sound { StaySound geometry.now (record { told = D.bytes buffers.old.cache.device; shadows = shadows.old; tails = tails.old })
+        (record { told = D.bytes buffers.new.cache.device; shadows = shadows.new; tails = tails.new }) }
+    ensures tails { length tails.new ≡ length tails.old }
+    ensures reading { IsReading D.bytes D.counts D.kept buffers.old buffers.new 1 result }
+{
+    set_shadow(shadows, level, empty_in(shadow.slot));
+    if level < geometry.front_levels() {
+        set_shadow(shadows, level, shadow);
+        return Ok(());
+    }
+    if shadow.len % cells_of_block(geometry) == 0 {
+        set_shadow(shadows, level, shadow);
+        return Ok(());
+    }
+    match buffers.turn_to(0, block_at(geometry, level, shadow.slot, shadow.len)) {
+        Ok(()) => {
+            put_at(tails, begin_of_tail(geometry, level), buffers.copy(0));
+            set_shadow(shadows, level, shadow);
+            Ok(())
+        }
+        Err(fault) => Err(fault),
+    }
+}
+
+/// Takes the shadow of each level as it stands on the device by a header.
+fn load_shadows<D: Device>(
+    buffers: &mut Buffers<D>,
+    geometry: &Geometry,
+    shadows: &mut [Shadow],
+    tails: &mut [u8],
+    header: &Header,
+) -> Result<(), DeviceFault>
+    requires geometry { header.now.geometry ≡ geometry.now }
+    requires shadows { length shadows.old ≡ geometry.now.bottom + 1 }
+    requires tails { length tails.old ≡ width geometry.now.format * (block_cells geometry.now * device_levels geometry.now) }
+    requires buffer { 0 < length buffers.old.lasts }
+    requires size { buffers.old.cache.size ≡ block_bytes geometry.now }
+    requires many { buffers.old.many ≡ file_blocks geometry.now }
+    ensures loaded { OnOk result ((level : ℕ) → level ≤ geometry.now.bottom → shadow_at shadows.new level ≡ header_shadow header.now level) }
+    ensures sound { StaySound geometry.now (record { told = D.bytes buffers.old.cache.device; shadows = shadows.old; tails = tails.old })
+        (record { told = D.bytes buffers.new.cache.device; shadows = shadows.new; tails = tails.new }) }
+    ensures tails { length tails.new ≡ length tails.old }
+    ensures reading { IsReading D.bytes D.counts D.kept buffers.old buffers.new (geometry.now.bottom + 1) result }
+{
+    for level in 0..geometry.levels() {
+        match load_shadow(
+            buffers,
+            geometry,
+            shadows,
+            tails,
+            level,
+            shadow_of_header(header, level),
+        ) {
+            Ok(()) => {}
+            Err(fault) => return Err(fault),
+        }
+    }
+    Ok(())
+}
+
+/// Writes each tail that is not on the device yet.
+fn save_tails<D: Device>(
+    buffers: &mut Buffers<D>,
+    geometry: &Geometry,
+    shadows: &mut [Shadow],
+    tails: &[u8],
+) -> Result<(), DeviceFault>
+    requires shadows { length shadows.old ≡ geometry.now.bottom + 1 }
+    requires shape { (level : ℕ) → IsOnDevice geometry.now level → (shadow_at shadows.old level).saved ≡ false → IsPlace (geometry.now.bottom + 1) level (shadow_at shadows.old level).slot (shadow_at shadows.old level).len }
+    requires tails { length tails.now ≡ width geometry.now.format * (block_cells geometry.now * device_levels geometry.now) }
+    requires size { buffers.old.cache.size ≡ block_bytes geometry.now }
+    requires many { buffers.old.many ≡ file_blocks geometry.now }
+    ensures saved { OnOk result (AreSavedBelow geometry.now shadows.new (geometry.now.bottom + 1)) }
+    ensures sound { StaySound geometry.now (record { told = D.bytes buffers.old.cache.device; shadows = shadows.old; tails = tails.now })
+        (record { told = D.bytes buffers.new.cache.device; shadows = shadows.new; tails = tails.now }) }
+    ensures stays { StayRead geometry.now (record { told = D.bytes buffers.old.cache.device; shadows = shadows.old; tails = tails.now })
+        (record { told = D.bytes buffers.new.cache.device; shadows = shadows.new; tails = tails.now }) }
+    ensures writing { IsWriting D.counts D.kept buffers.old buffers.new (geometry.now.bottom + 1) result }
+{
+    for level in geometry.front_levels()..geometry.levels() {
+        match finish_on_device(buffers, geometry, shadows, tails, level) {
+            Ok(()) => {}
+            Err(_) => return Err(DeviceFault),
+        }
+    }
+    Ok(())
+}
+
+/// Writes block 1, then block 0 with the header as its first 512 bytes.
+fn save_front<D: Device>(
+    buffers: &mut Buffers<D>,
+    front: &Front,
+    header: &[u8; 512],
+) -> Result<(), DeviceFault>
+    requires many { 1 < buffers.old.many }
+    requires size { buffers.old.cache.size ≡ block_size front.now }
+    ensures wrote { Wrote result 0 (image front.now header.now) (D.bytes buffers.old.cache.device) (D.bytes buffers.new.cache.device) }
+    ensures sound { IsFront front.now }
+    ensures writing { IsWriting D.counts D.kept buffers.old buffers.new 2 result }
+{
+    let size = buffers.block_size();
+    let mut room = [0u8; MAX_TRANSFER];
+    let block = &mut room[..size];
+    front.put_second(block);
+    match buffers.write_block(1, block) {
+        Ok(()) => {
+            front.put_first(header, block);
+            buffers.write_block(0, block)
+        }
+        Err(fault) => Err(fault),
+    }
+}
+
+/// Takes the front and the shadows as they stand on the device by a header.
+fn load_parts<D: Device>(
+    buffers: &mut Buffers<D>,
+    geometry: &Geometry,
+    front: &mut Front,
+    shadows: &mut [Shadow],
+    tails: &mut [u8],
+    header: &Header,
+) -> Result<(), ReadFault>
+    requires geometry { header.now.geometry ≡ geometry.now }
+    requires shape { IsShape geometry.now front.old shadows.old tails.old }
+    requires buffer { 0 < length buffers.old.lasts }
+    requires size { buffers.old.cache.size ≡ block_bytes geometry.now }
+    requires many { buffers.old.many ≡ file_blocks geometry.now }
+    ensures front { OnOk result (IfSome (D.bytes buffers.old.cache.device) (λ bytes. IsFrontLoaded bytes front.new)) }
+    ensures shadows { OnOk result ((level : ℕ) → level ≤ geometry.now.bottom → shadow_at shadows.new level ≡ header_shadow header.now level) }
+    ensures answer { LoadAnswers header.now (D.bytes buffers.old.cache.device) (D.counts buffers.old.cache.device).faults (D.counts buffers.new.cache.device).faults result }
+    ensures shape { SameShape front.old front.new }
+    ensures sound { StaySound geometry.now (record { told = D.bytes buffers.old.cache.device; shadows = shadows.old; tails = tails.old })
+        (record { told = D.bytes buffers.new.cache.device; shadows = shadows.new; tails = tails.new }) }
+    ensures bytes_stay { D.bytes buffers.new.cache.device ≡ D.bytes buffers.old.cache.device }
+    ensures kept { D.kept buffers.new.cache.device ≡ D.kept buffers.old.cache.device }
+    ensures stays { Stays buffers.old buffers.new }
+    ensures lasts { length buffers.new.lasts ≡ length buffers.old.lasts }
+    ensures spends { LoadSpends (D.counts buffers.old.cache.device) (D.counts buffers.new.cache.device) (geometry.now.bottom + 3) result }
+{
+    match load_front(buffers, front) {
+        Ok(()) => match load_shadows(buffers, geometry, shadows, tails, header) {
+            Ok(()) => match first_bad(front, geometry, header) {
+                Some(number) => Err(ReadFault::BadCell(number)),
+                None => Ok(()),
+            },
+            Err(_) => Err(ReadFault::Device),
+        },
+        Err(_) => Err(ReadFault::Device),
+    }
+}
+
+/// Writes what is not on the device yet, and then the front with the header.
+fn flush_parts<D: Device>(
+    buffers: &mut Buffers<D>,
+    geometry: &Geometry,
+    front: &Front,
+    shadows: &mut [Shadow],
+    tails: &[u8],
+    header: &[u8; 512],
+) -> Result<(), DeviceFault>
+    requires shape { IsShape geometry.now front.now shadows.old tails.now }
+    requires backed { IfSome (D.bytes buffers.old.cache.device) (IsBacked geometry.now shadows.old tails.now) }
+    requires size { buffers.old.cache.size ≡ block_bytes geometry.now }
+    requires many { buffers.old.many ≡ file_blocks geometry.now }
+    ensures flushed { OnOk result (IfSome (D.bytes buffers.new.cache.device) (IsFlushed geometry.now header.now
+        (spots_of (record { geometry = geometry.now; front = front.now; lower = record { told = D.bytes buffers.new.cache.device; shadows = shadows.new; tails = tails.now } })))) }
+    ensures cells { AreCells (record { geometry = geometry.now; front = front.now; lower = record { told = D.bytes buffers.new.cache.device; shadows = shadows.new; tails = tails.now } }) }
+    ensures reads { SameCells geometry.now front.now (record { told = D.bytes buffers.old.cache.device; shadows = shadows.old; tails = tails.now })
+        (record { told = D.bytes buffers.new.cache.device; shadows = shadows.new; tails = tails.now }) }
+    ensures writing { IsWriting D.counts D.kept buffers.old buffers.new (geometry.now.bottom + 3) result }
+{
+    match save_tails(buffers, geometry, shadows, tails) {
+        Ok(()) => match buffers.settle() {
+            Ok(()) => match save_front(buffers, front, header) {
+                Ok(()) => buffers.settle(),
+                Err(fault) => Err(fault),
+            },
+            Err(fault) => Err(fault),
+        },
+        Err(fault) => Err(fault),
+    }
+}
+
+impl<D: Device> RunStore<D> {
+    /// Takes the cells of the store from its file, which has this header: reads blocks 0 and 1, and for each level on the
+    /// device whose shadow ends within a block that block. `BadCell` where these reads succeed and a cell of a run of the
+    /// front is no spelling: the lowest such. After an error nothing is said of the cells of the store. No byte of the
+    /// device changes.
+    pub fn load(&mut self, header: &Header) -> Result<(), ReadFault>
+        requires { header.now.geometry ≡ self.old.geometry }
+        ensures loaded { OnOk result (IsLoaded header.now (held_of D.bytes self.new) (D.bytes self.old.buffers.cache.device)) }
+        ensures answer { LoadAnswers header.now (D.bytes self.old.buffers.cache.device) (D.counts self.old.buffers.cache.device).faults (D.counts self.new.buffers.cache.device).faults result }
+        ensures bytes_stay { D.bytes self.new.buffers.cache.device ≡ D.bytes self.old.buffers.cache.device }
+        ensures kept { kept_of D.bytes D.kept self.new ≡ kept_of D.bytes D.kept self.old }
+        ensures fixed { (held_of D.bytes self.new).fixed ≡ (held_of D.bytes self.old).fixed }
+        ensures ticked { self.new.ticked ≡ self.old.ticked }
+        ensures spends { LoadSpends (D.counts self.old.buffers.cache.device) (D.counts self.new.buffers.cache.device) (self.old.geometry.bottom + 3) result }
+    {
+        load_parts(
+            &mut self.buffers,
+            &self.geometry,
+            &mut self.front,
+            &mut self.shadows,
+            &mut self.tails,
+            header,
+        )
+    }
+
+    /// Writes the state byte of a store in use, and settles. No cell of the store changes.
+    pub fn mark_in_use(&mut self) -> Result<(), DeviceFault>
+        ensures wrote { Wrote result 14 (1 ∷ []) (D.bytes self.old.buffers.cache.device) (D.bytes self.new.buffers.cache.device) }
+        ensures fixed { (held_of D.bytes self.new).fixed ≡ (held_of D.bytes self.old).fixed }
+        ensures shadows { (held_of D.bytes self.new).shadows ≡ (held_of D.bytes self.old).shadows }
+        ensures cells_stay { (level slot index : ℕ) → (held_of D.bytes self.new).spots level slot index ≡ (held_of D.bytes self.old).spots level slot index }
+        ensures geometry { self.new.geometry ≡ self.old.geometry }
+        ensures cache { self.new.buffers.cache.blocks ≡ self.old.buffers.cache.blocks }
+        ensures kept { D.kept self.new.buffers.cache.device ≡ D.kept self.old.buffers.cache.device }
+        ensures ticked { self.new.ticked ≡ self.old.ticked }
+        ensures counts { Called (D.counts self.old.buffers.cache.device) (D.counts self.new.buffers.cache.device) 0 1 result }
+    {
+        let _ = &self.geometry;
+        match self.buffers.write_byte(14, 1) {
+            Ok(()) => self.buffers.settle(),
+            Err(fault) => Err(fault),
+        }
+    }
+
+    /// Makes the file that of the store, with this header: writes every tail that is not on the device yet, and then the
+    /// two blocks of the front, of which the first begins with the header. After an error the store reads as before, and
+    /// the call may be repeated.
+    pub fn flush(&mut self, header: &[u8; 512]) -> Result<(), DeviceFault>
+        ensures flushed { OnOk result (IfSome (D.bytes self.new.buffers.cache.device) (IsFlushed self.old.geometry header.now (held_of D.bytes self.new).spots)) }
+        ensures reads { SameReads (held_of D.bytes self.old) (held_of D.bytes self.new) }
+        ensures behind { Both (D.bytes self.old.buffers.cache.device) (D.bytes self.new.buffers.cache.device) (SameBehind self.old.geometry) }
+        ensures geometry { self.new.geometry ≡ self.old.geometry }
+        ensures cache { self.new.buffers.cache.blocks ≡ self.old.buffers.cache.blocks }
+        ensures kept { D.kept self.new.buffers.cache.device ≡ D.kept self.old.buffers.cache.device }
+        ensures ticked { self.new.ticked ≡ self.old.ticked }
+        ensures counts { Called (D.counts self.old.buffers.cache.device) (D.counts self.new.buffers.cache.device) 0 (self.old.geometry.bottom + 3) result }
+    {
+        flush_parts(
+            &mut self.buffers,
+            &self.geometry,
+            &self.front,
+            &mut self.shadows,
+            &self.tails,
+            header,
+        )
+    }
+}

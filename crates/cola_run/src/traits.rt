@@ -1,0 +1,206 @@
+//! Reads, pushes, restarts and finishes of the cells of a store.
+ghost use Rattle.std.specs.Prelude.{◌≡◌, ◌+◌, ◌*◌, ◌≤◌, ◌<◌, ℕ, true, Option, length};
+ghost use Rattle.cola_cell.specs.Flat.{shadow_at};
+ghost use Rattle.cola_cell.specs.Places.{slot_size, IsPlace};
+ghost use Rattle.cola_cell.specs.Spent.{Reads, ReadAnswers};
+ghost use Rattle.cola_cell.specs.Format.{CellFits};
+ghost use Rattle.cola_cell.specs.Shadows.{Restarts, Pushes, PushSpends, push_ticks, Finishes, FinishSpends};
+ghost use Rattle.cola_run.specs.Cells.{IsOnDevice, block_cells, is_in_tail};
+ghost use Rattle.cola_run.specs.Store.{IsStore, held_of, spent_of, Kept, kept_of, buffer_number, reader_number};
+ghost use Rattle.cola_run.specs.Turns.{buffer_for, buffer_index};
+
+use crate::device_cells::{
+    cell_or_bad, cells_of_slot, finish_on_device, has_in_tail, place_in_tails, push_in_front,
+    push_on_device, read_by_buffer, saved, set_shadow, shadow_of,
+};
+use crate::run_store::RunStore;
+use cola_cell::{Cell, CellSink, CellSource, Item, PushFault, ReadFault, Reader, Shadow};
+use cola_device::Device;
+use cola_front::block::cell_in;
+use cola_layout::Geometry;
+use cola_outside::Steps;
+use std::sync::ledger::Ledger;
+
+/// Which of the three buffers of a level a reader has.
+fn number_of_reader(reader: Reader) -> usize
+    ensures { result ≡ reader_number reader }
+{
+    match reader {
+        Reader::Own => 0,
+        Reader::Incoming => 1,
+        Reader::Sample => 2,
+    }
+}
+
+/// The buffer of a reader at a level on the device, or that of searches.
+fn buffer_of(geometry: &Geometry, reader: Option<Reader>, level: u8) -> usize
+    requires { IsOnDevice geometry.now level }
+    ensures { result ≡ buffer_index geometry.now reader level }
+{
+    match reader {
+        Some(reader) => {
+            1 + 3 * (level + 2 - geometry.block_exp) as usize + number_of_reader(reader)
+        }
+        None => 0,
+    }
+}
+
+impl<D: Device> RunStore<D> {
+    /// The cell at a place of a level that is in memory.
+    fn read_in_front(&self, level: u8, slot: u8, index: u32) -> Result<Cell, ReadFault>
+        requires place { IsPlace (self.now.geometry.bottom + 1) level slot index }
+        requires front { level + 2 < self.now.geometry.block_exp }
+        ensures answer { (faults : ℕ) → ReadAnswers (held_of D.bytes self.now) faults faults level slot index result }
+    {
+        let _item: Option<Item> = None;
+        let number = self.geometry.place(level, slot, index);
+        cell_or_bad(self.front.read(number), number)
+    }
+
+    /// The cell at a place that is in the tail of its level.
+    fn read_in_tail(&self, level: u8, slot: u8, index: u32) -> Result<Cell, ReadFault>
+        requires place { IsPlace (self.now.geometry.bottom + 1) level slot index }
+        requires device { self.now.geometry.block_exp ≤ level + 2 }
+        requires tail { is_in_tail (block_cells self.now.geometry) (shadow_at self.now.shadows level) slot index ≡ true }
+        ensures answer { (faults : ℕ) → ReadAnswers (held_of D.bytes self.now) faults faults level slot index result }
+    {
+        let _item: Option<Item> = None;
+        let number = self.geometry.place(level, slot, index);
+        let place = place_in_tails(&self.geometry, level, index);
+        cell_or_bad(
+            cell_in(self.geometry.format, &self.tails, place),
+            number,
+        )
+    }
+
+    /// The cell at a place, by the buffer of a reader or that of searches.
+    fn read_by<L: Ledger>(
+        &mut self,
+        reader: Option<Reader>,
+        level: u8,
+        slot: u8,
+        index: u32,
+        steps: &mut Steps<L>,
+    ) -> Result<Cell, ReadFault>
+        requires { IsPlace (self.old.geometry.bottom + 1) level slot index }
+        ensures cells_stay { held_of D.bytes self.new ≡ held_of D.bytes self.old }
+        ensures kept { kept_of D.bytes D.kept self.new ≡ kept_of D.bytes D.kept self.old }
+        ensures one_tick { steps.new ≡ steps.old + 1 }
+        ensures reads { Reads (held_of D.bytes self.old) (spent_of D.counts self.old) (spent_of D.counts self.new) (buffer_for reader level) level slot index result }
+    {
+        steps.tick();
+        self.ticked = self.ticked.wrapping_add(1);
+        if level < self.geometry.front_levels() {
+            return self.read_in_front(level, slot, index);
+        }
+        let shadow = shadow_of(&self.shadows, level);
+        if has_in_tail(&self.geometry, shadow, slot, index) {
+            return self.read_in_tail(level, slot, index);
+        }
+        let buffer = buffer_of(&self.geometry, reader, level);
+        read_by_buffer(
+            &mut self.buffers,
+            &self.geometry,
+            buffer,
+            level,
+            slot,
+            index,
+        )
+    }
+}
+
+impl<D: Device> CellSource for RunStore<D> {
+    ghost held = { held_of D.bytes };
+
+    ghost spent = { spent_of D.counts };
+
+    ghost Kept = { Kept D.Kept };
+
+    ghost kept = { kept_of D.bytes D.kept };
+
+    fn read<L: Ledger>(
+        &mut self,
+        level: u8,
+        slot: u8,
+        index: u32,
+        steps: &mut Steps<L>,
+    ) -> Result<Cell, ReadFault> {
+        self.read_by(None, level, slot, index, steps)
+    }
+
+    fn read_for<L: Ledger>(
+        &mut self,
+        reader: Reader,
+        level: u8,
+        slot: u8,
+        index: u32,
+        steps: &mut Steps<L>,
+    ) -> Result<Cell, ReadFault> {
+        self.read_by(Some(reader), level, slot, index, steps)
+    }
+
+    fn ticked(&self) -> u64 {
+        let _ = &self.geometry;
+        self.ticked
+    }
+}
+
+impl<D: Device> CellSink for RunStore<D> {
+    fn restart(&mut self, level: u8, slot: u8) {
+        let len = 0;
+        let saved = true;
+        set_shadow(&mut self.shadows, level, Shadow { slot, len, saved });
+    }
+
+    fn push<L: Ledger>(
+        &mut self,
+        level: u8,
+        slot: u8,
+        cell: &Cell,
+        steps: &mut Steps<L>,
+    ) -> Result<(), PushFault> {
+        if shadow_of(&self.shadows, level).len == cells_of_slot(level) {
+            return Err(PushFault::Overfull(level));
+        }
+        steps.tick();
+        self.ticked = self.ticked.wrapping_add(1);
+        if level < self.geometry.front_levels() {
+            push_in_front(
+                &mut self.front,
+                &self.geometry,
+                &mut self.shadows,
+                level,
+                cell,
+            );
+            return Ok(());
+        }
+        push_on_device(
+            &mut self.buffers,
+            &self.geometry,
+            &mut self.shadows,
+            &mut self.tails,
+            level,
+            cell,
+        )
+    }
+
+    fn finish(&mut self, level: u8) -> Result<(), PushFault> {
+        if level < self.geometry.front_levels() {
+            let shadow = shadow_of(&self.shadows, level);
+            set_shadow(&mut self.shadows, level, saved(shadow));
+            return Ok(());
+        }
+        finish_on_device(
+            &mut self.buffers,
+            &self.geometry,
+            &mut self.shadows,
+            &self.tails,
+            level,
+        )
+    }
+
+    fn shadow_len(&self, level: u8) -> u32 {
+        let _ = &self.geometry;
+        shadow_of(&self.shadows, level).len
+    }
+}
