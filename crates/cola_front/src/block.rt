@@ -70,9 +70,9 @@ pub fn put_cell(format: Format, block: &mut [u8], place: usize, cell: &Option<Ce
     }
 }
 
-// Does nothing: it says that a cell that fits has a spelling.
+/// Does nothing: it says that a cell that fits has a spelling.
 #[inline(always)]
-pub(crate) fn know_spelling(format: Format, cell: &Cell)
+pub fn know_spelling(format: Format, cell: &Cell)
     requires { CellFits format cell.now }
     ensures { IsSpelling format cell.now (spelling format cell.now) }
 {
