@@ -210,13 +210,15 @@ module _ {A : Type 0} (t i above : ℕ) (below : List Marks) (l : Level) (shadow
   ended_is = ap (λ (x : ℕ). nat_le x (consumed n)) (sym all_sources)
 
   -- the work of the level, as the account of transfers has it
-  pub worked : now.turned + blocks_left old.fixed.doublings now.lasts (aim_at t i l.visible above below) n ≤ before.turned + blocks_left old.fixed.doublings before.lasts (aim_at t i l.visible above below) l.merger →
+  pub worked : before.turned ≤ now.turned → before.written ≤ now.written → now.turned + blocks_left old.fixed.doublings now.lasts (aim_at t i l.visible above below) n ≤ before.turned + blocks_left old.fixed.doublings before.lasts (aim_at t i l.visible above below) l.merger →
       WritesDown old new (aim_at t i l.visible above below) n before now →
       IsLevelWorked old.fixed.doublings t i above (marks_of l) (marks_of (record { visible = l.visible; shadow = shadow; merger = n })) below (transfers_of old before) (transfers_of new now)
-  worked turned written = record {
+  worked turned_stays written_stays turned written = record {
     visible = refl;
     goes_on = moves.takes.rises;
     emits = emits_so (consumed l.merger) (consumed n) l.shadow shadow (old.shadows (suc i)).len (new.shadows (suc i)).len length_was length_is moves.emits;
+    reads_stay = turned_stays;
+    writes_stay = written_stays;
     reads = other_sample _ _ _ _ _ _ _ _ _ _ (left_of_sample old.fixed.doublings new now t (suc i) below n.sample.at) (left_of_sample old.fixed.doublings old before t (suc i) below l.merger.sample.at) turned;
     writes =
         subst (λ (x : ℕ). IsWrittenDown (slot_size (suc i)) (span old) x shadow (has_ended t i above (marks_of (record { visible = l.visible; shadow = shadow; merger = n })) below) (is_kept old (suc i)) (is_kept new (suc i)) before.written now.written) (sym length_was)
@@ -256,5 +258,6 @@ module _ {A : Type 0} (t i above : ℕ) (below : List Marks) (l : Level) (shadow
       (λ turned written.
       worked t i above below l shadow n old new before now from to result (subst (λ (a : Aim). Moves a (state old before l.merger from) (state new now n to) result) aimed built.moves) was
       (subst (λ (a : Aim). shadow ≡ (new.shadows a.level).len) aimed is)
+      built.spends.turned_stays built.spends.written_stays
       (subst (λ (a : Aim). now.turned + blocks_left old.fixed.doublings now.lasts a n ≤ before.turned + blocks_left old.fixed.doublings before.lasts a l.merger) aimed turned)
       (subst (λ (a : Aim). WritesDown old new a n before now) aimed written))

@@ -19,6 +19,17 @@ pub struct Level {
     pub merger: Merger,
 }
 
+impl Default for Level {
+    /// A level with no cells, whose merge has not begun.
+    fn default() -> Level {
+        Level {
+            visible: 0,
+            shadow: 0,
+            merger: Merger::begin(),
+        }
+    }
+}
+
 impl Level {
     ghost use Rattle.std.specs.Prelude.{ℕ, ◌+◌, ◌-◌, suc, true, List, OnOk, IfErr, length};
     ghost use Rattle.cola_cell.specs.declared.cell.Reader.{Reader};

@@ -1,13 +1,13 @@
 -- Cells among bytes of which some were written.
-use Rattle.std.proofs.Common.{◌≡◌, ◌≢◌, ◌⊎◌, ℕ, ◌+◌, ◌-◌, ◌*◌, ◌/◌, ◌%◌, ◌<◌, ◌≤◌, List, length, inl, inr, refl, sym, ap, subst, ◌∙◌, arith}
-use Rattle.std.proofs.Math.Nat.{mul_comm, mul_assoc, mul_left_comm}
+use Rattle.std.proofs.Common.{◌≡◌, ◌≢◌, ℕ, ◌+◌, ◌*◌, ◌/◌, ◌%◌, ◌<◌, ◌≤◌, List, length, inl, inr, sym, ap, ◌∙◌, arith}
+use Rattle.std.proofs.Math.Nat.{mul_comm, mul_left_comm}
 use Rattle.cola_cell.specs.declared.format.Format.{Format}
 use Rattle.cola_cell.specs.declared.format.Format.TheVariants.{One, Two}
 use Rattle.cola_cell.specs.Format.{width}
 use Rattle.cola_device.specs.Bytes.{part, splice}
-use Rattle.cola_device.proofs.BytesLemmas.{length-splice, part-splice_inside, part-splice_below, part-splice_above, part-part}
+use Rattle.cola_device.proofs.BytesLemmas.{part-splice_inside, part-splice_below, part-splice_above, part-part}
 use Rattle.cola_front.specs.Front.{cell_bytes}
-use Rattle.cola_run.proofs.Numbers.{split, block-apart, block-of}
+use Rattle.cola_run.proofs.Numbers.{split, block-apart}
 
 -- a cell before those that were written stays
 pub cell-below : (f : Format) (bytes new : List ℕ) (m c : ℕ) → width f * m ≤ length bytes → c + 1 ≤ m → cell_bytes f (splice bytes (width f * m) new) c ≡ cell_bytes f bytes c

@@ -1,5 +1,5 @@
 -- What a finish of the shadow of a level on the device leaves of the cells.
-use Rattle.std.proofs.Common.{◌≡◌, ◌≢◌, ◌⊎◌, inl, inr, ℕ, ◌+◌, ◌*◌, ◌/◌, ◌%◌, ◌^◌, ◌<◌, ◌≤◌, Bool, true, false, List, length, Option, None, Some, IfSome, Result, Ok, Err, is_ok, refl, sym, ap, subst, ◌∙◌, arith}
+use Rattle.std.proofs.Common.{◌≡◌, ◌≢◌, ◌⊎◌, inl, inr, ℕ, ◌+◌, ◌*◌, ◌/◌, ◌%◌, ◌<◌, ◌≤◌, Bool, true, false, List, length, Option, IfSome, Result, Ok, Err, is_ok, refl, sym, ap, subst, ◌∙◌, arith}
 use Rattle.std.proofs.lemmas.Bool.{cases_eq, false≢true}
 use Rattle.cola_outside.specs.Told.{Both}
 use Rattle.cola_cell.specs.declared.fault.PushFault.{PushFault}
@@ -11,8 +11,8 @@ use Rattle.cola_front.specs.Front.{FrontCells, cell_bytes}
 use Rattle.cola_layout.specs.declared.geometry.Geometry.{Geometry}
 use Rattle.cola_layout.proofs.Places.{slot-blocks}
 use Rattle.cola_run.specs.Cells.{IsOnDevice, Lower, block_cells, block_bytes, file_bytes, block_number, tail_number, is_in_tail, device_cell, spots_of, IsShadow, IsShape, IsSaved, IsBacked}
-use Rattle.cola_run.specs.Parts.{OneShadow, tail_of, TailFinished, IsFinished}
-use Rattle.cola_run.proofs.Spots.{both-so, both-same, both-with, both-second, IsInTail, in-tail, device-in, device-out, device-is, spots-stay}
+use Rattle.cola_run.specs.Parts.{tail_of, TailFinished, IsFinished}
+use Rattle.cola_run.proofs.Spots.{both-so, both-same, both-with, both-second, in-tail, device-in, device-out, device-is, spots-stay}
 use Rattle.cola_run.proofs.Steps.{tail-many, tail-cell, written-there}
 use Rattle.cola_run.proofs.Lowers.{IsAround, around-same, around-written, TailsStay, other-cell, backed-by, shape-by}
 

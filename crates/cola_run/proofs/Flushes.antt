@@ -1,30 +1,26 @@
 -- What a flush leaves, step by step.
-use Rattle.std.proofs.Common.{◌≡◌, ◌≢◌, ◌⊎◌, inl, inr, ℕ, zero, suc, ◌+◌, ◌-◌, ◌*◌, ◌^◌, ◌<◌, ◌≤◌, List, [], ◌∷◌, ◌++◌, length, take, drop, replicate, get_or, Option, None, Some, IfSome, option_map, Result, Ok, Err, refl, sym, ap, subst, ◌∙◌, arith, length-append, append_assoc}
-use Rattle.std.proofs.lemmas.List.{drop-take, drop-replicate, length-replicate, replicate-append-replicate, take_all, get_or_past}
-use Rattle.std.proofs.Math.Seq.{take-append-add, take-append_seam}
-use Rattle.std.proofs.lemmas.Bool.{cases_eq}
+use Rattle.std.proofs.Common.{◌≡◌, inl, inr, ℕ, zero, suc, ◌+◌, ◌-◌, ◌*◌, ◌<◌, ◌≤◌, List, [], ◌∷◌, ◌++◌, length, take, drop, replicate, get_or, Option, None, Some, IfSome, option_map, Result, Ok, refl, sym, ap, subst, ◌∙◌, arith, length-append}
+use Rattle.std.proofs.lemmas.List.{drop-take, drop-replicate, length-replicate, replicate-append-replicate}
+use Rattle.std.proofs.Math.Seq.{take-append-add}
 use Rattle.cola_outside.specs.Told.{Both}
 use Rattle.cola_cell.specs.declared.format.Format.{Format}
 use Rattle.cola_cell.specs.declared.format.Format.TheVariants.{One, Two}
 use Rattle.cola_cell.specs.declared.cell.Cell.{Cell}
 use Rattle.cola_cell.specs.declared.sink.Shadow.{Shadow}
 use Rattle.cola_cell.specs.Decoded.{decoded}
-use Rattle.cola_cell.specs.Flat.{shadow_at}
 use Rattle.cola_cell.specs.Format.{width}
-use Rattle.cola_cell.specs.Places.{number_of, IsPlace}
 use Rattle.cola_device.specs.Bytes.{part, splice, WroteSome, Wrote}
 use Rattle.cola_device.proofs.BytesLemmas.{part-splice_inside}
-use Rattle.cola_front.specs.Front.{FrontCells, IsFront, IsLoaded, block_size, cell_at, cell_bytes, stored, stored_all, second_block, image}
+use Rattle.cola_front.specs.Front.{FrontCells, IsFront, IsLoaded, block_size, stored, stored_all, second_block, image}
 use Rattle.cola_front.proofs.Image.{image_cell}
 use Rattle.cola_front.proofs.Writes.{image_is, headed_many, second_many}
 use Rattle.cola_layout.specs.declared.geometry.Geometry.{Geometry}
 use Rattle.cola_layout.specs.Geometry.{IsBlock}
-use Rattle.cola_run.specs.Cells.{IsOnDevice, Lower, Cells, block_cells, block_bytes, file_bytes, told_spot, spots_of, IsShape, IsBacked}
+use Rattle.cola_run.specs.Cells.{Lower, block_bytes, spots_of, IsShape, IsBacked}
 use Rattle.cola_run.specs.Store.{Beside, beside}
-use Rattle.cola_run.specs.Saving.{AreFileSpots, IsFlushed, SameBehind}
-use Rattle.cola_run.specs.Loading.{StaySound, StayRead, SameCells, AreSavedBelow}
+use Rattle.cola_run.specs.Saving.{IsFlushed, SameBehind}
+use Rattle.cola_run.specs.Loading.{StayRead, SameCells, AreSavedBelow}
 use Rattle.cola_run.proofs.Heads.{heads-backed, heads-behind, heads-spots, head-long, saved-spots}
-use Rattle.cola_run.proofs.Bytes.{room-of}
 
 -- the bytes of the front's two blocks
 pub image-many : (front : FrontCells) (header : List ℕ) → IsFront front → length header ≡ 512 → length (image front header) ≡ 2 * block_size front

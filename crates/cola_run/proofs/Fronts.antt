@@ -1,14 +1,13 @@
 -- The lowest bad cell of the runs of the front.
-use Rattle.std.proofs.Common.{◌≡◌, ◌≢◌, ◌⊎◌, inl, inr, ℕ, ◌+◌, ◌-◌, ◌*◌, ◌^◌, ◌<◌, ◌≤◌, ◌==◌, Bool, true, false, if◌then◌else◌, List, Option, None, Some, IfSome, refl, sym, ap, subst, ◌∙◌, arith}
-use Rattle.std.proofs.lemmas.Bool.{cases_eq, cases_lt, cases_order}
+use Rattle.std.proofs.Common.{◌≡◌, ◌≢◌, inl, inr, ℕ, ◌+◌, ◌*◌, ◌^◌, ◌<◌, ◌≤◌, ◌==◌, Bool, true, false, if◌then◌else◌, List, Option, None, Some, refl, sym, ap, subst, ◌∙◌, arith}
+use Rattle.std.proofs.lemmas.Bool.{cases_order}
 use Rattle.cola_cell.specs.declared.format.Format.{Format}
 use Rattle.cola_cell.specs.declared.cell.Cell.{Cell}
-use Rattle.cola_cell.specs.Decoded.{decoded, spot_of_bytes}
+use Rattle.cola_cell.specs.Decoded.{decoded}
 use Rattle.cola_cell.specs.Flat.{spot_of}
-use Rattle.cola_cell.specs.Held.{Spot, Bad, Told, as_cell}
+use Rattle.cola_cell.specs.Held.{Bad}
 use Rattle.cola_cell.specs.Places.{number_of, slot_size}
 use Rattle.cola_front.specs.Front.{FrontCells, IsLoaded, cell_at, cell_bytes}
-use Rattle.cola_layout.specs.declared.geometry.Geometry.{Geometry}
 use Rattle.cola_layout.specs.declared.header.Header.{Header}
 use Rattle.cola_layout.proofs.Places.{place-from, place-below, place-behind, front-below}
 use Rattle.cola_clock.specs.Clock.{visible_slot}
@@ -17,7 +16,7 @@ use Rattle.cola_layout.proofs.Levels.{fits-here}
 use Rattle.cola_layout.proofs.Powers.{next_power, power-le}
 use Rattle.cola_image.specs.Cells.{file_spots}
 use Rattle.cola_run.specs.Saving.{run_len, IsFrontRun, AreFrontRunsSpelled, IsLowestBad}
-use Rattle.cola_run.specs.Loading.{BadInRun, BadInLevel, BadInFront, NoneBadInFront}
+use Rattle.cola_run.specs.Loading.{BadInLevel, BadInFront, NoneBadInFront}
 
 -- a run of the front fits its slot
 abbrev pub RunsFit : Header → Type 0

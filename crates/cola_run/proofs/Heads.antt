@@ -1,5 +1,5 @@
 -- What writes to the two blocks of the front leave; and when the cells of a store are those of its file.
-use Rattle.std.proofs.Common.{◌≡◌, ◌≢◌, ◌⊎◌, inl, inr, ℕ, ◌+◌, ◌-◌, ◌*◌, ◌^◌, ◌<◌, ◌≤◌, true, List, length, drop, Option, None, Some, IfSome, Result, Ok, Err, refl, sym, ap, subst, ◌∙◌, arith}
+use Rattle.std.proofs.Common.{◌≡◌, inl, inr, ℕ, ◌+◌, ◌-◌, ◌*◌, ◌^◌, ◌<◌, ◌≤◌, List, length, drop, Option, None, Some, IfSome, Result, Ok, Err, refl, sym, ap, subst, ◌∙◌, arith}
 use Rattle.std.specs.Prelude.{OnOk}
 use Rattle.std.proofs.lemmas.Bool.{cases_lt}
 use Rattle.std.proofs.lemmas.List.{drop-drop}
@@ -12,20 +12,19 @@ use Rattle.cola_cell.specs.Decoded.{decoded, spot_of_bytes}
 use Rattle.cola_cell.specs.Flat.{spot_of, shadow_at}
 use Rattle.cola_cell.specs.Format.{width}
 use Rattle.cola_cell.specs.Places.{number_of, IsPlace}
-use Rattle.cola_device.specs.Bytes.{part, splice, WroteSome, Wrote}
+use Rattle.cola_device.specs.Bytes.{splice, WroteSome, Wrote}
 use Rattle.cola_device.proofs.BytesLemmas.{length-splice, part-splice_above, drop-splice_end}
-use Rattle.cola_front.specs.Front.{FrontCells, cell_at, cell_bytes, IsLoaded}
+use Rattle.cola_front.specs.Front.{FrontCells, cell_bytes, IsLoaded}
 use Rattle.cola_layout.specs.declared.geometry.Geometry.{Geometry}
 use Rattle.cola_layout.specs.Geometry.{IsBlock}
 use Rattle.cola_layout.proofs.Places.{device-behind, place-behind, front-below}
 use Rattle.cola_layout.proofs.Powers.{next_power, power-le}
-use Rattle.cola_run.specs.Cells.{IsOnDevice, Lower, Cells, block_cells, block_bytes, file_bytes, tail_number, is_in_tail, device_cell, known_spot, told_spot, spots_of, IsShape, IsBacked}
+use Rattle.cola_run.specs.Cells.{IsOnDevice, Lower, block_cells, block_bytes, file_bytes, device_cell, known_spot, told_spot, spots_of, IsShape, IsBacked}
 use Rattle.cola_run.specs.Saving.{AreFileSpots, SameBehind}
 use Rattle.cola_image.specs.Cells.{file_spots}
 use Rattle.cola_run.specs.Loading.{StaySound, AreSavedBelow}
-use Rattle.cola_run.proofs.Bytes.{room-of}
 use Rattle.cola_run.proofs.Lowers.{on-device}
-use Rattle.cola_run.proofs.Spots.{IsInTail, in-tail, tail-is, device-in, device-out, device-is, spot-there, spot-front, spot-device, spots-stay, both-so}
+use Rattle.cola_run.proofs.Spots.{tail-is, device-in, device-out, device-is, spot-there, spot-front, spot-device, spots-stay}
 
 -- the bytes of the front's blocks end before those of a place on the device
 cell-behind : (f : Format) (b n m : ℕ) → 2 ^ (b + 1) ≤ n → m ≤ 2 * (width f * 2 ^ b) → m ≤ width f * n

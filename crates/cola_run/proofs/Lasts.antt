@@ -1,18 +1,18 @@
 -- The blocks that were read last, by their numbers in the file.
-use Rattle.std.proofs.Common.{◌≡◌, ◌≢◌, ◌⊎◌, inl, inr, ℕ, zero, suc, ◌+◌, ◌-◌, ◌*◌, ◌/◌, ◌%◌, ◌^◌, ◌<◌, ◌≤◌, ◌==◌, nat_lt, Bool, true, false, if◌then◌else◌, List, [], ◌∷◌, length, map, set, get_or, Option, None, Some, refl, sym, ap, subst, ◌∙◌, arith}
+use Rattle.std.proofs.Common.{◌≡◌, ◌≢◌, inl, inr, ℕ, zero, suc, ◌+◌, ◌-◌, ◌*◌, ◌/◌, ◌%◌, ◌^◌, ◌<◌, ◌≤◌, ◌==◌, nat_lt, Bool, true, false, if◌then◌else◌, List, [], ◌∷◌, length, map, set, Option, None, Some, refl, sym, ap, subst, ◌∙◌, arith}
 use Rattle.std.proofs.Math.Nat.{mul-le-mul_left, mul_comm}
-use Rattle.std.proofs.lemmas.Bool.{cases_lt, cases_eq, ltb-true, lt-ltb, ltb-false, le-ltb, eqb-true, eqb-false}
+use Rattle.std.proofs.lemmas.Bool.{cases_lt, lt-ltb, ltb-false, le-ltb, eqb-true}
 use Rattle.std.proofs.lemmas.List.{get_or-set_same, get_or-set_other}
 use Rattle.std.proofs.lemmas.Nat.{pow_pos, div-mul-add, mod-mul-add}
 use Rattle.cola_cell.specs.declared.cell.Reader.{Reader}
 use Rattle.cola_cell.specs.declared.cell.Reader.TheVariants.{Own, Incoming, Sample}
-use Rattle.cola_cell.specs.Places.{number_of, IsPlace, Block, block_of}
+use Rattle.cola_cell.specs.Places.{IsPlace, Block, block_of}
 use Rattle.cola_cell.specs.Shadows.{Forgets}
 use Rattle.cola_cell.specs.Spent.{Buffer, Search, By}
 use Rattle.cola_layout.specs.declared.geometry.Geometry.{Geometry}
 use Rattle.cola_layout.specs.Geometry.{IsBlock}
 use Rattle.cola_layout.proofs.Powers.{next_power, power-le}
-use Rattle.cola_buffers.specs.Blocks.{last_in, is_block, forgotten}
+use Rattle.cola_buffers.specs.Blocks.{last_in, forgotten}
 use Rattle.cola_run.specs.Cells.{IsOnDevice, block_cells, block_number, device_levels}
 use Rattle.cola_run.specs.Store.{slot_block, as_block, last_block, last_of, buffer_number, reader_number}
 use Rattle.cola_run.specs.Turns.{buffer_for, buffer_index}

@@ -1,6 +1,6 @@
 -- What the steps of loading and flushing leave, one behind the other.
-use Rattle.std.proofs.Common.{◌≡◌, ◌≢◌, ◌⊎◌, inl, inr, ℕ, ◌+◌, ◌-◌, ◌*◌, ◌/◌, ◌%◌, ◌^◌, ◌<◌, ◌≤◌, Bool, true, false, List, length, Option, None, Some, IfSome, option_map, Result, Ok, Err, is_ok, refl, sym, ap, subst, ◌∙◌, arith}
-use Rattle.std.proofs.lemmas.Bool.{cases_eq, cases_lt, false≢true}
+use Rattle.std.proofs.Common.{◌≡◌, ◌≢◌, ◌⊎◌, inl, inr, ℕ, ◌+◌, ◌-◌, ◌*◌, ◌/◌, ◌%◌, ◌<◌, ◌≤◌, Bool, true, false, List, length, Option, None, Some, IfSome, option_map, Result, Ok, refl, sym, ap, subst, ◌∙◌, arith}
+use Rattle.std.proofs.lemmas.Bool.{cases_eq, false≢true}
 use Rattle.std.proofs.lemmas.Nat.{pow_pos}
 use Rattle.std.proofs.Math.Nat.{zero-mod}
 use Rattle.cola_outside.specs.Told.{Both}
@@ -8,18 +8,17 @@ use Rattle.cola_cell.specs.declared.fault.PushFault.{PushFault}
 use Rattle.cola_cell.specs.declared.sink.Shadow.{Shadow}
 use Rattle.cola_cell.specs.Flat.{shadow_at}
 use Rattle.cola_cell.specs.Format.{width}
-use Rattle.cola_cell.specs.Places.{slot_size, number_of, IsPlace}
-use Rattle.cola_cell.specs.Shadows.{emptied}
+use Rattle.cola_cell.specs.Places.{number_of}
 use Rattle.cola_device.specs.declared.counts.Counts.{Counts}
 use Rattle.cola_device.specs.Bytes.{part, splice, Gives, WroteSome}
 use Rattle.cola_device.specs.Counts.{Called}
 use Rattle.cola_device.proofs.BytesLemmas.{length-splice}
 use Rattle.cola_front.specs.Front.{FrontCells, cell_bytes}
-use Rattle.cola_front.proofs.Writes.{called_two, called_fewer}
+use Rattle.cola_front.proofs.Writes.{called_two}
 use Rattle.cola_layout.specs.declared.geometry.Geometry.{Geometry}
 use Rattle.cola_layout.specs.Geometry.{IsBlock}
 use Rattle.cola_buffers.specs.Blocks.{Blocks, Stays}
-use Rattle.cola_run.specs.Cells.{IsOnDevice, Lower, block_cells, block_bytes, device_levels, block_number, tail_number, is_in_tail, spots_of, IsShadow, IsShape, IsSaved, IsBacked}
+use Rattle.cola_run.specs.Cells.{IsOnDevice, Lower, block_cells, block_bytes, device_levels, block_number, tail_number, is_in_tail, IsShadow, IsShape, IsSaved, IsBacked}
 use Rattle.cola_run.specs.Store.{beside}
 use Rattle.cola_run.specs.Parts.{OneShadow, tail_of, TailFinished, IsFinished}
 use Rattle.cola_run.specs.Loading.{IsReading, IsWriting, StaySound, StayRead}
@@ -40,13 +39,23 @@ stays-two a b c x y = record { blocks = y.blocks ∙ x.blocks; size = y.size ∙
 -- no call
 called-none : {T E : Type 0} (value : T) (counts : Counts) → Called {T = T} {E = E} counts counts 0 0 (Ok value)
 called-none value counts = record {
-  faults_stay = omega arith; cause = tt; none_hidden = refl; reads_stay = omega arith; reads_rise = omega arith; writes_stay = omega arith; writes_rise = omega arith;
+  faults_stay = omega arith;
+  cause = tt;
+  none_hidden = refl;
+  reads_stay = omega arith;
+  reads_rise = omega arith;
+  writes_stay = omega arith;
+  writes_rise = omega arith;
 }
 
 module _ {D K : Type 0} (bytes : D → Option (List ℕ)) (counts : D → Counts) (kept : D → K) where
   pub reading-none : {E : Type 0} (blocks : Blocks D) → IsReading {T = Unit {0}} {E = E} bytes counts kept blocks blocks 0 (Ok tt)
   reading-none blocks = record {
-    called = called-none tt (counts blocks.cache.device); bytes_stay = refl; kept_is = refl; many = refl; stays = record { blocks = refl; size = refl; many = refl; made = refl };
+    called = called-none tt (counts blocks.cache.device);
+    bytes_stay = refl;
+    kept_is = refl;
+    many = refl;
+    stays = record { blocks = refl; size = refl; many = refl; made = refl };
   }
 
   pub reading-two : {E : Type 0} (result : Result (Unit {0}) E) (a b c : Blocks D) (first second : ℕ) → IsReading {T = Unit {0}} {E = E} bytes counts kept a b first (Ok tt) → IsReading bytes counts kept b c second result
@@ -62,10 +71,18 @@ module _ {D K : Type 0} (bytes : D → Option (List ℕ)) (counts : D → Counts
   pub reading-most : {T E : Type 0} (result : Result T E) (a b : Blocks D) (few most : ℕ) → few ≤ most → IsReading bytes counts kept a b few result → IsReading bytes counts kept a b most result
   reading-most result a b few most h x = record {
     called = record {
-      faults_stay = x.called.faults_stay; cause = x.called.cause; none_hidden = x.called.none_hidden; reads_stay = x.called.reads_stay;
-      reads_rise = (let r = x.called.reads_rise in omega (arith, r, h)); writes_stay = x.called.writes_stay; writes_rise = x.called.writes_rise;
+      faults_stay = x.called.faults_stay;
+      cause = x.called.cause;
+      none_hidden = x.called.none_hidden;
+      reads_stay = x.called.reads_stay;
+      reads_rise = (let r = x.called.reads_rise in omega (arith, r, h));
+      writes_stay = x.called.writes_stay;
+      writes_rise = x.called.writes_rise;
     };
-    bytes_stay = x.bytes_stay; kept_is = x.kept_is; many = x.many; stays = x.stays;
+    bytes_stay = x.bytes_stay;
+    kept_is = x.kept_is;
+    many = x.many;
+    stays = x.stays;
   }
 
 module _ {D K : Type 0} (counts : D → Counts) (kept : D → K) where
@@ -84,10 +101,17 @@ module _ {D K : Type 0} (counts : D → Counts) (kept : D → K) where
   pub writing-most : {T E : Type 0} (result : Result T E) (a b : Blocks D) (few most : ℕ) → few ≤ most → IsWriting counts kept a b few result → IsWriting counts kept a b most result
   writing-most result a b few most h x = record {
     called = record {
-      faults_stay = x.called.faults_stay; cause = x.called.cause; none_hidden = x.called.none_hidden; reads_stay = x.called.reads_stay; reads_rise = x.called.reads_rise;
-      writes_stay = x.called.writes_stay; writes_rise = (let r = x.called.writes_rise in omega (arith, r, h));
+      faults_stay = x.called.faults_stay;
+      cause = x.called.cause;
+      none_hidden = x.called.none_hidden;
+      reads_stay = x.called.reads_stay;
+      reads_rise = x.called.reads_rise;
+      writes_stay = x.called.writes_stay;
+      writes_rise = (let r = x.called.writes_rise in omega (arith, r, h));
     };
-    kept_is = x.kept_is; many = x.many; stays = x.stays;
+    kept_is = x.kept_is;
+    many = x.many;
+    stays = x.stays;
   }
 
 -- soundness that stays, in two steps
@@ -236,7 +260,11 @@ both-two (Some a) (Some b) (Some c) h k = tt
 
 pub read-none : (g : Geometry) (lower : Lower) → StayRead g lower lower
 read-none g lower = record {
-  told = both-same lower.told (λ _ _. Unit {0}) (λ _. tt); beside_stays = λ front h k. refl; slots_stay = λ l. refl; lens_stay = λ l. refl; spots_stay = λ front h k l s i apart. refl;
+  told = both-same lower.told (λ _ _. Unit {0}) (λ _. tt);
+  beside_stays = λ front h k. refl;
+  slots_stay = λ l. refl;
+  lens_stay = λ l. refl;
+  spots_stay = λ front h k l s i apart. refl;
 }
 
 pub read-two : (g : Geometry) (a b c : Lower) → StaySound g a b → StayRead g a b → StayRead g b c → StayRead g a c
@@ -263,7 +291,13 @@ pub writing-of : {D K T E F : Type 0} {wrote : Bool} {block : ℕ} {value : T} (
     → IsWriting {T = Unit {0}} {E = F} counts kept before now 1 (Ok tt)
 writing-of {wrote = wrote} {block = block} counts kept before now w = record {
   called = record {
-    faults_stay = w.called.faults_stay; cause = tt; none_hidden = w.called.none_hidden; reads_stay = w.called.reads_stay; reads_rise = w.called.reads_rise; writes_stay = w.called.writes_stay; writes_rise = w.called.writes_rise;
+    faults_stay = w.called.faults_stay;
+    cause = tt;
+    none_hidden = w.called.none_hidden;
+    reads_stay = w.called.reads_stay;
+    reads_rise = w.called.reads_rise;
+    writes_stay = w.called.writes_stay;
+    writes_rise = w.called.writes_rise;
   };
   kept_is = w.kept_is;
   many = lasts-many wrote block before.lasts now.lasts w.lasts_are;

@@ -1,18 +1,17 @@
 -- What lies below the front, where one level of it changes.
-use Rattle.std.proofs.Common.{◌≡◌, ◌≢◌, ◌⊎◌, inl, inr, ℕ, ◌+◌, ◌*◌, ◌/◌, ◌%◌, ◌^◌, ◌<◌, ◌≤◌, true, false, List, length, Result, Ok, Err, refl, sym, ap, subst, ◌∙◌, arith}
+use Rattle.std.proofs.Common.{◌≡◌, ◌≢◌, ◌⊎◌, inl, inr, ℕ, ◌+◌, ◌*◌, ◌/◌, ◌%◌, ◌<◌, ◌≤◌, true, false, List, length, sym, ap, subst, ◌∙◌, arith}
 use Rattle.std.proofs.lemmas.Bool.{cases_eq}
 use Rattle.cola_cell.specs.declared.sink.Shadow.{Shadow}
 use Rattle.cola_cell.specs.Flat.{shadow_at}
-use Rattle.cola_cell.specs.Format.{width}
 use Rattle.cola_cell.specs.Places.{slot_size, number_of, IsPlace}
-use Rattle.cola_device.specs.Bytes.{splice, WroteSome}
+use Rattle.cola_device.specs.Bytes.{splice}
 use Rattle.cola_front.specs.Front.{FrontCells, cell_bytes}
 use Rattle.cola_layout.specs.declared.geometry.Geometry.{Geometry}
 use Rattle.cola_layout.specs.Geometry.{IsBlock}
-use Rattle.cola_run.specs.Cells.{IsOnDevice, block_cells, block_bytes, file_bytes, device_levels, block_number, tail_number, is_in_tail, device_cell, IsShadow, IsShape, IsSaved, IsBacked}
-use Rattle.cola_run.specs.Parts.{OneShadow, tail_of}
+use Rattle.cola_run.specs.Cells.{IsOnDevice, block_cells, block_bytes, file_bytes, block_number, tail_number, is_in_tail, device_cell, IsShadow, IsShape, IsSaved, IsBacked}
+use Rattle.cola_run.specs.Parts.{OneShadow}
 use Rattle.cola_run.proofs.Spots.{IsInTail, in-tail, device-in, device-out, device-is}
-use Rattle.cola_run.proofs.Steps.{tail-many, tail-cell, written-many, written-stays, written-there}
+use Rattle.cola_run.proofs.Steps.{written-many, written-stays}
 
 -- a device on which at most the block of a place changed
 pub record IsAround (g : Geometry) (before now : List ℕ) (level slot index : ℕ) : Type 0 where

@@ -1,20 +1,18 @@
 -- A new store.
-use Rattle.std.proofs.Common.{◌≡◌, ◌≢◌, ◌<◌, ◌≤◌, ◌+◌, ◌-◌, ◌*◌, ◌/◌, ◌%◌, ◌^◌, ℕ, true, false, List, length, replicate, get_or, Option, Some, None, IfSome, inl, inr, refl, sym, ap, subst, ◌∙◌, arith}
+use Rattle.std.proofs.Common.{◌≡◌, ◌<◌, ◌+◌, ◌-◌, ◌*◌, ◌/◌, ◌^◌, ℕ, List, replicate, Option, Some, None, IfSome, inl, inr, refl, sym, ap, subst, ◌∙◌, arith}
 use Rattle.std.proofs.lemmas.List.{length-replicate, get_or-replicate, get_or_past}
 use Rattle.std.proofs.lemmas.Bool.{cases_lt, false≢true}
 use Rattle.std.proofs.lemmas.Nat.{pow_pos, pow-add}
-use Rattle.std.proofs.Math.Nat.{mul_comm, mul_assoc, mul_left_comm, mul-div_cancel_right}
+use Rattle.std.proofs.Math.Nat.{mul_left_comm, mul-div_cancel}
 use Rattle.cola_cell.specs.declared.sink.Shadow.{Shadow}
 use Rattle.cola_cell.specs.Flat.{shadow_at}
 use Rattle.cola_cell.specs.Format.{width}
-use Rattle.cola_cell.specs.Places.{slot_size, number_of}
 use Rattle.cola_cell.specs.Shadows.{emptied}
 use Rattle.cola_device.specs.declared.counts.Counts.{Counts}
 use Rattle.cola_device.specs.Bytes.{HasRange}
-use Rattle.cola_front.specs.Front.{FrontCells, new_front, cell_bytes}
 use Rattle.cola_layout.specs.declared.geometry.Geometry.{Geometry}
-use Rattle.cola_run.specs.Cells.{IsOnDevice, block_cells, block_bytes, file_bytes, file_blocks, device_levels, tail_number, is_in_tail, IsShadow, IsShape, IsSaved, IsBacked}
-use Rattle.cola_run.specs.Store.{Store, IsStore, new_store}
+use Rattle.cola_run.specs.Cells.{block_cells, block_bytes, file_bytes, file_blocks, device_levels, IsShadow, IsBacked}
+use Rattle.cola_run.specs.Store.{IsStore, new_store}
 use Rattle.cola_run.proofs.Spots.{in-tail}
 
 parts-are : (geometry : Geometry) → 2 ^ (geometry.bottom + 4) ≡ file_blocks geometry * block_cells geometry
@@ -25,7 +23,7 @@ parts-are geometry =
 
 -- the blocks of a file
 pub blocks-are : (geometry : Geometry) → 2 ^ (geometry.bottom + 4) / block_cells geometry ≡ file_blocks geometry
-blocks-are geometry = ap (λ (n : ℕ). n / block_cells geometry) (parts-are geometry) ∙ mul-div_cancel_right (file_blocks geometry) (pow_pos geometry.block_exp)
+blocks-are geometry = ap (λ (n : ℕ). n / block_cells geometry) (parts-are geometry) ∙ mul-div_cancel (file_blocks geometry) (pow_pos geometry.block_exp)
 
 -- and its bytes
 pub bytes-are : (geometry : Geometry) → file_blocks geometry * block_bytes geometry ≡ file_bytes geometry

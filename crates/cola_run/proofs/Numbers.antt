@@ -1,11 +1,10 @@
 -- The numbers of places, of blocks, and of the cells of tails.
-use Rattle.std.proofs.Common.{◌≡◌, ◌≢◌, ◌⊎◌, ℕ, zero, suc, ◌+◌, ◌-◌, ◌*◌, ◌/◌, ◌%◌, ◌^◌, ◌<◌, ◌≤◌, inl, inr, refl, sym, ap, subst, ◌∙◌, arith}
+use Rattle.std.proofs.Common.{◌≡◌, ◌≢◌, ◌⊎◌, ℕ, ◌+◌, ◌-◌, ◌*◌, ◌/◌, ◌%◌, ◌^◌, ◌<◌, ◌≤◌, inl, inr, sym, ap, subst, ◌∙◌, arith}
 use Rattle.std.proofs.lemmas.Bool.{cases_lt, cases_order}
 use Rattle.std.proofs.lemmas.Nat.{pow_pos, pow-add, div-mul-add, mod-mul-add}
-use Rattle.std.proofs.Math.Nat.{mul_comm, mul_assoc, mul-le-mul_left, mul-add-div_right, mul-add-mod_self_right, div-add-mod, mod-lt, div-lt_iff_lt-mul, lt_of_mul-lt-mul_left}
+use Rattle.std.proofs.Math.Nat.{mul_comm, mul_assoc, mul-le-mul_left, mul-add-div_right, mul-add-mod_self_right, div-add-mod, mod-lt, div-lt_iff_lt-mul}
 use Rattle.cola_cell.specs.Places.{number_of, slot_size, IsPlace}
-use Rattle.cola_layout.proofs.Powers.{next_power, power-le}
-use Rattle.cola_layout.proofs.Places.{place-differ, place-within, device-behind}
+use Rattle.cola_layout.proofs.Places.{place-differ, place-within}
 
 -- a number is so many whole blocks and a rest that is smaller than a block
 pub record Split (block n : ℕ) : Type 0 where
@@ -17,7 +16,7 @@ split block n some = record { is = div-add-mod n block; rest = mod-lt n some }
 
 -- a block that comes before another ends before it
 pub block-before : (block k n : ℕ) → k < n → block * k + block ≤ block * n
-block-before block k n below = 
+block-before block k n below =
     let more : block * (k + 1) ≤ block * n = mul-le-mul_left block (let h : k + 1 ≤ n = omega (arith, below) in h) in
     let e : block * (k + 1) ≡ block * k + block = omega arith in
     omega (arith, more, e)

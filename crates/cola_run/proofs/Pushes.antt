@@ -1,5 +1,5 @@
 -- What a push to the shadow of a level on the device leaves of the cells.
-use Rattle.std.proofs.Common.{◌≡◌, ◌≢◌, ◌⊎◌, inl, inr, ℕ, ◌+◌, ◌*◌, ◌/◌, ◌%◌, ◌^◌, ◌<◌, ◌≤◌, ◌==◌, Bool, true, false, List, length, Option, None, Some, IfSome, Result, Ok, Err, is_ok, refl, sym, ap, subst, ◌∙◌, arith}
+use Rattle.std.proofs.Common.{◌≡◌, ◌≢◌, ◌⊎◌, inl, inr, ℕ, ◌+◌, ◌*◌, ◌/◌, ◌%◌, ◌^◌, ◌<◌, ◌≤◌, Bool, true, false, List, length, Option, None, Some, IfSome, Result, Ok, Err, refl, sym, ap, subst, ◌∙◌, arith}
 use Rattle.std.proofs.lemmas.Bool.{cases_eq, eqb-true, eqb-false, false≢true}
 use Rattle.std.proofs.lemmas.Nat.{pow_pos}
 use Rattle.cola_outside.specs.Told.{Both}
@@ -14,16 +14,16 @@ use Rattle.cola_cell.specs.Held.{as_cell, with_cell, IsElsewhere}
 use Rattle.cola_cell.proofs.DecodedLemmas.{spot_told}
 use Rattle.cola_cell.specs.Places.{slot_size, number_of, IsPlace}
 use Rattle.cola_cell.specs.Shadows.{after_push}
-use Rattle.cola_device.specs.Bytes.{splice, WroteSome, Wrote}
+use Rattle.cola_device.specs.Bytes.{splice, WroteSome}
 use Rattle.cola_front.specs.Front.{FrontCells, cell_bytes}
 use Rattle.cola_layout.specs.declared.geometry.Geometry.{Geometry}
 use Rattle.cola_layout.proofs.Powers.{power-le}
 use Rattle.cola_run.specs.Cells.{IsOnDevice, Lower, block_cells, block_bytes, file_bytes, block_number, tail_number, device_cell, Cells, known_spot, told_spot, spots_of, IsShadow, IsShape, IsSaved, IsBacked}
-use Rattle.cola_run.specs.Parts.{OneShadow, tail_of, fills, TailPushed, MetFault, IsPushed}
+use Rattle.cola_run.specs.Parts.{tail_of, fills, TailPushed, MetFault, IsPushed}
 use Rattle.cola_run.proofs.Numbers.{IsMore, IsFull, next-split, one-place, last-place, first-place}
 use Rattle.cola_run.proofs.Spots.{both-so, both-same, both-with, both-second, with-told, IsInTail, in-tail, device-in, device-out, device-is, spot-there, spot-device, spots-stay, known-told}
 use Rattle.cola_run.proofs.Steps.{tail-many, tail-cell, put-many, put-there, put-stays, written-there}
-use Rattle.cola_run.proofs.Lowers.{IsAround, around-same, around-written, TailsStay, on-device, other-cell, backed-by, shape-by}
+use Rattle.cola_run.proofs.Lowers.{IsAround, around-same, around-written, TailsStay, other-cell, backed-by, shape-by}
 
 -- the three ways of a push: the cell stays in the tail; the block that it fills was not written; and it was
 data Way (g : Geometry) (tails b c : List ℕ) (level : ℕ) (shadow now : Shadow) : Type 0 where

@@ -1,9 +1,6 @@
 -- That pushes to levels on the device meet the trait.
-use Rattle.std.proofs.Common.{◌≡◌, ◌≢◌, ◌⊎◌, inl, inr, ℕ, ◌+◌, ◌-◌, ◌*◌, ◌/◌, ◌%◌, ◌^◌, ◌<◌, ◌≤◌, ◌==◌, not, Bool, true, false, if◌then◌else◌, List, length, map, set, take, drop, Option, None, Some, IfSome, option_map, Result, Ok, Err, is_ok, refl, sym, ap, subst, ◌∙◌, arith}
-use Rattle.std.proofs.lemmas.Bool.{cases_lt, cases_eq, eqb-true, eqb-false, false≢true}
-use Rattle.std.proofs.lemmas.List.{length-map, drop-drop}
-use Rattle.std.proofs.Math.Nat.{mul-le-mul_right}
-use Rattle.cola_outside.specs.Faults.{Rose}
+use Rattle.std.proofs.Common.{◌≡◌, ◌≢◌, ℕ, ◌+◌, ◌*◌, ◌%◌, ◌<◌, ◌≤◌, Bool, true, false, List, length, Option, option_map, Result, Ok, Err, refl, sym, ap, subst, ◌∙◌, arith}
+use Rattle.std.proofs.lemmas.Bool.{eqb-true}
 use Rattle.cola_outside.specs.Told.{Both}
 use Rattle.cola_cell.specs.declared.cell.Cell.{Cell}
 use Rattle.cola_cell.specs.declared.fault.PushFault.{PushFault}
@@ -11,33 +8,22 @@ use Rattle.cola_cell.specs.declared.fault.PushFault.TheVariants.{Device, Overful
 use Rattle.cola_cell.specs.declared.sink.Shadow.{Shadow}
 use Rattle.cola_cell.specs.Flat.{shadow_at}
 use Rattle.cola_cell.specs.Format.{width}
-use Rattle.cola_cell.specs.Held.{Held, span}
-use Rattle.cola_cell.specs.Places.{slot_size, number_of, IsPlace, Block, block_of}
-use Rattle.cola_cell.specs.Spent.{Buffer, Spent, Ticks}
-use Rattle.cola_cell.specs.Shadows.{emptied, IsKept, StaysAround, Restarts, after_push, PushAnswers, WriteCalm, Forgets, Pushes, push_ticks, WritesNothing, Writes, PushSpends, FinishAnswers, Finishes, FinishSpends}
+use Rattle.cola_cell.specs.Places.{slot_size, IsPlace}
+use Rattle.cola_cell.specs.Spent.{Ticks}
+use Rattle.cola_cell.specs.Shadows.{StaysAround, after_push, PushAnswers, Pushes, push_ticks, PushSpends}
 use Rattle.cola_device.specs.declared.counts.Counts.{Counts}
-use Rattle.cola_device.specs.Bytes.{splice, WroteSome}
-use Rattle.cola_device.specs.Counts.{Called}
-use Rattle.cola_device.proofs.BytesLemmas.{part-splice_below, drop-splice_end}
+use Rattle.cola_device.specs.Bytes.{WroteSome}
 use Rattle.cola_front.specs.Front.{FrontCells}
 use Rattle.cola_layout.specs.declared.geometry.Geometry.{Geometry}
-use Rattle.cola_layout.specs.Geometry.{IsBlock}
-use Rattle.cola_layout.proofs.Powers.{power-le}
-use Rattle.cola_buffers.specs.Blocks.{Blocks, Made, forgotten}
-use Rattle.cola_run.specs.Cells.{IsOnDevice, Lower, Cells, AreCells, block_cells, block_bytes, file_bytes, file_blocks, device_levels, block_number, spots_of, IsShadow, IsShape, IsBacked}
-use Rattle.cola_run.specs.Store.{Store, IsStore, cells_of, held_of, spent_of, Kept, kept_of, Beside, beside, last_of}
-use Rattle.cola_run.specs.Parts.{OneShadow, fills, TailPushed, TailFinished, WroteTail, tail_of, MetFault, IsPushed, IsFinished}
+use Rattle.cola_run.specs.Cells.{IsOnDevice, Lower, block_cells, block_bytes, device_levels, block_number, spots_of, IsShape}
+use Rattle.cola_run.specs.Store.{Store, IsStore, cells_of, held_of, spent_of, kept_of, beside}
+use Rattle.cola_run.specs.Parts.{fills, TailPushed, tail_of, MetFault, IsPushed}
 use Rattle.cola_run.specs.Turns.{Writing}
-use Rattle.cola_run.proofs.Bytes.{room-of, block-from}
-use Rattle.cola_run.proofs.Numbers.{block-behind}
-use Rattle.cola_run.proofs.Steps.{tail-many, written-many, block-fits}
-use Rattle.cola_run.proofs.Lasts.{lasts-forget}
+use Rattle.cola_run.proofs.Steps.{tail-many}
 use Rattle.cola_run.proofs.Reading.{span-is}
-use Rattle.cola_run.proofs.Spots.{both-so, both-same, telling-is}
+use Rattle.cola_run.proofs.Spots.{both-so, both-same}
 use Rattle.cola_run.proofs.Pushes.{push-stays, push-end, push-shape, push-backed}
-use Rattle.cola_run.proofs.Finishes.{ends-within, finish-stays, finish-shape, finish-backed}
-use Rattle.cola_run.proofs.Standing.{restart-others, restart-kept, restart-shape, restart-backed, front-stays, front-shape, front-backed, put-elsewhere, put-end}
-use Rattle.cola_run.proofs.Sinks.{beside-tail, long-of, kept-by, HasCauseOf, cause-of, calm-of, lasts-many, sound-by, around-by, spends-nothing, spends-writes, writes-none}
+use Rattle.cola_run.proofs.Sinks.{beside-tail, long-of, kept-by, HasCauseOf, cause-of, calm-of, lasts-many, sound-by, around-by, spends-nothing, spends-writes}
 
 -- a push to a level on the device
 module _ {D K T : Type 0} (bytes : D → Option (List ℕ)) (counts : D → Counts) (kept : D → K) (store now : Store D) (level : ℕ) (cell : Cell) (result : Result T PushFault)

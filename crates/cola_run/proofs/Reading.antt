@@ -1,29 +1,27 @@
 -- That reads of a store meet the trait.
-use Rattle.std.proofs.Common.{◌≡◌, ◌≢◌, ◌⊎◌, inl, inr, ℕ, ◌+◌, ◌-◌, ◌*◌, ◌/◌, ◌%◌, ◌^◌, ◌<◌, ◌≤◌, Bool, true, false, List, length, set, Option, None, Some, IfSome, Result, Ok, Err, refl, sym, ap, subst, ◌∙◌, arith}
+use Rattle.std.proofs.Common.{◌≡◌, inl, inr, ℕ, ◌+◌, ◌-◌, ◌*◌, ◌^◌, ◌<◌, ◌≤◌, List, length, set, Option, None, Some, IfSome, Result, Ok, Err, refl, sym, ap, subst, ◌∙◌, arith}
 use Rattle.std.specs.Prelude.{OnOk}
 use Rattle.std.proofs.lemmas.Nat.{pow-add}
-use Rattle.cola_outside.specs.Faults.{Rose}
 use Rattle.cola_cell.specs.declared.format.Format.{Format}
 use Rattle.cola_cell.specs.declared.cell.Cell.{Cell}
 use Rattle.cola_cell.specs.declared.cell.Reader.{Reader}
 use Rattle.cola_cell.specs.declared.fault.ReadFault.{ReadFault}
 use Rattle.cola_cell.specs.declared.fault.ReadFault.TheVariants.{Device, BadCell}
-use Rattle.cola_cell.specs.declared.sink.Shadow.{Shadow}
 use Rattle.cola_cell.specs.Decoded.{decoded, spot_of_bytes}
 use Rattle.cola_cell.specs.Flat.{found, spot_of, shadow_at}
 use Rattle.cola_cell.specs.Format.{CellFits}
 use Rattle.cola_cell.specs.Held.{Held, Spot, Bad, Told, Tells, as_cell, span}
-use Rattle.cola_cell.specs.Places.{slot_size, number_of, IsPlace, Block, block_of}
+use Rattle.cola_cell.specs.Places.{slot_size, number_of, IsPlace, block_of}
 use Rattle.cola_cell.specs.Spent.{Buffer, Spent, Ticks, StaysAt, ReadAnswers, ReadCalm, Reads}
 use Rattle.cola_device.specs.declared.counts.Counts.{Counts}
-use Rattle.cola_front.specs.Front.{FrontCells, cell_at, cell_bytes, ComesBack}
+use Rattle.cola_front.specs.Front.{cell_at, cell_bytes, ComesBack}
 use Rattle.cola_front.proofs.FrontLemmas.{spelled_back}
 use Rattle.cola_layout.specs.declared.geometry.Geometry.{Geometry}
 use Rattle.cola_layout.specs.Geometry.{IsBlock}
 use Rattle.cola_layout.proofs.Powers.{power-le}
 use Rattle.cola_buffers.specs.Blocks.{Blocks, last_in}
-use Rattle.cola_run.specs.Cells.{IsOnDevice, Cells, block_cells, block_number, tail_number, device_cell, known_spot, told_spot, device_levels}
-use Rattle.cola_run.specs.Store.{Store, IsStore, cells_of, held_of, spent_of, last_block, last_of}
+use Rattle.cola_run.specs.Cells.{IsOnDevice, Cells, block_cells, block_number, tail_number, known_spot, told_spot, device_levels}
+use Rattle.cola_run.specs.Store.{Store, cells_of, held_of, spent_of, last_block, last_of}
 use Rattle.cola_run.specs.Parts.{Finds}
 use Rattle.cola_run.specs.Turns.{buffer_for, buffer_index, turned_last, Turns}
 use Rattle.cola_run.proofs.Calls.{spelled-fits}

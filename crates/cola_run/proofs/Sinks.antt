@@ -1,20 +1,16 @@
 -- What restarts, pushes and finishes of a store keep and spend.
-use Rattle.std.proofs.Common.{◌≡◌, ◌≢◌, ◌⊎◌, inl, inr, ℕ, ◌+◌, ◌-◌, ◌*◌, ◌/◌, ◌%◌, ◌^◌, ◌<◌, ◌≤◌, ◌==◌, not, Bool, true, false, if◌then◌else◌, List, length, map, set, take, drop, Option, None, Some, IfSome, option_map, Result, Ok, Err, is_ok, refl, sym, ap, subst, ◌∙◌, arith}
-use Rattle.std.proofs.lemmas.Bool.{cases_lt, cases_eq, eqb-true, eqb-false, false≢true}
+use Rattle.std.proofs.Common.{◌≡◌, ◌≢◌, inl, ℕ, ◌+◌, ◌-◌, ◌*◌, ◌^◌, ◌≤◌, Bool, true, false, if◌then◌else◌, List, length, map, take, drop, Option, None, Some, IfSome, option_map, Result, Ok, Err, refl, sym, ap, subst, ◌∙◌, arith}
 use Rattle.std.proofs.lemmas.List.{length-map, drop-drop}
 use Rattle.std.proofs.Math.Nat.{mul-le-mul_right}
 use Rattle.cola_outside.specs.Faults.{Rose}
 use Rattle.cola_outside.specs.Told.{Both}
-use Rattle.cola_cell.specs.declared.cell.Cell.{Cell}
 use Rattle.cola_cell.specs.declared.fault.PushFault.{PushFault}
 use Rattle.cola_cell.specs.declared.fault.PushFault.TheVariants.{Device, Overfull}
 use Rattle.cola_cell.specs.declared.sink.Shadow.{Shadow}
 use Rattle.cola_cell.specs.Flat.{shadow_at}
-use Rattle.cola_cell.specs.Format.{width}
-use Rattle.cola_cell.specs.Held.{Held, span}
-use Rattle.cola_cell.specs.Places.{slot_size, number_of, IsPlace, Block, block_of}
-use Rattle.cola_cell.specs.Spent.{Buffer, Spent, Ticks}
-use Rattle.cola_cell.specs.Shadows.{emptied, IsKept, StaysAround, Restarts, after_push, PushAnswers, WriteCalm, Forgets, Pushes, push_ticks, WritesNothing, Writes, PushSpends, FinishAnswers, Finishes, FinishSpends}
+use Rattle.cola_cell.specs.Places.{IsPlace, Block, block_of}
+use Rattle.cola_cell.specs.Spent.{Buffer, Ticks}
+use Rattle.cola_cell.specs.Shadows.{StaysAround, WriteCalm, Forgets, WritesNothing, Writes}
 use Rattle.cola_device.specs.declared.counts.Counts.{Counts}
 use Rattle.cola_device.specs.Bytes.{splice, WroteSome}
 use Rattle.cola_device.specs.Counts.{Called}
@@ -22,18 +18,16 @@ use Rattle.cola_device.proofs.BytesLemmas.{part-splice_below, drop-splice_end}
 use Rattle.cola_front.specs.Front.{FrontCells}
 use Rattle.cola_layout.specs.declared.geometry.Geometry.{Geometry}
 use Rattle.cola_layout.specs.Geometry.{IsBlock}
-use Rattle.cola_layout.proofs.Powers.{power-le}
 use Rattle.cola_buffers.specs.Blocks.{Blocks, Made, forgotten}
-use Rattle.cola_run.specs.Cells.{IsOnDevice, Lower, Cells, AreCells, block_cells, block_bytes, file_bytes, file_blocks, device_levels, block_number, spots_of, IsShadow, IsShape, IsBacked}
-use Rattle.cola_run.specs.Store.{Store, IsStore, cells_of, held_of, spent_of, Kept, kept_of, Beside, beside, last_of}
-use Rattle.cola_run.specs.Parts.{OneShadow, fills, TailPushed, TailFinished, WroteTail, tail_of, MetFault, IsPushed, IsFinished}
+use Rattle.cola_run.specs.Cells.{block_bytes, file_bytes, file_blocks, device_levels, block_number, IsShape, IsBacked}
+use Rattle.cola_run.specs.Store.{Store, IsStore, cells_of, held_of, spent_of, kept_of, Beside, beside, last_of}
+use Rattle.cola_run.specs.Parts.{WroteTail, tail_of, MetFault}
 use Rattle.cola_run.specs.Turns.{Writing}
-use Rattle.cola_run.proofs.Bytes.{room-of, block-from}
 use Rattle.cola_run.proofs.Numbers.{block-behind}
-use Rattle.cola_run.proofs.Steps.{tail-many, written-many, block-fits}
+use Rattle.cola_run.proofs.Steps.{written-many, block-fits}
 use Rattle.cola_run.proofs.Lasts.{lasts-forget}
 use Rattle.cola_run.proofs.Reading.{span-is}
-use Rattle.cola_run.proofs.Spots.{both-so, both-same, telling-is}
+use Rattle.cola_run.proofs.Spots.{telling-is}
 
 -- nothing beside the levels on the device changes where a block of one was written
 drop-behind : (bytes new : List ℕ) (at end : ℕ) → at + length new ≤ length bytes → at + length new ≤ end → drop end (splice bytes at new) ≡ drop end bytes

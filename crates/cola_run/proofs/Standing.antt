@@ -1,21 +1,20 @@
 -- What a change of one shadow, and of the front, leaves of the cells where the device and the tails stay.
-use Rattle.std.proofs.Common.{◌≡◌, ◌≢◌, ◌⊎◌, inl, inr, ℕ, ◌+◌, ◌*◌, ◌/◌, ◌%◌, ◌^◌, ◌<◌, ◌≤◌, Bool, true, false, List, length, Option, None, Some, IfSome, refl, sym, ap, subst, ◌∙◌, arith, get_or, set, length-set}
-use Rattle.std.proofs.lemmas.Bool.{cases_eq, cases_lt, false≢true}
+use Rattle.std.proofs.Common.{◌≡◌, ◌≢◌, ◌⊎◌, inl, inr, ℕ, ◌+◌, ◌%◌, ◌<◌, ◌≤◌, true, false, List, length, Option, None, Some, IfSome, refl, sym, ap, subst, ◌∙◌, arith, set, length-set}
+use Rattle.std.proofs.lemmas.Bool.{cases_eq, false≢true}
 use Rattle.std.proofs.lemmas.List.{get_or-set_same, get_or-set_other}
 use Rattle.cola_outside.specs.Told.{Both}
 use Rattle.cola_cell.specs.declared.cell.Cell.{Cell}
 use Rattle.cola_cell.specs.declared.sink.Shadow.{Shadow}
 use Rattle.cola_cell.specs.Flat.{shadow_at, spot_of}
-use Rattle.cola_cell.specs.Held.{Spot, Told, as_cell, with_cell, IsElsewhere}
-use Rattle.cola_cell.specs.Places.{slot_size, number_of, IsPlace}
+use Rattle.cola_cell.specs.Held.{as_cell, with_cell, IsElsewhere}
+use Rattle.cola_cell.specs.Places.{number_of, IsPlace}
 use Rattle.cola_cell.specs.Shadows.{emptied}
 use Rattle.cola_front.specs.Front.{FrontCells, cell_at, cell_bytes}
 use Rattle.cola_layout.specs.declared.geometry.Geometry.{Geometry}
 use Rattle.cola_layout.proofs.Places.{place-differ}
-use Rattle.cola_layout.proofs.Powers.{power-le}
-use Rattle.cola_run.specs.Cells.{IsOnDevice, Lower, Cells, block_cells, tail_number, is_in_tail, device_cell, known_spot, told_spot, spots_of, IsShadow, IsShape, IsSaved, IsBacked}
+use Rattle.cola_run.specs.Cells.{IsOnDevice, Lower, Cells, block_cells, tail_number, device_cell, known_spot, told_spot, spots_of, IsShadow, IsShape, IsSaved, IsBacked}
 use Rattle.cola_run.specs.Parts.{OneShadow}
-use Rattle.cola_run.proofs.Spots.{both-so, both-same, both-with, IsInTail, in-tail, tail-is, device-in, device-out, device-is, spot-there, spot-front, spots-stay, known-told, with-told}
+use Rattle.cola_run.proofs.Spots.{IsInTail, in-tail, tail-is, device-out, device-is, spot-there, spot-front, spots-stay, known-told, with-told}
 use Rattle.cola_run.proofs.Lowers.{around-same, other-cell, backed-by, shape-by, TailsStay}
 
 -- one shadow changed, by setting it

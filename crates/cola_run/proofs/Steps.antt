@@ -1,8 +1,8 @@
 -- What putting a cell into a tail and writing a block leave of the other cells.
-use Rattle.std.proofs.Common.{◌≡◌, ◌≢◌, ◌⊎◌, inl, inr, ℕ, ◌+◌, ◌-◌, ◌*◌, ◌/◌, ◌%◌, ◌^◌, ◌<◌, ◌≤◌, List, length, take, refl, sym, ap, subst, ◌∙◌, arith}
+use Rattle.std.proofs.Common.{◌≡◌, ◌≢◌, ◌⊎◌, inl, inr, ℕ, ◌+◌, ◌-◌, ◌*◌, ◌/◌, ◌%◌, ◌^◌, ◌<◌, ◌≤◌, List, length, sym, ap, ◌∙◌, arith}
 use Rattle.std.proofs.lemmas.Bool.{cases_order}
 use Rattle.std.proofs.lemmas.Nat.{pow_pos}
-use Rattle.std.proofs.Math.Nat.{mod-lt, mul_comm, zero-mod}
+use Rattle.std.proofs.Math.Nat.{mod-lt, zero-mod}
 use Rattle.cola_cell.specs.declared.format.Format.{Format}
 use Rattle.cola_cell.specs.declared.format.Format.TheVariants.{One, Two}
 use Rattle.cola_cell.specs.Format.{width}
@@ -14,8 +14,8 @@ use Rattle.cola_layout.specs.declared.geometry.Geometry.{Geometry}
 use Rattle.cola_layout.specs.Geometry.{IsBlock}
 use Rattle.cola_run.specs.Cells.{IsOnDevice, block_cells, block_bytes, file_bytes, device_levels, block_number, tail_number}
 use Rattle.cola_run.specs.Parts.{tail_of}
-use Rattle.cola_run.proofs.Numbers.{same-block, one-block, block-behind, block-ends, block-in_file, block-before, tail-block, place-is}
-use Rattle.cola_run.proofs.Bytes.{cell-below, cell-above, cell-inside, cell-part, room-of, room-sum, block-from, block-stays, block-is_new}
+use Rattle.cola_run.proofs.Numbers.{same-block, one-block, block-ends, block-in_file, block-before, tail-block, place-is}
+use Rattle.cola_run.proofs.Bytes.{cell-below, cell-above, cell-part, room-of, room-sum, block-from, block-stays, block-is_new}
 
 -- the tails have room for the tail of each level on the device
 pub tail-within : (g : Geometry) (level i : ℕ) → IsBlock g.block_exp g.bottom → IsOnDevice g level → tail_number g level i + 1 ≤ block_cells g * device_levels g

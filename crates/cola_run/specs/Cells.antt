@@ -1,6 +1,5 @@
 -- The cells of a run store: in the front, in the tail of a level, or on the device.
-use Rattle.std.specs.Prelude.{◌≡◌, ◌≢◌, ℕ, ◌+◌, ◌-◌, ◌*◌, ◌/◌, ◌%◌, ◌^◌, ◌≤◌, ◌<◌, ◌==◌, nat_lt, ◌&&◌, Bool, true, false, if◌then◌else◌, List, length, Option, None, Some, IfSome, slice_index_or}
-use Rattle.cola_cell.specs.declared.format.Format.{Format}
+use Rattle.std.specs.Prelude.{◌≡◌, ◌≢◌, ℕ, ◌+◌, ◌-◌, ◌*◌, ◌/◌, ◌%◌, ◌^◌, ◌≤◌, ◌<◌, ◌==◌, nat_lt, ◌&&◌, Bool, true, false, if◌then◌else◌, List, length, Option, None, Some, IfSome}
 use Rattle.cola_cell.specs.declared.sink.Shadow.{Shadow}
 use Rattle.cola_cell.specs.Decoded.{spot_of_bytes}
 use Rattle.cola_cell.specs.Flat.{spot_of, shadow_at, is_place}

@@ -1,5 +1,5 @@
 -- What the steps of loading and flushing do to the parts of a run store.
-use Rattle.std.specs.Prelude.{◌≡◌, ◌≢◌, ◌⊎◌, ℕ, ◌*◌, ◌≤◌, ◌<◌, Bool, true, if◌then◌else◌, List, ◌++◌, length, option_map, Option, None, Some, IfSome, Result, is_ok}
+use Rattle.std.specs.Prelude.{◌≡◌, ◌≢◌, ◌⊎◌, ℕ, ◌<◌, true, if◌then◌else◌, List, length, option_map, Option, None, IfSome, Result, is_ok}
 use Rattle.cola_outside.specs.Told.{Both}
 use Rattle.cola_cell.specs.declared.sink.Shadow.{Shadow}
 use Rattle.cola_cell.specs.Flat.{shadow_at}

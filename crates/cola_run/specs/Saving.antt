@@ -1,12 +1,9 @@
 -- What loading and flushing a run store leave.
-use Rattle.std.specs.Prelude.{◌≡◌, ◌≢◌, ◌⊎◌, ℕ, ◌+◌, ◌-◌, ◌*◌, ◌^◌, ◌≤◌, ◌<◌, ◌==◌, if◌then◌else◌, List, [], ◌∷◌, ◌++◌, length, take, drop, replicate, Option, IfSome, Result, Ok, Err, OnOk, true, ⊤}
+use Rattle.std.specs.Prelude.{◌≡◌, ◌≢◌, ◌⊎◌, ℕ, ◌+◌, ◌-◌, ◌*◌, ◌≤◌, ◌<◌, ◌==◌, if◌then◌else◌, List, ◌++◌, length, take, drop, replicate, Option, IfSome, Result, Ok, Err, true}
 use Rattle.cola_outside.specs.Faults.{Rose}
-use Rattle.cola_outside.specs.Told.{Both}
-use Rattle.cola_cell.specs.declared.format.Format.{Format}
 use Rattle.cola_cell.specs.declared.fault.ReadFault.{ReadFault}
 use Rattle.cola_cell.specs.declared.fault.ReadFault.TheVariants.{Device, BadCell}
 use Rattle.cola_cell.specs.declared.sink.Shadow.{Shadow}
-use Rattle.cola_cell.specs.Flat.{shadow_at}
 use Rattle.cola_cell.specs.Format.{width}
 use Rattle.cola_cell.specs.Held.{Held, Spots, Bad}
 use Rattle.cola_cell.specs.Places.{number_of, IsPlace}

@@ -11,8 +11,8 @@ ghost use Rattle.cola_run.specs.Turns.{Turns, Writing};
 use cola_buffers::Buffers;
 use cola_cell::{Cell, Item, PushFault, ReadFault, Shadow};
 use cola_device::Device;
-use cola_front::block::{cell_in, know_spelling, put_cell};
 use cola_front::Front;
+use cola_front::block::{cell_in, know_spelling, put_cell};
 use cola_layout::Geometry;
 
 /// The number of cells of a block.

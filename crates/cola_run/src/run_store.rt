@@ -79,10 +79,7 @@ fn levels_on_device(geometry: &Geometry) -> u8
 }
 
 /// The front, the shadows and the tails of a store: no cell stands in them yet.
-fn parts(
-    alloc: Global,
-    geometry: &Geometry,
-) -> Result<(Front, Vec<Shadow>, Vec<u8>), AllocError>
+fn parts(alloc: Global, geometry: &Geometry) -> Result<(Front, Vec<Shadow>, Vec<u8>), AllocError>
     ensures front { IfOk result (λ made. made.0 ≡ new_front geometry.now.block_exp geometry.now.format) }
     ensures shadows { IfOk result (λ made. made.1.items ≡ replicate (geometry.now.bottom + 1) (emptied 1)) }
     ensures tails { IfOk result (λ made. made.2.items ≡ replicate (width geometry.now.format * (block_cells geometry.now * device_levels geometry.now)) 0) }

@@ -123,10 +123,7 @@ fn first_bad(front: &Front, geometry: &Geometry, header: &Header) -> Option<u64>
 }
 
 /// Reads blocks 0 and 1 into the front.
-fn load_front<D: Device>(
-    buffers: &mut Buffers<D>,
-    front: &mut Front,
-) -> Result<(), DeviceFault>
+fn load_front<D: Device>(buffers: &mut Buffers<D>, front: &mut Front) -> Result<(), DeviceFault>
     requires buffer { 0 < length buffers.old.lasts }
     requires many { 1 < buffers.old.many }
     requires size { buffers.old.cache.size ≡ block_size front.old }

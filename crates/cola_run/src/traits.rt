@@ -67,10 +67,7 @@ impl<D: Device> RunStore<D> {
         let _item: Option<Item> = None;
         let number = self.geometry.place(level, slot, index);
         let place = place_in_tails(&self.geometry, level, index);
-        cell_or_bad(
-            cell_in(self.geometry.format, &self.tails, place),
-            number,
-        )
+        cell_or_bad(cell_in(self.geometry.format, &self.tails, place), number)
     }
 
     /// The cell at a place, by the buffer of a reader or that of searches.

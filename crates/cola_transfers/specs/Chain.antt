@@ -84,11 +84,13 @@ pub record StaysBeside (i : ℕ) (old new : Transfers) : Type 0 where
   pub kept : (l : ℕ) → l ≢ suc i → new.kept l ≡ old.kept l
 
 -- what the work of level i + 1 does where it works: the marks m become n, each cell that is emitted was consumed, it reads
--- no block that was not left, and writes none that its shadow does not reach
+-- no block that was not left, and writes none that its shadow does not reach; no number falls
 pub record IsLevelWorked (doublings t i above : ℕ) (m n : Marks) (below : List Marks) (old new : Transfers) : Type 0 where
   pub visible : n.visible ≡ m.visible
   pub goes_on : consumed m ≤ consumed n
   pub emits : n.shadow + consumed m ≤ m.shadow + consumed n
+  pub reads_stay : old.reads ≤ new.reads
+  pub writes_stay : old.writes ≤ new.writes
   pub reads : new.reads + merge_left doublings new.readers t i above n below ≤ old.reads + merge_left doublings old.readers t i above m below
   pub writes : IsWrittenDown (slot_cells (suc i)) (block_cells doublings) m.shadow n.shadow (has_ended t i above n below) (old.kept (suc i)) (new.kept (suc i)) old.writes new.writes
   pub beside : StaysBeside i old new
@@ -111,8 +113,10 @@ AreLevelsWorked doublings t i above (m ∷ below) [] old new = ⊥
 AreLevelsWorked doublings t i above (m ∷ below) (n ∷ under) old new =
     (next : Transfers) × IsLevelsTurn doublings t i above m n below old next (works t (suc i)) × AreLevelsWorked doublings t (suc i) m.visible below under next new
 
--- level 0 is built whole, over levels that have had their turns: it reads at most the blocks of its sample and writes none
+-- level 0 is built whole, over levels that have had their turns: it reads at most the blocks of its sample and writes none; no number falls
 pub record IsTopBuilt (doublings t : ℕ) (worked : List Marks) (old new : Transfers) : Type 0 where
+  pub reads_stay : old.reads ≤ new.reads
+  pub writes_stay : old.writes ≤ new.writes
   pub reads : new.reads ≤ old.reads + sample_left doublings old.readers t 0 worked 0
   pub writes : new.writes ≤ old.writes
   pub own : (l s n : ℕ) → l ≢ 0 → new.readers.own l s n ≡ old.readers.own l s n

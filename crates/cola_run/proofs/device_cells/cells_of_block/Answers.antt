@@ -1,10 +1,6 @@
 use Rattle.std.proofs.Common.{◌≤◌, ◌^◌, arith}
-use Rattle.std.specs.Prelude.{min}
 use Rattle.std.proofs.lemmas.Nat.{one_shl}
 use Rattle.std.proofs.Math.Pow.{pow_mono}
-use Rattle.cola_run.proofs.Pushing.{pushed-meets}
-use Rattle.cola_run.proofs.Finishing.{finished-meets}
-use Rattle.cola_run.proofs.Fronting.{same-keeps}
 use Rattle.cola_run.proofs.device_cells.cells_of_block.Goals as goal
 
 pub returns-clause-least : goal.returns-clause-least

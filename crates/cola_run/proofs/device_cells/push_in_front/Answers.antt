@@ -1,4 +1,4 @@
-use Rattle.std.proofs.Common.{◌≡◌, ◌<◌, ◌*◌, ◌^◌, ◌+◌, ◌≤◌, ap, sym, subst, ◌∙◌, arith, ℕ, length}
+use Rattle.std.proofs.Common.{◌≡◌, ◌<◌, ◌^◌, ◌+◌, ap, ◌∙◌, arith}
 use Rattle.cola_cell.specs.declared.sink.Shadow.{Shadow}
 use Rattle.cola_cell.specs.Flat.{shadow_at}
 use Rattle.cola_cell.specs.Places.{number_of}

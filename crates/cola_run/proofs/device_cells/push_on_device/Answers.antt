@@ -1,5 +1,4 @@
-use Rattle.std.proofs.Common.{◌≡◌, ◌<◌, ◌≤◌, ◌+◌, ◌*◌, ◌^◌, true, false, ap, sym, subst, ◌∙◌, arith, ℕ, Bool, Some, Ok, Err, refl}
-use Rattle.std.proofs.lemmas.Bool.{false≢true}
+use Rattle.std.proofs.Common.{◌≡◌, ◌<◌, ◌*◌, true, false, ap, sym, subst, ◌∙◌, arith, ℕ, Bool, Ok, Err, refl}
 use Rattle.cola_cell.specs.declared.sink.Shadow.{Shadow}
 use Rattle.cola_cell.specs.declared.fault.PushFault.{PushFault}
 use Rattle.cola_cell.specs.Decoded.{spelling}
@@ -7,7 +6,7 @@ use Rattle.cola_cell.specs.Flat.{shadow_at}
 use Rattle.cola_cell.specs.Format.{width}
 use Rattle.cola_device.specs.Bytes.{splice}
 use Rattle.cola_front.proofs.FrontLemmas.{comes_back}
-use Rattle.cola_run.specs.Cells.{block_cells, tail_number}
+use Rattle.cola_run.specs.Cells.{block_cells}
 use Rattle.cola_run.specs.Parts.{OneShadow, fills, TailPushed}
 use Rattle.cola_run.proofs.Calls.{one-again, slot-most, pushed-by, refused-after}
 use Rattle.cola_run.proofs.device_cells.push_on_device.Goals as goal

@@ -1,16 +1,13 @@
-use Rattle.std.proofs.Common.{◌≡◌, ◌<◌, ◌+◌, ◌*◌, ◌/◌, ◌%◌, ap, sym, subst, ◌∙◌, arith, ℕ, List, length, set, Option, None, Some}
+use Rattle.std.proofs.Common.{◌≡◌, ◌*◌, ◌/◌, ◌%◌, ap, subst, ◌∙◌, ℕ, List, length, Option, None, Some}
 use Rattle.std.proofs.lemmas.List.{get_or-set_same}
 use Rattle.std.proofs.lemmas.Nat.{pow_pos}
-use Rattle.cola_cell.specs.declared.fault.ReadFault.{ReadFault}
 use Rattle.cola_cell.specs.Flat.{found}
-use Rattle.cola_cell.specs.Format.{width}
 use Rattle.cola_cell.specs.Places.{number_of}
 use Rattle.cola_cell.specs.Decoded.{decoded}
 use Rattle.cola_front.specs.Front.{cell_bytes}
 use Rattle.cola_buffers.specs.Blocks.{last_in}
 use Rattle.cola_device.specs.Bytes.{Gives}
 use Rattle.cola_run.specs.Cells.{block_cells, block_number, block_bytes}
-use Rattle.cola_run.specs.Parts.{Finds}
 use Rattle.cola_run.specs.Turns.{Turns}
 use Rattle.cola_run.proofs.Calls.{finds-block, turns-found}
 use Rattle.cola_run.proofs.device_cells.read_by_buffer.Goals as goal

@@ -1,4 +1,4 @@
-use Rattle.std.proofs.Common.{◌≡◌, ◌<◌, ◌≤◌, ◌+◌, ◌*◌, ◌^◌, ℕ, arith}
+use Rattle.std.proofs.Common.{◌≡◌, ◌<◌, ◌+◌, ◌^◌, arith}
 use Rattle.cola_cell.specs.Places.{number_of}
 use Rattle.cola_layout.proofs.Places.{front-below}
 use Rattle.cola_layout.proofs.Powers.{next_power}

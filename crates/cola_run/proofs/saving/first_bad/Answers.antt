@@ -1,6 +1,5 @@
-use Rattle.std.proofs.Common.{◌≡◌, ◌<◌, ◌≤◌, ◌+◌, ℕ, sym, subst, arith}
+use Rattle.std.proofs.Common.{◌<◌, ◌+◌, sym, subst, arith}
 use Rattle.cola_layout.specs.declared.geometry.Geometry.{Geometry}
-use Rattle.cola_run.proofs.Flushes.{flushed-by}
 use Rattle.cola_run.proofs.Fronts.{front-bad, runs-fit}
 use Rattle.cola_run.proofs.saving.first_bad.Goals as goal
 

@@ -1,17 +1,13 @@
-use Rattle.std.proofs.Common.{◌≡◌, ◌≢◌, ◌⊎◌, ◌<◌, ◌≤◌, ◌+◌, ◌-◌, ◌*◌, ◌^◌, ◌/◌, ℕ, List, [], ◌∷◌, length, replicate, get_or, Option, Some, None, Result, Ok, Err, true, false, inl, inr, refl, sym, ap, subst, ◌∙◌, arith}
+use Rattle.std.proofs.Common.{◌≡◌, ◌≤◌, ◌+◌, ◌-◌, ◌*◌, ◌^◌, ℕ, List, length, Option, Result, Ok, Err, sym, ap, subst, ◌∙◌, arith}
 use Rattle.std.specs.Prelude.{IfSome, OnOk}
 use Rattle.cola_cell.specs.declared.format.Format.{Format}
-use Rattle.cola_cell.specs.declared.sink.Shadow.{Shadow}
-use Rattle.cola_cell.specs.Flat.{shadow_at}
 use Rattle.cola_cell.specs.Format.{width}
 use Rattle.cola_device.specs.declared.device.DeviceFault.{DeviceFault}
-use Rattle.cola_device.specs.Bytes.{HasRange, Wrote}
-use Rattle.cola_front.specs.Front.{FrontCells, IsFront, block_size, image}
-use Rattle.cola_layout.specs.declared.geometry.Geometry.{Geometry}
+use Rattle.cola_device.specs.Bytes.{Wrote}
+use Rattle.cola_front.specs.Front.{block_size, image}
 use Rattle.cola_layout.proofs.Powers.{power-le}
-use Rattle.cola_run.specs.Cells.{IsOnDevice, Lower, AreCells, block_cells, block_bytes, file_bytes, file_blocks, device_levels, spots_of, IsShadow, IsShape, IsBacked}
-use Rattle.cola_run.specs.Store.{Store, IsStore, cells_of, held_of, spent_of, kept_of}
-use Rattle.cola_run.specs.Saving.{IsFlushed, IsLoaded, SameReads, SameBehind, AreFileSpots, header_shadow}
+use Rattle.cola_run.specs.Cells.{Lower, block_bytes, file_blocks, spots_of, IsShape, IsBacked}
+use Rattle.cola_run.specs.Saving.{IsFlushed}
 use Rattle.cola_run.specs.Loading.{SameCells}
 use Rattle.cola_run.proofs.Finishes.{ends-within}
 use Rattle.cola_run.proofs.Flushes.{image-many, same-two, same-read, same-head, flushed-by}

@@ -1,16 +1,14 @@
-use Rattle.std.proofs.Common.{◌≡◌, ◌≢◌, ◌<◌, ◌≤◌, ◌+◌, ◌*◌, ◌%◌, ℕ, List, length, Option, Some, None, inl, inr, refl, sym, ap, subst, ◌∙◌, arith}
+use Rattle.std.proofs.Common.{◌≡◌, ◌≤◌, ◌+◌, ◌*◌, ◌%◌, ℕ, List, length, Option, Some, None, inl, inr, refl, sym, ap, subst, ◌∙◌, arith}
 use Rattle.std.proofs.lemmas.Bool.{cases_eq}
 use Rattle.std.proofs.lemmas.List.{get_or-set_same}
 use Rattle.cola_cell.specs.declared.sink.Shadow.{Shadow}
-use Rattle.cola_cell.specs.Format.{width}
-use Rattle.cola_cell.specs.Places.{slot_size, IsPlace}
+use Rattle.cola_cell.specs.Places.{slot_size}
 use Rattle.cola_cell.specs.Shadows.{emptied}
 use Rattle.cola_device.specs.Bytes.{splice, Gives}
 use Rattle.cola_layout.proofs.Places.{slot-blocks}
 use Rattle.cola_buffers.specs.Blocks.{last_in}
-use Rattle.cola_run.specs.Cells.{IsOnDevice, IsShadow, block_cells, block_bytes, block_number, tail_number}
+use Rattle.cola_run.specs.Cells.{IsOnDevice, block_cells, block_bytes, block_number}
 use Rattle.cola_run.specs.Parts.{OneShadow}
-use Rattle.cola_run.specs.Loading.{StaySound}
 use Rattle.cola_run.proofs.Calls.{one-again}
 use Rattle.cola_run.proofs.Loads.{sound-shadow, sound-filled, zero-rest}
 use Rattle.cola_run.proofs.saving.load_shadow.Goals as goal

@@ -1,8 +1,8 @@
-use Rattle.std.proofs.Common.{◌≡◌, ◌<◌, ◌≤◌, ◌+◌, ◌*◌, ℕ, List, length, Option, Some, None, Ok, Err, sym, ap, subst, ◌∙◌, arith}
+use Rattle.std.proofs.Common.{◌≡◌, ◌<◌, ◌≤◌, ◌*◌, ℕ, List, Option, Some, None, subst, ◌∙◌, arith}
 use Rattle.std.proofs.Math.Nat.{mul-le-mul_right}
 use Rattle.cola_device.specs.declared.device.DeviceFault.{DeviceFault}
 use Rattle.cola_device.specs.Bytes.{HasRange, Wrote}
-use Rattle.cola_front.specs.Front.{block_size, second_block, image}
+use Rattle.cola_front.specs.Front.{block_size}
 use Rattle.cola_front.proofs.Writes.{store_refused, store_tried}
 use Rattle.cola_run.proofs.saving.save_front.Goals as goal
 

@@ -1,4 +1,4 @@
-use Rattle.std.proofs.Common.{◌<◌, ◌≤◌, ◌+◌, ◌^◌, ℕ, arith}
+use Rattle.std.proofs.Common.{◌<◌, ◌≤◌, ◌+◌, ◌^◌, arith}
 use Rattle.cola_layout.proofs.Powers.{power-le}
 use Rattle.cola_run.proofs.saving.visible_at.Goals as goal
 

@@ -1,22 +1,14 @@
-use Rattle.std.proofs.Common.{◌≡◌, ◌≢◌, ◌⊎◌, ◌<◌, ◌≤◌, ◌+◌, ◌-◌, ◌*◌, ◌^◌, ◌/◌, ℕ, List, [], ◌∷◌, length, replicate, get_or, Option, Some, None, Result, Ok, Err, true, false, inl, inr, refl, sym, ap, subst, ◌∙◌, arith}
+use Rattle.std.proofs.Common.{◌≡◌, ◌≤◌, ◌+◌, ℕ, List, Option, Result, Ok, Err, sym, ap, subst, ◌∙◌}
 use Rattle.std.specs.Prelude.{IfSome, OnOk}
-use Rattle.cola_cell.specs.declared.format.Format.{Format}
 use Rattle.cola_cell.specs.declared.sink.Shadow.{Shadow}
 use Rattle.cola_cell.specs.Flat.{shadow_at}
-use Rattle.cola_cell.specs.Format.{width}
-use Rattle.cola_device.specs.declared.device.DeviceFault.{DeviceFault}
-use Rattle.cola_device.specs.Bytes.{HasRange, Wrote}
-use Rattle.cola_front.specs.Front.{FrontCells, IsFront, block_size, image}
 use Rattle.cola_layout.specs.declared.geometry.Geometry.{Geometry}
-use Rattle.cola_layout.proofs.Powers.{power-le}
-use Rattle.cola_run.specs.Cells.{IsOnDevice, Lower, AreCells, block_cells, block_bytes, file_bytes, file_blocks, device_levels, spots_of, IsShadow, IsShape, IsBacked}
-use Rattle.cola_run.specs.Store.{Store, IsStore, cells_of, held_of, spent_of, kept_of}
-use Rattle.cola_run.specs.Saving.{IsFlushed, IsLoaded, SameReads, SameBehind, AreFileSpots, header_shadow}
-use Rattle.cola_run.specs.Loading.{SameCells}
+use Rattle.cola_run.specs.Cells.{Lower, IsShape, IsBacked}
+use Rattle.cola_run.specs.Store.{Store, cells_of, held_of}
+use Rattle.cola_run.specs.Saving.{AreFileSpots, header_shadow}
 use Rattle.std.proofs.lemmas.List.{with_items_is}
 use Rattle.std.specs.Vec.{with_items}
 use Rattle.cola_front.specs.Front.{IsLoaded as IsFrontLoaded}
-use Rattle.cola_layout.specs.declared.header.Header.{Header}
 use Rattle.cola_run.specs.Loading.{StaySound, AreSavedBelow}
 use Rattle.cola_run.proofs.Heads.{saved-told}
 use Rattle.cola_run.proofs.run_store.RunStore.load.Goals as goal
@@ -48,7 +40,14 @@ invariant_of-self g c =
     let kept = c.load_parts.ensures.shape in
     let same : IsShape i.geometry i.front shadows tails = stays.shape i.front c.self.invariant.cells.shape in
     let shape : IsShape i.geometry c.load_parts.new.front shadows tails = record {
-      block = same.block; shallow = same.shallow; format = kept.format ∙ same.format; front_block = kept.block ∙ same.front_block; shadows_many = same.shadows_many; shadows_fit = same.shadows_fit; tails_many = same.tails_many; unsaved = same.unsaved;
+      block = same.block;
+      shallow = same.shallow;
+      format = kept.format ∙ same.format;
+      front_block = kept.block ∙ same.front_block;
+      shadows_many = same.shadows_many;
+      shadows_fit = same.shadows_fit;
+      tails_many = same.tails_many;
+      unsaved = same.unsaved;
     } in
     let backed : IfSome new (IsBacked i.geometry shadows tails) = stays.backed i.front c.self.invariant.cells.shape c.self.invariant.cells.backed in
     record {
@@ -80,7 +79,14 @@ returns-clause-loaded g c =
     let kept = c.load_parts.ensures.shape in
     let same : IsShape i.geometry i.front shadows tails = stays.shape i.front c.self.invariant.cells.shape in
     let shape : IsShape i.geometry c.load_parts.new.front shadows tails = record {
-      block = same.block; shallow = same.shallow; format = kept.format ∙ same.format; front_block = kept.block ∙ same.front_block; shadows_many = same.shadows_many; shadows_fit = same.shadows_fit; tails_many = same.tails_many; unsaved = same.unsaved;
+      block = same.block;
+      shallow = same.shallow;
+      format = kept.format ∙ same.format;
+      front_block = kept.block ∙ same.front_block;
+      shadows_many = same.shadows_many;
+      shadows_fit = same.shadows_fit;
+      tails_many = same.tails_many;
+      unsaved = same.unsaved;
     } in
     let backed : IfSome new (IsBacked i.geometry shadows tails) = stays.backed i.front c.self.invariant.cells.shape c.self.invariant.cells.backed in
     let geometry : c.args.header.now.geometry ≡ i.geometry = c.requires ∙ ap (λ (s : Store _). s.geometry) (sym c.self.view_is) in

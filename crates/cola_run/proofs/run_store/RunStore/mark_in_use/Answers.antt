@@ -1,21 +1,10 @@
-use Rattle.std.proofs.Common.{◌≡◌, ◌≢◌, ◌⊎◌, ◌<◌, ◌≤◌, ◌+◌, ◌-◌, ◌*◌, ◌^◌, ◌/◌, ℕ, List, [], ◌∷◌, length, replicate, get_or, Option, Some, None, Result, Ok, Err, true, false, inl, inr, refl, sym, ap, subst, ◌∙◌, arith}
-use Rattle.std.specs.Prelude.{IfSome, OnOk}
-use Rattle.cola_cell.specs.declared.format.Format.{Format}
-use Rattle.cola_cell.specs.declared.sink.Shadow.{Shadow}
-use Rattle.cola_cell.specs.Flat.{shadow_at}
-use Rattle.cola_cell.specs.Format.{width}
-use Rattle.cola_device.specs.declared.device.DeviceFault.{DeviceFault}
-use Rattle.cola_device.specs.Bytes.{HasRange, Wrote}
-use Rattle.cola_front.specs.Front.{FrontCells, IsFront, block_size, image}
-use Rattle.cola_layout.specs.declared.geometry.Geometry.{Geometry}
-use Rattle.cola_layout.proofs.Powers.{power-le}
-use Rattle.cola_run.specs.Cells.{IsOnDevice, Lower, AreCells, block_cells, block_bytes, file_bytes, file_blocks, device_levels, spots_of, IsShadow, IsShape, IsBacked}
-use Rattle.cola_run.specs.Store.{Store, IsStore, cells_of, held_of, spent_of, kept_of}
-use Rattle.cola_run.specs.Saving.{IsFlushed, IsLoaded, SameReads, SameBehind, AreFileSpots, header_shadow}
-use Rattle.cola_run.specs.Loading.{SameCells}
+use Rattle.std.proofs.Common.{◌≡◌, ◌≤◌, ◌+◌, ◌*◌, ℕ, List, [], ◌∷◌, length, Option, sym, ap, subst, ◌∙◌, arith}
+use Rattle.std.specs.Prelude.{IfSome}
+use Rattle.cola_run.specs.Cells.{block_bytes, spots_of, IsBacked}
+use Rattle.cola_run.specs.Store.{Store, cells_of}
 use Rattle.std.proofs.lemmas.List.{length-map}
 use Rattle.cola_buffers.specs.Blocks.{forgotten}
-use Rattle.cola_run.proofs.Heads.{heads-backed, heads-spots, wrote-then, block-least}
+use Rattle.cola_run.proofs.Heads.{heads-backed, heads-spots, block-least}
 use Rattle.cola_run.proofs.run_store.RunStore.mark_in_use.Goals as goal
 
 pub invariant_of-self : goal.invariant_of-self
@@ -29,8 +18,10 @@ invariant_of-self g c =
     let large = block-least i.geometry shape.block in
     let within : 14 + 1 ≤ 2 * block_bytes i.geometry = omega (arith, large) in
     record {
-      cells = record { shape = record { block = shape.block; shallow = shape.shallow; format = shape.format; front_block = shape.front_block; shadows_many = shape.shadows_many; shadows_fit = shape.shadows_fit; tails_many = shape.tails_many; unsaved = shape.unsaved };
-        backed = subst (λ (x : Option (List ℕ)). IfSome x (IsBacked i.geometry i.shadows.items i.tails.items)) (sym c.settle.ensures.bytes_stay) (heads-backed i.geometry shape.block i.shadows.items i.tails.items c.write_byte.result 14 (1 ∷ []) within (told i.buffers.cache.device) (told c.write_byte.new.self.cache.device) c.write_byte.ensures.wrote backed) };
+      cells = record {
+        shape = record { block = shape.block; shallow = shape.shallow; format = shape.format; front_block = shape.front_block; shadows_many = shape.shadows_many; shadows_fit = shape.shadows_fit; tails_many = shape.tails_many; unsaved = shape.unsaved };
+        backed = subst (λ (x : Option (List ℕ)). IfSome x (IsBacked i.geometry i.shadows.items i.tails.items)) (sym c.settle.ensures.bytes_stay) (heads-backed i.geometry shape.block i.shadows.items i.tails.items c.write_byte.result 14 (1 ∷ []) within (told i.buffers.cache.device) (told c.write_byte.new.self.cache.device) c.write_byte.ensures.wrote backed);
+      };
       size = c.settle.ensures.stays.size ∙ c.write_byte.ensures.stays.size ∙ size;
       many = c.settle.ensures.stays.many ∙ c.write_byte.ensures.stays.many ∙ c.self.invariant.many;
       buffers_many = ap (λ (xs : List (Option ℕ)). length xs) c.settle.ensures.lasts ∙ ap (λ (xs : List (Option ℕ)). length xs) c.write_byte.ensures.lasts ∙ length-map i.buffers.lasts (forgotten 0) ∙ c.self.invariant.buffers_many;
@@ -47,8 +38,10 @@ invariant_of-self-in-Err g c =
     let large = block-least i.geometry shape.block in
     let within : 14 + 1 ≤ 2 * block_bytes i.geometry = omega (arith, large) in
     record {
-      cells = record { shape = record { block = shape.block; shallow = shape.shallow; format = shape.format; front_block = shape.front_block; shadows_many = shape.shadows_many; shadows_fit = shape.shadows_fit; tails_many = shape.tails_many; unsaved = shape.unsaved };
-        backed = heads-backed i.geometry shape.block i.shadows.items i.tails.items c.write_byte.result 14 (1 ∷ []) within (told i.buffers.cache.device) (told c.write_byte.new.self.cache.device) c.write_byte.ensures.wrote backed };
+      cells = record {
+        shape = record { block = shape.block; shallow = shape.shallow; format = shape.format; front_block = shape.front_block; shadows_many = shape.shadows_many; shadows_fit = shape.shadows_fit; tails_many = shape.tails_many; unsaved = shape.unsaved };
+        backed = heads-backed i.geometry shape.block i.shadows.items i.tails.items c.write_byte.result 14 (1 ∷ []) within (told i.buffers.cache.device) (told c.write_byte.new.self.cache.device) c.write_byte.ensures.wrote backed;
+      };
       size = c.write_byte.ensures.stays.size ∙ size;
       many = c.write_byte.ensures.stays.many ∙ c.self.invariant.many;
       buffers_many = ap (λ (xs : List (Option ℕ)). length xs) c.write_byte.ensures.lasts ∙ length-map i.buffers.lasts (forgotten 0) ∙ c.self.invariant.buffers_many;

@@ -1,11 +1,11 @@
-use Rattle.std.proofs.Common.{◌≡◌, ◌<◌, ◌*◌, ◌^◌, ◌+◌, ◌≤◌, ap, sym, subst, ◌∙◌, arith, ℕ, Option}
+use Rattle.std.proofs.Common.{◌≡◌, ◌<◌, ◌^◌, ◌+◌, ap, sym, subst, ◌∙◌, arith, ℕ, Option}
 use Rattle.std.specs.Prelude.{IfSome}
 use Rattle.cola_cell.specs.declared.format.Format.{Format}
 use Rattle.cola_cell.specs.declared.cell.Cell.{Cell}
 use Rattle.cola_cell.specs.Format.{CellFits}
 use Rattle.cola_cell.specs.Places.{number_of, IsPlace}
 use Rattle.cola_cell.specs.Spent.{ReadAnswers}
-use Rattle.cola_front.specs.Front.{FrontCells, cell_at}
+use Rattle.cola_front.specs.Front.{cell_at}
 use Rattle.cola_layout.proofs.Places.{front-below}
 use Rattle.cola_layout.proofs.Powers.{next_power}
 use Rattle.cola_run.specs.Store.{Store, held_of}

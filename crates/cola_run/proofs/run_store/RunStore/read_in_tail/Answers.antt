@@ -4,7 +4,7 @@ use Rattle.cola_cell.specs.Decoded.{decoded}
 use Rattle.cola_cell.specs.Places.{IsPlace}
 use Rattle.cola_cell.specs.Spent.{ReadAnswers}
 use Rattle.cola_front.specs.Front.{cell_bytes}
-use Rattle.cola_run.specs.Cells.{block_cells, tail_number, is_in_tail}
+use Rattle.cola_run.specs.Cells.{block_cells, is_in_tail}
 use Rattle.cola_run.specs.Store.{Store, held_of}
 use Rattle.cola_run.proofs.Spots.{in-tail}
 use Rattle.cola_run.proofs.Reading.{tail-says}
@@ -15,7 +15,7 @@ returns g c =
     let i = c.self.inside in
     let view : Store _ = record { buffers = i.buffers; geometry = i.geometry; front = i.front; shadows = i.shadows.items; tails = i.tails.items; ticked = i.ticked } in
     let inside = in-tail (block_cells i.geometry) (shadow_at i.shadows.items c.args.level) c.args.slot c.args.index
-        (subst (λ (s : Store _). is_in_tail (block_cells s.geometry) (shadow_at s.shadows c.args.level) c.args.slot c.args.index ≡ true) (sym c.self.view_is) c.requires.tail) in
+    (subst (λ (s : Store _). is_in_tail (block_cells s.geometry) (shadow_at s.shadows c.args.level) c.args.slot c.args.index ≡ true) (sym c.self.view_is) c.requires.tail) in
     record {
       answer = λ faults.
           subst (λ (s : Store _). ReadAnswers (held_of g.D.Device.bytes s) faults faults c.args.level c.args.slot c.args.index c.cell_or_bad.result) c.self.view_is

@@ -1,16 +1,14 @@
-use Rattle.std.proofs.Common.{◌≡◌, ◌≢◌, ◌<◌, ◌*◌, ◌^◌, ◌+◌, ◌-◌, ◌%◌, ◌≤◌, true, false, Bool, ap, sym, subst, ◌∙◌, arith, ℕ, List, length, not, Ok, refl}
+use Rattle.std.proofs.Common.{◌≡◌, ◌<◌, ◌+◌, ◌≤◌, true, false, ap, sym, subst, ◌∙◌, arith, ℕ, List, not, Ok, refl}
 use Rattle.std.proofs.lemmas.List.{with_items_is}
 use Rattle.std.specs.Vec.{with_items}
-use Rattle.cola_cell.specs.declared.fault.PushFault.{PushFault}
 use Rattle.cola_cell.specs.declared.sink.Shadow.{Shadow}
 use Rattle.cola_cell.specs.Flat.{shadow_at}
-use Rattle.cola_cell.specs.Places.{slot_size, number_of, IsPlace}
-use Rattle.cola_cell.specs.Shadows.{emptied, Restarts, Pushes, PushSpends, Finishes, FinishSpends}
-use Rattle.cola_front.specs.Front.{FrontCells}
+use Rattle.cola_cell.specs.Places.{IsPlace}
+use Rattle.cola_cell.specs.Shadows.{Finishes, FinishSpends}
 use Rattle.cola_run.specs.Cells.{IsOnDevice, block_number}
-use Rattle.cola_run.specs.Parts.{fills, OneShadow, IsPushed, IsFinished}
+use Rattle.cola_run.specs.Parts.{OneShadow, IsFinished}
 use Rattle.cola_run.specs.Turns.{Writing}
-use Rattle.cola_run.specs.Store.{Store, IsStore, held_of, spent_of, kept_of}
+use Rattle.cola_run.specs.Store.{Store, held_of, spent_of, kept_of}
 use Rattle.cola_run.proofs.Finishes.{ends-within}
 use Rattle.cola_run.proofs.Finishing.{finished-sound, finished-keeps, finished-meets, finished-spends}
 use Rattle.cola_run.proofs.Fronting.{front-finished-sound, front-finished-meets}
@@ -83,7 +81,7 @@ invariant_of-self-2 g c =
     (subst (λ (ts : List ℕ). IsFinished i.geometry (record { told = told; shadows = c.deref_mut-2.result.now; tails = ts }) (record { told = told_now; shadows = c.finish_on_device.new.shadows; tails = ts }) c.args.level c.finish_on_device.result) c.deref-2.ensures.value
     c.finish_on_device.ensures.finished)) in
     let writing = subst (λ (xs : List Shadow). Writing g.D.Device.counts g.D.Device.kept (not (shadow_at xs c.args.level).saved) i.buffers c.finish_on_device.new.buffers (block_number i.geometry c.args.level (shadow_at xs c.args.level).slot (shadow_at xs c.args.level).len) c.finish_on_device.result)
-        c.deref_mut-2.ensures.value c.finish_on_device.ensures.writing in
+    c.deref_mut-2.ensures.value c.finish_on_device.ensures.writing in
     finished-sound g.D.Device.bytes g.D.Device.counts g.D.Device.kept view now c.args.level c.finish_on_device.result c.self.invariant device refl refl finished writing (omega arith)
 
 pub returns-clause-kept : goal.returns-clause-kept
@@ -105,7 +103,7 @@ returns-clause-kept g c =
     (subst (λ (ts : List ℕ). IsFinished i.geometry (record { told = told; shadows = c.deref_mut-2.result.now; tails = ts }) (record { told = told_now; shadows = c.finish_on_device.new.shadows; tails = ts }) c.args.level c.finish_on_device.result) c.deref-2.ensures.value
     c.finish_on_device.ensures.finished)) in
     let writing = subst (λ (xs : List Shadow). Writing g.D.Device.counts g.D.Device.kept (not (shadow_at xs c.args.level).saved) i.buffers c.finish_on_device.new.buffers (block_number i.geometry c.args.level (shadow_at xs c.args.level).slot (shadow_at xs c.args.level).len) c.finish_on_device.result)
-        c.deref_mut-2.ensures.value c.finish_on_device.ensures.writing in
+    c.deref_mut-2.ensures.value c.finish_on_device.ensures.writing in
     finished-keeps g.D.Device.bytes g.D.Device.counts g.D.Device.kept view now c.args.level c.finish_on_device.result c.self.invariant device refl refl finished writing (omega arith) ∙ ap (λ (s : Store _). kept_of g.D.Device.bytes g.D.Device.kept s) c.self.view_is
 
 pub returns-clause-finishes : goal.returns-clause-finishes
@@ -127,7 +125,7 @@ returns-clause-finishes g c =
     (subst (λ (ts : List ℕ). IsFinished i.geometry (record { told = told; shadows = c.deref_mut-2.result.now; tails = ts }) (record { told = told_now; shadows = c.finish_on_device.new.shadows; tails = ts }) c.args.level c.finish_on_device.result) c.deref-2.ensures.value
     c.finish_on_device.ensures.finished)) in
     let writing = subst (λ (xs : List Shadow). Writing g.D.Device.counts g.D.Device.kept (not (shadow_at xs c.args.level).saved) i.buffers c.finish_on_device.new.buffers (block_number i.geometry c.args.level (shadow_at xs c.args.level).slot (shadow_at xs c.args.level).len) c.finish_on_device.result)
-        c.deref_mut-2.ensures.value c.finish_on_device.ensures.writing in
+    c.deref_mut-2.ensures.value c.finish_on_device.ensures.writing in
     subst (λ (s : Store _). Finishes (held_of g.D.Device.bytes s) (held_of g.D.Device.bytes now) (spent_of g.D.Device.counts s) (spent_of g.D.Device.counts now) c.args.level c.finish_on_device.result) c.self.view_is
     (finished-meets g.D.Device.bytes g.D.Device.counts g.D.Device.kept view now c.args.level c.finish_on_device.result c.self.invariant device refl refl finished writing (omega arith))
 
@@ -150,6 +148,6 @@ returns-clause-spends g c =
     (subst (λ (ts : List ℕ). IsFinished i.geometry (record { told = told; shadows = c.deref_mut-2.result.now; tails = ts }) (record { told = told_now; shadows = c.finish_on_device.new.shadows; tails = ts }) c.args.level c.finish_on_device.result) c.deref-2.ensures.value
     c.finish_on_device.ensures.finished)) in
     let writing = subst (λ (xs : List Shadow). Writing g.D.Device.counts g.D.Device.kept (not (shadow_at xs c.args.level).saved) i.buffers c.finish_on_device.new.buffers (block_number i.geometry c.args.level (shadow_at xs c.args.level).slot (shadow_at xs c.args.level).len) c.finish_on_device.result)
-        c.deref_mut-2.ensures.value c.finish_on_device.ensures.writing in
+    c.deref_mut-2.ensures.value c.finish_on_device.ensures.writing in
     subst (λ (s : Store _). FinishSpends (held_of g.D.Device.bytes s) (spent_of g.D.Device.counts s) (spent_of g.D.Device.counts now) c.args.level) c.self.view_is
     (finished-spends g.D.Device.bytes g.D.Device.counts g.D.Device.kept view now c.args.level c.finish_on_device.result c.self.invariant device refl refl finished writing (omega arith))

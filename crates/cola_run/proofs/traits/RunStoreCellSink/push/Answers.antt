@@ -1,16 +1,15 @@
-use Rattle.std.proofs.Common.{◌≡◌, ◌≢◌, ◌<◌, ◌*◌, ◌^◌, ◌+◌, ◌-◌, ◌%◌, ◌≤◌, true, false, Bool, ap, sym, subst, ◌∙◌, arith, ℕ, List, length, set, Some, Err, Result, Ok, refl}
+use Rattle.std.proofs.Common.{◌≡◌, ◌<◌, ◌^◌, ◌+◌, ◌%◌, ◌≤◌, ap, sym, subst, ◌∙◌, arith, ℕ, List, length, set, Some, Err, Result, Ok, refl}
 use Rattle.std.proofs.lemmas.List.{with_items_is}
 use Rattle.std.specs.Vec.{with_items}
 use Rattle.cola_cell.specs.declared.fault.PushFault.{PushFault}
 use Rattle.cola_cell.specs.declared.sink.Shadow.{Shadow}
 use Rattle.cola_cell.specs.Flat.{shadow_at}
 use Rattle.cola_cell.specs.Places.{slot_size, number_of}
-use Rattle.cola_cell.specs.Shadows.{emptied, push_ticks, Restarts, Pushes, PushSpends, Finishes, FinishSpends}
-use Rattle.cola_front.specs.Front.{FrontCells}
+use Rattle.cola_cell.specs.Shadows.{push_ticks, Pushes, PushSpends}
 use Rattle.cola_run.specs.Cells.{IsOnDevice, block_number}
-use Rattle.cola_run.specs.Parts.{fills, OneShadow, IsPushed, IsFinished}
+use Rattle.cola_run.specs.Parts.{fills, OneShadow, IsPushed}
 use Rattle.cola_run.specs.Turns.{Writing}
-use Rattle.cola_run.specs.Store.{Store, IsStore, held_of, spent_of, kept_of}
+use Rattle.cola_run.specs.Store.{Store, held_of, spent_of, kept_of}
 use Rattle.cola_cell.specs.Spent.{Ticks}
 use Rattle.cola_cell.specs.declared.fault.PushFault.TheVariants as push
 use Rattle.cola_run.specs.Parts.{MetFault}
@@ -112,7 +111,7 @@ invariant_of-self-2 g c =
     (subst (λ (ts : List ℕ). IsPushed i.geometry (record { told = told; shadows = c.deref_mut-2.result.now; tails = ts }) (record { told = told_now; shadows = c.push_on_device.new.shadows; tails = c.push_on_device.new.tails }) c.args.level c.args.cell.now c.push_on_device.result) c.deref_mut-3.ensures.value
     c.push_on_device.ensures.pushed))) in
     let writing = subst (λ (xs : List Shadow). Writing g.D.Device.counts g.D.Device.kept (fills i.geometry (shadow_at xs c.args.level).len) i.buffers c.push_on_device.new.buffers (block_number i.geometry c.args.level (shadow_at xs c.args.level).slot (shadow_at xs c.args.level).len) c.push_on_device.result)
-        c.deref_mut-2.ensures.value c.push_on_device.ensures.writing in
+    c.deref_mut-2.ensures.value c.push_on_device.ensures.writing in
     pushed-sound g.D.Device.bytes g.D.Device.counts g.D.Device.kept view now c.args.level c.args.cell.now c.push_on_device.result c.self.invariant device room refl refl pushed writing (ticked-by i.ticked c.push_on_device.result pushed.fault)
 
 pub returns-clause-kept : goal.returns-clause-kept
@@ -142,7 +141,7 @@ returns-clause-kept g c =
     (subst (λ (ts : List ℕ). IsPushed i.geometry (record { told = told; shadows = c.deref_mut-2.result.now; tails = ts }) (record { told = told_now; shadows = c.push_on_device.new.shadows; tails = c.push_on_device.new.tails }) c.args.level c.args.cell.now c.push_on_device.result) c.deref_mut-3.ensures.value
     c.push_on_device.ensures.pushed))) in
     let writing = subst (λ (xs : List Shadow). Writing g.D.Device.counts g.D.Device.kept (fills i.geometry (shadow_at xs c.args.level).len) i.buffers c.push_on_device.new.buffers (block_number i.geometry c.args.level (shadow_at xs c.args.level).slot (shadow_at xs c.args.level).len) c.push_on_device.result)
-        c.deref_mut-2.ensures.value c.push_on_device.ensures.writing in
+    c.deref_mut-2.ensures.value c.push_on_device.ensures.writing in
     pushed-keeps g.D.Device.bytes g.D.Device.counts g.D.Device.kept view now c.args.level c.args.cell.now c.push_on_device.result c.self.invariant device room refl refl pushed writing (ticked-by i.ticked c.push_on_device.result pushed.fault) ∙ ap (λ (s : Store _). kept_of g.D.Device.bytes g.D.Device.kept s) c.self.view_is
 
 pub returns-clause-pushes : goal.returns-clause-pushes
@@ -172,7 +171,7 @@ returns-clause-pushes g c =
     (subst (λ (ts : List ℕ). IsPushed i.geometry (record { told = told; shadows = c.deref_mut-2.result.now; tails = ts }) (record { told = told_now; shadows = c.push_on_device.new.shadows; tails = c.push_on_device.new.tails }) c.args.level c.args.cell.now c.push_on_device.result) c.deref_mut-3.ensures.value
     c.push_on_device.ensures.pushed))) in
     let writing = subst (λ (xs : List Shadow). Writing g.D.Device.counts g.D.Device.kept (fills i.geometry (shadow_at xs c.args.level).len) i.buffers c.push_on_device.new.buffers (block_number i.geometry c.args.level (shadow_at xs c.args.level).slot (shadow_at xs c.args.level).len) c.push_on_device.result)
-        c.deref_mut-2.ensures.value c.push_on_device.ensures.writing in
+    c.deref_mut-2.ensures.value c.push_on_device.ensures.writing in
     subst (λ (s : Store _). Pushes (held_of g.D.Device.bytes s) (held_of g.D.Device.bytes now) (spent_of g.D.Device.counts s) (spent_of g.D.Device.counts now) c.args.level c.args.cell.now c.push_on_device.result) c.self.view_is
     (pushed-meets g.D.Device.bytes g.D.Device.counts g.D.Device.kept view now c.args.level c.args.cell.now c.push_on_device.result c.self.invariant device room refl refl pushed writing (ticked-by i.ticked c.push_on_device.result pushed.fault))
 
@@ -203,6 +202,6 @@ returns-clause-spends g c =
     (subst (λ (ts : List ℕ). IsPushed i.geometry (record { told = told; shadows = c.deref_mut-2.result.now; tails = ts }) (record { told = told_now; shadows = c.push_on_device.new.shadows; tails = c.push_on_device.new.tails }) c.args.level c.args.cell.now c.push_on_device.result) c.deref_mut-3.ensures.value
     c.push_on_device.ensures.pushed))) in
     let writing = subst (λ (xs : List Shadow). Writing g.D.Device.counts g.D.Device.kept (fills i.geometry (shadow_at xs c.args.level).len) i.buffers c.push_on_device.new.buffers (block_number i.geometry c.args.level (shadow_at xs c.args.level).slot (shadow_at xs c.args.level).len) c.push_on_device.result)
-        c.deref_mut-2.ensures.value c.push_on_device.ensures.writing in
+    c.deref_mut-2.ensures.value c.push_on_device.ensures.writing in
     subst (λ (s : Store _). PushSpends (held_of g.D.Device.bytes s) (spent_of g.D.Device.counts s) (spent_of g.D.Device.counts now) c.args.level c.push_on_device.result) c.self.view_is
     (pushed-spends g.D.Device.bytes g.D.Device.counts g.D.Device.kept view now c.args.level c.args.cell.now c.push_on_device.result c.self.invariant device room refl refl pushed writing (ticked-by i.ticked c.push_on_device.result pushed.fault))

@@ -1,16 +1,10 @@
-use Rattle.std.proofs.Common.{◌≡◌, ◌≢◌, ◌<◌, ◌*◌, ◌^◌, ◌+◌, ◌-◌, ◌%◌, ◌≤◌, true, false, Bool, ap, sym, subst, ◌∙◌, arith, ℕ, List, length, Ok, refl}
+use Rattle.std.proofs.Common.{◌≡◌, sym, subst, ◌∙◌, List, refl}
 use Rattle.std.proofs.lemmas.List.{with_items_is}
 use Rattle.std.specs.Vec.{with_items}
-use Rattle.cola_cell.specs.declared.fault.PushFault.{PushFault}
 use Rattle.cola_cell.specs.declared.sink.Shadow.{Shadow}
-use Rattle.cola_cell.specs.Flat.{shadow_at}
-use Rattle.cola_cell.specs.Places.{slot_size, number_of}
-use Rattle.cola_cell.specs.Shadows.{emptied, Restarts, Pushes, PushSpends, Finishes, FinishSpends}
-use Rattle.cola_front.specs.Front.{FrontCells}
-use Rattle.cola_run.specs.Cells.{IsOnDevice, block_number}
-use Rattle.cola_run.specs.Parts.{fills, OneShadow, IsPushed, IsFinished}
-use Rattle.cola_run.specs.Turns.{Writing}
-use Rattle.cola_run.specs.Store.{Store, IsStore, held_of, spent_of, kept_of}
+use Rattle.cola_cell.specs.Shadows.{emptied, Restarts}
+use Rattle.cola_run.specs.Parts.{OneShadow}
+use Rattle.cola_run.specs.Store.{Store, held_of}
 use Rattle.cola_run.proofs.Fronting.{restarted-sound, restarted-meets}
 use Rattle.cola_run.proofs.traits.RunStoreCellSink.restart.Goals as goal
 

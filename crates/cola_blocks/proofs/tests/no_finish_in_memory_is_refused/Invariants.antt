@@ -1,5 +1,0 @@
--- The ledger of the steps is the one that the blank opens.
-use Rattle.cola_blocks.proofs.tests.no_finish_in_memory_is_refused.Given as goal
-
-abbrev pub ghosts-refused_finish : goal.ghosts-refused_finish
-ghosts-refused_finish g a = record { name = a.blank.name; parts = a.blank.parts }

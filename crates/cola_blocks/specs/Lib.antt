@@ -1,2 +1,0 @@
-pub mod Level
-pub mod Blocks

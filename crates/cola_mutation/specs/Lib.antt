@@ -1,0 +1,6 @@
+pub mod Levels
+pub mod Work
+pub mod Ends
+pub mod Standing
+pub mod Steps
+pub mod Examples

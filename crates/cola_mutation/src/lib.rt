@@ -1,0 +1,13 @@
+//! One mutation of a chain of levels, over any object of cells.
+#![tactic(auto)]
+
+mod ending;
+pub mod laws;
+pub mod maps;
+mod stepping;
+#[cfg(test)]
+mod tests;
+mod topping;
+mod working;
+
+pub use stepping::step;
