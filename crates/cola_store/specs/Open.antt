@@ -146,3 +146,39 @@ module _ {D : Type 0} (d : device.Ghosts D) (before now : D) where
   FindsHeader (Err Device) = Rose (d.counts before).faults (d.counts now).faults × FailedAtHeader d before now
   FindsHeader (Err OutOfMemory) = ⊥
   FindsHeader (Err (BadCell number)) = ⊥
+
+module _ {D : Type 0} (d : device.Ghosts D) (header : Header) (cache : ℕ) (before : D) where
+  -- the cells of the file are loaded by the header
+  pub record HasLoaded (store : Store D) : Type 0 where
+    pub spelled : IfSome (d.bytes before) (λ bytes. AreFrontRunsSpelled header (file_spots header.geometry.format bytes))
+    pub bytes_stay : d.bytes store.buffers.cache.device ≡ d.bytes before
+    pub geometry : store.geometry ≡ header.geometry
+    pub loaded : IsLoaded header (held_of d.bytes store) (d.bytes before)
+    pub blocks : store.buffers.cache.blocks ≡ cache
+    pub reads_made : (held_of d.bytes store).fixed.made.reads ≡ (d.counts before).reads
+    pub faults_made : (held_of d.bytes store).fixed.made.faults ≡ (d.counts before).faults
+    pub no_ticks : store.ticked ≡ 0
+    pub spends : Spends (d.counts before) (d.counts store.buffers.cache.device) (header.geometry.bottom + 3) 0
+    pub no_fault : (d.counts store.buffers.cache.device).faults ≡ (d.counts before).faults
+
+  -- the device failed in one of these reads
+  pub record FailedToLoad (now : D) : Type 0 where
+    pub cause : Rose (d.counts before).faults (d.counts now).faults
+    pub bytes_stay : d.bytes now ≡ d.bytes before
+    pub spends : Spends (d.counts before) (d.counts now) (header.geometry.bottom + 3) 0
+
+  -- what loading the cells answered
+  abbrev pub Loads : Result (Store D) (D × OpenFault) → Type 0
+  Loads (Ok store) = HasLoaded store
+  Loads (Err (now, NotStore)) = ⊥
+  Loads (Err (now, NotClosed)) = ⊥
+  Loads (Err (now, Small)) = ⊥
+  Loads (Err (now, Device)) = FailedToLoad now
+  Loads (Err (now, OutOfMemory)) = now ≡ before
+  Loads (Err (now, BadCell number)) =
+      IsRefused d before (λ bytes. IsLowestBad header (file_spots header.geometry.format bytes) number) (header.geometry.bottom + 3) now
+
+-- the device after a load
+abbrev pub device_left : {D : Type 0} → Result (Store D) (D × OpenFault) → D
+device_left (Ok store) = store.buffers.cache.device
+device_left (Err (now, fault)) = now

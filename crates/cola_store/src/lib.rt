@@ -10,3 +10,4 @@ mod tests;
 
 pub use fault::{CreateFault, OpenFault};
 pub use new_file::{create, create_as};
+pub use opening::open_runs;

@@ -5,7 +5,7 @@ ghost use Rattle.cola_device.specs.Counts.{Called};
 ghost use Rattle.cola_layout.specs.Fields.{fields_of};
 ghost use Rattle.cola_run.specs.Cells.{file_bytes};
 ghost use Rattle.cola_store.specs.Create.{file_size};
-ghost use Rattle.cola_store.specs.Open.{Opens, device_after, FirstBytesSay, FindsHeader};
+ghost use Rattle.cola_store.specs.Open.{Opens, device_after, FirstBytesSay, FindsHeader, Loads, device_left, IsReady};
 
 use crate::fault::OpenFault;
 use crate::new_file::size_of;
@@ -48,5 +48,65 @@ fn read_header<D: Device>(device: &mut D) -> Result<Header, OpenFault>
     match device.read(0, &mut bytes) {
         Ok(()) => header_in(size, &bytes),
         Err(_) => Err(OpenFault::Device),
+    }
+}
+
+/// The cells of a file that has this header, loaded by it.
+#[tactic(none)]
+fn load_runs<D: Device>(
+    alloc: Global,
+    device: D,
+    header: &Header,
+    cache: u32,
+) -> Result<RunStore<D>, (D, OpenFault)>
+    requires cache { cache ≤ 4096 }
+    requires inside { HasRange (D.bytes device) 0 (file_bytes header.now.geometry) }
+    ensures loaded { Loads D.Device header.now cache device result }
+    ensures kept { D.kept (device_left result) ≡ D.kept device }
+{
+    let mut runs = match RunStore::new(alloc, device, header.geometry, cache) {
+        Ok(runs) => runs,
+        Err((device, _)) => return Err((device, OpenFault::OutOfMemory)),
+    };
+    match runs.load(header) {
+        Ok(()) => Ok(runs),
+        Err(ReadFault::Device) => Err((runs.into_device(), OpenFault::Device)),
+        Err(ReadFault::BadCell(number)) => Err((runs.into_device(), OpenFault::BadCell(number))),
+    }
+}
+
+/// Opens the file of a store, of either format, behind a cache of up to `cache` blocks: gives its cells, by the header that
+/// comes with them, and marks the file as in use. All memory that the store will ever take is taken here. A file may have
+/// more bytes than the cells of its store; they stay. An error gives `device` back.
+///
+/// In this order: the size is asked, and `Small` where it is below 512 bytes; the first 512 bytes are read, and `NotStore`
+/// where they spell no header; `Small` where the file has fewer bytes than the cells of the store; `NotClosed` where the
+/// state byte is 1; memory is taken, or `OutOfMemory`; the first two blocks are read, and for each level on the device
+/// whose shadow ends within a block that block, and `BadCell` where a cell of a run of the first two blocks is no
+/// spelling, with the number of the lowest; the state byte is written as 1, and the device settles. `Device` where the
+/// device refused a call. A refusal before the state byte is written changes no byte; one in that leaves any byte in its
+/// place, and all else.
+#[tactic(none)]
+pub fn open_runs<D: Device>(
+    alloc: Global,
+    device: D,
+    cache: u32,
+) -> Result<(RunStore<D>, Header), (D, OpenFault)>
+    requires { cache ≤ 4096 }
+    ensures opened { Opens D.Device device cache result }
+    ensures kept { D.kept (device_after result) ≡ D.kept device }
+{
+    let mut device = device;
+    let header = match read_header(&mut device) {
+        Ok(header) => header,
+        Err(fault) => return Err((device, fault)),
+    };
+    let mut runs = match load_runs(alloc, device, &header, cache) {
+        Ok(runs) => runs,
+        Err(error) => return Err(error),
+    };
+    match runs.mark_in_use() {
+        Ok(()) => Ok((runs, header)),
+        Err(_) => Err((runs.into_device(), OpenFault::Device)),
     }
 }
