@@ -12,7 +12,7 @@ use Rattle.cola_spec.specs.Map.{Map}
 use Rattle.cola_image.specs.Cells.{file_spots}
 use Rattle.cola_image.specs.Standing.{FileStandsFor, HeaderStandsFor, with_state}
 use Rattle.cola_run.specs.Store.{Store, held_of}
-use Rattle.cola_run.specs.Saving.{AreFrontRunsSpelled, IsLowestBad, IsLoaded}
+use Rattle.cola_run.specs.Saving.{AreFileSpots, AreFrontRunsSpelled, IsLowestBad, IsLoaded, header_shadow}
 use Rattle.cola_store.specs.declared.fault.OpenFault.{OpenFault}
 use Rattle.cola_store.specs.declared.fault.OpenFault.TheVariants.{NotStore, NotClosed, Small, Device, OutOfMemory, BadCell}
 use Rattle.cola_store.specs.Create.{file_size}
@@ -147,38 +147,38 @@ module _ {D : Type 0} (d : device.Ghosts D) (before now : D) where
   FindsHeader (Err OutOfMemory) = ⊥
   FindsHeader (Err (BadCell number)) = ⊥
 
-module _ {D : Type 0} (d : device.Ghosts D) (header : Header) (cache : ℕ) (before : D) where
-  -- the cells of the file are loaded by the header
-  pub record HasLoaded (store : Store D) : Type 0 where
-    pub spelled : IfSome (d.bytes before) (λ bytes. AreFrontRunsSpelled header (file_spots header.geometry.format bytes))
-    pub bytes_stay : d.bytes store.buffers.cache.device ≡ d.bytes before
-    pub geometry : store.geometry ≡ header.geometry
-    pub loaded : IsLoaded header (held_of d.bytes store) (d.bytes before)
-    pub blocks : store.buffers.cache.blocks ≡ cache
-    pub reads_made : (held_of d.bytes store).fixed.made.reads ≡ (d.counts before).reads
-    pub faults_made : (held_of d.bytes store).fixed.made.faults ≡ (d.counts before).faults
-    pub no_ticks : store.ticked ≡ 0
-    pub spends : Spends (d.counts before) (d.counts store.buffers.cache.device) (header.geometry.bottom + 3) 0
-    pub no_fault : (d.counts store.buffers.cache.device).faults ≡ (d.counts before).faults
+module _ {D : Type 0} (d : device.Ghosts D) (header : Header) (before now : Store D) where
+  -- the cells of the file are loaded by the header, and its state byte says that the store is in use
+  pub record IsMarked : Type 0 where
+    pub spelled : IfSome (d.bytes before.buffers.cache.device) (λ bytes. AreFrontRunsSpelled header (file_spots header.geometry.format bytes))
+    pub marked : Both (d.bytes before.buffers.cache.device) (d.bytes now.buffers.cache.device) (λ old new. new ≡ with_state 1 old)
+    pub geometry : now.geometry ≡ header.geometry
+    pub spots : IfSome (d.bytes before.buffers.cache.device) (AreFileSpots header.geometry (held_of d.bytes now).spots)
+    pub shadows : (level : ℕ) → level ≤ header.geometry.bottom → (held_of d.bytes now).shadows level ≡ header_shadow header level
+    pub blocks : now.buffers.cache.blocks ≡ before.buffers.cache.blocks
+    pub made : (held_of d.bytes now).fixed ≡ (held_of d.bytes before).fixed
+    pub ticks : now.ticked ≡ before.ticked
+    pub spends : Spends (d.counts before.buffers.cache.device) (d.counts now.buffers.cache.device) (header.geometry.bottom + 3) 1
+    pub no_fault : (d.counts now.buffers.cache.device).faults ≡ (d.counts before.buffers.cache.device).faults
 
-  -- the device failed in one of these reads
-  pub record FailedToLoad (now : D) : Type 0 where
-    pub cause : Rose (d.counts before).faults (d.counts now).faults
-    pub bytes_stay : d.bytes now ≡ d.bytes before
-    pub spends : Spends (d.counts before) (d.counts now) (header.geometry.bottom + 3) 0
+  -- the device failed in one of the reads, and keeps its bytes
+  pub record FailedReading : Type 0 where
+    pub bytes_stay : d.bytes now.buffers.cache.device ≡ d.bytes before.buffers.cache.device
+    pub spends : Spends (d.counts before.buffers.cache.device) (d.counts now.buffers.cache.device) (header.geometry.bottom + 3) 0
 
-  -- what loading the cells answered
-  abbrev pub Loads : Result (Store D) (D × OpenFault) → Type 0
-  Loads (Ok store) = HasLoaded store
-  Loads (Err (now, NotStore)) = ⊥
-  Loads (Err (now, NotClosed)) = ⊥
-  Loads (Err (now, Small)) = ⊥
-  Loads (Err (now, Device)) = FailedToLoad now
-  Loads (Err (now, OutOfMemory)) = now ≡ before
-  Loads (Err (now, BadCell number)) =
-      IsRefused d before (λ bytes. IsLowestBad header (file_spots header.geometry.format bytes) number) (header.geometry.bottom + 3) now
+  -- the device failed in the write of the state byte, or as it settled
+  pub record FailedMarking : Type 0 where
+    pub spelled : IfSome (d.bytes before.buffers.cache.device) (λ bytes. AreFrontRunsSpelled header (file_spots header.geometry.format bytes))
+    pub left : Both (d.bytes before.buffers.cache.device) (d.bytes now.buffers.cache.device) (λ old new. (state : ℕ) × (new ≡ with_state state old))
+    pub spends : Spends (d.counts before.buffers.cache.device) (d.counts now.buffers.cache.device) (header.geometry.bottom + 3) 1
 
--- the device after a load
-abbrev pub device_left : {D : Type 0} → Result (Store D) (D × OpenFault) → D
-device_left (Ok store) = store.buffers.cache.device
-device_left (Err (now, fault)) = now
+  -- what loading and marking answered
+  abbrev pub LoadsAndMarks : Result (Unit {0}) OpenFault → Type 0
+  LoadsAndMarks (Ok _) = IsMarked
+  LoadsAndMarks (Err NotStore) = ⊥
+  LoadsAndMarks (Err NotClosed) = ⊥
+  LoadsAndMarks (Err Small) = ⊥
+  LoadsAndMarks (Err Device) = Rose (d.counts before.buffers.cache.device).faults (d.counts now.buffers.cache.device).faults × (FailedReading ⊎ FailedMarking)
+  LoadsAndMarks (Err OutOfMemory) = ⊥
+  LoadsAndMarks (Err (BadCell number)) =
+      IsRefused d before.buffers.cache.device (λ bytes. IsLowestBad header (file_spots header.geometry.format bytes) number) (header.geometry.bottom + 3) now.buffers.cache.device

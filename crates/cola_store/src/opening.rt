@@ -5,7 +5,7 @@ ghost use Rattle.cola_device.specs.Counts.{Called};
 ghost use Rattle.cola_layout.specs.Fields.{fields_of};
 ghost use Rattle.cola_run.specs.Cells.{file_bytes};
 ghost use Rattle.cola_store.specs.Create.{file_size};
-ghost use Rattle.cola_store.specs.Open.{Opens, device_after, FirstBytesSay, FindsHeader, Loads, device_left, IsReady};
+ghost use Rattle.cola_store.specs.Open.{Opens, device_after, FirstBytesSay, FindsHeader, LoadsAndMarks};
 
 use crate::fault::OpenFault;
 use crate::new_file::size_of;
@@ -51,27 +51,20 @@ fn read_header<D: Device>(device: &mut D) -> Result<Header, OpenFault>
     }
 }
 
-/// The cells of a file that has this header, loaded by it.
+/// Loads the cells of a file by its header, and marks the file as in use.
 #[tactic(none)]
-fn load_runs<D: Device>(
-    alloc: Global,
-    device: D,
-    header: &Header,
-    cache: u32,
-) -> Result<RunStore<D>, (D, OpenFault)>
-    requires cache { cache ≤ 4096 }
-    requires inside { HasRange (D.bytes device) 0 (file_bytes header.now.geometry) }
-    ensures loaded { Loads D.Device header.now cache device result }
-    ensures kept { D.kept (device_left result) ≡ D.kept device }
+fn load_and_mark<D: Device>(runs: &mut RunStore<D>, header: &Header) -> Result<(), OpenFault>
+    requires { header.now.geometry ≡ runs.old.geometry }
+    ensures loaded { LoadsAndMarks D.Device header.now runs.old runs.new result }
+    ensures kept { D.kept runs.new.buffers.cache.device ≡ D.kept runs.old.buffers.cache.device }
 {
-    let mut runs = match RunStore::new(alloc, device, header.geometry, cache) {
-        Ok(runs) => runs,
-        Err((device, _)) => return Err((device, OpenFault::OutOfMemory)),
-    };
     match runs.load(header) {
-        Ok(()) => Ok(runs),
-        Err(ReadFault::Device) => Err((runs.into_device(), OpenFault::Device)),
-        Err(ReadFault::BadCell(number)) => Err((runs.into_device(), OpenFault::BadCell(number))),
+        Ok(()) => match runs.mark_in_use() {
+            Ok(()) => Ok(()),
+            Err(_) => Err(OpenFault::Device),
+        },
+        Err(ReadFault::Device) => Err(OpenFault::Device),
+        Err(ReadFault::BadCell(number)) => Err(OpenFault::BadCell(number)),
     }
 }
 
@@ -101,12 +94,12 @@ pub fn open_runs<D: Device>(
         Ok(header) => header,
         Err(fault) => return Err((device, fault)),
     };
-    let mut runs = match load_runs(alloc, device, &header, cache) {
+    let mut runs = match RunStore::new(alloc, device, header.geometry, cache) {
         Ok(runs) => runs,
-        Err(error) => return Err(error),
+        Err((device, _)) => return Err((device, OpenFault::OutOfMemory)),
     };
-    match runs.mark_in_use() {
+    match load_and_mark(&mut runs, &header) {
         Ok(()) => Ok((runs, header)),
-        Err(_) => Err((runs.into_device(), OpenFault::Device)),
+        Err(fault) => Err((runs.into_device(), fault)),
     }
 }
