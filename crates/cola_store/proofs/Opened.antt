@@ -25,16 +25,22 @@ splice-state : (state : ℕ) (bytes : List ℕ) → splice bytes 14 (state ∷ [
 splice-state state bytes = ap (λ (xs : List ℕ). take 14 bytes ++ (state ∷ xs)) (drop-drop 1 14 bytes)
 
 -- the state byte was written
-pub marked : {T E : Type 0} (value : T) (before now : Option (List ℕ)) → Wrote {T = T} {E = E} (Ok value) 14 (1 ∷ []) before now → Both before now (λ old new. new ≡ with_state 1 old)
-marked value None None wrote = tt
-marked value None (Some now) wrote = absurd wrote
-marked value (Some before) None wrote = absurd wrote
-marked value (Some before) (Some now) wrote = wrote.others_stay ∙ ap (splice before 14) wrote.exact ∙ splice-state 1 before
+pub marked : {T : Type 0} (E : Type 0) (value : T) (before now : Option (List ℕ)) → Wrote {T = T} {E = E} (Ok value) 14 (1 ∷ []) before now → Both before now (λ old new. new ≡ with_state 1 old)
+marked E value None None wrote = tt
+marked E value None (Some now) wrote = absurd wrote
+marked E value (Some before) None wrote = absurd wrote
+marked E value (Some before) (Some now) wrote = wrote.others_stay ∙ ap (splice before 14) wrote.exact ∙ splice-state 1 before
+
+none-is-one : 0 ≡ 1 → ⊥
+none-is-one e = omega (arith, e)
+
+two-is-one : (n : ℕ) → suc (suc n) ≡ 1 → ⊥
+two-is-one n e = omega (arith, e)
 
 one-state : (left before now : List ℕ) → length left ≡ 1 → now ≡ splice before 14 left → (state : ℕ) × (now ≡ with_state state before)
-one-state [] before now many is = omega (arith, many)
+one-state [] before now many is = absurd (none-is-one many)
 one-state (state ∷ []) before now many is = (state, is ∙ splice-state state before)
-one-state (state ∷ other ∷ more) before now many is = omega (arith, many)
+one-state (state ∷ other ∷ more) before now many is = absurd (two-is-one (length more) many)
 
 -- it was to be written
 pub left-state : {T E : Type 0} (result : Result T E) (before now : Option (List ℕ)) → Wrote result 14 (1 ∷ []) before now → Both before now (λ old new. (state : ℕ) × (new ≡ with_state state old))

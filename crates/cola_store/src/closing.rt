@@ -1,9 +1,21 @@
 //! How a store is closed.
-ghost use Rattle.std.specs.Prelude.{◌≡◌, true};
+ghost use Rattle.std.specs.Prelude.{◌≡◌, true, length};
+ghost use Rattle.cola_layout.specs.Fields.{fields_of};
+ghost use Rattle.cola_layout.specs.Header.{IsSpelling};
 
 use cola_device::Device;
 use cola_layout::Header;
 use cola_run::RunStore;
+
+/// The spelling of a header.
+fn bytes_of(header: &Header) -> [u8; 512]
+    ensures spelled { IsSpelling (fields_of header.now) result }
+    ensures size { length result ≡ 512 }
+{
+    let mut bytes = [0u8; 512];
+    header.encode(&mut bytes);
+    bytes
+}
 
 /// A store that was not closed yet, and all that it owes to its file: the cells and the header, which says that the store
 /// is closed.
@@ -31,6 +43,7 @@ impl<D: Device> Closing<D> {
 
     /// Closes the store: writes what its file does not have yet, the header last, and gives the device. An error comes
     /// only where the device refused a call; it still owes all, and may be tried again.
+    #[tactic(none)]
     pub fn close(self) -> Result<D, Closing<D>>
         ensures closed { IfOk result (IsClosed D.Device self.header self.runs) }
         ensures owes { IfErr result (λ now. StillOwes D.Device self.header self.runs now.runs now.header) }
@@ -38,8 +51,7 @@ impl<D: Device> Closing<D> {
         ensures kept { IfErr result (λ now. D.kept now.runs.buffers.cache.device ≡ D.kept self.runs.buffers.cache.device) }
     {
         let Closing { mut runs, header } = self;
-        let mut bytes = [0u8; 512];
-        header.encode(&mut bytes);
+        let bytes = bytes_of(&header);
         match runs.flush(&bytes) {
             Ok(()) => Ok(runs.into_device()),
             Err(_) => Err(Closing { runs, header }),

@@ -69,7 +69,10 @@ fn a_file_that_is_open_is_in_use(rt: HostRuntime) -> Result<(), Fail> {
         bytes.push(7)?;
     }
     let device = device_of(alloc, Vec::from_slice(alloc, &bytes)?, &[])?;
-    let left = opened(alloc, device).ok_or("refused")?.into_device().into_bytes();
+    let left = opened(alloc, device)
+        .ok_or("refused")?
+        .into_device()
+        .into_bytes();
     bytes[14] = 1;
     assert!(rt; left.as_slice() == bytes.as_slice());
     is_refused(&rt, alloc, &bytes, OpenFault::NotClosed, 2)?;
