@@ -80,7 +80,7 @@ first-bytes One text bytes long is = is ∙ append-none text
     append-none : (xs : List ℕ) → xs ++ replicate 0 0 ≡ xs
     append-none [] = refl
     append-none (x ∷ xs) = ap (λ (ys : List ℕ). x ∷ ys) (append-none xs)
-first-bytes Two text bytes long is = sym (take-take 512 1024 bytes) ∙ (ap (take 512) is ∙ take_at text (replicate 512 0) 512 long)
+first-bytes Two text bytes long is = sym (take-take 512 1024 bytes (omega arith)) ∙ (ap (take 512) is ∙ take_at text (replicate 512 0) 512 long)
 
 file-is : (header : Header) (old new : Held) (text bytes : List ℕ) → SameReads old new → IsSpelling (fields_of header) text → length text ≡ 512 → header.closed ≡ true → file_size header.geometry.format header.geometry.bottom ≤ length bytes
     → IsFlushed header.geometry text new.spots bytes → IsFileOf header old bytes

@@ -31,7 +31,7 @@ marked E value None (Some now) wrote = absurd wrote
 marked E value (Some before) None wrote = absurd wrote
 marked E value (Some before) (Some now) wrote = wrote.others_stay ∙ ap (splice before 14) wrote.exact ∙ splice-state 1 before
 
-none-is-one : 0 ≡ 1 → ⊥
+none-is-one : ◌≡◌ {A = ℕ} 0 1 → ⊥
 none-is-one e = omega (arith, e)
 
 two-is-one : (n : ℕ) → suc (suc n) ≡ 1 → ⊥
@@ -53,7 +53,7 @@ two-slots : (b : Bool) (v : ℕ) → v ≡ cond b 1 0 → v < 2
 two-slots true v e = omega (arith, e)
 two-slots false v e = omega (arith, e)
 
-slot-in : (t j : ℕ) → visible_slot t j < 2
+pub slot-in : (t j : ℕ) → visible_slot t j < 2
 slot-in t j = two-slots (is_odd (period t j)) (visible_slot t j) (slot-of_parity t j)
 
 -- spots that are alike at every place are alike in each run

@@ -43,7 +43,6 @@ impl<D: Device> Closing<D> {
 
     /// Closes the store: writes what its file does not have yet, the header last, and gives the device. An error comes
     /// only where the device refused a call; it still owes all, and may be tried again.
-    #[tactic(none)]
     pub fn close(self) -> Result<D, Closing<D>>
         ensures closed { IfOk result (IsClosed D.Device self.header self.runs) }
         ensures owes { IfErr result (λ now. StillOwes D.Device self.header self.runs now.runs now.header) }

@@ -52,7 +52,6 @@ fn read_header<D: Device>(device: &mut D) -> Result<Header, OpenFault>
 }
 
 /// Loads the cells of a file by its header, and marks the file as in use.
-#[tactic(none)]
 fn load_and_mark<D: Device>(runs: &mut RunStore<D>, header: &Header) -> Result<(), OpenFault>
     requires { header.now.geometry ≡ runs.old.geometry }
     ensures loaded { LoadsAndMarks D.Device header.now runs.old runs.new result }
@@ -79,7 +78,6 @@ fn load_and_mark<D: Device>(runs: &mut RunStore<D>, header: &Header) -> Result<(
 /// spelling, with the number of the lowest; the state byte is written as 1, and the device settles. `Device` where the
 /// device refused a call. A refusal before the state byte is written changes no byte; one in that leaves any byte in its
 /// place, and all else.
-#[tactic(none)]
 pub fn open_runs<D: Device>(
     alloc: Global,
     device: D,

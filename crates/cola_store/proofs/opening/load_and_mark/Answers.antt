@@ -60,8 +60,11 @@ returns-in-Err-clause-kept g c = c.mark_in_use.ensures.kept ∙ ap (λ (k : Kept
 
 pub returns-in-Err-Device-clause-loaded : goal.returns-in-Err-Device-clause-loaded
 returns-in-Err-Device-clause-loaded g c =
-    let d = g.D.Device in (
-      c.in-Err-Device.ensures.answer,
+    let d = g.D.Device in
+    let before = c.args.runs.now.buffers.cache.device in
+    let now = c.load.new.self.buffers.cache.device in
+    let answer = subst (λ (f : ReadFault). LoadAnswers c.args.header.now (d.bytes before) (d.counts before).faults (d.counts now).faults (Err f)) c.in-Err-Device.field-0-is c.in-Err-Device.ensures.answer in (
+      answer,
       inl (record {
         bytes_stay = c.load.ensures.bytes_stay;
         spends = load-spends d c.args.header.now c.args.runs.now c.load.new.self c.load.new.self (Err c.in-Err-Device.field-0) c.requires c.in-Err-Device.ensures.spends;
