@@ -57,7 +57,7 @@ module _ (header : Header) (old : Held) (m : Map) (stand : StoreStandsFor header
   alike same =
       let many = header.one_each in
       alike-read (header.geometry.bottom + 1) old.spots others old.shadows header.clock 0 0 header.levels.items header.marks_fit (omega (arith, many))
-      (λ k h. stand.shadows.slots k (omega (arith, h, many))) (λ k h. stand.shadows.lens k (omega (arith, h, many))) same
+      (λ k h. let e : k ≡ 0 + k = omega arith in subst (λ (n : ℕ). (old.shadows n).slot ≡ 1 - visible_slot header.clock n) e (stand.shadows.slots k (omega (arith, h, many)))) (λ k h. let e : k ≡ 0 + k = omega arith in subst (λ (n : ℕ). (old.shadows n).len ≡ (get_or header.levels.items k no_marks).shadow) e (stand.shadows.lens k (omega (arith, h, many)))) same
 
 -- a store that reads as before stands for the same map
 pub stands-still : (header : Header) (old new : Held) → SameReads old new → (m : Map) → StoreStandsFor header old m → StoreStandsFor header new m

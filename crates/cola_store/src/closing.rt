@@ -1,5 +1,6 @@
 //! How a store is closed.
-ghost use Rattle.std.specs.Prelude.{◌≡◌, true, length};
+ghost use Rattle.std.specs.Prelude.{◌≡◌, ◌≤◌, true, length, IfSome};
+ghost use Rattle.cola_store.specs.Create.{file_size};
 ghost use Rattle.cola_layout.specs.Fields.{fields_of};
 ghost use Rattle.cola_layout.specs.Header.{IsSpelling};
 
@@ -15,6 +16,13 @@ fn bytes_of(header: &Header) -> [u8; 512]
     let mut bytes = [0u8; 512];
     header.encode(&mut bytes);
     bytes
+}
+
+/// Says that the device of a store has its whole file. Nothing is done.
+fn know_whole_file<D: Device>(runs: &RunStore<D>)
+    ensures { IfSome (D.bytes runs.now.buffers.cache.device) (λ bytes. file_size runs.now.geometry.format runs.now.geometry.bottom ≤ length bytes) }
+{
+    let (_reads, _writes) = runs.transfers();
 }
 
 /// A store that was not closed yet, and all that it owes to its file: the cells and the header, which says that the store
@@ -51,7 +59,9 @@ impl<D: Device> Closing<D> {
     {
         let Closing { mut runs, header } = self;
         let bytes = bytes_of(&header);
-        match runs.flush(&bytes) {
+        let flushed = runs.flush(&bytes);
+        know_whole_file(&runs);
+        match flushed {
             Ok(()) => Ok(runs.into_device()),
             Err(_) => Err(Closing { runs, header }),
         }
