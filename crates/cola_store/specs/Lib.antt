@@ -1,1 +1,4 @@
 pub mod Create
+pub mod Runs
+pub mod Open
+pub mod Close

@@ -13,7 +13,7 @@ use cola_device::{Device, DeviceFault};
 use cola_layout::{Geometry, Header, LayoutFault};
 
 /// The bytes of a file.
-fn size_of(geometry: &Geometry) -> u64
+pub(crate) fn size_of(geometry: &Geometry) -> u64
     ensures value { result ≡ file_size geometry.now.format geometry.now.bottom }
     ensures header { 512 ≤ result }
 {

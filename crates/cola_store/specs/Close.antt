@@ -1,0 +1,49 @@
+-- How a store is closed: what its file has then, and what a refusal keeps.
+use Rattle.std.specs.Prelude.{◌≡◌, ◌≢◌, ◌⊎◌, ℕ, ◌+◌, ◌<◌, List, IfSome}
+use Rattle.cola_outside.specs.Faults.{Rose}
+use Rattle.cola_outside.specs.Told.{Both}
+use Rattle.cola_cell.specs.Held.{Held}
+use Rattle.cola_cell.specs.Places.{IsPlace}
+use Rattle.cola_device.specs.declared.device.Device as device
+use Rattle.cola_layout.specs.declared.header.Header.{Header}
+use Rattle.cola_layout.specs.Fields.{fields_of}
+use Rattle.cola_spec.specs.Map.{Map}
+use Rattle.cola_image.specs.Cells.{file_spots}
+use Rattle.cola_image.specs.Standing.{HeaderStandsFor}
+use Rattle.cola_run.specs.Store.{Store, held_of}
+use Rattle.cola_run.specs.Saving.{SameReads, SameBehind}
+use Rattle.cola_store.specs.Open.{Spends}
+use Rattle.cola_store.specs.Runs.{HasHeader, StoreStandsFor}
+
+-- the file has each cell of the store that it reads: all but those behind a shadow in its slot
+abbrev pub HasCells : Header → Held → List ℕ → Type 0
+HasCells header held bytes = (level slot index : ℕ) → IsPlace (header.geometry.bottom + 1) level slot index → (slot ≢ (held.shadows level).slot) ⊎ (index < (held.shadows level).len)
+    → file_spots header.geometry.format bytes level slot index ≡ held.spots level slot index
+
+-- the file of a store that was closed: it has the header and the cells, and stands for the map that these stood for
+pub record IsFileOf (header : Header) (held : Held) (bytes : List ℕ) : Type 0 where
+  pub has : HasHeader (fields_of header) bytes
+  pub cells : HasCells header held bytes
+  pub stands : (m : Map) → StoreStandsFor header held m → HeaderStandsFor (fields_of header) bytes m
+
+-- how many writes an attempt to close makes at most by a header: two, and one for each level
+abbrev pub closing_writes : Header → ℕ
+closing_writes header = header.geometry.bottom + 3
+
+module _ {D : Type 0} (d : device.Ghosts D) (header : Header) (before : Store D) where
+  -- the store was closed: its file is that of its header and cells, and bytes behind it stay
+  pub record IsClosed (now : D) : Type 0 where
+    pub file : IfSome (d.bytes now) (IsFileOf header (held_of d.bytes before))
+    pub behind : Both (d.bytes before.buffers.cache.device) (d.bytes now) (SameBehind header.geometry)
+    pub spends : Spends (d.counts before.buffers.cache.device) (d.counts now) 0 (closing_writes header)
+    pub no_fault : (d.counts now).faults ≡ (d.counts before.buffers.cache.device).faults
+
+  -- the device failed, and all that is owed to the file still is: the cells that are read, and the header
+  pub record StillOwes (now : Store D) (kept_header : Header) : Type 0 where
+    pub cause : Rose (d.counts before.buffers.cache.device).faults (d.counts now.buffers.cache.device).faults
+    pub header_is : kept_header ≡ header
+    pub reads : SameReads (held_of d.bytes before) (held_of d.bytes now)
+    pub geometry : now.geometry ≡ before.geometry
+    pub behind : Both (d.bytes before.buffers.cache.device) (d.bytes now.buffers.cache.device) (SameBehind header.geometry)
+    pub spends : Spends (d.counts before.buffers.cache.device) (d.counts now.buffers.cache.device) 0 (closing_writes header)
+    pub stands : (m : Map) → StoreStandsFor header (held_of d.bytes before) m → StoreStandsFor header (held_of d.bytes now) m

@@ -1,0 +1,31 @@
+-- A store whose cells are in memory and on a device: which header its file has, and when it stands for a map.
+use Rattle.std.specs.Prelude.{◌≡◌, ℕ, ◌+◌, ◌-◌, ◌*◌, ◌^◌, ◌<◌, ◌≤◌, List, length, take}
+use Rattle.cola_cell.specs.Held.{Held, Spots}
+use Rattle.cola_layout.specs.declared.header.Header.{Header}
+use Rattle.cola_layout.specs.Fields.{fields_of}
+use Rattle.cola_layout.specs.Header.{Fields, IsSpelling}
+use Rattle.cola_layout.specs.Marks.{all_numbers}
+use Rattle.cola_spec.specs.Map.{Map, IsMap, count}
+use Rattle.cola_table.specs.Terms.{shape_of}
+use Rattle.cola_image.specs.Standing.{LevelsStandFor}
+use Rattle.cola_run.specs.Saving.{header_shadow}
+use Rattle.cola_store.specs.Create.{file_size}
+
+-- a file has this header, and all cells of its store
+pub record HasHeader (header : Fields) (bytes : List ℕ) : Type 0 where
+  pub spelled : IsSpelling header (take 512 bytes)
+  pub whole : file_size header.format header.bottom ≤ length bytes
+
+-- the shadow of each level stands beside the visible run, with the length of the header's marks
+pub record AreShadowsOf (header : Header) (held : Held) : Type 0 where
+  pub slots : (level : ℕ) → level ≤ header.geometry.bottom → (held.shadows level).slot ≡ (header_shadow header level).slot
+  pub lens : (level : ℕ) → level ≤ header.geometry.bottom → (held.shadows level).len ≡ (header_shadow header level).len
+
+-- a store with this header, whose cells are these, stands for a map: the header has the map's count and last number, the map
+-- is one of its format and keys, the cells stand for it by the header's marks, and the shadows are the header's
+pub record StoreStandsFor (header : Header) (held : Held) (m : Map) : Type 0 where
+  pub counted : header.count ≡ count m
+  pub numbered : header.last ≡ m.last
+  pub is_map : IsMap (shape_of header.geometry.format header.geometry.keys) m
+  pub levels : LevelsStandFor header.geometry.keys header.clock (all_numbers header.levels.items) held.spots m
+  pub shadows : AreShadowsOf header held
