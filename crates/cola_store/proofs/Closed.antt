@@ -1,7 +1,7 @@
 -- What closing a store leaves of its file, and what a refusal keeps.
-use Rattle.std.proofs.Common.{◌≡◌, ◌≢◌, ◌⊎◌, ◌∙◌, inl, inr, ℕ, suc, ◌+◌, ◌-◌, ◌*◌, ◌^◌, ◌<◌, ◌≤◌, List, [], ◌∷◌, ◌++◌, length, take, get_or, replicate, true, Option, Some, None, Result, refl, sym, ap, subst, arith}
+use Rattle.std.proofs.Common.{◌≡◌, ◌≢◌, ◌⊎◌, ◌∙◌, inl, inr, ℕ, suc, ◌+◌, ◌-◌, ◌*◌, ◌<◌, ◌≤◌, List, [], ◌∷◌, ◌++◌, length, take, get_or, replicate, true, Option, Some, None, Result, refl, sym, ap, subst, arith}
 use Rattle.std.specs.Prelude.{IfSome}
-use Rattle.std.proofs.lemmas.List.{take-take, take_at, length-map}
+use Rattle.std.proofs.lemmas.List.{take-take, take_at}
 use Rattle.cola_device.specs.declared.device.DeviceFault.{DeviceFault}
 use Rattle.cola_device.specs.declared.device.Device as device
 use Rattle.cola_device.specs.Counts.{Called}
@@ -18,15 +18,15 @@ use Rattle.cola_layout.specs.declared.header.Header.{Header}
 use Rattle.cola_layout.specs.declared.marks.Marks.{Marks}
 use Rattle.cola_layout.specs.Fields.{fields_of}
 use Rattle.cola_layout.specs.Header.{IsSpelling}
-use Rattle.cola_layout.specs.Marks.{all_numbers, numbers_of, no_marks}
+use Rattle.cola_layout.specs.Marks.{all_numbers, no_marks}
 use Rattle.cola_spec.specs.Map.{Map}
 use Rattle.cola_image.specs.Cells.{file_spots}
-use Rattle.cola_image.specs.Standing.{AreRunsAlike, HeaderStandsFor}
+use Rattle.cola_image.specs.Standing.{AreRunsAlike}
 use Rattle.cola_image.proofs.StandingLemmas.{stand-alike}
 use Rattle.cola_run.specs.Store.{Store, IsStore}
-use Rattle.cola_run.specs.Saving.{AreFileSpots, SameReads, IsFlushed}
+use Rattle.cola_run.specs.Saving.{SameReads, IsFlushed}
 use Rattle.cola_store.specs.Create.{file_size}
-use Rattle.cola_store.specs.Runs.{AreShadowsOf, StoreStandsFor}
+use Rattle.cola_store.specs.Runs.{StoreStandsFor}
 use Rattle.cola_store.specs.Open.{Spends}
 use Rattle.cola_store.specs.Close.{IsFileOf, closing_writes}
 use Rattle.cola_store.proofs.Opened.{slot-in}

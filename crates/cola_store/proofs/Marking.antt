@@ -1,31 +1,26 @@
 -- A store whose cells were loaded and whose file was marked, and an opening put together of its steps.
-use Rattle.std.proofs.Common.{◌≡◌, ◌∙◌, inl, inr, ℕ, ◌+◌, ◌≤◌, true, List, length, take, Option, Some, None, Result, Ok, Err, sym, ap, subst, arith}
+use Rattle.std.proofs.Common.{◌≡◌, ◌∙◌, inl, inr, ℕ, ◌+◌, ◌≤◌, true, List, Option, Some, None, Result, Err, sym, ap, subst, arith}
 use Rattle.std.specs.Prelude.{IfSome}
 use Rattle.cola_outside.specs.Faults.{Rose}
 use Rattle.cola_outside.specs.Told.{Both}
 use Rattle.cola_cell.specs.declared.fault.ReadFault.{ReadFault}
-use Rattle.cola_cell.specs.declared.sink.Shadow.{Shadow}
 use Rattle.cola_cell.specs.Held.{Held, Fixed, Spots}
-use Rattle.cola_cell.specs.Places.{IsPlace}
-use Rattle.cola_device.specs.declared.counts.Counts.{Counts}
 use Rattle.cola_device.specs.declared.device.DeviceFault.{DeviceFault}
 use Rattle.cola_device.specs.declared.device.Device as device
 use Rattle.cola_device.specs.Bytes.{HasRange}
 use Rattle.cola_device.specs.Counts.{Called}
 use Rattle.cola_layout.specs.declared.geometry.Geometry.{Geometry}
 use Rattle.cola_layout.specs.declared.header.Header.{Header}
-use Rattle.cola_layout.specs.Fields.{fields_of}
-use Rattle.cola_layout.specs.Header.{IsSpelling}
 use Rattle.cola_spec.specs.Map.{Map}
 use Rattle.cola_image.specs.Cells.{file_spots}
 use Rattle.cola_image.specs.Standing.{FileStandsFor, with_state}
 use Rattle.cola_run.specs.Cells.{file_bytes}
 use Rattle.cola_run.specs.Store.{Store, held_of, new_store}
-use Rattle.cola_run.specs.Saving.{AreFileSpots, AreFrontRunsSpelled, IsLowestBad, IsLoaded, LoadSpends, header_shadow}
+use Rattle.cola_run.specs.Saving.{AreFileSpots, AreFrontRunsSpelled, IsLowestBad, LoadSpends, header_shadow}
 use Rattle.cola_store.specs.declared.fault.OpenFault.{OpenFault}
 use Rattle.cola_store.specs.declared.fault.OpenFault.TheVariants.{NotStore, NotClosed, Small, Device, OutOfMemory, BadCell}
 use Rattle.cola_store.specs.Runs.{StoreStandsFor}
-use Rattle.cola_store.specs.Open.{WasClosed, IsReady, HasBadCell, Spends, IsMadeAfter, IsRefused, IsOpened, Opens, IsMarked, FailedReading, FailedMarking, LoadsAndMarks, FindsHeader}
+use Rattle.cola_store.specs.Open.{WasClosed, IsReady, HasBadCell, Spends, IsRefused, IsOpened, Opens, IsMarked, LoadsAndMarks, FindsHeader}
 use Rattle.cola_store.proofs.Opened.{stands}
 
 -- spots that are alike are those of the same file

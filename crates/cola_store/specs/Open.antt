@@ -1,5 +1,5 @@
 -- How the file of a store is opened: what each answer says, and what it leaves.
-use Rattle.std.specs.Prelude.{◌≡◌, ◌⊎◌, ℕ, ◌+◌, ◌-◌, ◌*◌, ◌^◌, ◌<◌, ◌≤◌, true, false, List, length, take, Option, Result, Ok, Err, IfSome}
+use Rattle.std.specs.Prelude.{◌≡◌, ◌⊎◌, ℕ, ◌+◌, ◌<◌, ◌≤◌, true, false, List, length, take, Result, Ok, Err, IfSome}
 use Rattle.cola_outside.specs.Faults.{Rose}
 use Rattle.cola_outside.specs.Told.{Both}
 use Rattle.cola_cell.specs.Held.{Held}
@@ -10,7 +10,7 @@ use Rattle.cola_layout.specs.Fields.{fields_of}
 use Rattle.cola_layout.specs.Header.{Fields, IsSpelling, IsNoSpelling}
 use Rattle.cola_spec.specs.Map.{Map}
 use Rattle.cola_image.specs.Cells.{file_spots}
-use Rattle.cola_image.specs.Standing.{FileStandsFor, HeaderStandsFor, with_state}
+use Rattle.cola_image.specs.Standing.{FileStandsFor, with_state}
 use Rattle.cola_run.specs.Store.{Store, held_of}
 use Rattle.cola_run.specs.Saving.{AreFileSpots, AreFrontRunsSpelled, IsLowestBad, IsLoaded, header_shadow}
 use Rattle.cola_store.specs.declared.fault.OpenFault.{OpenFault}

@@ -1,8 +1,7 @@
 -- A store whose cells are in memory and on a device: which header its file has, and when it stands for a map.
-use Rattle.std.specs.Prelude.{◌≡◌, ℕ, ◌+◌, ◌-◌, ◌*◌, ◌^◌, ◌<◌, ◌≤◌, List, length, take}
-use Rattle.cola_cell.specs.Held.{Held, Spots}
+use Rattle.std.specs.Prelude.{◌≡◌, ℕ, ◌≤◌, List, length, take}
+use Rattle.cola_cell.specs.Held.{Held}
 use Rattle.cola_layout.specs.declared.header.Header.{Header}
-use Rattle.cola_layout.specs.Fields.{fields_of}
 use Rattle.cola_layout.specs.Header.{Fields, IsSpelling}
 use Rattle.cola_layout.specs.Marks.{all_numbers}
 use Rattle.cola_spec.specs.Map.{Map, IsMap, count}

@@ -18,6 +18,18 @@ fn device_of(alloc: Global, bytes: Vec<u8>, failing: &[u64]) -> Result<MemoryDev
     Ok(MemoryDevice::holding(bytes, Vec::from_slice(alloc, failing)?))
 }
 
+/// The first bytes, at most so many.
+fn head(bytes: &[u8], len: usize) -> &[u8] {
+    &bytes[..len.min(bytes.len())]
+}
+
+/// Puts bytes at a place, where there is room.
+fn put(bytes: &mut [u8], at: usize, part: &[u8]) {
+    if at <= bytes.len() && part.len() <= bytes.len() - at {
+        bytes[at..at + part.len()].copy_from_slice(part);
+    }
+}
+
 /// What is owed to a file that was opened, or none where it was refused.
 fn opened(alloc: Global, device: MemoryDevice) -> Option<Closing<MemoryDevice>> {
     match open_runs(alloc, device, 0) {
@@ -73,10 +85,10 @@ fn a_file_that_is_open_is_in_use(rt: HostRuntime) -> Result<(), Fail> {
         .ok_or("refused")?
         .into_device()
         .into_bytes();
-    bytes[14] = 1;
+    put(&mut bytes, 14, &[1]);
     assert!(rt; left.as_slice() == bytes.as_slice());
     is_refused(&rt, alloc, &bytes, OpenFault::NotClosed, 2)?;
-    bytes[14] = 2;
+    put(&mut bytes, 14, &[2]);
     is_refused(&rt, alloc, &bytes, OpenFault::NotStore, 2)
 }
 
@@ -85,24 +97,24 @@ fn files_that_are_too_small(rt: HostRuntime) -> Result<(), Fail> {
     let alloc = rt.alloc();
     let mut bytes = new_file(alloc, Format::One)?;
     is_refused(&rt, alloc, b"", OpenFault::Small, 1)?;
-    is_refused(&rt, alloc, &bytes[..511], OpenFault::Small, 1)?;
-    is_refused(&rt, alloc, &bytes[..512], OpenFault::Small, 2)?;
-    is_refused(&rt, alloc, &bytes[..8191], OpenFault::Small, 2)?;
+    is_refused(&rt, alloc, head(&bytes, 511), OpenFault::Small, 1)?;
+    is_refused(&rt, alloc, head(&bytes, 512), OpenFault::Small, 2)?;
+    is_refused(&rt, alloc, head(&bytes, 8191), OpenFault::Small, 2)?;
     is_refused(&rt, alloc, &[0; 512], OpenFault::NotStore, 2)?;
-    bytes[14] = 1;
-    is_refused(&rt, alloc, &bytes[..8191], OpenFault::Small, 2)
+    put(&mut bytes, 14, &[1]);
+    is_refused(&rt, alloc, head(&bytes, 8191), OpenFault::Small, 2)
 }
 
 #[test]
 fn a_cell_of_a_run_that_is_no_cell(rt: HostRuntime) -> Result<(), Fail> {
     let alloc = rt.alloc();
     let mut bytes = new_file(alloc, Format::One)?;
-    bytes[24] = 2;
-    bytes[32] = 2;
-    bytes[48] = 2;
+    put(&mut bytes, 24, &[2]);
+    put(&mut bytes, 32, &[2]);
+    put(&mut bytes, 48, &[2]);
     is_refused(&rt, alloc, &bytes, OpenFault::BadCell(8), 4)?;
-    bytes[512..522].copy_from_slice(b"\0\0\x01\x01\0\0\0\0a\0");
-    bytes[544] = b'1';
+    put(&mut bytes, 512, b"\0\0\x01\x01\0\0\0\0a");
+    put(&mut bytes, 544, b"1");
     is_refused(&rt, alloc, &bytes, OpenFault::BadCell(9), 4)
 }
 
@@ -117,9 +129,10 @@ fn each_call_of_an_opening_fails_in_turn(rt: HostRuntime) -> Result<(), Fail> {
             Err((device, fault)) => {
                 assert_eq!(rt; fault, OpenFault::Device);
                 assert_eq!(rt; (device.calls(), device.faults()), (call, 1));
-                assert!(rt; device.as_bytes()[..14] == bytes[..14]);
-                assert!(rt; device.as_bytes()[15..] == bytes[15..]);
-                assert_eq!(rt; device.as_bytes()[14] == 0, call < 5);
+                let mut left = device.into_bytes();
+                assert_eq!(rt; left.as_slice() == bytes.as_slice(), call < 5);
+                put(&mut left, 14, &[0]);
+                assert!(rt; left.as_slice() == bytes.as_slice());
             }
         }
     }

@@ -1,4 +1,4 @@
-use Rattle.std.proofs.Common.{◌≡◌, ◌∙◌, ℕ, List, Option, Err, sym, ap, subst}
+use Rattle.std.proofs.Common.{◌∙◌, ℕ, List, Option, Err, sym, ap, subst}
 use Rattle.cola_device.specs.Bytes.{HasRange}
 use Rattle.cola_run.specs.Cells.{file_bytes}
 use Rattle.cola_run.specs.Store.{Store}

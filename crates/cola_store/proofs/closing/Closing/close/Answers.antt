@@ -1,8 +1,8 @@
-use Rattle.std.proofs.Common.{◌≡◌, ◌∙◌, ℕ, ◌≤◌, List, length, Ok, Err, refl, sym, ap, subst}
+use Rattle.std.proofs.Common.{◌∙◌, ◌≤◌, length, Ok, Err, refl, sym, ap, subst}
 use Rattle.std.specs.Prelude.{IfSome}
 use Rattle.cola_outside.specs.Told.{Both}
 use Rattle.cola_layout.specs.declared.geometry.Geometry.{Geometry}
-use Rattle.cola_run.specs.Store.{Store, held_of}
+use Rattle.cola_run.specs.Store.{held_of}
 use Rattle.cola_run.specs.Saving.{SameBehind}
 use Rattle.cola_store.specs.Create.{file_size}
 use Rattle.cola_store.specs.Close.{IsClosed}
