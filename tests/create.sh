@@ -58,11 +58,21 @@ check 'a file for 33 keys has 256 cells' has_size none 16384
 check 'options stand in any order' ends 0 create two --version 2 --block 6 --keys 33
 check 'a file of version 2 has cells of 128 bytes' has_size two 32768
 check 'a file of version 2 says so' begins two 434f4c4153544f5202000000060400002100000000000000
+check 'a file of version 1 is upgraded' ends 0 upgrade one wide
+check 'an upgraded file has cells of 128 bytes' has_size wide 16384
+check 'an upgraded file says so' begins wide 434f4c4153544f5202000000050300000100000000000000
+check 'an upgrade reads its file alone' is_same one before
+check 'a file of version 2 is not upgraded again' ends 12 upgrade wide more
+check 'an upgrade that is refused makes no file' is_absent more
+check 'no file is upgraded to itself' ends 8 upgrade one one
+check 'a file with a byte in it is no store' ends 6 upgrade some more
+check 'a file that is not there is not upgraded' ends 5 upgrade missing more
+check 'an upgrade makes no file to read' is_absent missing
 check 'a folder that is not there ends with 5' ends 5 create there/one --keys 1
 check 'status 5 is told in one line' complained 'status 5: '
 check 'a folder in place of a file ends with 5' ends 5 create . --keys 1
 for words in 'create no' 'create no --keys 0' 'create no --keys 16777217' 'create no --keys 32 --block 6' \
-    'create no --keys=32' 'create no --keys 32 --keys 32' 'create --keys 32 no' 'run no' 'gen no --keys 8' 'check no'; do
+    'create no --keys=32' 'create no --keys 32 --keys 32' 'create --keys 32 no' 'gen no' 'gen no --keys 8 --block 5' 'check no'; do
     # (each of the words is a word of its own)
     check "$words ends with 2" ends 2 $words
     check "$words makes no file" is_absent no

@@ -35,7 +35,15 @@ fn first_file<'a, R: Files>(rt: &'a R, words: &'a [String]) -> FileDevice<'a, R>
     FileDevice::new(rt, words[1].as_str(), makes_file(words[0].as_str()))
 }
 
-/// Serves the words over their file, standard input and standard output, with steps on a ledger of their own.
+/// The file that the third word names, made where it is not there, in the modes that write one; none in all others.
+fn second_file<'a, R: Files>(rt: &'a R, words: &'a [String]) -> FileDevice<'a, R> {
+    if words.len() > 2 && matches!(words[0].as_str(), "upgrade" | "grow" | "rebuild") {
+        return FileDevice::new(rt, words[2].as_str(), true);
+    }
+    FileDevice::none(rt)
+}
+
+/// Serves the words over their files, standard input and standard output, with steps on a ledger of their own.
 fn run<L: Ledger>(blank: Blank, rt: &HostRuntime, words: &[String]) -> u8
     requires name { blank.name ≡ L.name }
     requires parts { blank.parts ≡ L.parts }
@@ -45,7 +53,7 @@ fn run<L: Ledger>(blank: Blank, rt: &HostRuntime, words: &[String]) -> u8
     let mut sink = StdSink::new(io::writer(rt));
     let mut steps = Steps::<L>::begin(blank);
     let first = first_file(rt, words);
-    let second = FileDevice::none(rt);
+    let second = second_file(rt, words);
     let served = serve(
         rt.alloc(),
         words,

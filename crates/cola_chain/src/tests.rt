@@ -344,31 +344,35 @@ fn a_chain_is_made_anew(rt: HostRuntime) -> Result<(), Fail> {
     all_made_anew(&rt, rt.alloc())
 }
 
-/// So many mutations by a fixed generator, beside a plain table. Answers how many of the searches after each were right.
+/// So many mutations by a fixed generator, beside a plain table. Answers how many of the searches after each were right,
+/// and the most ticks that one mutation made.
 fn generated<D: Device, L: Ledger>(
     chain: &mut Chain<D>,
     table: &mut [u16],
     turns: u16,
     steps: &mut Steps<L>,
-) -> Option<u16>
+) -> Option<(u16, u64)>
     requires some { 0 < length table.old }
     requires few { length table.old ≤ 1000 }
 {
     let mut seed = 1u64;
     let mut right = 0u16;
+    let mut most = 0u64;
     for turn in 0..turns {
         seed = seed
             .wrapping_mul(6364136223846793005)
             .wrapping_add(1442695040888963407);
         let key = (seed >> 33) as usize % table.len();
         let number = if seed >> 62 == 0 { 0 } else { turn };
+        let before = chain.ticked();
         put(chain, key as u16, number, steps)?;
+        most = most.max(chain.ticked().wrapping_sub(before));
         table[key] = number;
         if found(chain, key as u16, steps) == Some(number) {
             right = right.wrapping_add(1);
         }
     }
-    Some(right)
+    Some((right, most))
 }
 
 /// How many keys have what the table has.
@@ -388,12 +392,14 @@ fn count_same<D: Device, L: Ledger>(
     same
 }
 
-// So many mutations of a store: each search is right, and the transfers are within their bounds.
+// So many mutations of a store in blocks of so many cells: each search is right, and the ticks of each mutation and the
+// transfers of all are within their bounds.
 fn store_of_keys<L: Ledger>(
     rt: &impl Abort,
     alloc: Global,
     keys: u16,
     block_exp: u8,
+    block: u64,
     format: Format,
     blank: Blank,
 ) -> Result<(), Fail>
@@ -401,7 +407,7 @@ fn store_of_keys<L: Ledger>(
     requires parts { blank.parts ≡ L.parts }
     requires some { 0 < L.parts }
 {
-    if keys == 0 || keys > 1000 {
+    if keys == 0 || keys > 1000 || block == 0 {
         return Err(Fail::new("keys"));
     }
     let chain = new_chain(alloc, keys as u64, block_exp, format, Vec::new(alloc))?;
@@ -409,25 +415,28 @@ fn store_of_keys<L: Ledger>(
     let mut table = vec![in alloc; 0u16; keys as usize]?;
     let mut steps = Steps::<L>::begin(blank);
     let steps = &mut steps;
-    assert_eq!(rt; generated(&mut chain, &mut table, 1250, steps), Some(1250));
+    let (right, ticks) = generated(&mut chain, &mut table, 1250, steps).ok_or("refused twice")?;
+    assert_eq!(rt; right, 1250);
     assert_eq!(rt; count_same(&mut chain, &table, steps), keys);
     let (reads, writes) = chain.transfers();
     let levels = chain.runs().geometry().levels() as u64;
-    assert!(rt; reads <= 14 * 1250 * levels / 8 + 4 * 1024);
-    assert!(rt; writes <= 4 * 1250 * levels / 8 + 1024);
-    assert!(rt; writes > 0);
+    let blocks = chain.runs().geometry().cells() / block;
+    assert!(rt; ticks <= 9 + 59 * (levels / 2));
+    assert!(rt; reads <= (14 * 1250 * levels).div_ceil(block) + 4 * blocks);
+    assert!(rt; writes <= (4 * 1250 * levels).div_ceil(block) + blocks);
+    assert!(rt; ticks > 0 && writes > 0);
     Ok(())
 }
 
 /// The stores for so many keys, in both formats and two sizes of blocks.
 fn stores_of_keys(rt: &impl Abort, alloc: Global, keys: u16) -> Result<(), Fail> {
-    for (block_exp, format) in [
-        (3u8, Format::One),
-        (5, Format::One),
-        (3, Format::Two),
-        (5, Format::Two),
+    for (block_exp, block, format) in [
+        (3u8, 8u64, Format::One),
+        (5, 32, Format::One),
+        (3, 8, Format::Two),
+        (5, 32, Format::Two),
     ] {
-        store_of_keys::<Brand>(rt, alloc, keys, block_exp, format, Blank::new(1))?;
+        store_of_keys::<Brand>(rt, alloc, keys, block_exp, block, format, Blank::new(1))?;
     }
     Ok(())
 }

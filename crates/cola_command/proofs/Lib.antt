@@ -1,4 +1,16 @@
 pub mod PlainLemmas
 pub mod Joined
-pub mod Serving
+pub mod MemoryServing
 pub mod NewFiles
+pub mod StateByte
+pub mod PlaceTurns
+pub mod Reopening
+pub mod Asking
+pub mod Lining
+pub mod ReadingOn
+pub mod Carrying
+pub mod CutOff
+pub mod Ending
+pub mod HeadlineLaws
+pub mod Working
+pub mod OnEmpty

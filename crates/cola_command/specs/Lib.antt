@@ -1,3 +1,9 @@
 pub mod Memory
 pub mod Ends
+pub mod File
+pub mod Turns
+pub mod Headline
+pub mod HeadlineLaws
+pub mod SoFar
+pub mod Workload
 pub mod Serves

@@ -1,38 +1,27 @@
 //! The one call that the program makes.
-ghost use Rattle.std.specs.Prelude.{◌≡◌, ◌∷◌, [], true, map, string_bytes, option_copied, IfSome};
+ghost use Rattle.std.specs.Prelude.{◌≡◌, ◌≤◌, true, map, string_bytes, Some, IfSome};
 ghost use Rattle.cola_spec.specs.Map.{empty_map};
-ghost use Rattle.cola_io.specs.Law.{line_told};
-ghost use Rattle.cola_command.specs.Memory.{HoldsLine, line_read};
 ghost use Rattle.cola_command.specs.Ends.{Ends};
 ghost use Rattle.cola_command.specs.Serves.{CreateEnds, Serves};
 ghost use Rattle.cola_store.specs.Create.{CountsOneWrite};
 ghost use Rattle.cola_words.specs.Modes.{HasSizes, mode_of};
+ghost use Rattle.cola_words.specs.declared.mode.Mode.TheVariants.{Run};
 ghost use Rattle.cola_words.specs.Sizes.{SuitStore};
 
 use crate::memory::MemorySession;
+use crate::reading::{INPUT_LIMIT, text_of};
+use crate::serving::serve_file;
+use crate::upgrading::upgrade_file;
+use crate::workload::serve_workload;
 use cola_cell::Format;
 use cola_device::Device;
 use cola_io::{LineReader, Next, Sink, Source};
 use cola_outside::Steps;
-use cola_store::{CreateFault, create_as};
-use cola_table::FlatTable;
+use cola_store::{CreateFault, Store, create_as};
+use cola_table::{FlatTable, Table};
 use cola_words::{Mode, read_words};
 use std::alloc::Global;
 use std::sync::ledger::Ledger;
-
-/// The most bytes of input: 2^40.
-const INPUT_LIMIT: u64 = 1_099_511_627_776;
-
-/// The text of the line that was answered, or none where it was too long.
-fn text_of(reader: &LineReader, next: Next) -> Option<&[u8]>
-    requires { HoldsLine next reader.now.line }
-    ensures { line_read (option_copied result) ∷ [] ≡ line_told next reader.now.line }
-{
-    match next {
-        Next::Line => Some(reader.text()),
-        _ => None,
-    }
-}
 
 /// Answers every line of the source, and gives the status.
 fn serve_lines<S: Source, K: Sink, L: Ledger>(
@@ -97,19 +86,62 @@ fn make_file<D: Device>(device: &mut D, keys: u64, block_exp: u8, format: Format
     }
 }
 
-/// Serves a mode, and gives the status.
+/// The exit status, and the two devices, which come back whatever it is.
+#[derive(Drop)]
+pub struct Served<D> {
+    pub status: u8,
+    pub device: D,
+    pub second: D,
+}
+
+/// Serves a session over the file of the first device. One with a second file, its mirror, is not built.
+fn serve_run<S: Source, K: Sink, D: Device, L: Ledger>(
+    alloc: Global,
+    cache: u32,
+    cost: bool,
+    mirror: Option<u8>,
+    source: &mut S,
+    sink: &mut K,
+    device: D,
+    second: D,
+    steps: &mut Steps<L>,
+) -> Served<D>
+    requires { cache ≤ 4096 }
+    ensures { Serves S.Source K.Sink D.Device ⟦<Store<D> as Table>⟧ source.old source.new sink.old sink.new device result.device second result.second steps.old steps.new result.status (Some (Run cache cost mirror)) }
+{
+    match mirror {
+        None => {
+            let (device, status) = serve_file(alloc, cache, cost, source, sink, device, steps);
+            Served {
+                status,
+                device,
+                second,
+            }
+        }
+        Some(_) => Served {
+            status: 2,
+            device,
+            second,
+        },
+    }
+}
+
+/// Serves a mode, and gives the status and both devices.
 fn serve_mode<S: Source, K: Sink, D: Device, L: Ledger>(
     alloc: Global,
     mode: Option<Mode>,
     source: &mut S,
     sink: &mut K,
-    device: &mut D,
+    device: D,
+    second: D,
     steps: &mut Steps<L>,
-) -> u8
+) -> Served<D>
     requires { IfSome mode HasSizes }
-    ensures { Serves S.Source K.Sink D.Device source.old source.new sink.old sink.new device.old device.new steps.old steps.new result mode }
+    ensures { Serves S.Source K.Sink D.Device ⟦<Store<D> as Table>⟧ source.old source.new sink.old sink.new device result.device second result.second steps.old steps.new result.status mode }
 {
-    match mode {
+    let mut device = device;
+    let mut second = second;
+    let status = match mode {
         Some(Mode::Mem { keys }) => serve_memory(alloc, keys, source, sink, steps),
         Some(
             Mode::Create {
@@ -117,17 +149,34 @@ fn serve_mode<S: Source, K: Sink, D: Device, L: Ledger>(
                 block_exp,
                 format,
             },
-        ) => make_file(device, keys, block_exp, format),
+        ) => make_file(&mut device, keys, block_exp, format),
+        Some(
+            Mode::Run {
+                cache,
+                cost,
+                mirror,
+            },
+        ) => {
+            return serve_run(
+                alloc, cache, cost, mirror, source, sink, device, second, steps,
+            );
+        }
+        Some(Mode::Gen { keys }) => {
+            let (device, status) = serve_workload(alloc, keys, sink, device, steps);
+            return Served {
+                status,
+                device,
+                second,
+            };
+        }
+        Some(Mode::Upgrade) => upgrade_file(alloc, &mut device, &mut second),
         _ => 2,
+    };
+    Served {
+        status,
+        device,
+        second,
     }
-}
-
-/// The exit status, and the two devices, which come back whatever it is.
-#[derive(Drop)]
-pub struct Served<D> {
-    pub status: u8,
-    pub device: D,
-    pub second: D,
 }
 
 /// Runs the program: reads its words, serves the mode that they name, and gives the exit status.
@@ -141,13 +190,35 @@ pub struct Served<D> {
 /// nor the sink. It ends with 0 where the file is made, with 8 where the device has bytes already, and
 /// with 5 where the device refused a call. It takes no memory.
 ///
-/// All other words end with 2, and nothing is touched: the modes that `cola_words` knows beside these
-/// two are not built. The second device is never touched.
+/// `run FILE` is a session over the store in the file of the device, which it opens, and closes at the end.
+/// It ends with 0 where the end of the source was met before 2^40 bytes were taken, with 3 or 4 where the
+/// source or the sink failed, and with 9 where 2^40 bytes were taken; with 1 where there is no memory for the
+/// store, with 6 where the device has no store or not all of one, with 7 where its store is in use, and with
+/// 10 where a cell that the opening reads is no spelling. It ends with 5 where the device refused a call of
+/// the opening, and, in place of 0, where it refused one of the close at the end, or one of a line that was
+/// to open the file again, and no later line opened it.
+/// `gen FILE --keys N` makes the file of a new store in format One on the device, carries out the stated
+/// workload of `cola_gen` on it, and writes one line of what it did: `new A gone B left C wrong D over E`.
+/// It reads no source. The first call that is refused ends it, a store that is not closed then is closed in
+/// one attempt, and nothing is written. It ends with 0, with 4 where the sink failed, with 1 where there is
+/// no memory to open the file, with 5 where the device refused a call, with 6 and 7 where an opening found
+/// no store and one in use, with 8 where the device has bytes at the start, with 10 where a cell is no
+/// spelling, and with 11 where there was no room for a put or a delete.
+///
+/// `upgrade FILE TO` copies the closed file of version 1 on the device into a new file of version 2 on the
+/// second device, and touches neither the source nor the sink. It ends with 0 where that is done, with 1
+/// where there is no memory for two blocks, with 5 where a device refused a call, with 6 where the device
+/// has no store or not all of one, with 7 where its store is in use, with 8 where the second device has
+/// bytes, with 10 where a cell is no spelling, and with 12 where the file is of version 2 already.
+///
+/// All other words end with 2, and nothing is touched: the modes that `cola_words` knows beside these, and
+/// `run` with `--mirror`, are not built. No mode but `upgrade` touches the second device.
 ///
 /// In a session the source is read only while every line that has ended is answered, for 512 bytes or
 /// for those that the limit still allows, and not again behind a refused read, its end, or a refused
-/// write. A range or a scan makes at most 4 steps, and no other line makes one. After the table is made
-/// no memory is taken.
+/// write. Over a table in memory a range or a scan makes at most 4 steps, and no other line makes one.
+/// After the table is made, or the store is opened, no memory is taken but by a line that opens the store
+/// again.
 pub fn serve<S: Source, K: Sink, D: Device, L: Ledger>(
     alloc: Global,
     words: &[String],
@@ -157,14 +228,15 @@ pub fn serve<S: Source, K: Sink, D: Device, L: Ledger>(
     second: D,
     steps: &mut Steps<L>,
 ) -> Served<D>
-    ensures serves { Serves S.Source K.Sink D.Device source.old source.new sink.old sink.new device result.device steps.old steps.new result.status (mode_of (map string_bytes words.now)) }
-    ensures second { result.second ≡ second }
+    ensures { Serves S.Source K.Sink D.Device ⟦<Store<D> as Table>⟧ source.old source.new sink.old sink.new device result.device second result.second steps.old steps.new result.status (mode_of (map string_bytes words.now)) }
 {
-    let mut device = device;
-    let status = serve_mode(alloc, read_words(words), source, sink, &mut device, steps);
-    Served {
-        status,
+    serve_mode(
+        alloc,
+        read_words(words),
+        source,
+        sink,
         device,
         second,
-    }
+        steps,
+    )
 }

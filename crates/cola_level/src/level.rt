@@ -20,8 +20,13 @@ pub struct Level {
 }
 
 impl Default for Level {
+    ghost use Rattle.cola_clock.specs.Marks.{no_marks};
+    ghost use Rattle.cola_level.specs.Marks.{level_with};
+
     /// A level with no cells, whose merge has not begun.
-    fn default() -> Level {
+    fn default() -> Level
+        ensures { result ≡ level_with no_marks }
+    {
         Level {
             visible: 0,
             shadow: 0,

@@ -19,8 +19,8 @@ use Rattle.cola_layout.specs.declared.geometry.Geometry.{Geometry}
 use Rattle.cola_layout.specs.Geometry.{IsBlock}
 use Rattle.cola_layout.proofs.Places.{device-behind, place-behind, front-below}
 use Rattle.cola_layout.proofs.Powers.{next_power, power-le}
-use Rattle.cola_run.specs.Cells.{IsOnDevice, Lower, block_cells, block_bytes, file_bytes, device_cell, known_spot, told_spot, spots_of, IsShape, IsBacked}
-use Rattle.cola_run.specs.Saving.{AreFileSpots, SameBehind}
+use Rattle.cola_run.specs.Cells.{Lower, block_cells, block_bytes, file_bytes, device_cell, known_spot, told_spot, spots_of, IsShape, IsBacked}
+use Rattle.cola_run.specs.Saving.{AreFileSpots, AreLevelSpots, SameBehind}
 use Rattle.cola_image.specs.Cells.{file_spots}
 use Rattle.cola_run.specs.Loading.{StaySound, AreSavedBelow}
 use Rattle.cola_run.proofs.Lowers.{on-device}
@@ -127,31 +127,36 @@ wrote-then {E = E} value result at from (Some x) (Some y) z same w =
     (let v : WroteSome {E = E} (Ok value) at from x y = w in
     record { left = v.left; as_many = v.as_many; others_stay = v.others_stay; exact = exact-of value result at from x y v })
 
+-- the cells of the levels on the device are those of the file where each shadow is there
+pub level-spots : (g : Geometry) (front : FrontCells) (lower : Lower) (bytes : List ℕ) → IsBacked g lower.shadows lower.tails bytes → AreSavedBelow g lower.shadows (g.bottom + 1)
+    → AreLevelSpots g (known_spot (record { geometry = g; front = front; lower = lower }) bytes) bytes
+level-spots g front lower bytes backed saved l s i on p =
+    let low : l < g.bottom + 1 = p.level_in in
+    spot-there (record { geometry = g; front = front; lower = lower }) bytes l s i p
+    ∙ spot-device (record { geometry = g; front = front; lower = lower }) bytes l s i on.whole
+    ∙ ap (λ (x : List ℕ). spot_of_bytes g.format x)
+    (sym (device-is g lower.shadows lower.tails bytes l s i (cell_bytes g.format bytes (number_of l s i))
+    (λ q.
+    let sh = shadow_at lower.shadows l in
+    ap (λ (x : ℕ). cell_bytes g.format bytes (number_of l x i)) q.slot_is
+    ∙ backed.saved l on (saved l on low) i (tail-is (block_cells g) sh sh.slot i (record { slot_is = refl; block_is = q.block_is; within = q.within })))
+    (λ d. refl)))
+
 -- the cells of a store are those of its file where each shadow is on the device, and the front is as the file has it
 pub saved-spots : (g : Geometry) (front : FrontCells) (lower : Lower) (bytes : List ℕ) → IsShape g front lower.shadows lower.tails → IsBacked g lower.shadows lower.tails bytes → AreSavedBelow g lower.shadows (g.bottom + 1)
     → IsLoaded bytes front → (l s i : ℕ) → IsPlace (g.bottom + 1) l s i → known_spot (record { geometry = g; front = front; lower = lower }) bytes l s i ≡ file_spots g.format bytes l s i
 saved-spots g front lower bytes shape backed saved loaded l s i p =
-    spot-there (record { geometry = g; front = front; lower = lower }) bytes l s i p
-    ∙ elim (cases_lt (l + 2) g.block_exp) [
+    elim (cases_lt (l + 2) g.block_exp) [
       | inl low ↦
           let slot = p.slot_in in
           let below : number_of l s i < 2 ^ (g.block_exp + 1) = front-below g.block_exp l s i (omega (arith, slot)) p.index_in low in
           let twice : 2 ^ (g.block_exp + 1) ≡ 2 ^ g.block_exp + 2 ^ g.block_exp = next_power g.block_exp (g.block_exp + 1) (omega arith) in
           let block = shape.front_block in
-          spot-front (record { geometry = g; front = front; lower = lower }) bytes l s i low
+          spot-there (record { geometry = g; front = front; lower = lower }) bytes l s i p
+          ∙ spot-front (record { geometry = g; front = front; lower = lower }) bytes l s i low
           ∙ ap (λ (c : Option Cell). spot_of c) (loaded (number_of l s i) (place-behind l s i) (omega (arith, below, twice, block)))
           ∙ ap (λ (f : Format). spot_of (decoded f (cell_bytes f bytes (number_of l s i)))) shape.format
-      | inr high ↦
-          let on : IsOnDevice g l = on-device g l s i p high in
-          let low : l < g.bottom + 1 = p.level_in in
-          spot-device (record { geometry = g; front = front; lower = lower }) bytes l s i high
-          ∙ ap (λ (x : List ℕ). spot_of_bytes g.format x)
-          (sym (device-is g lower.shadows lower.tails bytes l s i (cell_bytes g.format bytes (number_of l s i))
-          (λ q.
-          let sh = shadow_at lower.shadows l in
-          ap (λ (x : ℕ). cell_bytes g.format bytes (number_of l x i)) q.slot_is
-          ∙ backed.saved l on (saved l on low) i (tail-is (block_cells g) sh sh.slot i (record { slot_is = refl; block_is = q.block_is; within = q.within })))
-          (λ d. refl)))
+      | inr high ↦ level-spots g front lower bytes backed saved l s i (on-device g l s i p high) p
     ]
 
 -- the file has the front's two blocks

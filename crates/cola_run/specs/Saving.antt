@@ -14,7 +14,7 @@ use Rattle.cola_image.specs.Cells.{file_spots}
 use Rattle.cola_layout.specs.declared.geometry.Geometry.{Geometry}
 use Rattle.cola_layout.specs.declared.header.Header.{Header}
 use Rattle.cola_layout.specs.Marks.{marks_of}
-use Rattle.cola_run.specs.Cells.{file_bytes}
+use Rattle.cola_run.specs.Cells.{IsOnDevice, block_bytes, file_bytes}
 
 -- these spots are those of the file at every place
 abbrev pub AreFileSpots : Geometry → Spots → List ℕ → Type 0
@@ -78,6 +78,14 @@ pub record SameReads (old new : Held) : Type 0 where
 pub record IsFlushed (geometry : Geometry) (header : List ℕ) (spots : Spots) (bytes : List ℕ) : Type 0 where
   pub header_is : take (8 * width geometry.format) bytes ≡ header ++ replicate (8 * width geometry.format - 512) 0
   pub cells_are : AreFileSpots geometry spots bytes
+
+-- these spots are those of the file at every place of a level on the device
+abbrev pub AreLevelSpots : Geometry → Spots → List ℕ → Type 0
+AreLevelSpots geometry spots bytes = (level slot index : ℕ) → IsOnDevice geometry level → IsPlace (geometry.bottom + 1) level slot index → spots level slot index ≡ file_spots geometry.format bytes level slot index
+
+-- the front comes last: the first two blocks of the file are as before, or every cell of the levels on the device is in it already
+abbrev pub IsFrontLast : Geometry → Spots → (before now : List ℕ) → Type 0
+IsFrontLast geometry spots before now = (take (2 * block_bytes geometry) now ≡ take (2 * block_bytes geometry) before) ⊎ AreLevelSpots geometry spots now
 
 -- bytes of which none at or behind the end of a store's file changed
 pub record SameBehind (geometry : Geometry) (before now : List ℕ) : Type 0 where

@@ -2,3 +2,8 @@ pub mod Create
 pub mod Runs
 pub mod Open
 pub mod Close
+pub mod Store
+pub mod Calls
+pub mod Walks
+pub mod Transfers
+pub mod Sessions

@@ -2,7 +2,6 @@
 use Rattle.std.specs.Prelude.{◌≡◌, ◌⊎◌, ℕ, ◌+◌, ◌<◌, ◌≤◌, true, false, List, length, take, Result, Ok, Err, IfSome}
 use Rattle.cola_outside.specs.Faults.{Rose}
 use Rattle.cola_outside.specs.Told.{Both}
-use Rattle.cola_cell.specs.Held.{Held}
 use Rattle.cola_device.specs.declared.counts.Counts.{Counts}
 use Rattle.cola_device.specs.declared.device.Device as device
 use Rattle.cola_layout.specs.declared.header.Header.{Header}
@@ -17,6 +16,7 @@ use Rattle.cola_store.specs.declared.fault.OpenFault.{OpenFault}
 use Rattle.cola_store.specs.declared.fault.OpenFault.TheVariants.{NotStore, NotClosed, Small, Device, OutOfMemory, BadCell}
 use Rattle.cola_store.specs.Create.{file_size}
 use Rattle.cola_store.specs.Runs.{HasHeader, StoreStandsFor}
+use Rattle.cola_store.specs.Store.{IsMadeAfter}
 
 -- a file has no room for a header, or none for the cells of the store whose header it has
 abbrev pub IsSmall : List ℕ → Type 0
@@ -57,12 +57,6 @@ pub record Spends (before now : Counts) (reads writes : ℕ) : Type 0 where
 -- how many reads an opening makes at most by a header: three, and one for each level
 abbrev pub opening_reads : Header → ℕ
 opening_reads header = header.geometry.bottom + 4
-
--- what the store had counted when it was made: at most one read more than before, and no fault
-pub record IsMadeAfter (before : Counts) (held : Held) : Type 0 where
-  pub reads_stay : before.reads ≤ held.fixed.made.reads
-  pub reads_rise : held.fixed.made.reads ≤ before.reads + 1
-  pub no_fault : held.fixed.made.faults ≡ before.faults
 
 module _ {D : Type 0} (d : device.Ghosts D) (before : D) where
   -- a refusal for this reason, where bytes are told: the device met no fault and keeps its bytes

@@ -36,8 +36,11 @@ pub struct Closing<D: Device> {
 }
 
 impl<D: Device> Closing<D> {
-    ghost use Rattle.std.specs.Prelude.{IfOk, IfErr};
+    ghost use Rattle.std.specs.Prelude.{IfOk, IfErr, MatchResult};
+    ghost use Rattle.cola_spec.specs.Map.{Map};
+    ghost use Rattle.cola_image.specs.Standing.{FileStandsFor};
     ghost use Rattle.cola_store.specs.Close.{IsClosed, StillOwes};
+    ghost use Rattle.cola_store.specs.Sessions.{Owes};
 
     /// What a store with this header, of a closed store, owes to its file.
     pub fn new(runs: RunStore<D>, header: Header) -> Closing<D>
@@ -54,6 +57,8 @@ impl<D: Device> Closing<D> {
     pub fn close(self) -> Result<D, Closing<D>>
         ensures closed { IfOk result (IsClosed D.Device self.header self.runs) }
         ensures owes { IfErr result (λ now. StillOwes D.Device self.header self.runs now.runs now.header) }
+        // where a map is owed, the file stands for it, or it is owed still
+        ensures map { (m : Map) → Owes D.Device self m → MatchResult result (λ now. IfSome (D.bytes now) (λ bytes. FileStandsFor bytes m)) (λ now. Owes D.Device now m) }
         ensures kept_device { IfOk result (λ now. D.kept now ≡ D.kept self.runs.buffers.cache.device) }
         ensures kept { IfErr result (λ now. D.kept now.runs.buffers.cache.device ≡ D.kept self.runs.buffers.cache.device) }
     {
@@ -67,7 +72,8 @@ impl<D: Device> Closing<D> {
         }
     }
 
-    /// Gives up, and hands the device back as it is. No call of it is made: its file is refused as one in use.
+    /// Gives up, and hands the device back as it is. No call of it is made. Its file is in use where no attempt to close was
+    /// made; else it is what the last attempt left.
     pub fn into_device(self) -> D
         ensures { result ≡ self.runs.buffers.cache.device }
     {

@@ -1,17 +1,35 @@
-//! A store in a file: how a new one is made, and how one is opened and closed.
+//! A store in a file: how a new one is made, opened, asked and closed.
 #![tactic(auto)]
 
+mod account;
+mod calls;
 mod closing;
+mod conditional;
+mod deletes;
 mod fault;
 pub mod laws;
 mod new_file;
 mod opening;
 #[cfg(test)]
 mod opening_tests;
+mod puts;
+mod session;
+pub mod session_laws;
+mod store;
+#[cfg(test)]
+mod store_tests;
+mod table;
 #[cfg(test)]
 mod tests;
+mod transfers;
+pub mod walk_laws;
+#[cfg(test)]
+mod walk_tests;
+mod walks;
 
+pub use account::Account;
 pub use closing::Closing;
 pub use fault::{CreateFault, OpenFault};
 pub use new_file::{create, create_as};
 pub use opening::open_runs;
+pub use store::Store;

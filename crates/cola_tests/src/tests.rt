@@ -61,13 +61,13 @@ fn run_on<S: Source, K: Sink, L: Ledger>(
     source: &mut S,
     sink: &mut K,
     device: MemoryDevice,
+    second: MemoryDevice,
 ) -> Served<MemoryDevice>
     requires name { blank.name ≡ L.name }
     requires parts { blank.parts ≡ L.parts }
     requires some { 0 < L.parts }
 {
     let mut steps = Steps::<L>::begin(blank);
-    let second = MemoryDevice::holding(Vec::new(alloc), Vec::new(alloc));
     serve(alloc, words, source, sink, device, second, &mut steps)
 }
 
@@ -79,7 +79,8 @@ fn run<S: Source, K: Sink>(
     sink: &mut K,
     device: MemoryDevice,
 ) -> Served<MemoryDevice> {
-    run_on::<S, K, Brand>(Blank::new(1), alloc, words, source, sink, device)
+    let second = MemoryDevice::holding(Vec::new(alloc), Vec::new(alloc));
+    run_on::<S, K, Brand>(Blank::new(1), alloc, words, source, sink, device, second)
 }
 
 /// The status of a session, which calls no device.
@@ -325,5 +326,164 @@ fn files_that_are_not_made(rt: HostRuntime) -> Result<(), Fail> {
     let (ended, device) = without_input(&rt, alloc, "create F --keys 1", device)?;
     assert!(rt; ended == 8);
     assert!(rt; device.as_bytes() == b"x".as_slice());
+    Ok(())
+}
+
+/// An upgrade from one device to another: the status and both devices. It takes no input and writes none.
+fn upgraded(
+    rt: &impl Abort,
+    alloc: Global,
+    device: MemoryDevice,
+    second: MemoryDevice,
+) -> Result<Served<MemoryDevice>, Fail> {
+    let mut words = Vec::new(alloc);
+    for word in ["upgrade", "F", "G"] {
+        words.push(String::from_str(alloc, word)?)?;
+    }
+    let mut source = memory_source(alloc, b"count\n".as_slice(), &[])?;
+    let mut sink = MemorySink::new(alloc, 64, Vec::new(alloc))?;
+    let served = run_on::<MemorySource, MemorySink, Brand>(
+        Blank::new(1),
+        alloc,
+        words.as_slice(),
+        &mut source,
+        &mut sink,
+        device,
+        second,
+    );
+    assert!(rt; source.calls == 0);
+    assert!(rt; sink.bytes().is_empty());
+    Ok(served)
+}
+
+#[test]
+fn upgrades(rt: HostRuntime) -> Result<(), Fail> {
+    let alloc = rt.alloc();
+    let device = MemoryDevice::new(alloc, 8192, Vec::new(alloc))?;
+    let (_, device) = without_input(&rt, alloc, "create F --keys 1", device)?;
+    let room = MemoryDevice::new(alloc, 16384, Vec::new(alloc))?;
+    let served = upgraded(&rt, alloc, device, room)?;
+    assert!(&rt; served.status == 0);
+    assert!(&rt; served.second.as_bytes().len() == 16384);
+    let again = upgraded(&rt, alloc, served.second, served.device)?;
+    assert!(&rt; again.status == 12);
+    let served = upgraded(&rt, alloc, again.second, again.device)?;
+    assert!(&rt; served.status == 8);
+    let room = MemoryDevice::new(alloc, 16384, Vec::new(alloc))?;
+    let none = MemoryDevice::holding(Vec::new(alloc), Vec::new(alloc));
+    assert!(&rt; upgraded(&rt, alloc, none, room)?.status == 6);
+    Ok(())
+}
+
+/// The words of a text, served over a device with an input: what is written, the status and the device.
+fn on_file(
+    alloc: Global,
+    text: &str,
+    input: &[u8],
+    device: MemoryDevice,
+) -> Result<(Vec<u8>, u8, MemoryDevice), AllocError> {
+    let mut words = Vec::new(alloc);
+    for word in text.split(' ') {
+        words.push(String::from_str(alloc, word)?)?;
+    }
+    let mut source = memory_source(alloc, input, &[])?;
+    let mut sink = MemorySink::new(alloc, 8192, Vec::new(alloc))?;
+    let served = run(alloc, words.as_slice(), &mut source, &mut sink, device);
+    Ok((
+        Vec::from_slice(alloc, sink.bytes())?,
+        served.status,
+        served.device,
+    ))
+}
+
+#[test]
+fn sessions_over_a_file(rt: HostRuntime) -> Result<(), Fail> {
+    let alloc = rt.alloc();
+    let device = MemoryDevice::new(alloc, 32768, Vec::new(alloc))?;
+    let (_, mut device) = without_input(&rt, alloc, "create F --keys 33 --version 2", device)?;
+    let rows: [(&str, &str, &str, u8); 5] = [
+        ("run F", "put a 1\nput b 2\nget a", "new\nnew\nval 1\n", 0),
+        (
+            "run F --cache 3",
+            "putif a 1 3\nstamp a\nscan a 9\ndel b\nclose\n",
+            "old 1\nat 3\nrow a 3\nrow b 2\nend 2\ngone 2\nclosed\n",
+            0,
+        ),
+        (
+            "run F",
+            "count\nget a\nget b\n",
+            "count 1\nval 3\nnone\n",
+            0,
+        ),
+        ("run F --mirror G", "count\n", "", 2),
+        ("run F --cache 4097", "count\n", "", 2),
+    ];
+    for (text, input, output, status) in rows {
+        let (written, ended, next) = on_file(alloc, text, input.as_bytes(), device)?;
+        assert!(&rt; written.as_slice() == output.as_bytes());
+        assert!(&rt; ended == status);
+        device = next;
+    }
+    let none = MemoryDevice::holding(Vec::new(alloc), Vec::new(alloc));
+    let (written, ended, _) = on_file(alloc, "run F", b"count\n".as_slice(), none)?;
+    assert!(&rt; written.is_empty());
+    assert!(&rt; ended == 6);
+    Ok(())
+}
+
+/// The stated workload for so many keys over a device, and a sink with so much room: the status, the device and what was
+/// written.
+fn workload(
+    alloc: Global,
+    keys: &str,
+    device: MemoryDevice,
+    room: usize,
+) -> Result<(u8, MemoryDevice, Vec<u8>), Fail> {
+    let mut words = Vec::new(alloc);
+    for word in ["gen", "F", "--keys", keys] {
+        words.push(String::from_str(alloc, word)?)?;
+    }
+    let mut source = memory_source(alloc, b"count\n".as_slice(), &[])?;
+    let mut sink = MemorySink::new(alloc, room, Vec::new(alloc))?;
+    let served = run(alloc, words.as_slice(), &mut source, &mut sink, device);
+    let written = Vec::from_slice(alloc, sink.bytes())?;
+    Ok((served.status, served.device, written))
+}
+
+#[test]
+fn workloads(rt: HostRuntime) -> Result<(), Fail> {
+    let alloc = rt.alloc();
+    let rows: [(&str, usize, u8, &str); 3] = [
+        ("8", 64, 0, "new 6 gone 3 left 3 wrong 0 over 0\n"),
+        ("1000", 64, 0, "new 750 gone 375 left 375 wrong 0 over 0\n"),
+        ("8", 5, 4, "new 6"),
+    ];
+    for (keys, room, wanted, line) in rows {
+        let device = MemoryDevice::new(alloc, 262_144, Vec::new(alloc))?;
+        let (status, _, written) = workload(alloc, keys, device, room)?;
+        assert!(rt; status == wanted);
+        assert!(rt; written.as_slice() == line.as_bytes());
+    }
+    let device = MemoryDevice::holding(b"x".to_vec(alloc)?, Vec::new(alloc));
+    let (status, device, _) = workload(alloc, "8", device, 64)?;
+    assert!(rt; status == 8);
+    assert!(rt; device.as_bytes() == b"x".as_slice());
+    Ok(())
+}
+
+#[test]
+fn workloads_that_are_refused(rt: HostRuntime) -> Result<(), Fail> {
+    let alloc = rt.alloc();
+    let device = MemoryDevice::new(alloc, 8192, Vec::new(alloc))?;
+    let (_, device, _) = workload(alloc, "8", device, 64)?;
+    let calls = device.calls();
+    assert!(rt; 15 < calls && calls < 200);
+    for call in 1..calls {
+        let device = MemoryDevice::new(alloc, 8192, vec![in alloc; call]?)?;
+        let (status, device, written) = workload(alloc, "8", device, 64)?;
+        assert!(rt; status == 5);
+        assert!(rt; written.is_empty());
+        assert!(rt; device.calls() >= call);
+    }
     Ok(())
 }

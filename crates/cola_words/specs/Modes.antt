@@ -1,5 +1,5 @@
 -- The modes that the words of the command line name. A word is the list of its bytes.
-use Rattle.std.specs.Prelude.{ℕ, nat_le, ◌&&◌, Bool, not, if◌then◌else◌, List, [], ◌∷◌, Option, Some, None, bytes_eq, codes, ⊤}
+use Rattle.std.specs.Prelude.{ℕ, ◌≤◌, nat_le, ◌&&◌, Bool, not, if◌then◌else◌, List, [], ◌∷◌, Option, Some, None, bytes_eq, codes, ⊤}
 use Rattle.std.specs.Option.{option_map, option_and_then, is_some, unwrap_or}
 use Rattle.cola_words.specs.declared.options.Options.{Options}
 use Rattle.cola_words.specs.declared.options.NewFile.{NewFile}
@@ -102,14 +102,14 @@ abbrev pub mode_of : List (List ℕ) → Option Mode
 mode_of [] = None
 mode_of (first ∷ words) = named first words
 
--- where a mode makes a file, there is a store of its sizes
+-- where a mode makes a file, there is a store of its sizes; a cache has up to 4096 blocks
 abbrev pub HasSizes : Mode → Type 0
 HasSizes (Create keys block_exp format) = SuitStore keys block_exp
 HasSizes (Load keys block_exp format) = SuitStore keys block_exp
 HasSizes (Grow keys block_exp) = SuitStore keys block_exp
 HasSizes (Gen keys) = SuitStore keys 5
 HasSizes (Mem keys) = ⊤
-HasSizes (Run cache cost mirror) = ⊤
+HasSizes (Run cache cost mirror) = cache ≤ 4096
 HasSizes Upgrade = ⊤
 HasSizes Check = ⊤
 HasSizes Rebuild = ⊤

@@ -1,4 +1,4 @@
-use Rattle.cola_command.proofs.Serving.{completes}
+use Rattle.cola_command.proofs.MemoryServing.{completes}
 use Rattle.cola_command.proofs.laws.memory_sessions_complete.Goals as goal
 
 pub returns : goal.returns

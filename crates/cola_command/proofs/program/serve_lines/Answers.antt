@@ -1,54 +1,59 @@
-use Rattle.std.proofs.Common.{◌≡◌, ◌++◌, ◌∷◌, [], ℕ, refl, sym, ◌∙◌, subst, option_copied, take}
+use Rattle.std.proofs.Common.{◌≡◌, ◌++◌, ◌∷◌, [], ℕ, refl, sym, ap, ◌∙◌, subst, option_copied, take}
+use Rattle.cola_io.specs.Counted.{after_fault}
 use Rattle.cola_io.specs.Streams.{Appended}
-use Rattle.cola_io.specs.Reading.{fresh}
 use Rattle.cola_io.specs.Reads.{bytes_read}
-use Rattle.cola_command.specs.Memory.{state_of, line_read, replies_to, state_after, lines_bound, StepsWithin, input_limit}
-use Rattle.cola_command.proofs.Serving.{Served, served_none, served_line, ends_whole, ends_by_source, ends_spent, ends_by_sink, holds_line, line_no_fault, line_faults, fewer_left, begun}
+use Rattle.cola_command.specs.Memory.{state_of, line_read, replies_to, state_after, lines_bound, StepsWithin}
+use Rattle.cola_command.specs.Ends.{Status0, Status3, Status4, Status9}
+use Rattle.cola_command.proofs.ReadingOn.{ReadSoFar, read_none, read_line, ends_whole, ends_by_source, ends_spent, ends_by_sink, holds_line, line_no_fault, line_faults, fewer_left}
+use Rattle.cola_command.proofs.MemoryServing.{Served, served_none, served_line, served_front, begun}
 use Rattle.cola_command.proofs.program.serve_lines.Goals as goal
 
 pub lines-init : goal.lines-init
 lines-init g c =
     let keys = c.args.session.now.table.limit in
-    let at = Served g.S.Source g.K.Sink keys c.args.source.now c.args.source.now c.args.sink.now c.args.sink.now c.args.steps.now c.args.steps.now in
     record {
       limit = refl;
       reads = [];
       told = [];
+      read = subst (λ r. ReadSoFar g.S.Source c.args.source.now c.args.source.now r [] []) (sym c.new-reader.ensures) (read_none g.S.Source c.args.source.now);
+      sink_faults = refl;
       served =
-          subst (λ r. at r (state_of c.args.session.now.is_open c.args.session.now.table.map) [] []) (sym c.new-reader.ensures)
-          (subst (λ s. at (fresh input_limit) s [] []) (sym (begun c.args.session.now.is_open c.args.session.now.table.map c.requires.open c.requires.empty))
-          (served_none g.S.Source g.K.Sink keys c.args.source.now c.args.sink.now c.args.steps.now));
+          subst (λ s. Served g.K.Sink keys c.args.sink.now c.args.sink.now c.args.steps.now c.args.steps.now s []) (sym (begun c.args.session.now.is_open c.args.session.now.table.map c.requires.open c.requires.empty))
+          (served_none g.K.Sink keys c.args.sink.now c.args.steps.now);
     }
 
 pub returns-in-End : goal.returns-in-End
 returns-in-End g c =
-    ends_whole g.S.Source g.K.Sink c.args.session.now.table.limit c.args.source.now c.lines.source c.next_line-next.new.source c.args.sink.now c.lines.sink c.args.steps.now c.lines.steps c.lines.reader c.next_line-next.new.self
-    (state_of c.lines.session.is_open c.lines.session.table.map) c.lines.invariant.reads c.lines.invariant.told c.lines.invariant.served c.in-End.ensures.lines c.in-End.ensures.faults
+    let i = c.lines.invariant in
+    Status0 refl (ends_whole g.S.Source g.K.Sink c.args.source.now c.lines.source c.next_line-next.new.source c.args.sink.now c.lines.sink c.lines.reader c.next_line-next.new.self i.reads i.told _ i.read i.served.replied i.sink_faults c.in-End.ensures.lines c.in-End.ensures.faults)
 
 pub returns-in-Fault : goal.returns-in-Fault
 returns-in-Fault g c =
-    ends_by_source g.S.Source g.K.Sink c.args.session.now.table.limit c.args.source.now c.lines.source c.next_line-next.new.source c.args.sink.now c.lines.sink c.args.steps.now c.lines.steps c.lines.reader c.next_line-next.new.self
-    (state_of c.lines.session.is_open c.lines.session.table.map) c.lines.invariant.reads c.lines.invariant.told c.lines.invariant.served c.in-Fault.ensures.lines c.in-Fault.ensures.faults
+    let i = c.lines.invariant in
+    Status3 refl (ends_by_source g.S.Source g.K.Sink c.args.source.now c.lines.source c.next_line-next.new.source c.args.sink.now c.lines.sink c.lines.reader c.next_line-next.new.self i.reads i.told _ i.read i.served.replied i.sink_faults c.in-Fault.ensures.lines c.in-Fault.ensures.faults)
 
 pub returns-in-Budget : goal.returns-in-Budget
 returns-in-Budget g c =
-    ends_spent g.S.Source g.K.Sink c.args.session.now.table.limit c.args.source.now c.lines.source c.next_line-next.new.source c.args.sink.now c.lines.sink c.args.steps.now c.lines.steps c.lines.reader c.next_line-next.new.self
-    (state_of c.lines.session.is_open c.lines.session.table.map) c.lines.invariant.reads c.lines.invariant.told c.lines.invariant.served c.in-Budget.ensures.lines c.in-Budget.ensures.faults
+    let i = c.lines.invariant in
+    Status9 refl (ends_spent g.S.Source g.K.Sink c.args.source.now c.lines.source c.next_line-next.new.source c.args.sink.now c.lines.sink c.lines.reader c.next_line-next.new.self i.reads i.told _ i.read i.served.replied i.sink_faults c.in-Budget.ensures.lines c.in-Budget.ensures.faults)
 
 pub returns-in-Err : goal.returns-in-Err
 returns-in-Err g c =
+    let i = c.lines.invariant in
     let call = c.next_line-next.ensures.lines in
+    let next = c.next_line-next.result in
+    let reader = c.next_line-next.new.self in
     let keys = c.args.session.now.table.limit in
     let state = state_of c.lines.session.is_open c.lines.session.table.map in
     let line = line_read (option_copied c.text_of-text.result) in
-    let holds = holds_line c.lines.reader c.next_line-next.new.self (bytes_read call.reads) c.next_line-next.result call.line c.in_default.not-End c.in_default.not-Fault c.in_default.not-Budget in
-    ends_by_sink g.S.Source g.K.Sink keys c.args.source.now c.lines.source c.next_line-next.new.source c.args.sink.now c.lines.sink c.args.steps.now c.lines.steps c.lines.reader c.next_line-next.new.self
-    state c.lines.invariant.reads c.lines.invariant.told c.next_line-next.result c.lines.invariant.served call
-    c.line.new.sink c.line.new.steps line c.text_of-text.ensures (line_no_fault c.next_line-next.result c.next_line-next.new.self.line holds)
-    (subst (λ k. (n : ℕ) × Appended (take n (replies_to k state (line ∷ []))) (g.K.Sink.written c.lines.sink) (g.K.Sink.written c.line.new.sink)) c.lines.invariant.limit c.in-Err.ensures.wrote)
-    (line_faults c.next_line-next.result c.next_line-next.new.self.line _ _ holds c.next_line-next.ensures.faults)
-    c.in-Err.ensures.faults_counted
-    (subst (λ k. StepsWithin (lines_bound k (line ∷ [])) c.lines.steps c.line.new.steps) c.lines.invariant.limit c.in-Err.ensures.cells)
+    let holds = holds_line c.lines.reader reader (bytes_read call.reads) next call.line c.in_default.not-End c.in_default.not-Fault c.in_default.not-Budget in
+    Status4 refl (ends_by_sink g.S.Source c.args.source.now c.lines.source c.next_line-next.new.source c.lines.reader reader i.reads i.told next i.read call g.K.Sink c.args.sink.now c.line.new.sink _ line
+    c.text_of-text.ensures (line_no_fault next reader.line holds)
+    (served_front g.K.Sink keys c.args.sink.now c.lines.sink c.line.new.sink c.args.steps.now c.lines.steps c.line.new.steps state i.told line i.served
+    (subst (λ k. StepsWithin (lines_bound k (line ∷ [])) c.lines.steps c.line.new.steps) i.limit c.in-Err.ensures.cells)
+    (subst (λ k. (n : ℕ) × Appended (take n (replies_to k state (line ∷ []))) (g.K.Sink.written c.lines.sink) (g.K.Sink.written c.line.new.sink)) i.limit c.in-Err.ensures.wrote))
+    (line_faults next reader.line _ _ holds c.next_line-next.ensures.faults)
+    (c.in-Err.ensures.faults_counted ∙ ap after_fault i.sink_faults))
 
 pub lines-smaller : goal.lines-smaller
 lines-smaller g c =
@@ -57,23 +62,25 @@ lines-smaller g c =
 
 pub lines-preserved : goal.lines-preserved
 lines-preserved g c =
+    let i = c.lines.invariant in
     let call = c.next_line-next.ensures.lines in
+    let next = c.next_line-next.result in
+    let reader = c.next_line-next.new.self in
     let keys = c.args.session.now.table.limit in
     let state = state_of c.lines.session.is_open c.lines.session.table.map in
     let state' = state_of c.line.new.self.is_open c.line.new.self.table.map in
     let line = line_read (option_copied c.text_of-text.result) in
-    let holds = holds_line c.lines.reader c.next_line-next.new.self (bytes_read call.reads) c.next_line-next.result call.line c.in_default.not-End c.in_default.not-Fault c.in_default.not-Budget in
+    let holds = holds_line c.lines.reader reader (bytes_read call.reads) next call.line c.in_default.not-End c.in_default.not-Fault c.in_default.not-Budget in
     record {
-      limit = c.line.ensures.limit ∙ c.lines.invariant.limit;
-      reads = call.reads ++ c.lines.invariant.reads;
-      told = c.lines.invariant.told ++ line ∷ [];
-      served =
-          served_line g.S.Source g.K.Sink keys c.args.source.now c.lines.source c.next_line-next.new.source c.args.sink.now c.lines.sink c.args.steps.now c.lines.steps c.lines.reader c.next_line-next.new.self
-          state c.lines.invariant.reads c.lines.invariant.told c.next_line-next.result c.lines.invariant.served call
-          c.line.new.sink c.line.new.steps state' line c.text_of-text.ensures (line_no_fault c.next_line-next.result c.next_line-next.new.self.line holds)
-          (subst (λ k. Appended (replies_to k state (line ∷ [])) (g.K.Sink.written c.lines.sink) (g.K.Sink.written c.line.new.sink)) c.lines.invariant.limit c.in_default-line.ensures.wrote)
-          (subst (λ k. state' ≡ state_after k state (line ∷ [])) c.lines.invariant.limit c.in_default-line.ensures.after)
-          (line_faults c.next_line-next.result c.next_line-next.new.self.line _ _ holds c.next_line-next.ensures.faults)
-          c.in_default-line.ensures.faults_counted
-          (subst (λ k. StepsWithin (lines_bound k (line ∷ [])) c.lines.steps c.line.new.steps) c.lines.invariant.limit c.line.ensures.cells);
+      limit = c.line.ensures.limit ∙ i.limit;
+      reads = call.reads ++ i.reads;
+      told = i.told ++ line ∷ [];
+      read = read_line g.S.Source c.args.source.now c.lines.source c.next_line-next.new.source c.lines.reader reader i.reads i.told next i.read call line
+          c.text_of-text.ensures (line_no_fault next reader.line holds) (line_faults next reader.line _ _ holds c.next_line-next.ensures.faults);
+      sink_faults = c.in_default-line.ensures.faults_counted ∙ i.sink_faults;
+      served = served_line g.K.Sink keys c.args.sink.now c.lines.sink c.line.new.sink c.args.steps.now c.lines.steps c.line.new.steps state i.told line i.served
+          (subst (λ k. StepsWithin (lines_bound k (line ∷ [])) c.lines.steps c.line.new.steps) i.limit c.line.ensures.cells)
+          state'
+          (subst (λ k. Appended (replies_to k state (line ∷ [])) (g.K.Sink.written c.lines.sink) (g.K.Sink.written c.line.new.sink)) i.limit c.in_default-line.ensures.wrote)
+          (subst (λ k. state' ≡ state_after k state (line ∷ [])) i.limit c.in_default-line.ensures.after);
     }

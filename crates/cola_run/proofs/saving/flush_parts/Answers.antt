@@ -1,5 +1,6 @@
 use Rattle.std.proofs.Common.{◌≡◌, ◌≤◌, ◌+◌, ◌-◌, ◌*◌, ◌^◌, ℕ, List, length, Option, Result, Ok, Err, sym, ap, subst, ◌∙◌, arith}
 use Rattle.std.specs.Prelude.{IfSome, OnOk}
+use Rattle.cola_outside.specs.Told.{Both}
 use Rattle.cola_cell.specs.declared.format.Format.{Format}
 use Rattle.cola_cell.specs.Format.{width}
 use Rattle.cola_device.specs.declared.device.DeviceFault.{DeviceFault}
@@ -7,10 +8,10 @@ use Rattle.cola_device.specs.Bytes.{Wrote}
 use Rattle.cola_front.specs.Front.{block_size, image}
 use Rattle.cola_layout.proofs.Powers.{power-le}
 use Rattle.cola_run.specs.Cells.{Lower, block_bytes, file_blocks, spots_of, IsShape, IsBacked}
-use Rattle.cola_run.specs.Saving.{IsFlushed}
+use Rattle.cola_run.specs.Saving.{IsFlushed, IsFrontLast}
 use Rattle.cola_run.specs.Loading.{SameCells}
 use Rattle.cola_run.proofs.Finishes.{ends-within}
-use Rattle.cola_run.proofs.Flushes.{image-many, same-two, same-read, same-head, flushed-by}
+use Rattle.cola_run.proofs.Flushes.{image-many, same-two, same-read, same-head, order-head, front-stays, flushed-by}
 use Rattle.cola_run.proofs.Heads.{heads-backed}
 use Rattle.cola_run.proofs.saving.flush_parts.Goals as goal
 
@@ -186,3 +187,61 @@ returns-in-Err-clause-reads g c =
     let backed : IfSome mid.told (IsBacked geometry mid.shadows mid.tails) = c.save_tails.ensures.sound.backed front c.requires.shape c.requires.backed in
     let reads : SameCells geometry front old mid = same-read geometry front old mid c.requires.shape c.requires.backed c.save_tails.auto.shadows c.save_tails.ensures.stays in
     reads
+
+pub returns-in-Ok-save_front-clause-order : goal.returns-in-Ok-save_front-clause-order
+returns-in-Ok-save_front-clause-order g c =
+    let geometry = c.args.geometry.now in
+    let front = c.args.front.now in
+    let told = g.D.Device.bytes in
+    let old : Lower = record { told = told c.args.buffers.now.cache.device; shadows = c.args.shadows.now; tails = c.args.tails.now } in
+    let mid : Lower = record { told = told c.save_tails.new.buffers.cache.device; shadows = c.save_tails.new.shadows; tails = c.args.tails.now } in
+    let shape : IsShape geometry front mid.shadows mid.tails = c.save_tails.ensures.sound.shape front c.requires.shape in
+    let backed : IfSome mid.told (IsBacked geometry mid.shadows mid.tails) = c.save_tails.ensures.sound.backed front c.requires.shape c.requires.backed in
+    let reads : SameCells geometry front old mid = same-read geometry front old mid c.requires.shape c.requires.backed c.save_tails.auto.shadows c.save_tails.ensures.stays in
+    let result = c.save_front.result in
+    let new = told c.save_front.new.buffers.cache.device in
+    let sound = c.save_front.ensures.sound in
+    let many : length (image front c.args.header.now) ≡ 2 * block_size front = image-many front c.args.header.now sound (omega (arith, c.told-header)) in
+    let size : block_size front ≡ block_bytes geometry = ap (λ (f : Format). width f * front.block) shape.format ∙ ap (λ (n : ℕ). width geometry.format * n) shape.front_block in
+    let within : 0 + length (image front c.args.header.now) ≤ 2 * block_bytes geometry = omega (arith, many, size) in
+    let wrote : Wrote result 0 (image front c.args.header.now) mid.told new = subst (λ (x : Option (List ℕ)). Wrote result 0 (image front c.args.header.now) x new) c.settle.ensures.bytes_stay c.save_front.ensures.wrote in
+    subst (λ (x : Option (List ℕ)). Both old.told x (IsFrontLast geometry (spots_of (record { geometry = geometry; front = front; lower = record { told = x; shadows = mid.shadows; tails = mid.tails } })))) (sym c.settle-in-Ok-save_front.ensures.bytes_stay)
+    (order-head geometry front mid.shadows mid.tails result 0 (image front c.args.header.now) old.told mid.told new shape.block within backed c.in-Ok.ensures.saved reads.behind wrote)
+
+pub returns-in-Err-save_front-clause-order : goal.returns-in-Err-save_front-clause-order
+returns-in-Err-save_front-clause-order g c =
+    let geometry = c.args.geometry.now in
+    let front = c.args.front.now in
+    let told = g.D.Device.bytes in
+    let old : Lower = record { told = told c.args.buffers.now.cache.device; shadows = c.args.shadows.now; tails = c.args.tails.now } in
+    let mid : Lower = record { told = told c.save_tails.new.buffers.cache.device; shadows = c.save_tails.new.shadows; tails = c.args.tails.now } in
+    let shape : IsShape geometry front mid.shadows mid.tails = c.save_tails.ensures.sound.shape front c.requires.shape in
+    let backed : IfSome mid.told (IsBacked geometry mid.shadows mid.tails) = c.save_tails.ensures.sound.backed front c.requires.shape c.requires.backed in
+    let reads : SameCells geometry front old mid = same-read geometry front old mid c.requires.shape c.requires.backed c.save_tails.auto.shadows c.save_tails.ensures.stays in
+    let result = c.save_front.result in
+    let new = told c.save_front.new.buffers.cache.device in
+    let sound = c.save_front.ensures.sound in
+    let many : length (image front c.args.header.now) ≡ 2 * block_size front = image-many front c.args.header.now sound (omega (arith, c.told-header)) in
+    let size : block_size front ≡ block_bytes geometry = ap (λ (f : Format). width f * front.block) shape.format ∙ ap (λ (n : ℕ). width geometry.format * n) shape.front_block in
+    let within : 0 + length (image front c.args.header.now) ≤ 2 * block_bytes geometry = omega (arith, many, size) in
+    let wrote : Wrote result 0 (image front c.args.header.now) mid.told new = subst (λ (x : Option (List ℕ)). Wrote result 0 (image front c.args.header.now) x new) c.settle.ensures.bytes_stay c.save_front.ensures.wrote in
+    order-head geometry front mid.shadows mid.tails result 0 (image front c.args.header.now) old.told mid.told new shape.block within backed c.in-Ok.ensures.saved reads.behind wrote
+
+pub returns-in-Err-settle-clause-order : goal.returns-in-Err-settle-clause-order
+returns-in-Err-settle-clause-order g c =
+    let geometry = c.args.geometry.now in
+    let front = c.args.front.now in
+    let told = g.D.Device.bytes in
+    let old : Lower = record { told = told c.args.buffers.now.cache.device; shadows = c.args.shadows.now; tails = c.args.tails.now } in
+    let mid : Lower = record { told = told c.save_tails.new.buffers.cache.device; shadows = c.save_tails.new.shadows; tails = c.args.tails.now } in
+    subst (λ (x : Option (List ℕ)). Both old.told x (IsFrontLast geometry (spots_of (record { geometry = geometry; front = front; lower = record { told = x; shadows = mid.shadows; tails = mid.tails } })))) (sym c.settle.ensures.bytes_stay)
+    (front-stays geometry (spots_of (record { geometry = geometry; front = front; lower = mid })) old.told mid.told c.save_tails.ensures.stays.told (c.save_tails.ensures.stays.beside_stays front c.requires.shape c.requires.backed))
+
+pub returns-in-Err-clause-order : goal.returns-in-Err-clause-order
+returns-in-Err-clause-order g c =
+    let geometry = c.args.geometry.now in
+    let front = c.args.front.now in
+    let told = g.D.Device.bytes in
+    let old : Lower = record { told = told c.args.buffers.now.cache.device; shadows = c.args.shadows.now; tails = c.args.tails.now } in
+    let mid : Lower = record { told = told c.save_tails.new.buffers.cache.device; shadows = c.save_tails.new.shadows; tails = c.args.tails.now } in
+    front-stays geometry (spots_of (record { geometry = geometry; front = front; lower = mid })) old.told mid.told c.save_tails.ensures.stays.told (c.save_tails.ensures.stays.beside_stays front c.requires.shape c.requires.backed)

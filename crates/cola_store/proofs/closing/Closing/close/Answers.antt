@@ -7,6 +7,7 @@ use Rattle.cola_run.specs.Saving.{SameBehind}
 use Rattle.cola_store.specs.Create.{file_size}
 use Rattle.cola_store.specs.Close.{IsClosed}
 use Rattle.cola_store.proofs.Closed.{told-file, stands-still, closing-spends}
+use Rattle.cola_store.proofs.Whole.{file-map}
 use Rattle.cola_store.proofs.closing.Closing.close.Goals as goal
 
 pub invariant_of-result : goal.invariant_of-result
@@ -51,3 +52,9 @@ returns-in-Err-clause-owes g c =
 
 pub returns-in-Err-clause-kept : goal.returns-in-Err-clause-kept
 returns-in-Err-clause-kept g c = c.flush-flushed.ensures.kept
+
+pub returns-in-Ok-clause-map : goal.returns-in-Ok-clause-map
+returns-in-Ok-clause-map g c = λ m owes. file-map c.args.self.header (held_of g.D.Device.bytes c.args.self.runs) (g.D.Device.bytes c.into_device.result) (returns-in-Ok-clause-closed g c).file m owes
+
+pub returns-in-Err-clause-map : goal.returns-in-Err-clause-map
+returns-in-Err-clause-map g c = stands-still c.args.self.header (held_of g.D.Device.bytes c.args.self.runs) (held_of g.D.Device.bytes c.flush-flushed.new.self) c.flush-flushed.ensures.reads

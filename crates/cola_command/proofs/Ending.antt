@@ -1,0 +1,275 @@
+-- A session over a file from its opening to its close.
+use Rattle.std.proofs.Common.{◌≡◌, ◌⊎◌, inl, inr, ℕ, zero, suc, ◌+◌, ◌≤◌, min, nat_eq, Bool, true, false, ◌&&◌, ◌||◌, not, List, [], ◌∷◌, ◌++◌, length, take, Option, Some, None, Result, Ok, Err, refl, sym, ap, ◌∙◌, subst, arith}
+use Rattle.std.specs.Prelude.{IfSome, IsSomeAnd}
+use Rattle.std.proofs.lemmas.Bool.{false≢true}
+use Rattle.cola_outside.specs.Told.{Both}
+use Rattle.cola_device.specs.declared.device.Device as device
+use Rattle.cola_io.specs.Streams.{Appended}
+use Rattle.cola_io.specs.declared.source.Source as source
+use Rattle.cola_io.specs.declared.sink.Sink as sink
+use Rattle.cola_spec.specs.Map.{Map}
+use Rattle.cola_spec.specs.Lines.{Line}
+use Rattle.cola_spec.specs.Command.{Close, Reopen}
+use Rattle.cola_spec.specs.Reply as reply
+use Rattle.cola_spec.specs.Reply.{Reply}
+use Rattle.cola_spec.specs.Machine as machine
+use Rattle.cola_spec.specs.Machine.{State, Turn, PlainStep, FaultedStep, kind_of, turns_text, ticks_of}
+use Rattle.cola_image.specs.Standing.{HeaderStandsFor, with_state}
+use Rattle.cola_store.specs.declared.closing.Closing.{Closing}
+use Rattle.cola_command.specs.declared.file.Session.{Session}
+use Rattle.cola_command.specs.declared.place.Place.{Place}
+use Rattle.cola_command.specs.declared.place.Place.TheVariants as place
+use Rattle.cola_command.specs.File.{Sizes, shape, KeepsBehind, StandsBut, device_of, format_of, faults_of, IsOfSizes, IsAt}
+use Rattle.cola_command.specs.Turns.{FaultsOver, cut_after, SessionAt, CloseCause, StepsTo, Begun, Ended, is_closed}
+use Rattle.cola_command.specs.Ends.{ReadToEnd, SourceFailed, SinkFailed, Spent}
+use Rattle.cola_command.specs.Headline.{StandsAs, Known, IsKnown, IsLeft, IsLeftWhole, last_close, StaysWithin, RunsToEnd, CarriedOut, WroteFront, EndsWell, EndsIll, EndsAnyhow, WroteAll, WroteSome, Whole, Front, FileEnds, Status0, Status3, Status4, Status5, Status9}
+use Rattle.cola_command.specs.SoFar.{BeginsAt, StillOf, RunsSoFar, SoFar, WholeSoFar, FrontSoFar, LinesEnd, Lines0, Lines3, Lines4, Lines9, end_status, EndsAfter}
+use Rattle.cola_command.proofs.PlaceTurns.{TurnFacts, stands-now, close-facts}
+use Rattle.cola_command.proofs.Reopening.{open-facts}
+use Rattle.cola_command.proofs.CutOff.{Safe, safe-run, safe-step}
+use Rattle.cola_command.proofs.Carrying.{both-then, faults-append}
+
+-- The file
+
+stands-told : (sizes : Sizes) (m : Map) (told : Option (List ℕ)) → IsSomeAnd told (StandsAs sizes m) → IsSomeAnd told (StandsBut sizes m 0)
+stands-told sizes m None stands = stands
+stands-told sizes m (Some bytes) s = stands-now sizes s.header m bytes s.stands s.sizes_are
+
+zero-state : (sizes : Sizes) (m : Map) (bytes : List ℕ) (s : StandsBut sizes m 0 bytes) → s.state ≡ 0
+zero-state sizes m bytes s = let e = s.byte_is in omega (arith, e)
+
+stands-as : (sizes : Sizes) (m : Map) (told : Option (List ℕ)) → IsSomeAnd told (StandsBut sizes m 0) → IsSomeAnd told (StandsAs sizes m)
+stands-as sizes m None stands = stands
+stands-as sizes m (Some bytes) s =
+    let same : with_state 0 bytes ≡ bytes = subst (λ (n : ℕ). with_state n bytes ≡ bytes) (zero-state sizes m bytes s) s.state_is in
+    record { header = s.header; stands = subst (λ (xs : List ℕ). HeaderStandsFor s.header xs m) same s.stands; sizes_are = s.sizes_are }
+
+abbrev Both-with : Sizes → Option (List ℕ) → Option (List ℕ) → Type 0
+Both-with sizes a b = Both a b (KeepsBehind sizes)
+
+-- the same reads, with another account of the lines
+with-carried : {S K : Type 0} (g : source.Ghosts S) (h : sink.Ghosts K) (source source' : S) (sink sink' : K) (B C : List Line → Type 0) → ((lines : List Line) → B lines → C lines) → ReadToEnd g h source source' sink sink' B → ReadToEnd g h source source' sink sink' C
+with-carried g h source source' sink sink' B C turn r = record {
+  reads = r.reads;
+  lines = r.lines;
+  all = r.all;
+  read = r.read;
+  met_the_end = r.met_the_end;
+  fewer = r.fewer;
+  carried = turn r.lines r.carried;
+  source_faults = r.source_faults;
+  sink_faults = r.sink_faults;
+}
+
+module _ {D : Type 0} (d : device.Ghosts D) where
+  -- what an attempt to close says, and where the store is then
+  abbrev pub Says : Reply → Place D d → Type 0
+  Says answer new = ((kind_of answer ≡ PlainStep) × ((now : D) × (new ≡ place.Closed now))) ⊎ ((kind_of answer ≡ FaultedStep) × ((closing : Closing D d) × (new ≡ place.Closing closing)))
+
+  pub says : (old : Place D d) (answer : Reply) (new : Place D d) → CloseCause d old answer new → Says answer new
+  says (place.Open store) answer new (Ok now, (closes, (answered, is))) = inl (ap kind_of answered, (now, is))
+  says (place.Open store) answer new (Err closing, (closes, (answered, is))) = inr (ap kind_of answered, (closing, is))
+  says (place.Closing before) answer new (Ok now, (closes, (answered, is))) = inl (ap kind_of answered, (now, is))
+  says (place.Closing before) answer new (Err closing, (closes, (answered, is))) = inr (ap kind_of answered, (closing, is))
+  says (place.Closed now) answer new (answered, is) = inl (ap kind_of answered, (now, is))
+
+  -- what is left of the file
+  left-closed : (sizes : Sizes) (now : D) (end : State) → IsAt d sizes (place.Closed now) end → IsLeft sizes end (d.bytes now)
+  left-closed sizes now (machine.Open m) at = absurd at
+  left-closed sizes now (machine.Closing m) at = absurd at
+  left-closed sizes now (machine.Closed m byte) at = at
+
+  left-closing : (sizes : Sizes) (closing : Closing D d) (end : State) (told : Option (List ℕ)) → IsAt d sizes (place.Closing closing) end → IsLeft sizes end told
+  left-closing sizes closing (machine.Open m) told at = absurd at
+  left-closing sizes closing (machine.Closing m) told at = tt
+  left-closing sizes closing (machine.Closed m byte) told at = absurd at
+
+  left-is : (sizes : Sizes) (answer : Reply) (new : Place D d) (end : State) → Says answer new → IsAt d sizes new end → IsLeft sizes end (d.bytes (device_of new))
+  left-is sizes answer new end (inl (kind, (now, is))) at =
+      subst (λ (p : Place D d). IsLeft sizes end (d.bytes (device_of p))) (sym is) (left-closed sizes now end (subst (λ (p : Place D d). IsAt d sizes p end) is at))
+  left-is sizes answer new end (inr (kind, (closing, is))) at = left-closing sizes closing end (d.bytes (device_of new)) (subst (λ (p : Place D d). IsAt d sizes p end) is at)
+
+  whole-closed : (sizes : Sizes) (now : D) (end : State) → IsAt d sizes (place.Closed now) end → Safe end false → IsLeftWhole sizes end (d.bytes now)
+  whole-closed sizes now (machine.Open m) at safe = absurd at
+  whole-closed sizes now (machine.Closing m) at safe = absurd at
+  whole-closed sizes now (machine.Closed m zero) at safe = stands-as sizes m (d.bytes now) at
+  whole-closed sizes now (machine.Closed m (suc byte)) at safe = absurd (omega (arith, safe))
+
+  whole-is : (sizes : Sizes) (answer : Reply) (new : Place D d) (end : State) → Says answer new → is_closed new ≡ true → IsAt d sizes new end → Safe end false → IsLeftWhole sizes end (d.bytes (device_of new))
+  whole-is sizes answer new end (inl (kind, (now, is))) closed at safe =
+      subst (λ (p : Place D d). IsLeftWhole sizes end (d.bytes (device_of p))) (sym is) (whole-closed sizes now end (subst (λ (p : Place D d). IsAt d sizes p end) is at) safe)
+  whole-is sizes answer new end (inr (kind, (closing, is))) closed at safe = absurd (false≢true (ap is_closed (sym is) ∙ closed))
+
+  plain-where : (answer : Reply) (new : Place D d) → Says answer new → is_closed new ≡ true → kind_of answer ≡ PlainStep
+  plain-where answer new (inl (kind, (now, is))) closed = kind
+  plain-where answer new (inr (kind, (closing, is))) closed = absurd (false≢true (ap is_closed (sym is) ∙ closed))
+
+  faulted-where : (answer : Reply) (new : Place D d) → Says answer new → is_closed new ≡ false → kind_of answer ≡ FaultedStep
+  faulted-where answer new (inl (kind, (now, is))) opening = absurd (false≢true (sym opening ∙ ap is_closed is))
+  faulted-where answer new (inr (kind, (closing, is))) opening = kind
+
+-- The beginning
+module _ {D : Type 0} (d : device.Ghosts D) (device : D) (cache : ℕ) (cost : Bool) (first : Session D d) (begun : Begun d device cache cost first)
+    (opens : TurnFacts d Reopen (place.Closed device) (reply.Opened begun.store.count) (place.Open begun.store)) where
+  first-sizes : (sizes : Sizes) → IsOfSizes d sizes (place.Closed device) → IsOfSizes d sizes first.place
+  first-sizes sizes of = subst (λ (p : Place D d). IsOfSizes d sizes p) (sym begun.place_is) (opens.keeps.sizes sizes of)
+
+  begins : (known : Option Known) → IsKnown known (d.bytes device) → BeginsAt d first known
+  begins None is = tt
+  begins (Some known) is =
+      let opening = opens.steps known.sizes (machine.Closed known.map 0) (stands-told known.sizes known.map (d.bytes device) is) in
+      let at : IsAt d known.sizes (place.Open begun.store) (machine.Open known.map) = subst (λ (s : State). IsAt d known.sizes (place.Open begun.store) s) opening.step.1 opening.at in
+      record {
+        format_is = ap (λ (p : Place D d). format_of p first.format) begun.place_is ∙ ap (λ (s : Sizes). s.format) at.0;
+        at = subst (λ (p : Place D d). IsAt d known.sizes p (machine.Open known.map)) (sym begun.place_is) at;
+      }
+
+  -- The end
+  module _ (device' : D) (closed : Bool) (last : Session D d) (ended : Ended d last device' closed) (closes : TurnFacts d Close last.place ended.answer ended.place) (steps steps' : ℕ)
+      (kept : d.kept device' ≡ d.kept (device_of last.place)) (kept_first : d.kept (device_of first.place) ≡ d.kept device) where
+    said : Says d ended.answer ended.place
+    said = says d last.place ended.answer ended.place ended.cause
+
+    -- the close at the end is a step of the machine
+    close-step : (known : Known) (lines : List Line) (turns : List Turn) → (r : RunsSoFar d first last known lines turns) → StepsTo d known.sizes r.runs.last (last_close ended.answer) ended.place
+    close-step known lines turns r = closes.steps known.sizes r.runs.last r.runs.at.at
+
+    abbrev Leaves : (Sizes → State → Option (List ℕ) → Type 0) → Type 0
+    Leaves Left = (known : Known) (lines : List Line) (turns : List Turn) (r : RunsSoFar d first last known lines turns) → cut_after turns false ≡ last.cut_off → Left known.sizes (close-step known lines turns r).next (d.bytes device')
+
+    leaves : Leaves IsLeft
+    leaves known lines turns r cut =
+        let close = close-step known lines turns r in
+        subst (λ (x : D). IsLeft known.sizes close.next (d.bytes x)) (sym ended.device_is) (left-is d known.sizes ended.answer ended.place close.next said close.at)
+
+    leaves-whole : closed ≡ true → last.cut_off ≡ false → Leaves IsLeftWhole
+    leaves-whole is_whole none known lines turns r cut =
+        let close = close-step known lines turns r in
+        let safe : Safe r.runs.last false = subst (λ b. Safe r.runs.last b) (cut ∙ none) (safe-run (shape known.sizes) (machine.Open known.map) turns r.runs.last false r.runs.run tt) in
+        let end : Safe close.next false = safe-step (shape known.sizes) r.runs.last (Some Close) ended.answer 0 close.next (kind_of ended.answer) false close.step safe in
+        subst (λ (x : D). IsLeftWhole known.sizes close.next (d.bytes x)) (sym ended.device_is) (whole-is d known.sizes ended.answer ended.place close.next said (sym ended.closed_is ∙ is_whole) close.at end)
+
+    module _ (Left : Sizes → State → Option (List ℕ) → Type 0) (left : Leaves Left) (lines : List Line) (turns : List Turn) where
+      runs-to-end : (known : Option Known) → cut_after turns false ≡ last.cut_off → IfSome known (λ known. RunsSoFar d first last known lines turns) → IfSome known (λ known. RunsToEnd d cache device device' steps steps' Left known lines turns ended.answer)
+      runs-to-end None cut r = tt
+      runs-to-end (Some known) cut r =
+          let close = close-step known lines turns r in
+          record { asks = r.asks; last = r.runs.last; run = r.runs.run; end = close.next; close = close.step; left = left known lines turns r cut }
+
+      stays-within : (sizes : Sizes) → IsOfSizes d sizes (place.Closed device) → StillOf d first last sizes turns → StaysWithin d cache device device' steps steps' sizes turns
+      stays-within sizes of still = record {
+        within = still.within;
+        behind =
+            let start = subst (λ (p : Place D d). Both-with sizes (d.bytes device) (d.bytes (device_of p))) (sym begun.place_is) (opens.keeps.behind sizes of) in
+            let end = subst (λ (x : D). Both-with sizes (d.bytes (device_of last.place)) (d.bytes x)) (sym ended.device_is) (closes.keeps.behind sizes still.of_sizes) in
+            both-then sizes (d.bytes device) (d.bytes (device_of last.place)) (d.bytes device') (both-then sizes (d.bytes device) (d.bytes (device_of first.place)) (d.bytes (device_of last.place)) start still.behind) end;
+      }
+
+      carried-out : (known : Option Known) (so_far : SoFar d first last steps steps' known lines turns) → cut_after turns false ≡ last.cut_off → CarriedOut d cache device device' steps steps' Left known lines turns ended.answer
+      carried-out known so_far cut = record {
+        store = begun.store;
+        opened = begun.opened;
+        asks = so_far.asks;
+        counted = so_far.counted;
+        faults = faults-append turns (last_close ended.answer ∷ []) (d.counts device).faults (faults_of d last.place) (d.counts device').faults
+            (subst (λ n. FaultsOver turns n (faults_of d last.place)) (ap (λ (p : Place D d). faults_of d p) begun.place_is ∙ begun.opened.opened.no_fault) so_far.faults)
+            (faults_of d ended.place, (closes.faults, ap (λ (x : D). (d.counts x).faults) ended.device_is));
+        kept = kept ∙ so_far.kept ∙ kept_first;
+        sized = λ sizes of. stays-within sizes of (so_far.sized sizes (first-sizes sizes of));
+        runs = runs-to-end known cut so_far.runs;
+      }
+
+    -- What the lines so far become
+    module _ {K : Type 0} (h : sink.Ghosts K) (sink sink' : K) where
+      cut-is : (known : Option Known) (lines : List Line) (turns : List Turn) → SoFar d first last steps steps' known lines turns → cut_after turns false ≡ last.cut_off
+      cut-is known lines turns so_far = ap (cut_after turns) (sym begun.none_cut) ∙ sym so_far.cut_off
+
+      to-whole : (Left : Sizes → State → Option (List ℕ) → Type 0) (Ends : List Turn → Reply → Type 0) → Leaves Left → ((turns : List Turn) → cut_after turns false ≡ last.cut_off → Ends turns ended.answer) → (lines : List Line)
+          → WholeSoFar h d first last sink sink' steps steps' lines → Whole h d cache cost sink sink' device device' steps steps' Left Ends lines
+      to-whole Left Ends left ends lines so_far known is =
+          let s = so_far known (begins known is) in
+          let cut = cut-is known lines s.turns s.so_far in
+          record {
+            turns = s.turns;
+            answer = ended.answer;
+            carried = carried-out Left left lines s.turns known s.so_far cut;
+            wrote = subst (λ c. Appended (turns_text c s.turns) (h.written sink) (h.written sink')) begun.cost_is s.wrote;
+            ends = ends s.turns cut;
+          }
+
+      to-front : (before : List Line) (line : Line) → FrontSoFar h d first last sink sink' steps steps' before line → Front h d cache cost sink sink' device device' steps steps' before line
+      to-front before line so_far known is =
+          let s = so_far known (begins known is) in
+          let cut = cut-is known (before ++ line ∷ []) s.turns s.so_far in
+          record {
+            turns = s.turns;
+            answer = ended.answer;
+            carried = carried-out IsLeft leaves (before ++ line ∷ []) s.turns known s.so_far cut;
+            wrote = subst (λ c. WroteFront c before s.turns (h.written sink) (h.written sink')) begun.cost_is s.wrote;
+          }
+
+      to-any : (lines : List Line) → WholeSoFar h d first last sink sink' steps steps' lines → Whole h d cache cost sink sink' device device' steps steps' IsLeft EndsAnyhow lines
+      to-any = to-whole IsLeft EndsAnyhow leaves (λ turns cut. tt)
+
+      to-well : closed ≡ true → last.cut_off ≡ false → (lines : List Line) → WholeSoFar h d first last sink sink' steps steps' lines → Whole h d cache cost sink sink' device device' steps steps' IsLeftWhole EndsWell lines
+      to-well is_whole none = to-whole IsLeftWhole EndsWell (leaves-whole is_whole none) (λ turns cut. (plain-where d ended.answer ended.place said (sym ended.closed_is ∙ is_whole), cut ∙ none))
+
+      to-ill : (closed ≡ false) ⊎ (last.cut_off ≡ true) → (lines : List Line) → WholeSoFar h d first last sink sink' steps steps' lines → Whole h d cache cost sink sink' device device' steps steps' IsLeft EndsIll lines
+      to-ill (inl opening) = to-whole IsLeft EndsIll leaves (λ turns cut. inl (faulted-where d ended.answer ended.place said (sym ended.closed_is ∙ opening)))
+      to-ill (inr cut_off) = to-whole IsLeft EndsIll leaves (λ turns cut. inr (cut ∙ cut_off))
+
+      -- The status
+      module _ {S : Type 0} (g : source.Ghosts S) (source source' : S) where
+        abbrev pub Ends' : ℕ → Type 0
+        Ends' status = FileEnds g h d cache cost source source' sink sink' device device' steps steps' status
+
+        read-end : (status : ℕ) (cut_off whole : Bool) → last.cut_off ≡ cut_off → closed ≡ whole → status ≡ end_status 0 cut_off whole → ReadToEnd g h source source' sink sink' (WholeSoFar h d first last sink sink' steps steps') → Ends' status
+        read-end status true whole cut is status_is r = Status5 status_is (with-carried g h source source' sink sink' _ _ (to-ill (inr cut)) r)
+        read-end status false false cut is status_is r = Status5 status_is (with-carried g h source source' sink sink' _ _ (to-ill (inl is)) r)
+        read-end status false true cut is status_is r = Status0 status_is (with-carried g h source source' sink sink' _ _ (to-well is cut) r)
+
+        pub ends : (status status' : ℕ) → LinesEnd g h d first last source source' sink sink' steps steps' status → status' ≡ end_status status last.cut_off closed → Ends' status'
+        ends status status' (Lines0 none r) is = read-end status' last.cut_off closed refl refl (is ∙ ap (λ n. end_status n last.cut_off closed) none) r
+        ends status status' (Lines3 three r) is = Status3 (is ∙ ap (λ n. end_status n last.cut_off closed) three) (record {
+          reads = r.reads;
+          lines = r.lines;
+          ended = r.ended;
+          read = r.read;
+          refused = r.refused;
+          fewer = r.fewer;
+          carried = to-any r.lines r.carried;
+          source_faults = r.source_faults;
+          sink_faults = r.sink_faults;
+        })
+        ends status status' (Lines4 four r) is = Status4 (is ∙ ap (λ n. end_status n last.cut_off closed) four) (record {
+          reads = r.reads;
+          before = r.before;
+          last = r.last;
+          first = r.first;
+          read = r.read;
+          unrefused = r.unrefused;
+          at_most = r.at_most;
+          carried = to-front r.before r.last r.carried;
+          source_faults = r.source_faults;
+          sink_faults = r.sink_faults;
+        })
+        ends status status' (Lines9 nine r) is = Status9 (is ∙ ap (λ n. end_status n last.cut_off closed) nine) (record {
+          reads = r.reads;
+          lines = r.lines;
+          ended = r.ended;
+          read = r.read;
+          unrefused = r.unrefused;
+          all = r.all;
+          carried = to-any r.lines r.carried;
+          source_faults = r.source_faults;
+          sink_faults = r.sink_faults;
+        })
+
+-- a session that begins with an opening, carries out the lines of a source and is ended
+pub serves : {S K D : Type 0} (g : source.Ghosts S) (h : sink.Ghosts K) (d : device.Ghosts D) (cache : ℕ) (cost : Bool) (source source' : S) (sink sink' : K) (device device' : D) (steps steps' status status' : ℕ) (first last : Session D d)
+    → Begun d device cache cost first → d.kept (device_of first.place) ≡ d.kept device → LinesEnd g h d first last source source' sink sink' steps steps' status → EndsAfter d last status device' status'
+    → FileEnds g h d cache cost source source' sink sink' device device' steps steps' status'
+serves {D} g h d cache cost source source' sink sink' device device' steps steps' status status' first last begun kept_first lines after =
+    let opened = open-facts d cache (place.Closed device) (reply.Opened begun.store.count) (place.Open begun.store) (Ok begun.store, (begun.opened, (refl, refl))) (sym (ap (λ (p : Place D d). d.kept (device_of p)) begun.place_is) ∙ kept_first) in
+    let closed = close-facts d last.place after.ended.answer after.ended.place after.ended.cause (ap d.kept (sym after.ended.device_is) ∙ after.kept) in
+    ends d device cache cost first begun opened device' after.closed last after.ended closed steps steps' after.kept kept_first h sink sink' g source source' status status' lines after.status_is

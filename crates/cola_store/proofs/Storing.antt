@@ -1,0 +1,277 @@
+-- A search of a store and a step of its chain: what they say of the store.
+use Rattle.std.proofs.Common.{◌≡◌, ℕ, suc, ◌+◌, ◌-◌, ◌*◌, ◌<◌, ◌≤◌, ◌≢◌, ◌^◌, min, Bool, List, [], ◌∷◌, length, Option, Some, None, Result, Ok, Err, option_map, true, refl, ap, sym, subst, ◌∙◌, arith}
+use Rattle.std.specs.Prelude.{IfErr}
+use Rattle.std.specs.Option.{IsSome}
+use Rattle.cola_runs.specs.Search.{AreSampled}
+use Rattle.cola_runs.specs.Seen.{answer, value_of}
+use Rattle.cola_laws.specs.Chain.{value_at, updated}
+use Rattle.cola_laws.specs.Sound.{HasAtMost}
+use Rattle.cola_cell.specs.declared.cell.Item.{Item}
+use Rattle.cola_cell.specs.declared.cell.Item.TheVariants.{Value, Tombstone}
+use Rattle.cola_cell.specs.declared.cell.Run.{Run}
+use Rattle.cola_cell.specs.declared.fault.ReadFault.{ReadFault}
+use Rattle.cola_cell.specs.declared.fault.ReadFault.TheVariants as read
+use Rattle.cola_cell.specs.declared.fault.StepFault.{StepFault}
+use Rattle.cola_cell.specs.declared.fault.StepFault.TheVariants as step
+use Rattle.cola_cell.specs.Costs.{Costs}
+use Rattle.cola_cell.specs.Format.{stamp_limit}
+use Rattle.cola_cell.specs.Held.{Held, Fixed, LawCell, Stamped, as_item}
+use Rattle.cola_cell.specs.Order.{key_cmp}
+use Rattle.cola_cell.specs.Spent.{Buffer, Search}
+use Rattle.cola_device.specs.declared.counts.Counts.{Counts}
+use Rattle.cola_layout.specs.declared.geometry.Geometry.{Geometry}
+use Rattle.cola_spec.specs.Bounds.{get_bound}
+use Rattle.cola_spec.specs.Map.{Map, IsMap, count}
+use Rattle.cola_table.specs.Answers.{OnlyDevice}
+use Rattle.cola_table.specs.Terms.{Terms, shape}
+use Rattle.cola_image.specs.Standing.{found_in}
+use Rattle.cola_level.specs.declared.level.Level.{Level}
+use Rattle.cola_level.specs.Work.{IsDevice}
+use Rattle.cola_look.specs.Outcome.{Found, Answers}
+use Rattle.cola_look.specs.Runs.{AreRuns}
+use Rattle.cola_search.specs.Find.{found_in_runs, FindCause}
+use Rattle.cola_mutation.specs.Standing.{StandsFor}
+use Rattle.cola_mutation.specs.Steps.{IsMapOf, ChangesMap, KeepsMap, with_item}
+use Rattle.cola_mutation.proofs.MapLemmas.{few-found}
+use Rattle.cola_run.specs.Store as run
+use Rattle.cola_chain.specs.Contents as chain
+use Rattle.cola_chain.specs.Contents.{Contents}
+use Rattle.cola_chain.specs.Runs.{visible_runs}
+use Rattle.cola_chain.specs.Account.{IsPaid, CountsStep, added}
+use Rattle.cola_chain.proofs.Account.{paid-stays}
+use Rattle.cola_transfers.specs.Credit.{last_value}
+use Rattle.cola_store.specs.declared.account.Account.{Account}
+use Rattle.cola_store.specs.Store.{Stored, IsStored, IsMadeAfter, HasWritten, Holds, held_of, spent_of, geometry_of, levels_of, runs_of, terms_of}
+use Rattle.cola_store.specs.Calls.{stamped_found, FindsIn, TicksWithin, Same, Searches, with_search, with_step, with_refusal}
+
+pub length-visible : (t j : ℕ) (levels : List Level) → length (visible_runs t j levels) ≡ length levels
+length-visible t j [] = refl
+length-visible t j (l ∷ ls) = ap suc (length-visible t (suc j) ls)
+
+as-found : (found : Option Item) → stamped_found found ≡ value_of (option_map as_item found)
+as-found None = refl
+as-found (Some (Value v s)) = refl
+as-found (Some Tombstone) = refl
+
+-- on lists that have for a key what a map has, the laws' answer is the map's
+pub finds : (lists : List (List LawCell)) (m : Map) (key : List ℕ) (result : Result (Option Item) ReadFault) → Answers (Found (answer key_cmp key lists)) (option_map as_item) result →
+    value_at key_cmp lists key ≡ found_in m key → FindsIn m key result
+finds lists m key (Ok found) is values = as-found found ∙ ap value_of is ∙ values
+finds lists m key (Err read.Device) is values = tt
+finds lists m key (Err (read.BadCell n)) is values = absurd is
+
+module _ {D K : Type 0} (bytes : D → Option (List ℕ)) (counts : D → Counts) (kept : D → K) where
+  -- a store after a search of its chain
+  abbrev pub searched_store : Stored D → Contents D → Stored D
+  searched_store store now = record { chain = now; count = store.count; last = store.last; account = with_search store.account }
+
+  pub same : (store : Stored D) (now : Contents D) → chain.held_of bytes now ≡ held_of bytes store → chain.kept_of bytes kept now ≡ chain.kept_of bytes kept store.chain → Same bytes counts store (searched_store store now)
+  same store now held_is kept_is = record {
+    held_is = held_is;
+    geometry_is = ap (λ (k : chain.Kept K). k.store.geometry) kept_is;
+    levels_are = ap (λ (k : chain.Kept K). k.levels) kept_is;
+    clock_is = ap (λ (k : chain.Kept K). k.clock) kept_is;
+    steps_are = ap (λ (k : chain.Kept K). k.accepted) kept_is;
+    reads_are = ap (λ (k : chain.Kept K). k.reads) kept_is;
+    writes_are = ap (λ (k : chain.Kept K). k.writes) kept_is;
+    count_is = refl;
+    last_is = refl;
+  }
+
+  many-runs : (store : Stored D) (runs : List Run) → IsStored bytes counts store → runs ≡ runs_of store → length runs ≡ levels_of store
+  many-runs store runs is runs_are = ap (λ (rs : List Run). length rs) runs_are ∙ length-visible store.chain.clock 0 store.chain.levels ∙ is.many
+
+  pub searched : (store : Stored D) (now : Contents D) (runs : List Run) (key : List ℕ) (result : Result (Option Item) ReadFault) (before after : ℕ) → IsStored bytes counts store → runs ≡ runs_of store →
+      chain.held_of bytes now ≡ held_of bytes store → chain.kept_of bytes kept now ≡ chain.kept_of bytes kept store.chain →
+      Answers (found_in_runs (held_of bytes store) key 0 runs) (option_map as_item) result →
+      IfErr result (FindCause (held_of bytes store) runs (spent_of counts store).faults (chain.spent_of counts now).faults) →
+      Costs (spent_of counts store) (chain.spent_of counts now) before after (8 * length runs) (2 * length runs) →
+      ((lists : List (List LawCell)) → AreRuns (held_of bytes store) runs lists → AreSampled key_cmp lists → (chain.spent_of counts now).turned ≤ (spent_of counts store).turned + length runs) →
+      Searches bytes counts store (searched_store store now) key result
+  searched store now runs key result before after is runs_are held_is kept_is exact cause costs turns =
+      let n = many-runs store runs is runs_are in
+      let rises = costs.turned_rises in
+      record {
+        exact = subst (λ (rs : List Run). Answers (found_in_runs (held_of bytes store) key 0 rs) (option_map as_item) result) runs_are exact;
+        cause = subst (λ (rs : List Run). IfErr result (FindCause (held_of bytes store) rs (spent_of counts store).faults (chain.spent_of counts now).faults)) runs_are cause;
+        reads = record {
+          turned_stays = costs.turned_stays;
+          turned_rises = subst (λ (k : ℕ). (chain.spent_of counts now).turned ≤ (spent_of counts store).turned + 2 * k) n rises;
+          written_is = costs.written_is;
+        };
+        standing = λ lists told sampled. record {
+          turned_stays = costs.turned_stays;
+          turned_rises = subst (λ (k : ℕ). (chain.spent_of counts now).turned ≤ (spent_of counts store).turned + k) n (turns lists (subst (λ (rs : List Run). AreRuns (held_of bytes store) rs lists) (sym runs_are) told) sampled);
+          written_is = costs.written_is;
+        };
+        same = same store now held_is kept_is;
+        counted = refl;
+      }
+
+  -- what was written since the opening, after a search
+  written-stays : (store : Stored D) (now : Contents D) (account : Account) → account.opened ≡ store.account.opened → account.calm ≡ store.account.calm → chain.kept_of bytes kept now ≡ chain.kept_of bytes kept store.chain →
+      (chain.spent_of counts now).written ≡ (spent_of counts store).written → HasWritten counts store → HasWritten counts (record { chain = now; count = store.count; last = store.last; account = account })
+  written-stays store now account opened_is calm_is kept_is written_is is = λ calm few.
+      let writes : now.writes ≡ store.chain.writes = ap (λ (k : chain.Kept K). k.writes) kept_is in
+      let opened : account.opened.writes ≡ store.account.opened.writes = ap (λ (c : Counts). c.writes) opened_is in
+      let old = is (sym calm_is ∙ calm) (subst (λ (n : ℕ). n < last_value) writes few) in
+      omega (arith, writes, written_is, opened, old)
+
+  pub search-ticks : (store : Stored D) (now : Contents D) (runs : List Run) (before after : ℕ) → IsStored bytes counts store → runs ≡ runs_of store →
+      Costs (spent_of counts store) (chain.spent_of counts now) before after (8 * length runs) (2 * length runs) →
+      TicksWithin (spent_of counts store) (chain.spent_of counts now) before after (get_bound (levels_of store))
+  search-ticks store now runs before after is runs_are costs = record {
+    steps_stay = costs.steps_stay;
+    steps_rise = subst (λ (k : ℕ). after ≤ before + 8 * k) (many-runs store runs is runs_are) costs.steps_rise;
+    ticked_is = costs.ticked_is;
+    faults_stay = costs.faults_stay;
+  }
+
+  -- a store whose chain was only read by way of the block of searches, with another number of searches
+  pub read-is : (store : Stored D) (now : Contents D) (account : Account) → account.opened ≡ store.account.opened → account.calm ≡ store.account.calm → account.steps ≡ store.account.steps →
+      IsStored bytes counts store → chain.held_of bytes now ≡ held_of bytes store → chain.kept_of bytes kept now ≡ chain.kept_of bytes kept store.chain →
+      (chain.spent_of counts now).written ≡ (spent_of counts store).written →
+      ((buffer : Buffer) → buffer ≢ Search → (chain.spent_of counts now).lasts buffer ≡ (spent_of counts store).lasts buffer) →
+      IsStored bytes counts (record { chain = now; count = store.count; last = store.last; account = account })
+  read-is store now account opened_is calm_is steps_is is held_is kept_is written_is lasts =
+      let geometry_is : now.store.geometry ≡ geometry_of store = ap (λ (k : chain.Kept K). k.store.geometry) kept_is in
+      record {
+        many = subst (λ (q : Geometry). length now.levels ≡ q.bottom + 1) (sym geometry_is) (ap (λ (k : chain.Kept K). length k.levels) kept_is ∙ is.many);
+        count_fits = subst (λ (q : Geometry). store.count ≤ q.keys) (sym geometry_is) is.count_fits;
+        last_fits = subst (λ (q : Geometry). store.last ≤ stamp_limit q.format) (sym geometry_is) is.last_fits;
+        steps_are = steps_is ∙ is.steps_are ∙ sym (ap (λ (k : chain.Kept K). k.accepted) kept_is);
+        made = subst (λ (c : Counts). IsMadeAfter c (chain.held_of bytes now)) (sym opened_is) (subst (λ (h : Held). IsMadeAfter store.account.opened h) (sym held_is) is.made);
+        paid = λ calm. paid-stays bytes counts kept store.chain now held_is kept_is lasts (is.paid (sym calm_is ∙ calm));
+        written = written-stays store now account opened_is calm_is kept_is written_is is.written;
+      }
+
+-- Steps
+
+-- a count that stops at the last value of 64 bits, where it does not stand there
+below-last : (most n : ℕ) → min n most < most → n < most
+below-last most n h = omega (arith, h)
+
+pub not-last : (before more after : ℕ) → after ≡ added before more → after < last_value → (after ≡ before + more) × (before < last_value)
+not-last before more after is few =
+    let less : before + more < last_value = below-last last_value (before + more) (subst (λ (n : ℕ). n < last_value) is few) in
+    (is ∙ whole last_value (before + more) less, before-less last_value before more less)
+  where
+    whole : (most n : ℕ) → n < most → min n most ≡ n
+    whole most n h = omega (arith, h)
+
+    before-less : (most n m : ℕ) → n + m < most → n < most
+    before-less most n m h = omega (arith, h)
+
+-- what was written since the opening, after an accepted step
+written-rises : (calm : Bool) (before after opened a b : ℕ) → a ≤ b → (calm ≡ true → before < last_value → a ≤ opened + 1 + before) → after ≡ added before (b - a) →
+    calm ≡ true → after < last_value → b ≤ opened + 1 + after
+written-rises calm before after opened a b stays old is calm_is few =
+    let whole = not-last before (b - a) after is few in
+    let e = whole.0 in
+    let was = old calm_is whole.1 in
+    omega (arith, e, was, stays)
+
+-- a device that keeps its size where it tells its bytes tells them still
+pub still-tells : {A B : Type 0} (f g : A → B) (old now : Option A) → option_map g now ≡ option_map f old → IsSome old → IsSome now
+still-tells f g old (Some a) is some = refl
+still-tells f g (Some b) None is some = cc
+still-tells f g None None is some = some
+
+-- a device's fault alone
+only : (fault : StepFault) → IsDevice fault → OnlyDevice fault
+only step.Device is = tt
+only (step.BadCell number) is = is
+only (step.Overfull level) is = is
+
+-- the terms of a store with this geometry
+abbrev pub terms_at : Geometry → Terms
+terms_at geometry = record { format = geometry.format; limit = geometry.keys; depth = geometry.bottom + 1 }
+
+module _ {D K : Type 0} (bytes : D → Option (List ℕ)) (counts : D → Counts) (kept : D → K) (store : Stored D) (now : Contents D)
+    (is : IsStored bytes counts store) (kept_is : run.kept_of bytes kept now.store ≡ run.kept_of bytes kept store.chain.store) where
+  geometry_is : now.store.geometry ≡ geometry_of store
+  geometry_is = ap (λ (k : run.Kept K). k.geometry) kept_is
+
+  tells : IsSome (bytes store.chain.store.buffers.cache.device) → IsSome (bytes now.store.buffers.cache.device)
+  tells = still-tells (run.beside (geometry_of store)) (run.beside now.store.geometry) (bytes store.chain.store.buffers.cache.device) (bytes now.store.buffers.cache.device) (ap (λ (k : run.Kept K). k.beside) kept_is)
+
+  made-stays : (chain.held_of bytes now).fixed ≡ (held_of bytes store).fixed → IsMadeAfter store.account.opened (chain.held_of bytes now)
+  made-stays fixed = record {
+    reads_stay = subst (λ (f : Fixed). store.account.opened.reads ≤ f.made.reads) (sym fixed) is.made.reads_stay;
+    reads_rise = subst (λ (f : Fixed). f.made.reads ≤ store.account.opened.reads + 1) (sym fixed) is.made.reads_rise;
+    no_fault = subst (λ (f : Fixed). f.made.faults ≡ store.account.opened.faults) (sym fixed) is.made.no_fault;
+  }
+
+  map-of : (m : Map) → Holds bytes store m → IsMapOf (held_of bytes store) (geometry_of store).keys store.chain.clock store.chain.levels (found_in m)
+  map-of m holds =
+      let room : (geometry_of store).keys ≤ 2 ^ ((geometry_of store).bottom + 2) = (geometry_of store).bottom_fits.holds in
+      let n : length store.chain.levels + 1 ≡ (geometry_of store).bottom + 2 = omega (arith, is.many) in
+      record { stands = holds.stands; room = subst (λ (k : ℕ). (geometry_of store).keys ≤ 2 ^ k) (sym n) room }
+
+  -- the store after an accepted step
+  pub stored-after : (unit : Unit {0}) (count last : ℕ) → length now.levels ≡ length store.chain.levels → (chain.held_of bytes now).fixed ≡ (held_of bytes store).fixed → count ≤ (geometry_of store).keys → last ≤ stamp_limit (geometry_of store).format →
+      (spent_of counts store).written ≤ (chain.spent_of counts now).written →
+      CountsStep counts store.chain now (Ok unit) → (IsPaid bytes counts store.chain → IsPaid bytes counts now) →
+      IsStored bytes counts (record { chain = now; count = count; last = last; account = with_step store.account })
+  stored-after unit count last many fixed count_fits last_fits written counted paid = record {
+    many = many ∙ is.many ∙ ap (λ (q : Geometry). q.bottom + 1) (sym geometry_is);
+    count_fits = subst (λ (q : Geometry). count ≤ q.keys) (sym geometry_is) count_fits;
+    last_fits = subst (λ (q : Geometry). last ≤ stamp_limit q.format) (sym geometry_is) last_fits;
+    steps_are = ap (λ (n : ℕ). added n 1) is.steps_are ∙ sym counted.0;
+    made = made-stays fixed;
+    paid = λ calm. paid (is.paid calm);
+    written = written-rises store.account.calm store.chain.writes now.writes store.account.opened.writes (spent_of counts store).written (chain.spent_of counts now).written written is.written counted.2;
+  }
+
+  -- and after a refused one
+  pub stored-still : length now.levels ≡ length store.chain.levels → now.accepted ≡ store.chain.accepted → (chain.held_of bytes now).fixed ≡ (held_of bytes store).fixed →
+      IsStored bytes counts (record { chain = now; count = store.count; last = store.last; account = with_refusal store.account })
+  stored-still many accepted fixed = record {
+    many = many ∙ is.many ∙ ap (λ (q : Geometry). q.bottom + 1) (sym geometry_is);
+    count_fits = subst (λ (q : Geometry). store.count ≤ q.keys) (sym geometry_is) is.count_fits;
+    last_fits = subst (λ (q : Geometry). store.last ≤ stamp_limit q.format) (sym geometry_is) is.last_fits;
+    steps_are = is.steps_are ∙ sym accepted;
+    made = made-stays fixed;
+    paid = λ calm. cc;
+    written = λ calm few. cc;
+  }
+
+  -- an accepted step of a store that stands for a map
+  pub holds-after : (account : Account) (key : List ℕ) (item : Item) (number last : ℕ) (m after : Map) → Holds bytes store m → IsMap (shape (terms_of store)) after → found_in after ≡ updated key_cmp key (as_item item) (found_in m) →
+      number ≡ count after → last ≡ after.last →
+      ChangesMap (held_of bytes store) (chain.held_of bytes now) store.chain.clock now.clock key item store.chain.levels now.levels →
+      Holds bytes (record { chain = now; count = number; last = last; account = account }) after
+  holds-after account key item number last m after holds is_map found number_is last_is changes =
+      let most = (geometry_of store).keys in
+      let few : HasAtMost key_cmp most (with_item key item (found_in m)) = subst (λ (f : List ℕ → Option Stamped). HasAtMost key_cmp most f) found (few-found most after is_map.within) in
+      let stands : StandsFor (chain.held_of bytes now) most now.clock now.levels (found_in after) =
+      subst (λ (f : List ℕ → Option Stamped). StandsFor (chain.held_of bytes now) most now.clock now.levels f) (sym found) (changes most (found_in m) (map-of m holds) few) in
+      record {
+        tells = tells holds.tells;
+        stands = subst (λ (q : Geometry). StandsFor (chain.held_of bytes now) q.keys now.clock now.levels (found_in after)) (sym geometry_is) stands;
+        counted = number_is;
+        numbered = last_is;
+        is_map = subst (λ (q : Geometry). IsMap (shape (terms_at q)) after) (sym geometry_is) is_map;
+      }
+
+  -- a refused one
+  pub holds-still : (account : Account) (m : Map) → Holds bytes store m → now.clock ≡ store.chain.clock → KeepsMap (held_of bytes store) (chain.held_of bytes now) store.chain.clock store.chain.levels now.levels →
+      Holds bytes (record { chain = now; count = store.count; last = store.last; account = account }) m
+  holds-still account m holds clock keeps =
+      let most = (geometry_of store).keys in
+      let stands = subst (λ (t : ℕ). StandsFor (chain.held_of bytes now) most t now.levels (found_in m)) (sym clock) (keeps most (found_in m) (map-of m holds)) in
+      record {
+        tells = tells holds.tells;
+        stands = subst (λ (q : Geometry). StandsFor (chain.held_of bytes now) q.keys now.clock now.levels (found_in m)) (sym geometry_is) stands;
+        counted = holds.counted;
+        numbered = holds.numbered;
+        is_map = subst (λ (q : Geometry). IsMap (shape (terms_at q)) m) (sym geometry_is) holds.is_map;
+      }
+
+  pub refused-right : (account : Account) (fault : StepFault) (m : Map) → Holds bytes store m → now.clock ≡ store.chain.clock → KeepsMap (held_of bytes store) (chain.held_of bytes now) store.chain.clock store.chain.levels now.levels →
+      ((most : ℕ) (f : List ℕ → Option Stamped) → IsMapOf (held_of bytes store) most store.chain.clock store.chain.levels f → IsDevice fault) →
+      OnlyDevice fault × Holds bytes (record { chain = now; count = store.count; last = store.last; account = account }) m
+  refused-right account fault m holds clock keeps device = (
+    only fault (device (geometry_of store).keys (found_in m) (map-of m holds)),
+    holds-still account m holds clock keeps,
+  )

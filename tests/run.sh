@@ -1,0 +1,82 @@
+#!/usr/bin/env bash
+# Sessions over files that the program makes, in a folder of its own: the first run of the README, the statuses of `run`
+# on a real file, and the examples with their output. It runs the program through ./cola, which builds it where rt ci has not.
+# The last line is 'N passed, M failed', and the status is 0 only where none failed.
+set -u
+root=$(cd "$(dirname "$0")/.." && pwd -P) || exit 1
+room=$(mktemp -d) || exit 1
+trap 'rm -rf "$room"' EXIT
+passed=0 failed=0
+
+# check WHAT COMMAND..: counts whether the command ends with 0.
+check() {
+    local what=$1
+    shift
+    if "$@"; then
+        passed=$((passed + 1))
+    else
+        failed=$((failed + 1))
+        printf 'FAILED: %s\n' "$what"
+    fi
+}
+
+# replies STATUS REPLIES LINES WORD..: whether the program, with these words and these lines, each given with commas for
+# line feeds, writes these replies and ends so.
+replies() {
+    local wanted=$1 written=$2 lines=$3 status
+    shift 3
+    printf '%s' "$lines" | tr ',' '\n' | "$root/cola" "$@" >"$room/out" 2>"$room/err"
+    status=$?
+    [ "$status" -eq "$wanted" ] || { printf 'it ended with status %s\n' "$status"; return 1; }
+    [ "$(tr '\n' ',' <"$room/out")" = "$written" ] || { cat "$room/out"; return 1; }
+}
+
+# gives NAME COMMAND..: whether the command writes the output that stands beside the example.
+gives() {
+    local name=$1
+    shift
+    "$@" 2>"$room/err" | cmp -s - "$root/examples/$name.out"
+}
+
+is_same() { cmp -s "$room/$1" "$room/$2"; }
+has_state() { [ "$(od -An -tu1 -j14 -N1 "$room/$1" | tr -d ' ')" -eq "$2" ]; }
+
+"$root/cola" mem 4 </dev/null >/dev/null || exit 1 # (says what it does where it still has to build)
+cd "$room" || exit 1
+
+"$root/cola" create notes --keys 1000 || exit 1
+check 'the first run of the README' \
+    replies 0 'new,new,val Ada,row user:1001 Ada,row user:1002 Grace,end 2,closed,open 2,val Grace,' \
+    'put user:1001 Ada,put user:1002 Grace,get user:1001,range user: user;,close,open,get user:1002,' run notes
+check 'a closed file says so' has_state notes 0
+check 'what was written is found in the next run' replies 0 'count 2,gone Ada,none,' 'count,del user:1001,get user:1001,' run notes
+check 'behind a cache too' replies 0 'val Grace,' 'get user:1002,' run notes --cache 64
+check 'costs are printed' replies 0 'none # 1,' 'get a,' run notes --cost
+"$root/cola" create one --keys 1 || exit 1
+check 'a put is full where a new key meets the limit' replies 0 'new,full,old 1,gone 3,new,none,' \
+    'put a 1,put b 2,put a 3,del a,put b 2,get a,' run one
+"$root/cola" create wide --keys 32 --version 2 || exit 1
+check 'a store of version 2 has stamps' replies 0 'new,at 1,other 1,old x,at 2,' \
+    'put a x,stamp a,putif a 7 y,putif a 1 y,stamp a,' run wide
+check 'an empty input has no reply' replies 0 '' '' run one
+check 'a file that is not there ends with 5' replies 5 '' 'count,' run missing
+check 'it is not made' [ ! -e missing ]
+head -c 511 one >short
+check 'a file that is too short for a header ends with 6' replies 6 '' 'count,' run short
+head -c 8191 one >short
+check 'a file that is too short for its cells ends with 6' replies 6 '' 'count,' run short
+cp one used
+printf '\001' | dd of=used bs=1 seek=14 conv=notrunc status=none
+cp used before
+check 'a file in use ends with 7' replies 7 '' 'count,' run used
+check 'it is not changed' is_same used before
+printf x >>one
+check 'a longer file is served' replies 0 'val 2,' 'get b,' run one
+check 'and keeps its last byte' [ "$(tail -c 1 one)" = x ]
+check 'the stated workload' replies 0 'new 6 gone 3 left 3 wrong 0 over 0,' '' gen made --keys 8
+check 'leaves a store' replies 0 'count 3,' 'count,' run made
+check 'an index of words' gives words "$root/examples/words.sh" <"$root/examples/sonnet.txt"
+check 'a collector of log lines' gives log "$root/examples/log.sh"
+
+echo "$passed passed, $failed failed"
+[ "$failed" -eq 0 ]
