@@ -6,6 +6,10 @@ ghost use Rattle.cola_cell.specs.Bytes.{padded, Fills};
 use byteorder::{ByteOrder, LittleEndian};
 use std::marker::Model;
 
+/// 72 bytes of zeros, then 72 of ones. The word of 8 bytes at the place `72 - n` has ones in all but its
+/// first `n` bytes, where `n` is at most 8.
+static MASKS: [[u8; 72]; 2] = [[0; 72], [255; 72]];
+
 /// A list of at most `N` bytes, with zeros behind it. A contract sees it as the list.
 #[derive(Clone, Copy, Debug)]
 pub struct Short<const N: usize> {
@@ -92,25 +96,28 @@ impl<const N: usize> Short<N> {
 }
 
 /// Whether a list of `len` bytes fills the room: the room has that many, and zeros behind them. A
-/// room is whole words of 8 bytes.
+/// room is whole words of 8 bytes, at most 9.
 #[inline(always)]
 pub fn is_filled(room: &[u8], len: u8) -> bool
     requires words { length room.now % 8 ≡ 0 }
+    requires small { length room.now ≤ 72 }
     ensures { MatchBool result (Fills room.now len (take len room.now)) ((list : List ℕ) → ¬ Fills room.now len list) }
 {
     len as usize <= room.len() && is_zero_from(room, len as usize)
 }
 
-/// Whether every byte of the room from `start` on is zero. A room is whole words of 8 bytes.
+/// Whether every byte of the room from `start` on is zero. A room is whole words of 8 bytes, at most 9.
 #[inline(always)]
 pub fn is_zero_from(room: &[u8], start: usize) -> bool
     requires words { length room.now % 8 ≡ 0 }
+    requires small { length room.now ≤ 72 }
+    requires inside { start ≤ length room.now }
     ensures { IsTrue result ↔ ((k : ℕ) → start ≤ k → slice_index room.now k ≡ 0) }
 {
+    let masks = MASKS.as_flattened();
     for word in 0..room.len() / 8 {
-        let used = start.saturating_sub(8 * word).min(8) as u32;
-        let half = LittleEndian::read_u64(&room[8 * word..]) >> (4 * used);
-        if half >> (4 * used) != 0 {
+        let mask = LittleEndian::read_u64(&masks[72 - start + 8 * word..]);
+        if LittleEndian::read_u64(&room[8 * word..]) & mask != 0 {
             return false;
         }
     }

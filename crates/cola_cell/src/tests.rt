@@ -208,3 +208,27 @@ fn faults_of_a_step(rt: HostRuntime) {
         StepFault::from(ReadFault::Device)
     );
 }
+
+#[test]
+fn messages(rt: HostRuntime) -> Result<(), Fail> {
+    let faults = [
+        (StepFault::Device, "the device failed: try again"),
+        (
+            StepFault::from(ReadFault::BadCell(87)),
+            "the bytes of cell 87 spell no cell: the file is damaged",
+        ),
+        (
+            StepFault::from(PushFault::Overfull(3)),
+            "the next run of level 3 has no room: the file is damaged",
+        ),
+    ];
+    for (fault, text) in faults {
+        let message = format!(in rt.alloc(); "{fault}")?;
+        assert_eq!(rt; message.as_str(), text);
+    }
+    let read = format!(in rt.alloc(); "{}", ReadFault::BadCell(87))?;
+    assert_eq!(rt; read.as_str(), faults[1].1);
+    let push = format!(in rt.alloc(); "{}", PushFault::Overfull(3))?;
+    assert_eq!(rt; push.as_str(), faults[2].1);
+    Ok(())
+}

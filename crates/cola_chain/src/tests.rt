@@ -1,5 +1,5 @@
 //! Chains of stores for 32 and for 200 keys over a device in memory, in blocks of 8 and of 32 cells and in both formats.
-ghost use Rattle.std.specs.Prelude.{◌≡◌, ◌<◌, ◌≤◌, IfSome, IfOk, length};
+ghost use Rattle.std.specs.Prelude.{◌≡◌, ◌+◌, ◌^◌, ◌<◌, ◌≤◌, IfSome, IfOk, length};
 ghost use Rattle.cola_cell.specs.Format.{KeyFits, ItemFits};
 
 use crate::Chain;
@@ -308,62 +308,29 @@ fn made_anew(alloc: Global, chain: Chain<MemoryDevice>) -> Result<Chain<MemoryDe
     Ok(chain)
 }
 
-/// Steps in turn with the chain made anew before each 37 of them. Answers how many keys are right afterwards.
-fn steps_made_anew<L: Ledger>(
-    alloc: Global,
-    format: Format,
-    block_exp: u8,
-    blank: Blank,
-) -> Result<u16, Fail>
-    requires name { blank.name ≡ L.name }
-    requires parts { blank.parts ≡ L.parts }
-    requires some { 0 < L.parts }
-{
-    let chain = new_chain(alloc, 32, block_exp, format, Vec::new(alloc))?;
-    let mut chain = chain.ok_or("no chain")?;
-    let mut steps = Steps::<L>::begin(blank);
-    for part in 0..10u16 {
-        chain = made_anew(alloc, chain)?;
-        let first = 37 * part;
-        put_in_turn(&mut chain, first, first + 37, 32, &mut steps).ok_or("refused")?;
-    }
-    Ok(count_right(&mut chain, 370, 32, &mut steps))
-}
-
-/// The same in both formats, in blocks of 8 and of 32 cells.
-fn all_made_anew(rt: &impl Abort, alloc: Global) -> Result<(), Fail> {
-    for (block_exp, format) in [(3u8, Format::One), (5, Format::Two)] {
-        let right = steps_made_anew::<Brand>(alloc, format, block_exp, Blank::new(1))?;
-        assert_eq!(rt; right, 32);
-    }
-    Ok(())
-}
-
-#[test]
-fn a_chain_is_made_anew(rt: HostRuntime) -> Result<(), Fail> {
-    all_made_anew(&rt, rt.alloc())
-}
-
-/// So many mutations by a fixed generator, beside a plain table. Answers how many of the searches after each were right,
-/// and the most ticks that one mutation made.
+/// So many mutations by a fixed generator, from this seed and this turn on, beside a plain table. Answers how many of the
+/// searches after each were right, and the most ticks that one mutation made: none where a mutation was refused twice.
 fn generated<D: Device, L: Ledger>(
     chain: &mut Chain<D>,
     table: &mut [u16],
+    seed: &mut u64,
+    first: u16,
     turns: u16,
     steps: &mut Steps<L>,
 ) -> Option<(u16, u64)>
-    requires some { 0 < length table.old }
-    requires few { length table.old ≤ 1000 }
+    requires { first + turns < 2 ^ 16 }
 {
-    let mut seed = 1u64;
+    if table.is_empty() || table.len() > 1000 {
+        return None;
+    }
     let mut right = 0u16;
     let mut most = 0u64;
-    for turn in 0..turns {
-        seed = seed
+    for turn in first..first + turns {
+        *seed = seed
             .wrapping_mul(6364136223846793005)
             .wrapping_add(1442695040888963407);
-        let key = (seed >> 33) as usize % table.len();
-        let number = if seed >> 62 == 0 { 0 } else { turn };
+        let key = (*seed >> 33) as usize % table.len();
+        let number = if *seed >> 62 == 0 { 0 } else { turn };
         let before = chain.ticked();
         put(chain, key as u16, number, steps)?;
         most = most.max(chain.ticked().wrapping_sub(before));
@@ -415,7 +382,10 @@ fn store_of_keys<L: Ledger>(
     let mut table = vec![in alloc; 0u16; keys as usize]?;
     let mut steps = Steps::<L>::begin(blank);
     let steps = &mut steps;
-    let (right, ticks) = generated(&mut chain, &mut table, 1250, steps).ok_or("refused twice")?;
+    let mut seed = 1u64;
+    let (right, ticks) = generated(&mut chain, &mut table, &mut seed, 0, 1250, steps).ok_or(
+        "refused twice",
+    )?;
     assert_eq!(rt; right, 1250);
     assert_eq!(rt; count_same(&mut chain, &table, steps), keys);
     let (reads, writes) = chain.transfers();
@@ -425,6 +395,45 @@ fn store_of_keys<L: Ledger>(
     assert!(rt; reads <= (14 * 1250 * levels).div_ceil(block) + 4 * blocks);
     assert!(rt; writes <= (4 * 1250 * levels).div_ceil(block) + blocks);
     assert!(rt; ticks > 0 && writes > 0);
+    Ok(())
+}
+
+/// The same mutations with the chain made anew, from its own header and its file, before each 37 of them: each search is
+/// right, and so is every key at the end.
+fn made_anew_again<L: Ledger>(
+    rt: &impl Abort,
+    alloc: Global,
+    keys: u16,
+    block_exp: u8,
+    format: Format,
+    blank: Blank,
+) -> Result<(), Fail>
+    requires name { blank.name ≡ L.name }
+    requires parts { blank.parts ≡ L.parts }
+    requires some { 0 < L.parts }
+{
+    let chain = new_chain(alloc, keys as u64, block_exp, format, Vec::new(alloc))?;
+    let mut chain = chain.ok_or("no chain")?;
+    let mut table = vec![in alloc; 0u16; keys as usize]?;
+    let mut steps = Steps::<L>::begin(blank);
+    let steps = &mut steps;
+    let mut seed = 1u64;
+    for part in 0..34u16 {
+        chain = made_anew(alloc, chain)?;
+        let (right, _ticks) = generated(
+            &mut chain,
+            &mut table,
+            &mut seed,
+            37 * part,
+            37,
+            steps,
+        ).ok_or("refused twice")?;
+        assert_eq!(rt; right, 37);
+    }
+    if table.len() > 1000 {
+        return Err(Fail::new("keys"));
+    }
+    assert_eq!(rt; count_same(&mut chain, &table, steps), keys);
     Ok(())
 }
 
@@ -441,10 +450,29 @@ fn stores_of_keys(rt: &impl Abort, alloc: Global, keys: u16) -> Result<(), Fail>
     Ok(())
 }
 
+/// The same stores, made anew again and again.
+fn stores_made_anew(rt: &impl Abort, alloc: Global, keys: u16) -> Result<(), Fail> {
+    for (block_exp, format) in [
+        (3u8, Format::One),
+        (5, Format::One),
+        (3, Format::Two),
+        (5, Format::Two),
+    ] {
+        made_anew_again::<Brand>(rt, alloc, keys, block_exp, format, Blank::new(1))?;
+    }
+    Ok(())
+}
+
 #[test]
 fn ten_thousand_mutations(rt: HostRuntime) -> Result<(), Fail> {
     stores_of_keys(&rt, rt.alloc(), 32)?;
     stores_of_keys(&rt, rt.alloc(), 200)
+}
+
+#[test]
+fn ten_thousand_mutations_of_chains_made_anew(rt: HostRuntime) -> Result<(), Fail> {
+    stores_made_anew(&rt, rt.alloc(), 32)?;
+    stores_made_anew(&rt, rt.alloc(), 200)
 }
 
 /// A read of a reader from outside, and then one step. Answers the reads and writes of the accepted steps.

@@ -91,6 +91,7 @@ module _ {D : Type 0} (d : device.Ghosts D) (old new : Stored D) (kept : kept_of
       sizes_are = ap sizes_of same-geometry ∙ h.sizes_are;
     };
     behind = λ sizes h. subst (λ (s : Sizes). Both (d.bytes old.chain.store.buffers.cache.device) (d.bytes new.chain.store.buffers.cache.device) (KeepsBehind s)) h.sizes_are told-both;
+    cache_stays = ap (λ k. k.cache) kept;
   }
 
 -- what a store that is a table answers

@@ -1,5 +1,5 @@
 -- Lines that are carried out one after another: what one more line makes of it.
-use Rattle.std.proofs.Common.{◌≡◌, ℕ, ◌+◌, ◌*◌, ◌^◌, ◌≤◌, Bool, List, [], ◌∷◌, ◌++◌, length, map, take, All, Option, Some, None, Result, Ok, Err, refl, sym, ap, ◌∙◌, subst, append-nil, append_assoc, arith}
+use Rattle.std.proofs.Common.{◌≡◌, ℕ, ◌+◌, ◌≤◌, Bool, List, [], ◌∷◌, ◌++◌, length, take, All, Option, Some, None, Result, Ok, Err, refl, sym, ap, ◌∙◌, subst, append-nil, append_assoc, arith}
 use Rattle.std.specs.Prelude.{IfSome}
 use Rattle.std.specs.List.{flat_map, slice_index_or}
 use Rattle.std.proofs.lemmas.List.{map-append}
@@ -14,24 +14,28 @@ use Rattle.cola_io.specs.Counted.{CountsFaults, after_fault}
 use Rattle.cola_io.specs.declared.sink.Sink as sink
 use Rattle.cola_io.proofs.StreamLemmas.{Appended-none, Appended-then}
 use Rattle.cola_layout.proofs.Powers.{power-le}
-use Rattle.cola_spec.specs.Map.{Shape, Map, empty_map}
+use Rattle.cola_spec.specs.Map.{Shape, empty_map}
 use Rattle.cola_spec.specs.Lines.{Line}
 use Rattle.cola_spec.specs.Command.{Command, Put, PutIf, Del, Get, Stamp, Range, Scan, Count, Close, Reopen, line_requests}
 use Rattle.cola_spec.specs.Machine as machine
-use Rattle.cola_spec.specs.Machine.{State, Turn, Run, kind_of, turn_text, turns_text, ticks_of}
+use Rattle.cola_spec.specs.Machine.{State, Turn, Run, kind_of, turn_text, turns_text, ticks_of, faulted_steps}
 use Rattle.cola_spec.specs.Bounds.{request_bound}
 use Rattle.cola_table.specs.declared.table.Table as table
 use Rattle.cola_table.specs.Terms.{shape_of}
-use Rattle.cola_line.specs.Replied.{Wrote, KindFaults}
+use Rattle.cola_line.specs.Replied.{Wrote}
 use Rattle.cola_line.proofs.Listing.{take_beyond}
 use Rattle.cola_command.specs.declared.file.Session.{Session}
 use Rattle.cola_command.specs.declared.place.Place.{Place}
 use Rattle.cola_command.specs.declared.place.Place.TheVariants as place
 use Rattle.cola_store.specs.Store.{Stored}
 use Rattle.cola_command.specs.File.{Sizes, shape, KeepsBehind, device_of, depth_of, format_of, faults_of, IsOfSizes}
-use Rattle.cola_command.specs.Turns.{FaultsOver, cut_after, cut_by_request, SessionAt, RunsTo, Carried, SameTerms}
-use Rattle.cola_command.specs.Headline.{Known, asked, AreAsked, WroteFront}
-use Rattle.cola_command.specs.SoFar.{StillOf, RunsSoFar, BeginsAt, SoFar, SoFarWrote, SoFarFront, WholeSoFar, FrontSoFar}
+use Rattle.cola_command.specs.Turns.{FaultsOver, cut_after, cut_by_request, Carried, SameTerms}
+use Rattle.cola_command.specs.Headline.{Known, asked, AreAsked}
+use Rattle.cola_command.specs.Moves.{AreFew, AllMove}
+use Rattle.cola_command.proofs.CutOff.{quiet-run}
+use Rattle.cola_command.proofs.Counting.{Means}
+use Rattle.cola_command.proofs.Moving.{moves-append, line-moves}
+use Rattle.cola_command.specs.SoFar.{StillOf, RunsSoFar, BeginsAt, SoFar, WholeSoFar, FrontSoFar}
 
 -- Turns one after another
 
@@ -49,6 +53,10 @@ cut-append (turn ∷ a) b before = cut-append a b (cut_by_request turn.request t
 pub faults-append : (a b : List Turn) (x y z : ℕ) → FaultsOver a x y → FaultsOver b y z → FaultsOver (a ++ b) x z
 faults-append [] b x y z first next = subst (λ n. FaultsOver b n z) first next
 faults-append (turn ∷ a) b x y z (between, (one, rest)) next = (between, (one, faults-append a b between y z rest next))
+
+pub faulted-append : (a b : List Turn) → faulted_steps (a ++ b) ≡ faulted_steps a + faulted_steps b
+faulted-append [] b = omega arith
+faulted-append (turn ∷ a) b = let rest = faulted-append a b in omega (arith, rest)
 
 pub run-append : (shape : Shape) (a b : List Turn) (first mid last : State) → Run shape first a mid → Run shape mid b last → Run shape first (a ++ b) last
 run-append shape [] b first mid last start next = subst (λ s. Run shape s b last) start next
@@ -102,7 +110,7 @@ module _ {D : Type 0} (d : device.Ghosts D) where
 module _ {D : Type 0} (d : device.Ghosts D) (first : Session D d) (steps : ℕ) where
   runs-none : (known : Option Known) → BeginsAt d first known → IfSome known (λ known. RunsSoFar d first first known [] [])
   runs-none None begins = tt
-  runs-none (Some known) begins = record { asks = refl; runs = record { last = machine.Open known.map; run = refl; at = begins } }
+  runs-none (Some known) begins = record { asks = refl; runs = record { last = machine.Open known.map; run = refl; at = begins }; moves = λ none. refl }
 
   so-far-none : (known : Option Known) → BeginsAt d first known → SoFar d first first steps steps known [] []
   so-far-none known begins = record {
@@ -111,13 +119,14 @@ module _ {D : Type 0} (d : device.Ghosts D) (first : Session D d) (steps : ℕ) 
     faults = refl;
     kept = refl;
     cut_off = refl;
+    cache_is = refl;
     cost_is = refl;
     sized = λ sizes of. record { of_sizes = of; within = All-nil _; behind = both-same sizes (d.bytes (device_of first.place)) };
     runs = runs-none known begins;
   }
 
 -- One more line
-module _ {D K A E : Type 0} (t : table.Ghosts (Stored D) Cursor) (d : device.Ghosts D) (k : sink.Ghosts K) (first mid now : Session D d) (sink' sink'' : K) (steps steps' steps'' : ℕ) (line : Line) (result : Result A E) (lines : List Line) where
+module _ {D K A E : Type 0} (t : table.Ghosts (Stored D) Cursor) (d : device.Ghosts D) (k : sink.Ghosts K) (means : Means d.bytes d.counts t) (first mid now : Session D d) (few : AreFew d mid.place) (sink' sink'' : K) (steps steps' steps'' : ℕ) (line : Line) (result : Result A E) (lines : List Line) where
   abbrev IsCarried : State → List Turn → Type 0
   IsCarried state more = Carried t d k state line result mid now sink' sink'' steps' steps'' more
 
@@ -131,13 +140,18 @@ module _ {D K A E : Type 0} (t : table.Ghosts (Stored D) Cursor) (d : device.Gho
     }
 
     -- of a file that stands for a map
-    runs-then : (known : Known) (r : RunsSoFar d first mid known lines turns) → IsCarried r.runs.last more → RunsSoFar d first now known (lines ++ line ∷ []) (turns ++ more)
-    runs-then known r c =
+    runs-then : (known : Known) (r : RunsSoFar d first mid known lines turns) → mid.cache ≡ first.cache → IsCarried r.runs.last more → RunsSoFar d first now known (lines ++ line ∷ []) (turns ++ more)
+    runs-then known r cache c =
         let next = c.runs known.sizes r.runs.at in
         let line-asks : asked more ≡ line_requests (shape known.sizes) line = c.asks known.sizes.keys ∙ ap (λ f. line_requests (shape_of f known.sizes.keys) line) r.runs.at.format_is in
         record {
           asks = asked-append turns more ∙ ap (λ a. a ++ asked more) r.asks ∙ ap (λ a. flat_map (line_requests (shape known.sizes)) lines ++ a) line-asks ∙ sym (flat-last (line_requests (shape known.sizes)) lines line);
           runs = record { last = next.last; run = run-append (shape known.sizes) turns more (machine.Open known.map) r.runs.last next.last r.runs.run next.run; at = next.at };
+          moves = λ none.
+              let whole = faulted-append turns more in
+              let quiet = quiet-run (shape known.sizes) (machine.Open known.map) turns r.runs.last r.runs.run (omega (arith, none, whole)) tt in
+              let moved = line-moves d known.sizes t k means r.runs.last line result mid now sink' sink'' steps' steps'' more c r.runs.at quiet few (omega (arith, none, whole)) in
+              moves-append d known.sizes first.cache turns more first.place mid.place now.place (r.moves (omega (arith, none, whole))) (subst (λ n. AllMove d known.sizes n more mid.place now.place) cache moved);
         }
 
     so-far-then : (known : Option Known) (state : State) → SoFar d first mid steps steps' known lines turns → IsCarried state more → SameTerms mid now → IfSome known (λ known. RunsSoFar d first now known (lines ++ line ∷ []) (turns ++ more))
@@ -148,6 +162,7 @@ module _ {D K A E : Type 0} (t : table.Ghosts (Stored D) Cursor) (d : device.Gho
       faults = faults-append turns more (faults_of d first.place) (faults_of d mid.place) (faults_of d now.place) so_far.faults c.faults;
       kept = c.keeps.kept ∙ so_far.kept;
       cut_off = c.cut_off ∙ ap (cut_after more) so_far.cut_off ∙ sym (cut-append turns more first.cut_off);
+      cache_is = same.cache_is ∙ so_far.cache_is;
       cost_is = same.cost_is ∙ so_far.cost_is;
       sized = λ sizes of. sized-then sizes state c (so_far.sized sizes of);
       runs = runs;
@@ -167,7 +182,7 @@ module _ {D K A E : Type 0} (t : table.Ghosts (Stored D) Cursor) (d : device.Gho
   then-line carried same (Some known) turns so_far =
       let state = so_far.runs.runs.last in
       let one = carried state in
-      record { more = one.0; wrote = one.1.wrote; so_far = so-far-then turns one.0 (Some known) state so_far one.1 same (runs-then turns one.0 known so_far.runs one.1) }
+      record { more = one.0; wrote = one.1.wrote; so_far = so-far-then turns one.0 (Some known) state so_far one.1 same (runs-then turns one.0 known so_far.runs so_far.cache_is one.1) }
 
 text-then : (cost cost' : Bool) (turns more : List Turn) → cost' ≡ cost → turns_text cost turns ++ turns_text cost' more ≡ turns_text cost (turns ++ more)
 text-then cost cost' turns more same = ap (λ c. turns_text cost turns ++ turns_text c more) same ∙ sym (flat_map-append (turn_text cost) turns more)
@@ -184,13 +199,13 @@ module _ {D K : Type 0} (d : device.Ghosts D) (k : sink.Ghosts K) (first : Sessi
   pub whole-none : WholeSoFar k d first first sink sink steps steps []
   whole-none known begins = record { turns = []; so_far = so-far-none d first steps known begins; wrote = Appended-none (k.written sink) }
 
-module _ {D K A E : Type 0} (t : table.Ghosts (Stored D) Cursor) (d : device.Ghosts D) (k : sink.Ghosts K) (first mid now : Session D d) (sink sink' sink'' : K) (steps steps' steps'' : ℕ) (line : Line) (lines : List Line) (result : Result A E) (before : WholeSoFar k d first mid sink sink' steps steps' lines) (same : SameTerms mid now)
+module _ {D K A E : Type 0} (t : table.Ghosts (Stored D) Cursor) (d : device.Ghosts D) (k : sink.Ghosts K) (means : Means d.bytes d.counts t) (first mid now : Session D d) (few : AreFew d mid.place) (sink sink' sink'' : K) (steps steps' steps'' : ℕ) (line : Line) (lines : List Line) (result : Result A E) (before : WholeSoFar k d first mid sink sink' steps steps' lines) (same : SameTerms mid now)
     (carried : (state : State) → (more : List Turn) × Carried t d k state line result mid now sink' sink'' steps' steps'' more) where
   -- the line was carried out, and its reply written
   pub whole-then : (done : A) → result ≡ Ok done → WholeSoFar k d first now sink sink'' steps steps'' (lines ++ line ∷ [])
   whole-then done is known begins =
       let old = before known begins in
-      let one = then-line t d k first mid now sink' sink'' steps steps' steps'' line result lines carried same known old.turns old.so_far in
+      let one = then-line t d k means first mid now few sink' sink'' steps steps' steps'' line result lines carried same known old.turns old.so_far in
       record {
         turns = old.turns ++ one.more;
         so_far = one.so_far;
@@ -202,7 +217,7 @@ module _ {D K A E : Type 0} (t : table.Ghosts (Stored D) Cursor) (d : device.Gho
   pub front-then : (failed : E) → result ≡ Err failed → FrontSoFar k d first now sink sink'' steps steps'' lines line
   front-then failed is known begins =
       let old = before known begins in
-      let one = then-line t d k first mid now sink' sink'' steps steps' steps'' line result lines carried same known old.turns old.so_far in
+      let one = then-line t d k means first mid now few sink' sink'' steps steps' steps'' line result lines carried same known old.turns old.so_far in
       let wrote : (n : ℕ) × Appended (take n (turns_text mid.cost one.more)) (k.written sink') (k.written sink'') = subst (λ r. Wrote (turns_text mid.cost one.more) r (k.written sink') (k.written sink'')) is one.wrote in
       let size = length (turns_text first.cost old.turns) + wrote.0 in
       record {

@@ -1,10 +1,9 @@
 -- Where the last opening met no fault, a closed store has the state byte 0.
-use Rattle.std.proofs.Common.{◌≡◌, ℕ, zero, suc, nat_eq, if◌then◌else◌, Bool, true, false, List, [], ◌∷◌, ◌++◌, take, Option, Some, None, refl, sym, ap, ◌∙◌, subst}
-use Rattle.std.proofs.lemmas.Bool.{false≢true}
+use Rattle.std.proofs.Common.{◌≡◌, ℕ, ◌+◌, zero, suc, arith, nat_eq, if◌then◌else◌, Bool, true, false, List, [], ◌∷◌, Option, Some, None, refl, sym, subst}
 use Rattle.cola_spec.specs.Map.{Shape, Map, count}
 use Rattle.cola_spec.specs.Command.{Command, Put, PutIf, Del, Get, Stamp, Range, Scan, Count, Close, Reopen}
 use Rattle.cola_spec.specs.Reply.{Reply, Failed, Fault, Opened, Refused, NotClosed, NotStore}
-use Rattle.cola_spec.specs.Machine.{State, Open, Closing, Closed, Turn, Kind, PlainStep, FaultedStep, ShortStep, StepOf, Run, kind_of, plain_reply, plain_after, command_reply, command_after, open_after, OpenFaulted, CommandFaulted, Faulted, ShortOfMemory}
+use Rattle.cola_spec.specs.Machine.{State, Open, Closing, Closed, Turn, Kind, PlainStep, FaultedStep, ShortStep, StepOf, Run, kind_of, by_command, reopen_after, faulted_one, faulted_steps, plain_reply, plain_after, command_reply, command_after, open_after, OpenFaulted, CommandFaulted, ShortOfMemory}
 use Rattle.cola_command.specs.Turns.{cut_by, cut_by_request, cut_after}
 
 -- a closed store has the state byte 0, but behind an opening that met a fault
@@ -29,18 +28,42 @@ good-safe (Closed m byte) false good = good
 good-is : (state next : State) → next ≡ state → Good state → Good next
 good-is state next same good = subst Good (sym same) good
 
+-- a choice by the command has what each of its cases has
+by-each : {A : Type 0} (P : A → Type 0) (command : Command) (close reopen other : A) → P close → P reopen → P other → P (by_command command close reopen other)
+by-each P (Put key value) close reopen other c r o = o
+by-each P (PutIf key seen value) close reopen other c r o = o
+by-each P (Del key) close reopen other c r o = o
+by-each P (Get key) close reopen other c r o = o
+by-each P (Stamp key) close reopen other c r o = o
+by-each P (Range low high) close reopen other c r o = o
+by-each P (Scan low most) close reopen other c r o = o
+by-each P Count close reopen other c r o = o
+by-each P Close close reopen other c r o = c
+by-each P Reopen close reopen other c r o = r
+
+-- no closing met a fault, and a closed store has the state byte 0
+abbrev pub Quiet : State → Type 0
+Quiet (Open m) = Unit {0}
+Quiet (Closing m) = ⊥
+Quiet (Closed m byte) = byte ≡ 0
+
+quiet-good : (state : State) → Quiet state → Good state
+quiet-good (Open m) quiet = tt
+quiet-good (Closing m) quiet = tt
+quiet-good (Closed m byte) quiet = quiet
+
 -- from an open store
-good-open : (shape : Shape) (m : Map) (command : Command) → Good (open_after shape m command)
-good-open shape m (Put key value) = tt
-good-open shape m (PutIf key seen value) = tt
-good-open shape m (Del key) = tt
-good-open shape m (Get key) = tt
-good-open shape m (Stamp key) = tt
-good-open shape m (Range low high) = tt
-good-open shape m (Scan low most) = tt
-good-open shape m Count = tt
-good-open shape m Close = refl
-good-open shape m Reopen = tt
+quiet-open : (shape : Shape) (m : Map) (command : Command) → Quiet (open_after shape m command)
+quiet-open shape m (Put key value) = tt
+quiet-open shape m (PutIf key seen value) = tt
+quiet-open shape m (Del key) = tt
+quiet-open shape m (Get key) = tt
+quiet-open shape m (Stamp key) = tt
+quiet-open shape m (Range low high) = tt
+quiet-open shape m (Scan low most) = tt
+quiet-open shape m Count = tt
+quiet-open shape m Close = refl
+quiet-open shape m Reopen = tt
 
 good-faulted : (m : Map) (command : Command) (answer : Reply) (next : State) → OpenFaulted m command answer next → Good next
 good-faulted m (Put key value) answer next step = good-is (Open m) next step.1 tt
@@ -56,16 +79,7 @@ good-faulted m Reopen answer next step = absurd step
 
 -- from a store whose closing met a fault
 good-closing : (shape : Shape) (m : Map) (command : Command) → Good (command_after shape (Closing m) command)
-good-closing shape m (Put key value) = tt
-good-closing shape m (PutIf key seen value) = tt
-good-closing shape m (Del key) = tt
-good-closing shape m (Get key) = tt
-good-closing shape m (Stamp key) = tt
-good-closing shape m (Range low high) = tt
-good-closing shape m (Scan low most) = tt
-good-closing shape m Count = tt
-good-closing shape m Close = refl
-good-closing shape m Reopen = tt
+good-closing shape m command = by-each Good command (Closed m 0) (Closing m) (Closing m) refl tt tt
 
 good-again : (m : Map) (command : Command) (answer : Reply) (next : State) → CommandFaulted (Closing m) command answer next → Good next
 good-again m (Put key value) answer next step = absurd step
@@ -115,7 +129,7 @@ safe-faulted m byte answer next cut Reopen (failed, left) = safe-cut m left.0 an
 -- one step
 good-plain : (shape : Shape) (m : Map) (request : Option Command) (next : State) → next ≡ plain_after shape (Open m) request → Good next
 good-plain shape m None next same = good-is (Open m) next same tt
-good-plain shape m (Some command) next same = good-is (open_after shape m command) next same (good-open shape m command)
+good-plain shape m (Some command) next same = good-is (open_after shape m command) next same (quiet-good (open_after shape m command) (quiet-open shape m command))
 
 good-plain-closing : (shape : Shape) (m : Map) (request : Option Command) (next : State) → next ≡ plain_after shape (Closing m) request → Good next
 good-plain-closing shape m None next same = good-is (Closing m) next same tt
@@ -127,20 +141,22 @@ safe-plain-closed shape m byte (Some command) answer next cut answered same safe
     subst (λ s. Safe s (cut_by_request (Some command) answer cut)) (sym same)
     (subst (λ a. Safe (command_after shape (Closed m byte) command) (cut_by_request (Some command) a cut)) (sym answered) (safe-closed shape m byte cut command safe))
 
-safe-short : (m : Map) (byte : ℕ) (request : Option Command) (next : State) (cut : Bool) → ShortOfMemory (Closed m byte) request next → Safe next cut
-safe-short m zero None next cut step = absurd step
-safe-short m zero (Some (Put key value)) next cut step = absurd step
-safe-short m zero (Some (PutIf key seen value)) next cut step = absurd step
-safe-short m zero (Some (Del key)) next cut step = absurd step
-safe-short m zero (Some (Get key)) next cut step = absurd step
-safe-short m zero (Some (Stamp key)) next cut step = absurd step
-safe-short m zero (Some (Range low high)) next cut step = absurd step
-safe-short m zero (Some (Scan low most)) next cut step = absurd step
-safe-short m zero (Some Count) next cut step = absurd step
-safe-short m zero (Some Close) next cut step = absurd step
-safe-short m zero (Some Reopen) next cut step = good-safe next cut (good-is (Closed m 0) next step refl)
-safe-short m (suc byte) None next cut step = absurd step
-safe-short m (suc byte) (Some command) next cut step = absurd step
+-- only an opening of a file with the state byte 0 is short of memory, and it changes nothing
+pub only-reopened : (state : State) (request : Option Command) (next : State) → ShortOfMemory state request next → (request ≡ Some Reopen) × ((next ≡ state) × Quiet state)
+only-reopened (Open m) request next step = absurd step
+only-reopened (Closing m) request next step = absurd step
+only-reopened (Closed m zero) None next step = absurd step
+only-reopened (Closed m zero) (Some (Put key value)) next step = absurd step
+only-reopened (Closed m zero) (Some (PutIf key seen value)) next step = absurd step
+only-reopened (Closed m zero) (Some (Del key)) next step = absurd step
+only-reopened (Closed m zero) (Some (Get key)) next step = absurd step
+only-reopened (Closed m zero) (Some (Stamp key)) next step = absurd step
+only-reopened (Closed m zero) (Some (Range low high)) next step = absurd step
+only-reopened (Closed m zero) (Some (Scan low most)) next step = absurd step
+only-reopened (Closed m zero) (Some Count) next step = absurd step
+only-reopened (Closed m zero) (Some Close) next step = absurd step
+only-reopened (Closed m zero) (Some Reopen) next step = (refl, (step, refl))
+only-reopened (Closed m (suc byte)) request next step = absurd step
 
 pub safe-step : (shape : Shape) (state : State) (request : Option Command) (answer : Reply) (ticks : ℕ) (next : State) (kind : Kind) (cut : Bool) → StepOf shape state (record { request = request; answer = answer; ticks = ticks }) next kind → Safe state cut
     → Safe next (cut_by_request request answer cut)
@@ -155,10 +171,51 @@ safe-step shape (Closing m) request answer ticks next ShortStep cut step safe = 
 safe-step shape (Closed m byte) request answer ticks next PlainStep cut step safe = safe-plain-closed shape m byte request answer next cut step.0 step.1 safe
 safe-step shape (Closed m byte) None answer ticks next FaultedStep cut step safe = absurd step
 safe-step shape (Closed m byte) (Some command) answer ticks next FaultedStep cut step safe = safe-faulted m byte answer next cut command step
-safe-step shape (Closed m byte) request answer ticks next ShortStep cut step safe = safe-short m byte request next (cut_by_request request answer cut) step
+safe-step shape (Closed m byte) request answer ticks next ShortStep cut step safe = let only = only-reopened (Closed m byte) request next step in
+    good-safe next (cut_by_request request answer cut) (good-is (Closed m byte) next only.1.0 (quiet-good (Closed m byte) only.1.1))
 
 -- a run
 pub safe-run : (shape : Shape) (state : State) (turns : List Turn) (last : State) (cut : Bool) → Run shape state turns last → Safe state cut → Safe last (cut_after turns cut)
 safe-run shape state [] last cut same safe = subst (λ s. Safe s cut) (sym same) safe
 safe-run shape state (turn ∷ turns) last cut (next, step, rest) safe =
     safe-run shape next turns last (cut_by_request turn.request turn.answer cut) rest (safe-step shape state turn.request turn.answer turn.ticks next (kind_of turn.answer) cut step safe)
+
+-- Where no step is faulted
+
+quiet-is : (state next : State) → next ≡ state → Quiet state → Quiet next
+quiet-is state next same quiet = subst Quiet (sym same) quiet
+
+quiet-reopened : (m : Map) (byte : ℕ) (closed : Bool) → Quiet (Closed m byte) → Quiet (if closed then Open m else Closed m byte)
+quiet-reopened m byte true quiet = tt
+quiet-reopened m byte false quiet = quiet
+
+quiet-plain-open : (shape : Shape) (m : Map) (request : Option Command) → Quiet (plain_after shape (Open m) request)
+quiet-plain-open shape m None = tt
+quiet-plain-open shape m (Some command) = quiet-open shape m command
+
+quiet-plain-closed : (shape : Shape) (m : Map) (byte : ℕ) (request : Option Command) → byte ≡ 0 → Quiet (plain_after shape (Closed m byte) request)
+quiet-plain-closed shape m byte None quiet = quiet
+quiet-plain-closed shape m byte (Some command) quiet = by-each Quiet command (Closed m byte) (reopen_after m byte) (Closed m byte) quiet (quiet-reopened m byte (nat_eq byte 0) quiet) quiet
+
+-- a step keeps it so
+pub quiet-step : (shape : Shape) (state : State) (request : Option Command) (answer : Reply) (ticks : ℕ) (next : State) (kind : Kind) → StepOf shape state (record { request = request; answer = answer; ticks = ticks }) next kind → (kind ≡ FaultedStep → ⊥) → Quiet state → Quiet next
+quiet-step shape (Open m) request answer ticks next PlainStep step calm quiet = quiet-is _ next step.1 (quiet-plain-open shape m request)
+quiet-step shape (Open m) request answer ticks next FaultedStep step calm quiet = absurd (calm refl)
+quiet-step shape (Open m) request answer ticks next ShortStep step calm quiet = absurd step
+quiet-step shape (Closing m) request answer ticks next kind step calm quiet = absurd quiet
+quiet-step shape (Closed m byte) request answer ticks next PlainStep step calm quiet = quiet-is _ next step.1 (quiet-plain-closed shape m byte request quiet)
+quiet-step shape (Closed m byte) request answer ticks next FaultedStep step calm quiet = absurd (calm refl)
+quiet-step shape (Closed m byte) request answer ticks next ShortStep step calm quiet = let only = only-reopened (Closed m byte) request next step in quiet-is (Closed m byte) next only.1.0 only.1.1
+
+-- a turn that is not faulted
+pub not-faulted : (kind : Kind) (more : ℕ) → faulted_one kind + more ≡ 0 → kind ≡ FaultedStep → ⊥
+not-faulted PlainStep more none is = cc
+not-faulted FaultedStep more none is = omega (arith, none)
+not-faulted ShortStep more none is = cc
+
+-- a run
+pub quiet-run : (shape : Shape) (state : State) (turns : List Turn) (last : State) → Run shape state turns last → faulted_steps turns ≡ 0 → Quiet state → Quiet last
+quiet-run shape state [] last same none quiet = quiet-is state last same quiet
+quiet-run shape state (turn ∷ turns) last (next, step, rest) none quiet =
+    quiet-run shape next turns last rest (omega (arith, none))
+    (quiet-step shape state turn.request turn.answer turn.ticks next (kind_of turn.answer) step (not-faulted (kind_of turn.answer) (faulted_steps turns) none) quiet)

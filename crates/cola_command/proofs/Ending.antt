@@ -1,7 +1,9 @@
 -- A session over a file from its opening to its close.
-use Rattle.std.proofs.Common.{◌≡◌, ◌⊎◌, inl, inr, ℕ, zero, suc, ◌+◌, ◌≤◌, min, nat_eq, Bool, true, false, ◌&&◌, ◌||◌, not, List, [], ◌∷◌, ◌++◌, length, take, Option, Some, None, Result, Ok, Err, refl, sym, ap, ◌∙◌, subst, arith}
-use Rattle.std.specs.Prelude.{IfSome, IsSomeAnd}
+use Rattle.std.proofs.Common.{◌≡◌, ◌⊎◌, inl, inr, ℕ, zero, suc, ◌+◌, ◌≤◌, Bool, true, false, List, [], ◌∷◌, ◌++◌, length, Option, Some, None, Ok, Err, refl, sym, ap, ◌∙◌, subst, arith}
+use Rattle.std.specs.Prelude.{◌<◌, ◌^◌, nat_le, IfSome, IsSomeAnd}
 use Rattle.std.proofs.lemmas.Bool.{false≢true}
+use Rattle.std.proofs.lemmas.Bool.Decides.{leb_tells}
+use Rattle.cola_outside.specs.Faults.{Rose}
 use Rattle.cola_outside.specs.Told.{Both}
 use Rattle.cola_device.specs.declared.device.Device as device
 use Rattle.cola_io.specs.Streams.{Appended}
@@ -13,21 +15,27 @@ use Rattle.cola_spec.specs.Command.{Close, Reopen}
 use Rattle.cola_spec.specs.Reply as reply
 use Rattle.cola_spec.specs.Reply.{Reply}
 use Rattle.cola_spec.specs.Machine as machine
-use Rattle.cola_spec.specs.Machine.{State, Turn, PlainStep, FaultedStep, kind_of, turns_text, ticks_of}
+use Rattle.cola_spec.specs.Machine.{State, Turn, PlainStep, FaultedStep, kind_of, turns_text, ticks_of, faulted_one, faulted_steps}
 use Rattle.cola_image.specs.Standing.{HeaderStandsFor, with_state}
 use Rattle.cola_store.specs.declared.closing.Closing.{Closing}
 use Rattle.cola_command.specs.declared.file.Session.{Session}
 use Rattle.cola_command.specs.declared.place.Place.{Place}
 use Rattle.cola_command.specs.declared.place.Place.TheVariants as place
 use Rattle.cola_command.specs.File.{Sizes, shape, KeepsBehind, StandsBut, device_of, format_of, faults_of, IsOfSizes, IsAt}
-use Rattle.cola_command.specs.Turns.{FaultsOver, cut_after, SessionAt, CloseCause, StepsTo, Begun, Ended, is_closed}
-use Rattle.cola_command.specs.Ends.{ReadToEnd, SourceFailed, SinkFailed, Spent}
-use Rattle.cola_command.specs.Headline.{StandsAs, Known, IsKnown, IsLeft, IsLeftWhole, last_close, StaysWithin, RunsToEnd, CarriedOut, WroteFront, EndsWell, EndsIll, EndsAnyhow, WroteAll, WroteSome, Whole, Front, FileEnds, Status0, Status3, Status4, Status5, Status9}
+use Rattle.cola_command.specs.Turns.{FaultsOver, cut_after, CloseCause, StepsTo, Begun, Ended, is_closed}
+use Rattle.cola_command.specs.Ends.{ReadToEnd}
+use Rattle.cola_command.specs.Headline.{StandsAs, Known, IsKnown, IsLeft, IsLeftWhole, last_close, StaysWithin, RunsToEnd, CarriedOut, WroteFront, EndsWell, EndsIll, EndsAnyhow, Whole, Front, FileEnds, Status0, Status3, Status4, Status5, Status9}
 use Rattle.cola_command.specs.SoFar.{BeginsAt, StillOf, RunsSoFar, SoFar, WholeSoFar, FrontSoFar, LinesEnd, Lines0, Lines3, Lines4, Lines9, end_status, EndsAfter}
 use Rattle.cola_command.proofs.PlaceTurns.{TurnFacts, stands-now, close-facts}
 use Rattle.cola_command.proofs.Reopening.{open-facts}
-use Rattle.cola_command.proofs.CutOff.{Safe, safe-run, safe-step}
-use Rattle.cola_command.proofs.Carrying.{both-then, faults-append}
+use Rattle.cola_command.specs.Memory.{input_limit}
+use Rattle.cola_command.specs.RunTransfers.{short, FewTransfers}
+use Rattle.cola_command.specs.Moves.{AreFew, Moves, AllMove}
+use Rattle.cola_command.proofs.CutOff.{Safe, safe-run, safe-step, not-faulted, quiet-run}
+use Rattle.cola_command.proofs.Moving.{kind-stays, closes-moves}
+use Rattle.cola_command.proofs.Transferring.{few-transfers}
+use Rattle.cola_command.proofs.Carrying.{both-then, faults-append, faulted-append}
+use Rattle.cola_command.proofs.HeadlineLaws.{by-count, faults-rise}
 
 -- The file
 
@@ -48,7 +56,7 @@ abbrev Both-with : Sizes → Option (List ℕ) → Option (List ℕ) → Type 0
 Both-with sizes a b = Both a b (KeepsBehind sizes)
 
 -- the same reads, with another account of the lines
-with-carried : {S K : Type 0} (g : source.Ghosts S) (h : sink.Ghosts K) (source source' : S) (sink sink' : K) (B C : List Line → Type 0) → ((lines : List Line) → B lines → C lines) → ReadToEnd g h source source' sink sink' B → ReadToEnd g h source source' sink sink' C
+pub with-carried : {S K : Type 0} (g : source.Ghosts S) (h : sink.Ghosts K) (source source' : S) (sink sink' : K) (B C : List Line → Type 0) → ((lines : List Line) → B lines → C lines) → ReadToEnd g h source source' sink sink' B → ReadToEnd g h source source' sink sink' C
 with-carried g h source source' sink sink' B C turn r = record {
   reads = r.reads;
   lines = r.lines;
@@ -60,6 +68,19 @@ with-carried g h source source' sink sink' B C turn r = record {
   source_faults = r.source_faults;
   sink_faults = r.sink_faults;
 }
+
+-- the count of faults stays where no turn is faulted
+faults-stay : (turns : List Turn) (before now : ℕ) → faulted_steps turns ≡ 0 → FaultsOver turns before now → now ≡ before
+faults-stay [] before now none same = same
+faults-stay (turn ∷ turns) before now none (between, (one, rest)) = faults-stay turns between now (omega (arith, none)) rest ∙ kind-stays (kind_of turn.answer) before between one (not-faulted (kind_of turn.answer) (faulted_steps turns) none)
+
+-- and does not stand at its last value where none was counted
+below-last : (before now : ℕ) → now ≡ before → (Rose before now → ⊥) → before + 1 < 2 ^ 64
+below-last before now same calm = by-test (leb_tells (2 ^ 64) (before + 1))
+  where
+    by-test : ((nat_le (2 ^ 64) (before + 1) ≡ true) × (2 ^ 64 ≤ before + 1)) ⊎ ((nat_le (2 ^ 64) (before + 1) ≡ false) × (before + 1 < 2 ^ 64)) → before + 1 < 2 ^ 64
+    by-test (inl (is, last)) = absurd (calm (omega (arith, same, last)))
+    by-test (inr (is, below)) = below
 
 module _ {D : Type 0} (d : device.Ghosts D) where
   -- what an attempt to close says, and where the store is then
@@ -104,6 +125,18 @@ module _ {D : Type 0} (d : device.Ghosts D) where
   plain-where answer new (inl (kind, (now, is))) closed = kind
   plain-where answer new (inr (kind, (closing, is))) closed = absurd (false≢true (ap is_closed (sym is) ∙ closed))
 
+  never-faulted : (answer : Reply) (new : Place D d) → Says answer new → (kind_of answer ≡ FaultedStep → ⊥) → new ≡ place.Closed (device_of new)
+  never-faulted answer new (inl (kind, (now, is))) calm = is ∙ ap (λ (p : Place D d). place.Closed (device_of p)) (sym is)
+  never-faulted answer new (inr (kind, (closing, is))) calm = absurd (calm kind)
+
+  -- no attempt to close is short of memory
+  never-short : (old : Place D d) (answer : Reply) (new : Place D d) → CloseCause d old answer new → short answer ≡ 0
+  never-short (place.Open store) answer new (Ok now, (closes, (answered, is))) = ap short answered
+  never-short (place.Open store) answer new (Err closing, (closes, (answered, is))) = ap short answered
+  never-short (place.Closing before) answer new (Ok now, (closes, (answered, is))) = ap short answered
+  never-short (place.Closing before) answer new (Err closing, (closes, (answered, is))) = ap short answered
+  never-short (place.Closed now) answer new (answered, is) = ap short answered
+
   faulted-where : (answer : Reply) (new : Place D d) → Says answer new → is_closed new ≡ false → kind_of answer ≡ FaultedStep
   faulted-where answer new (inl (kind, (now, is))) opening = absurd (false≢true (sym opening ∙ ap is_closed is))
   faulted-where answer new (inr (kind, (closing, is))) opening = kind
@@ -126,7 +159,7 @@ module _ {D : Type 0} (d : device.Ghosts D) (device : D) (cache : ℕ) (cost : B
 
   -- The end
   module _ (device' : D) (closed : Bool) (last : Session D d) (ended : Ended d last device' closed) (closes : TurnFacts d Close last.place ended.answer ended.place) (steps steps' : ℕ)
-      (kept : d.kept device' ≡ d.kept (device_of last.place)) (kept_first : d.kept (device_of first.place) ≡ d.kept device) where
+      (kept : d.kept device' ≡ d.kept (device_of last.place)) (few : AreFew d last.place) (kept_first : d.kept (device_of first.place) ≡ d.kept device) where
     said : Says d ended.answer ended.place
     said = says d last.place ended.answer ended.place ended.cause
 
@@ -149,12 +182,31 @@ module _ {D : Type 0} (d : device.Ghosts D) (device : D) (cache : ℕ) (cost : B
         let end : Safe close.next false = safe-step (shape known.sizes) r.runs.last (Some Close) ended.answer 0 close.next (kind_of ended.answer) false close.step safe in
         subst (λ (x : D). IsLeftWhole known.sizes close.next (d.bytes x)) (sym ended.device_is) (whole-is d known.sizes ended.answer ended.place close.next said (sym ended.closed_is ∙ is_whole) close.at end)
 
+    -- where no fault was counted, the reads and writes are few
+    few-at-end : (known : Known) (lines : List Line) (turns : List Turn) → RunsSoFar d first last known lines turns → FaultsOver (turns ++ last_close ended.answer ∷ []) (d.counts device).faults (d.counts device').faults → (Rose (d.counts device).faults (d.counts device').faults → ⊥)
+        → length turns ≤ input_limit → FewTransfers known.sizes cache turns (d.counts device) (d.counts device')
+    few-at-end known lines turns r over calm many =
+        let all = turns ++ last_close ended.answer ∷ [] in
+        let none : faulted_steps all ≡ 0 = by-count (faulted_steps all) (d.counts device).faults (d.counts device').faults (faults-rise all (d.counts device).faults (d.counts device').faults over) calm in
+        let whole = faulted-append turns (last_close ended.answer ∷ []) in
+        let before : faulted_steps turns ≡ 0 = omega (arith, none, whole) in
+        let after : faulted_one (kind_of ended.answer) + 0 ≡ 0 = omega (arith, none, whole) in
+        let fine = not-faulted (kind_of ended.answer) 0 after in
+        let quiet = quiet-run (shape known.sizes) (machine.Open known.map) turns r.runs.last r.runs.run before tt in
+        let closing = closes-moves d known.sizes cache (last_close ended.answer) last.place ended.place r.runs.last ended.cause few r.runs.at.at fine quiet in
+        let final = subst (λ (x : D). Moves d known.sizes cache (last_close ended.answer) last.place (place.Closed x)) (sym ended.device_is)
+        (subst (λ (p : Place D d). Moves d known.sizes cache (last_close ended.answer) last.place p) (never-faulted d ended.answer ended.place said fine) closing) in
+        let moves = subst (λ (p : Place D d). AllMove d known.sizes cache turns p last.place) begun.place_is (subst (λ n. AllMove d known.sizes n turns first.place last.place) begun.cache_is (r.moves before)) in
+        few-transfers d known.sizes cache begun.store device last.place (last_close ended.answer) device' turns (below-last (d.counts device).faults (d.counts device').faults (faults-stay all (d.counts device).faults (d.counts device').faults none over) calm) begun.opened
+        final (never-short d last.place ended.answer ended.place ended.cause) many moves
+
     module _ (Left : Sizes → State → Option (List ℕ) → Type 0) (left : Leaves Left) (lines : List Line) (turns : List Turn) where
-      runs-to-end : (known : Option Known) → cut_after turns false ≡ last.cut_off → IfSome known (λ known. RunsSoFar d first last known lines turns) → IfSome known (λ known. RunsToEnd d cache device device' steps steps' Left known lines turns ended.answer)
-      runs-to-end None cut r = tt
-      runs-to-end (Some known) cut r =
+      runs-to-end : (known : Option Known) → cut_after turns false ≡ last.cut_off → FaultsOver (turns ++ last_close ended.answer ∷ []) (d.counts device).faults (d.counts device').faults → IfSome known (λ known. RunsSoFar d first last known lines turns)
+          → IfSome known (λ known. RunsToEnd d cache device device' steps steps' Left known lines turns ended.answer)
+      runs-to-end None cut over r = tt
+      runs-to-end (Some known) cut over r =
           let close = close-step known lines turns r in
-          record { asks = r.asks; last = r.runs.last; run = r.runs.run; end = close.next; close = close.step; left = left known lines turns r cut }
+          record { asks = r.asks; last = r.runs.last; run = r.runs.run; end = close.next; close = close.step; left = left known lines turns r cut; few = few-at-end known lines turns r over }
 
       stays-within : (sizes : Sizes) → IsOfSizes d sizes (place.Closed device) → StillOf d first last sizes turns → StaysWithin d cache device device' steps steps' sizes turns
       stays-within sizes of still = record {
@@ -166,18 +218,20 @@ module _ {D : Type 0} (d : device.Ghosts D) (device : D) (cache : ℕ) (cost : B
       }
 
       carried-out : (known : Option Known) (so_far : SoFar d first last steps steps' known lines turns) → cut_after turns false ≡ last.cut_off → CarriedOut d cache device device' steps steps' Left known lines turns ended.answer
-      carried-out known so_far cut = record {
-        store = begun.store;
-        opened = begun.opened;
-        asks = so_far.asks;
-        counted = so_far.counted;
-        faults = faults-append turns (last_close ended.answer ∷ []) (d.counts device).faults (faults_of d last.place) (d.counts device').faults
-            (subst (λ n. FaultsOver turns n (faults_of d last.place)) (ap (λ (p : Place D d). faults_of d p) begun.place_is ∙ begun.opened.opened.no_fault) so_far.faults)
-            (faults_of d ended.place, (closes.faults, ap (λ (x : D). (d.counts x).faults) ended.device_is));
-        kept = kept ∙ so_far.kept ∙ kept_first;
-        sized = λ sizes of. stays-within sizes of (so_far.sized sizes (first-sizes sizes of));
-        runs = runs-to-end known cut so_far.runs;
-      }
+      carried-out known so_far cut =
+          let over = faults-append turns (last_close ended.answer ∷ []) (d.counts device).faults (faults_of d last.place) (d.counts device').faults
+          (subst (λ n. FaultsOver turns n (faults_of d last.place)) (ap (λ (p : Place D d). faults_of d p) begun.place_is ∙ begun.opened.opened.no_fault) so_far.faults)
+          (faults_of d ended.place, (closes.faults, ap (λ (x : D). (d.counts x).faults) ended.device_is)) in
+          record {
+            store = begun.store;
+            opened = begun.opened;
+            asks = so_far.asks;
+            counted = so_far.counted;
+            faults = over;
+            kept = kept ∙ so_far.kept ∙ kept_first;
+            sized = λ sizes of. stays-within sizes of (so_far.sized sizes (first-sizes sizes of));
+            runs = runs-to-end known cut over so_far.runs;
+          }
 
     -- What the lines so far become
     module _ {K : Type 0} (h : sink.Ghosts K) (sink sink' : K) where
@@ -272,4 +326,4 @@ pub serves : {S K D : Type 0} (g : source.Ghosts S) (h : sink.Ghosts K) (d : dev
 serves {D} g h d cache cost source source' sink sink' device device' steps steps' status status' first last begun kept_first lines after =
     let opened = open-facts d cache (place.Closed device) (reply.Opened begun.store.count) (place.Open begun.store) (Ok begun.store, (begun.opened, (refl, refl))) (sym (ap (λ (p : Place D d). d.kept (device_of p)) begun.place_is) ∙ kept_first) in
     let closed = close-facts d last.place after.ended.answer after.ended.place after.ended.cause (ap d.kept (sym after.ended.device_is) ∙ after.kept) in
-    ends d device cache cost first begun opened device' after.closed last after.ended closed steps steps' after.kept kept_first h sink sink' g source source' status status' lines after.status_is
+    ends d device cache cost first begun opened device' after.closed last after.ended closed steps steps' after.kept after.few kept_first h sink sink' g source source' status status' lines after.status_is

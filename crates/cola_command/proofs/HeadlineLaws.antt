@@ -1,16 +1,9 @@
 -- What follows from the clauses of a session over a file.
-use Rattle.std.proofs.Common.{◌≡◌, ◌⊎◌, inl, inr, ℕ, zero, suc, ◌+◌, ◌≤◌, ◌<◌, Bool, true, false, ◌&&◌, if◌then◌else◌, List, [], ◌∷◌, ◌++◌, length, All, sum_by, Option, Some, None, Err, refl, sym, ap, ◌∙◌, subst, length-append, arith}
-use Rattle.std.specs.Prelude.{IsSomeAnd}
+use Rattle.std.proofs.Common.{◌≡◌, ◌⊎◌, inl, inr, ℕ, zero, suc, ◌+◌, ◌≤◌, ◌<◌, Bool, true, false, ◌&&◌, if◌then◌else◌, List, [], ◌∷◌, ◌++◌, All, Option, Some, None, refl, ap, arith}
 use Rattle.std.specs.List.{slice_index_or}
 use Rattle.std.proofs.lemmas.Bool.{false≢true}
 use Rattle.std.proofs.lemmas.List.Sums.{sum_by-cons}
 use Rattle.cola_outside.specs.Faults.{Rose, RoseBy}
-use Rattle.cola_device.specs.declared.device.Device as device
-use Rattle.cola_io.specs.Streams.{Taken}
-use Rattle.cola_io.specs.Reads.{bytes_read}
-use Rattle.cola_io.specs.declared.source.Source as source
-use Rattle.cola_io.specs.declared.sink.Sink as sink
-use Rattle.cola_spec.specs.Map.{Map}
 use Rattle.cola_spec.specs.Command.{Command, Put, PutIf, Del, Get, Stamp, Range, Scan, Count, Close, Reopen}
 use Rattle.cola_spec.specs.Reply as reply
 use Rattle.cola_spec.specs.Reply.{Reply}
@@ -19,16 +12,10 @@ use Rattle.cola_spec.specs.Bounds.{request_bound}
 use Rattle.cola_spec.specs.Kinds.{requests_bound}
 use Rattle.cola_spec.specs.Told.{is_costed, printed_cost}
 use Rattle.cola_line.specs.Replied.{KindFaults}
-use Rattle.cola_image.specs.Standing.{FileStandsFor}
-use Rattle.cola_store.specs.declared.fault.OpenFault.{OpenFault}
-use Rattle.cola_store.specs.declared.fault.OpenFault.TheVariants as fault
-use Rattle.cola_command.specs.File.{Sizes}
 use Rattle.cola_command.specs.Turns.{FaultsOver, cut_by, cut_by_request, cut_after}
-use Rattle.cola_command.specs.Memory.{input_limit}
-use Rattle.cola_command.specs.Headline.{FileEnds, Unopened, Status0, Status3, Status4, Status5, Status9, EndsIll, StandsAs, asked, last_close, refusal_status}
-use Rattle.cola_command.specs.HeadlineLaws.{NothingFails, NoneFaulted, AreWithin, printed_sum, unprinted_bound}
-use Rattle.cola_command.proofs.MemoryServing.{taken_of}
-use Rattle.cola_store.proofs.OpenLaws.{opens-to}
+use Rattle.cola_command.specs.Headline.{EndsIll, asked, last_close}
+use Rattle.cola_command.specs.HeadlineLaws.{NoneFaulted, AreWithin, printed_sum, unprinted_bound}
+use Rattle.cola_command.proofs.Carrying.{faulted-append}
 
 -- Faults
 
@@ -51,7 +38,7 @@ none-steps [] zero-is k d below = absurd (omega (arith, below))
 none-steps (turn ∷ turns) zero-is zero d below = none-one (kind_of turn.answer) (omega (arith, zero-is))
 none-steps (turn ∷ turns) zero-is (suc k) d below = none-steps turns (omega (arith, zero-is)) k d (omega (arith, below))
 
-by-count : (steps before now : ℕ) → RoseBy steps before now → (Rose before now → ⊥) → steps ≡ 0
+pub by-count : (steps before now : ℕ) → RoseBy steps before now → (Rose before now → ⊥) → steps ≡ 0
 by-count zero before now rose calm = refl
 by-count (suc steps) before now rose calm = absurd (calm (omega (arith, rose)))
 
@@ -144,31 +131,10 @@ cut-counts (turn ∷ turns) cut is = by-rest (cut-counts turns (cut_by_request t
         by-turn (inl before) = inl before
         by-turn (inr kind) = let one : faulted_one (kind_of turn.answer) ≡ 1 = ap faulted_one kind in inr (omega (arith, one))
 
-faulted-append : (a b : List Turn) → faulted_steps (a ++ b) ≡ faulted_steps a + faulted_steps b
-faulted-append [] b = omega arith
-faulted-append (turn ∷ a) b = let rest = faulted-append a b in omega (arith, rest)
-
-ill-counts : (turns : List Turn) (answer : Reply) → EndsIll turns answer → 0 < faulted_steps (turns ++ last_close answer ∷ [])
+pub ill-counts : (turns : List Turn) (answer : Reply) → EndsIll turns answer → 0 < faulted_steps (turns ++ last_close answer ∷ [])
 ill-counts turns answer (inl kind) = let one : faulted_one (kind_of answer) ≡ 1 = ap faulted_one kind in let whole = faulted-append turns (last_close answer ∷ []) in omega (arith, one, whole)
 ill-counts turns answer (inr cut) = by-cut (cut-counts turns false cut)
   where
     by-cut : (false ≡ true) ⊎ (0 < faulted_steps turns) → 0 < faulted_steps (turns ++ last_close answer ∷ [])
     by-cut (inl never) = absurd (false≢true never)
     by-cut (inr some) = let whole = faulted-append turns (last_close answer ∷ []) in omega (arith, some, whole)
-
--- Completeness
-
-module _ {S K D : Type 0} (g : source.Ghosts S) (h : sink.Ghosts K) (d : device.Ghosts D) (cache status steps steps' : ℕ) (cost : Bool) (m : Map) (source source' : S) (sink sink' : K) (device device' : D) where
-  pub completes : FileEnds g h d cache cost source source' sink sink' device device' steps steps' status → NothingFails g h d m source source' sink sink' device device' → (status ≡ 0) ⊎ (status ≡ 1)
-  completes (Unopened why is refused) sound =
-      let none : why ≡ fault.OutOfMemory = opens-to d cache device m (Err (device', why)) sound.stands refused.refused sound.device_answers in
-      inr (is ∙ ap refusal_status none)
-  completes (Status0 is ends) sound = inl is
-  completes (Status3 is ends) sound = absurd (sound.source_answers (omega (arith, ends.source_faults)))
-  completes (Status4 is ends) sound = absurd (sound.sink_answers (omega (arith, ends.sink_faults)))
-  completes (Status5 is ends) sound =
-      let all = ends.carried None tt in
-      let rose = faults-rise (all.turns ++ last_close all.answer ∷ []) (d.counts device).faults (d.counts device').faults all.carried.faults in
-      let some = ill-counts all.turns all.answer all.ends in
-      absurd (sound.device_answers (omega (arith, rose, some)))
-  completes (Status9 is ends) sound = absurd (omega (arith, ends.all, taken_of (bytes_read ends.reads) (g.left source) (g.left source') sound.few ends.read.took))

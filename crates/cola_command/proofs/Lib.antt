@@ -8,9 +8,13 @@ pub mod Reopening
 pub mod Asking
 pub mod Lining
 pub mod ReadingOn
-pub mod Carrying
 pub mod CutOff
-pub mod Ending
+pub mod Counting
+pub mod Moving
+pub mod Transferring
+pub mod Carrying
 pub mod HeadlineLaws
+pub mod Ending
+pub mod Completing
 pub mod Working
 pub mod OnEmpty

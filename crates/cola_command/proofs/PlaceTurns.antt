@@ -29,6 +29,7 @@ use Rattle.cola_store.specs.Store.{Stored, Holds, geometry_of}
 use Rattle.cola_store.specs.Close.{IsFileOf, IsClosed, StillOwes}
 use Rattle.cola_store.specs.Sessions.{IsStoreClosed, IsStoreOwed}
 use Rattle.cola_command.specs.File.{Sizes, sizes_of, sizes_in, shape, KeepsBehind, HasSizes, StandsBut, device_of, faults_of, IsOfSizes, IsAt}
+use Rattle.cola_command.specs.Moves.{KeepsCache}
 use Rattle.cola_command.specs.Turns.{Keeps, StepsTo, CloseCause}
 use Rattle.cola_command.proofs.StateByte.{some-state, state-is, size-large}
 
@@ -98,9 +99,14 @@ module _ {D : Type 0} (d : device.Ghosts D) where
   same-behind sizes None = tt
   same-behind sizes (Some bytes) = record { many = refl; behind = refl }
 
+  keeps-cache : (old : Place D d) → KeepsCache d old old
+  keeps-cache (Open store) = refl
+  keeps-cache (Closing closing) = tt
+  keeps-cache (Closed now) = tt
+
   -- a place that stays keeps all
   pub keeps-same : (old : Place D d) → Keeps d old old
-  keeps-same old = record { kept = refl; faults_stay = omega arith; sizes = λ sizes h. h; behind = λ sizes h. same-behind sizes (d.bytes (device_of old)) }
+  keeps-same old = record { kept = refl; faults_stay = omega arith; sizes = λ sizes h. h; behind = λ sizes h. same-behind sizes (d.bytes (device_of old)); cache_stays = keeps-cache old }
 
   -- an answer that changes nothing
   pub stays : (command : Command) (old : Place D d) (answer : Reply) → kind_of answer ≡ PlainStep
@@ -152,6 +158,7 @@ module _ {D : Type 0} (d : device.Ghosts D) where
       faults_stay = closes.closed.spends.faults_stay;
       sizes = λ sizes h. closed-keeps (Open store) closes.header store.chain.store now sizes refl closes.closed (ap sizes_of closes.header_is.geometry_is ∙ h.sizes_are) h;
       behind = λ sizes h. behind-sizes closes.header.geometry sizes (d.bytes (device-in store)) (d.bytes now) (ap sizes_of closes.header_is.geometry_is ∙ h.sizes_are) closes.closed.behind;
+      cache_stays = tt;
     };
     steps = store-closed-at store now closes;
   }
@@ -185,6 +192,7 @@ module _ {D : Type 0} (d : device.Ghosts D) where
         sizes_are = owed-sizes sizes closing (geometry_of store) owed.header_is.geometry_is h.sizes_are;
       };
       behind = λ sizes h. behind-sizes closing.header.geometry sizes (d.bytes (device-in store)) (d.bytes closing.runs.buffers.cache.device) (owed-sizes sizes closing (geometry_of store) owed.header_is.geometry_is h.sizes_are) owed.still.behind;
+      cache_stays = tt;
     };
     steps = store-owed-at store closing owed;
   }
@@ -209,6 +217,7 @@ module _ {D : Type 0} (d : device.Ghosts D) where
       faults_stay = closed.spends.faults_stay;
       sizes = λ sizes h. closed-keeps (Closing closing) closing.header closing.runs now sizes refl closed h.sizes_are h;
       behind = λ sizes h. behind-sizes closing.header.geometry sizes (d.bytes closing.runs.buffers.cache.device) (d.bytes now) h.sizes_are closed.behind;
+      cache_stays = tt;
     };
     steps = again-closed-at closing now closed;
   }
@@ -239,6 +248,7 @@ module _ {D : Type 0} (d : device.Ghosts D) where
         sizes_are = ap (λ (x : Header). sizes_of x.geometry) owes.header_is ∙ h.sizes_are;
       };
       behind = λ sizes h. behind-sizes closing.header.geometry sizes (d.bytes closing.runs.buffers.cache.device) (d.bytes still.runs.buffers.cache.device) h.sizes_are owes.behind;
+      cache_stays = tt;
     };
     steps = again-owed-at closing still owes;
   }

@@ -205,6 +205,7 @@ module _ {D : Type 0} (d : device.Ghosts D) (cache : ℕ) (before : D) where
             sizes_are = opened-sizes store opened sizes h;
           };
           behind = λ sizes h. state-behind sizes (d.bytes before) now (was-long opened.header (d.bytes before) opened.opened.was) left;
+          cache_stays = tt;
         };
         steps = opened-at store opened;
       }
@@ -220,6 +221,7 @@ module _ {D : Type 0} (d : device.Ghosts D) (cache : ℕ) (before : D) where
       sizes_are = subst (λ (t : Option (List ℕ)). IfSome t (HasSizes sizes)) (sym bytes) h.sizes_are;
     };
     behind = λ sizes h. subst (λ (t : Option (List ℕ)). Both (d.bytes before) t (KeepsBehind sizes)) (sym bytes) (same-behind d sizes (d.bytes before));
+    cache_stays = tt;
   }
 
   at-still : (now : D) → d.bytes now ≡ d.bytes before → (sizes : Sizes) (m : Map) (byte : ℕ) → IsSomeAnd (d.bytes before) (StandsBut sizes m byte) → IsSomeAnd (d.bytes now) (StandsBut sizes m byte)
@@ -345,6 +347,7 @@ module _ {D : Type 0} (d : device.Ghosts D) (cache : ℕ) (before : D) where
       faults_stay = fault-stay now failed;
       sizes = λ sizes h. let k = kept-after now failed sizes h in record { tells = k.tells; sizes_are = k.has };
       behind = λ sizes h. (kept-after now failed sizes h).behind;
+      cache_stays = tt;
     };
     steps = at-state;
   }

@@ -24,18 +24,19 @@ line_read (Some text) = Text text
 
 -- Sizes
 
--- the format, the keys and the lowest level of a file
+-- the format, the keys, the lowest level and the block of a file, of 2 ^ block_exp cells
 pub record Sizes : Type 0 where
   pub format : Format
   pub keys : ℕ
   pub bottom : ℕ
+  pub block_exp : ℕ
 
 abbrev pub sizes_of : Geometry → Sizes
-sizes_of geometry = record { format = geometry.format; keys = geometry.keys; bottom = geometry.bottom }
+sizes_of geometry = record { format = geometry.format; keys = geometry.keys; bottom = geometry.bottom; block_exp = geometry.block_exp }
 
 -- those that a header says
 abbrev pub sizes_in : Fields → Sizes
-sizes_in header = record { format = header.format; keys = header.keys; bottom = header.bottom }
+sizes_in header = record { format = header.format; keys = header.keys; bottom = header.bottom; block_exp = header.block_exp }
 
 -- the maps that a file of these sizes may stand for
 abbrev pub shape : Sizes → Shape

@@ -1,6 +1,7 @@
 -- How a session over the file of a device ends: what it read, carried out and wrote, and what it leaves of the file, by its status.
-use Rattle.std.specs.Prelude.{ℕ, zero, suc, ◌≡◌, ◌+◌, ◌≤◌, ◌<◌, ◌⊎◌, Bool, true, false, List, [], ◌∷◌, ◌++◌, length, map, take, All, Option, Some, None, Err, IfSome, IsSomeAnd, ⊤}
+use Rattle.std.specs.Prelude.{ℕ, zero, suc, ◌≡◌, ◌+◌, ◌≤◌, ◌⊎◌, Bool, true, false, List, [], ◌∷◌, ◌++◌, length, map, take, All, Option, Err, IfSome, IsSomeAnd, ⊤}
 use Rattle.std.specs.List.{flat_map}
+use Rattle.cola_outside.specs.Faults.{Rose}
 use Rattle.cola_outside.specs.Told.{Both}
 use Rattle.cola_cell.specs.declared.format.Format.{Format}
 use Rattle.cola_device.specs.declared.device.Device as device
@@ -24,7 +25,9 @@ use Rattle.cola_command.specs.declared.place.Place.TheVariants as place
 use Rattle.cola_store.specs.Store.{Stored}
 use Rattle.cola_store.specs.Sessions.{OpensStore, IsStoreOpened}
 use Rattle.cola_command.specs.File.{Sizes, shape, sizes_in, KeepsBehind, StandsBut, IsOfSizes}
+use Rattle.cola_command.specs.RunTransfers.{FewTransfers}
 use Rattle.cola_command.specs.Turns.{FaultsOver, cut_after}
+use Rattle.cola_command.specs.Memory.{input_limit}
 use Rattle.cola_command.specs.Ends.{ReadToEnd, SourceFailed, SinkFailed, Spent}
 
 -- The file
@@ -79,7 +82,7 @@ module _ {D : Type 0} (d : device.Ghosts D) (cache : ℕ) (device device' : D) (
     pub behind : Both (d.bytes device) (d.bytes device') (KeepsBehind sizes)
 
   module _ (Left : Sizes → State → Option (List ℕ) → Type 0) where
-    -- the turns are those of the lines in the file's format, and a run of the session machine from the map that the file stood for; the close at the end is one more step, after which the file is left so
+    -- the turns are those of the lines in the file's format, and a run of the session machine from the map that the file stood for; the close at the end is one more step, after which the file is left so; and where no fault was counted, the reads and writes are few
     pub record RunsToEnd (known : Known) (lines : List Line) (turns : List Turn) (answer : Reply) : Type 0 where
       pub asks : asked turns ≡ flat_map (line_requests (shape known.sizes)) lines
       pub last : State
@@ -87,6 +90,7 @@ module _ {D : Type 0} (d : device.Ghosts D) (cache : ℕ) (device device' : D) (
       pub end : State
       pub close : Step (shape known.sizes) last (last_close answer) end
       pub left : Left known.sizes end (d.bytes device')
+      pub few : (Rose (d.counts device).faults (d.counts device').faults → ⊥) → length turns ≤ input_limit → FewTransfers known.sizes cache turns (d.counts device) (d.counts device')
 
     -- the file was opened, lines were carried out by turns, and the session was closed with this answer: the cell accesses are those of the turns; the device's count of faults rises in each faulted one and in no other, the close at the end among them; and what the device keeps stays
     pub record CarriedOut (known : Option Known) (lines : List Line) (turns : List Turn) (answer : Reply) : Type 0 where

@@ -1,15 +1,25 @@
 -- Words of the laws of sessions over a file.
-use Rattle.std.specs.Prelude.{ℕ, ◌≡◌, ◌≤◌, ◌<◌, Bool, ◌&&◌, if◌then◌else◌, List, length, sum_by, All, Option, IsSomeAnd}
+use Rattle.std.specs.Prelude.{ℕ, ◌≡◌, ◌≤◌, ◌<◌, ◌⊎◌, Bool, ◌&&◌, if◌then◌else◌, List, [], ◌∷◌, length, sum_by, All, Some, IsSomeAnd}
+use Rattle.std.specs.List.{flat_map}
 use Rattle.cola_outside.specs.Faults.{Rose}
 use Rattle.cola_device.specs.declared.device.Device as device
+use Rattle.cola_io.specs.Streams.{Appended}
 use Rattle.cola_io.specs.declared.source.Source as source
 use Rattle.cola_io.specs.declared.sink.Sink as sink
-use Rattle.cola_spec.specs.Map.{Map}
-use Rattle.cola_spec.specs.Machine.{Turn, FaultedStep, kind_of}
+use Rattle.cola_spec.specs.Map.{Shape, Map}
+use Rattle.cola_spec.specs.Lines.{Line}
+use Rattle.cola_spec.specs.Command.{Close, Reopen, line_requests}
+use Rattle.cola_spec.specs.Reply.{Refused, Memory}
+use Rattle.cola_spec.specs.Machine.{State, Open, Turn, FaultedStep, kind_of, plain_reply, plain_after, turns_text}
 use Rattle.cola_spec.specs.Bounds.{request_bound}
 use Rattle.cola_spec.specs.Told.{is_costed, printed_cost}
 use Rattle.cola_image.specs.Standing.{FileStandsFor}
+use Rattle.cola_store.specs.declared.fault.OpenFault.TheVariants as fault
 use Rattle.cola_command.specs.Memory.{input_limit}
+use Rattle.cola_command.specs.File.{Sizes, shape}
+use Rattle.cola_command.specs.Ends.{ReadToEnd}
+use Rattle.cola_command.specs.RunTransfers.{FewTransfers}
+use Rattle.cola_command.specs.Headline.{StandsAs, IsLeftWhole, NotOpened, asked}
 
 -- the file stands for a map, the source tells fewer bytes than may be taken, and no count of faults rose
 pub record NothingFails {S K D : Type 0} (g : source.Ghosts S) (h : sink.Ghosts K) (d : device.Ghosts D) (m : Map) (source source' : S) (sink sink' : K) (device device' : D) : Type 0 where
@@ -18,6 +28,42 @@ pub record NothingFails {S K D : Type 0} (g : source.Ghosts S) (h : sink.Ghosts 
   pub source_answers : Rose (g.faults source) (g.faults source') → ⊥
   pub sink_answers : Rose (h.faults sink) (h.faults sink') → ⊥
   pub device_answers : Rose (d.counts device).faults (d.counts device').faults → ⊥
+
+-- turns from a state to a last one: each is the one plain step, or an opening that found no memory, which changes nothing
+abbrev pub PlainRun : Shape → State → List Turn → State → Type 0
+PlainRun shape state [] last = last ≡ state
+PlainRun shape state (turn ∷ turns) last =
+    ((turn.answer ≡ plain_reply shape state turn.request) × PlainRun shape (plain_after shape state turn.request) turns last)
+    ⊎ ((turn.request ≡ Some Reopen) × ((turn.answer ≡ Refused Memory) × PlainRun shape state turns last))
+
+module _ {K D : Type 0} (h : sink.Ghosts K) (d : device.Ghosts D) (cost : Bool) (m : Map) (sink sink' : K) (device device' : D) where
+  -- the lines were answered as by the map that the file stood for, but that an opening may have found no memory; these replies were written; and the file stands for the last map
+  pub record AnsweredPlainly (lines : List Line) : Type 0 where
+    pub sizes : Sizes
+    pub stood : IsSomeAnd (d.bytes device) (StandsAs sizes m)
+    pub turns : List Turn
+    pub asks : asked turns ≡ flat_map (line_requests (shape sizes)) lines
+    pub last : State
+    pub run : PlainRun (shape sizes) (Open m) turns last
+    pub wrote : Appended (turns_text cost turns) (h.written sink) (h.written sink')
+    pub end : State
+    pub close : end ≡ plain_after (shape sizes) last (Some Close)
+    pub stands : IsLeftWhole sizes end (d.bytes device')
+
+  -- the lines were answered by turns, of which the reads and writes are few
+  pub record TransferredFew (cache : ℕ) (lines : List Line) : Type 0 where
+    pub sizes : Sizes
+    pub stood : IsSomeAnd (d.bytes device) (StandsAs sizes m)
+    pub turns : List Turn
+    pub asks : asked turns ≡ flat_map (line_requests (shape sizes)) lines
+    pub wrote : Appended (turns_text cost turns) (h.written sink) (h.written sink')
+    pub few : FewTransfers sizes cache turns (d.counts device) (d.counts device')
+
+module _ {S K D : Type 0} (g : source.Ghosts S) (h : sink.Ghosts K) (d : device.Ghosts D) (cache : ℕ) (cost : Bool) (m : Map) (source source' : S) (sink sink' : K) (device device' : D) (steps steps' : ℕ) where
+  -- how a session ends where nothing fails: all lines are answered plainly, or there was no memory for its store
+  pub data Completes (status : ℕ) : Type 0 where
+    Answered : status ≡ 0 → ReadToEnd g h source source' sink sink' (AnsweredPlainly h d cost m sink sink' device device') → Completes status
+    OutOfMemory : status ≡ 1 → NotOpened g h d cache cost source source' sink sink' device device' steps steps' fault.OutOfMemory → Completes status
 
 -- no turn is faulted
 abbrev pub NoneFaulted : List Turn → Type 0

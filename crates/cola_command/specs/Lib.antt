@@ -1,6 +1,8 @@
 pub mod Memory
 pub mod Ends
 pub mod File
+pub mod RunTransfers
+pub mod Moves
 pub mod Turns
 pub mod Headline
 pub mod HeadlineLaws

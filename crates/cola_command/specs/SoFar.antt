@@ -9,10 +9,11 @@ use Rattle.cola_io.specs.declared.sink.Sink as sink
 use Rattle.cola_spec.specs.Lines.{Line}
 use Rattle.cola_spec.specs.Command.{line_requests}
 use Rattle.cola_spec.specs.Machine as machine
-use Rattle.cola_spec.specs.Machine.{Turn, turns_text, ticks_of}
+use Rattle.cola_spec.specs.Machine.{Turn, turns_text, ticks_of, faulted_steps}
 use Rattle.cola_spec.specs.Bounds.{request_bound}
 use Rattle.cola_command.specs.declared.file.Session.{Session}
 use Rattle.cola_command.specs.File.{Sizes, shape, KeepsBehind, device_of, faults_of, IsOfSizes}
+use Rattle.cola_command.specs.Moves.{AreFew, AllMove}
 use Rattle.cola_command.specs.Turns.{FaultsOver, cut_after, SessionAt, RunsTo, Ended}
 use Rattle.cola_command.specs.Ends.{ReadToEnd, SourceFailed, SinkFailed, Spent}
 use Rattle.cola_command.specs.Headline.{Known, asked, AreAsked, WroteFront}
@@ -28,10 +29,11 @@ module _ {D : Type 0} (d : device.Ghosts D) (first now : Session D d) where
     pub within : All (λ (turn : Turn). turn.ticks ≤ request_bound (sizes.bottom + 1) turn.request) turns
     pub behind : Both (d.bytes (device_of first.place)) (d.bytes (device_of now.place)) (KeepsBehind sizes)
 
-  -- the turns are those of the lines in the file's format, and lead the session machine from the map that the store held to where the session is
+  -- the turns are those of the lines in the file's format, and lead the session machine from the map that the store held to where the session is; and, where none is faulted, each moves the store and its device's counts as it may
   pub record RunsSoFar (known : Known) (lines : List Line) (turns : List Turn) : Type 0 where
     pub asks : asked turns ≡ flat_map (line_requests (shape known.sizes)) lines
     pub runs : RunsTo d known.sizes (machine.Open known.map) turns now
+    pub moves : faulted_steps turns ≡ 0 → AllMove d known.sizes first.cache turns first.place now.place
 
   -- lines were carried out by turns
   pub record SoFar (steps steps' : ℕ) (known : Option Known) (lines : List Line) (turns : List Turn) : Type 0 where
@@ -40,6 +42,7 @@ module _ {D : Type 0} (d : device.Ghosts D) (first now : Session D d) where
     pub faults : FaultsOver turns (faults_of d first.place) (faults_of d now.place)
     pub kept : d.kept (device_of now.place) ≡ d.kept (device_of first.place)
     pub cut_off : now.cut_off ≡ cut_after turns first.cut_off
+    pub cache_is : now.cache ≡ first.cache
     pub cost_is : now.cost ≡ first.cost
     pub sized : (sizes : Sizes) → IsOfSizes d sizes first.place → StillOf sizes turns
     pub runs : IfSome known (λ known. RunsSoFar known lines turns)
@@ -80,4 +83,5 @@ pub record EndsAfter {D : Type 0} (d : device.Ghosts D) (session : Session D d) 
   pub closed : Bool
   pub ended : Ended d session device' closed
   pub kept : d.kept device' ≡ d.kept (device_of session.place)
+  pub few : AreFew d session.place
   pub status_is : status' ≡ end_status status session.cut_off closed

@@ -24,6 +24,7 @@ use Rattle.cola_store.specs.Store.{Stored}
 use Rattle.cola_store.specs.Close.{IsClosed, StillOwes}
 use Rattle.cola_store.specs.Sessions.{OpensStore, IsStoreOpened, ClosesStore}
 use Rattle.cola_command.specs.File.{Sizes, shape, KeepsBehind, device_of, depth_of, format_of, faults_of, IsOfSizes, IsAt}
+use Rattle.cola_command.specs.Moves.{KeepsCache}
 
 -- Replies
 
@@ -109,12 +110,13 @@ FaultsOver [] before now = now ≡ before
 FaultsOver (turn ∷ turns) before now = (between : ℕ) × (KindFaults (kind_of turn.answer) before between × FaultsOver turns between now)
 
 module _ {D : Type 0} (d : device.Ghosts D) where
-  -- what a line keeps on every device: what the device keeps, and, where it tells its bytes, their number and those behind the cells; and the device's count of faults does not fall
+  -- what a line keeps on every device: what the device keeps, and, where it tells its bytes, their number and those behind the cells; a store that stays open keeps its cache; and the device's count of faults does not fall
   pub record Keeps (old new : Place D d) : Type 0 where
     pub kept : d.kept (device_of new) ≡ d.kept (device_of old)
     pub faults_stay : faults_of d old ≤ faults_of d new
     pub sizes : (sizes : Sizes) → IsOfSizes d sizes old → IsOfSizes d sizes new
     pub behind : (sizes : Sizes) → IsOfSizes d sizes old → Both (d.bytes (device_of old)) (d.bytes (device_of new)) (KeepsBehind sizes)
+    pub cache_stays : KeepsCache d old new
 
   -- a session over a file of these sizes is at a state
   pub record SessionAt (sizes : Sizes) (session : Session D d) (state : State) : Type 0 where

@@ -22,6 +22,7 @@ pub use laws::{memory_sessions_complete, new_files_complete, session_limits};
 pub use place::Place;
 pub use program::{Served, serve};
 pub use serving_laws::{
-    file_sessions_complete, files_stand, turns_count_faults, turns_keep_bounds,
+    file_sessions_complete, file_sessions_transfer_few, files_stand, stores_of_turns,
+    turns_count_faults, turns_keep_bounds,
 };
 pub use workload::new_workloads_complete;

@@ -6,6 +6,7 @@ ghost use Rattle.cola_line.specs.Replied.{Wrote, reply_of};
 ghost use Rattle.cola_line.specs.Spoken.{spoken, CommandFits, IsOfTable};
 ghost use Rattle.cola_cell.specs.declared.format.Format.{Format};
 ghost use Rattle.cola_command.specs.File.{device_of, format_of, line_read};
+ghost use Rattle.cola_command.specs.Moves.{AreFew};
 ghost use Rattle.cola_command.specs.Turns.{Begins, Carried, SameTerms, Turned, Ended, cut_by, cut_by_request, device_begun};
 
 use crate::file::Session;
@@ -38,6 +39,19 @@ fn cut_after(reply: &Reply, before: bool) -> bool
         Reply::Failed(Failure::Fault) => true,
         Reply::Opened(_) => false,
         _ => before,
+    }
+}
+
+/// Says how many reads and writes an open store made at most since its opening. Nothing is done.
+fn know_transfers<D: Device>(place: &Place<D>)
+    ensures { AreFew D.Device place.now }
+{
+    match place {
+        Place::Open(store) => {
+            let (_reads, _writes) = store.transfers();
+        }
+        Place::Closing(_) => {}
+        Place::Closed(_) => {}
     }
 }
 
@@ -193,10 +207,12 @@ impl<D: Device> Session<D> {
     ) -> (Session<D>, Result<(), SinkFault>)
         ensures line { (state : State) → (turns : List Turn) × Carried ⟦<Store<D> as Table>⟧ D.Device K.Sink state (line_read (option_copied text.entry)) result.1 self result.0 sink.old sink.new steps.old steps.new turns }
         ensures terms { SameTerms self result.0 }
+        ensures few { AreFew D.Device self.place }
         ensures faults_counted { CountsFaults result.1 (K.faults sink.old) (K.faults sink.new) }
         ensures faults_kept { K.faults sink.old ≤ K.faults sink.new }
     {
         let mut session = self;
+        know_transfers(&session.place);
         session.format = format_of(&session.place, session.format);
         let Some(text) = text else {
             let written = write_reply(&Reply::Bad, session.cost, 0, sink);
@@ -226,8 +242,10 @@ impl<D: Device> Session<D> {
     pub fn end(self) -> (D, bool)
         ensures ended { Ended D.Device self result.0 result.1 }
         ensures kept { D.kept result.0 ≡ D.kept (device_of self.place) }
+        ensures few { AreFew D.Device self.place }
     {
         let Session { place, .. } = self;
+        know_transfers(&place);
         let (place, _) = close(place);
         match place {
             Place::Open(_) => unreachable!(),

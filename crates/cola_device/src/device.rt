@@ -4,12 +4,15 @@ ghost use Rattle.cola_device.specs.declared.counts.Counts.{Counts};
 ghost use Rattle.cola_device.specs.Bytes.{IsEmpty, HasSize, HasRange, Gives, LaidOut, Wrote};
 ghost use Rattle.cola_device.specs.Counts.{Called};
 
+use thiserror::Error;
+
 /// At most so many bytes are read or written at once: the largest block. The law
 /// [`crate::laws::largest_transfer`] has the number.
 pub const MAX_TRANSFER: usize = 65_536;
 
 /// A device refused a call.
-#[derive(Clone, Copy, Debug, PartialEq, Eq)]
+#[derive(Clone, Copy, Debug, PartialEq, Eq, Error)]
+#[error("the device failed: try again")]
 pub struct DeviceFault;
 
 /// So many bytes, read and written at any place. A device may tell which bytes it holds: what is said of

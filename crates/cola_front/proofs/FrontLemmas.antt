@@ -10,13 +10,9 @@ use Rattle.cola_cell.specs.Spelling.{IsSpelling}
 use Rattle.cola_cell.specs.Decoded.{decoded, spelling}
 use Rattle.cola_cell.proofs.Unique as unique
 use Rattle.cola_cell.proofs.DecodedLemmas.{spelled-so, decoded_spells, decoded_is}
-use Rattle.cola_device.specs.Bytes.{part, splice}
+use Rattle.cola_device.specs.Bytes.{splice}
 use Rattle.cola_front.specs.Front.{cell_bytes, stored, stored_all, ComesBack}
 use borrow.Rule.Slice.PartMut.{put_mid}
-
--- what a slice from a place on gives
-pub between_is_part : (bytes : List ℕ) (at count : ℕ) → take (at + count - at) (drop at bytes) ≡ part bytes at count
-between_is_part bytes at count = ap (λ (n : ℕ). take n (drop at bytes)) (omega arith)
 
 -- what was written to a part of a slice
 pub put_is_splice : (bytes : List ℕ) (at count : ℕ) (now new : List ℕ) → now ≡ new → length new ≡ count → put_mid at (at + count - at) bytes now ≡ splice bytes at new

@@ -10,21 +10,14 @@ ghost use Rattle.cola_front.specs.Front.{cell_bytes, stored, stored_all, ComesBa
 use cola_cell::{Cell, Format, Item, decode, decode_wide, encode, encode_wide};
 
 /// The cell at a place of a block, which is counted in cells, or none where its bytes spell none.
+#[inline]
 pub fn cell_in(format: Format, block: &[u8], place: usize) -> Option<Cell>
     requires { width format * place + width format ≤ length block.now }
     ensures { result ≡ decoded format (cell_bytes format block.now place) }
 {
     match format {
-        Format::One => {
-            let mut spelled = [0u8; 64];
-            spelled.copy_from_slice(&block[64 * place..64 * place + 64]);
-            decode(&spelled)
-        }
-        Format::Two => {
-            let mut spelled = [0u8; 128];
-            spelled.copy_from_slice(&block[128 * place..128 * place + 128]);
-            decode_wide(&spelled)
-        }
+        Format::One => decode(block[64 * place..64 * place + 64].first_chunk()?),
+        Format::Two => decode_wide(block[128 * place..128 * place + 128].first_chunk()?),
     }
 }
 
@@ -59,6 +52,7 @@ fn spelled_wide(cell: &Option<Cell>) -> [u8; 128]
 }
 
 /// Puts the bytes of a place into a block, which is counted in cells: zeros where no cell stands.
+#[inline]
 pub fn put_cell(format: Format, block: &mut [u8], place: usize, cell: &Option<Cell>)
     requires inside { width format * place + width format ≤ length block.old }
     requires comes_back { ComesBack format cell.now }

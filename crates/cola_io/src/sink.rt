@@ -3,8 +3,11 @@ ghost use Rattle.std.specs.Prelude.{◌≡◌, ◌<◌, ◌≤◌, ℕ, List, Op
 ghost use Rattle.cola_io.specs.Streams.{Appended, WriteAppends};
 ghost use Rattle.cola_io.specs.Counted.{CountsFaults};
 
+use thiserror::Error;
+
 /// A sink could not be written. Nothing was appended to it.
-#[derive(Clone, Copy, Debug, Drop, PartialEq, Eq)]
+#[derive(Clone, Copy, Debug, Drop, PartialEq, Eq, Error)]
+#[error("the sink could not be written")]
 pub struct SinkFault;
 
 /// A sink of bytes, which are appended in order.

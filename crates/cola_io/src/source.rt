@@ -4,8 +4,11 @@ ghost use Rattle.std.specs.Io.KnownBytes.{IsAtEnd};
 ghost use Rattle.cola_io.specs.Streams.{ReadTakes, given};
 ghost use Rattle.cola_io.specs.Counted.{CountsFaults};
 
+use thiserror::Error;
+
 /// A source could not be read. Nothing was taken from it.
-#[derive(Clone, Copy, Debug, Drop, PartialEq, Eq)]
+#[derive(Clone, Copy, Debug, Drop, PartialEq, Eq, Error)]
+#[error("the source could not be read")]
 pub struct SourceFault;
 
 /// A source of bytes, which are taken in order and once.

@@ -166,3 +166,19 @@ fn last_numbers(rt: HostRuntime) {
     assert!(rt; is_spelling(&with_byte(two, 47, 128)));
     assert!(rt; !is_spelling(&with_byte(two, 47, 129)));
 }
+
+#[test]
+fn messages(rt: HostRuntime) -> Result<(), Fail> {
+    let faults = [
+        (LayoutFault::Keys, "a store is for 1 to 16777216 keys"),
+        (
+            LayoutFault::Block,
+            "a block has 2^3 to 2^9 cells, and at most as many as a slot of the lowest level",
+        ),
+    ];
+    for (fault, text) in faults {
+        let message = format!(in rt.alloc(); "{fault}")?;
+        assert_eq!(rt; message.as_str(), text);
+    }
+    Ok(())
+}

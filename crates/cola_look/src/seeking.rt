@@ -73,6 +73,7 @@ pub fn seek<W: CellSource, L: Ledger>(
 }
 
 /// What a search finds that stops at this cell.
+#[inline]
 fn seat_at(cell: &Cell, index: u32, key: &Key) -> Seat
     ensures { as_seat result ≡ seat_at key.now index (as_cell cell.now) }
 {

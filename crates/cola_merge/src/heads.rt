@@ -27,7 +27,19 @@ impl Head {
         Head { at, cell: None }
     }
 
+    /// Goes on behind the cell, where it stands.
+    #[inline]
+    pub(crate) fn pass(&mut self)
+        requires { self.old.at + 1 < 2 ^ 32 }
+        ensures { self.new ≡ head_at (self.old.at + 1) }
+    {
+        let _item: Option<Item> = None;
+        self.at += 1;
+        self.cell = None;
+    }
+
     /// Reads the head where it is not held and the feed has one.
+    #[inline]
     pub(crate) fn fetch<W: CellSource, L: Ledger>(
         &mut self,
         reader: Reader,

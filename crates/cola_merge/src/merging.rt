@@ -177,9 +177,9 @@ impl Merger {
         ensures { self.new ≡ with_head self.old reader (head_at ((head_of self.old reader).at + 1)) }
     {
         match reader {
-            Reader::Own => self.own = Head::behind(self.own.at + 1),
-            Reader::Incoming => self.incoming = Head::behind(self.incoming.at + 1),
-            Reader::Sample => self.sample = Head::behind(self.sample.at + 1),
+            Reader::Own => self.own.pass(),
+            Reader::Incoming => self.incoming.pass(),
+            Reader::Sample => self.sample.pass(),
         }
     }
 

@@ -16,6 +16,7 @@ use cola_front::block::{cell_in, know_spelling, put_cell};
 use cola_layout::Geometry;
 
 /// The number of cells of a block.
+#[inline]
 pub(crate) fn cells_of_block(geometry: &Geometry) -> u32
     ensures value { result ≡ block_cells geometry.now }
     ensures least { 8 ≤ result }
@@ -25,6 +26,7 @@ pub(crate) fn cells_of_block(geometry: &Geometry) -> u32
 }
 
 /// The number of cells of a slot of a level.
+#[inline]
 pub(crate) fn cells_of_slot(level: u8) -> u32
     requires { level ≤ 22 }
     ensures { result ≡ slot_size level }
@@ -33,6 +35,7 @@ pub(crate) fn cells_of_slot(level: u8) -> u32
 }
 
 /// Whether a cell of a slot is in the tail of its level, whose shadow stands so.
+#[inline]
 pub(crate) fn has_in_tail(geometry: &Geometry, shadow: Shadow, slot: u8, index: u32) -> bool
     ensures { result ≡ is_in_tail (block_cells geometry.now) shadow slot index }
 {
@@ -41,6 +44,7 @@ pub(crate) fn has_in_tail(geometry: &Geometry, shadow: Shadow, slot: u8, index: 
 }
 
 /// The number of a cell among those of the tails.
+#[inline]
 pub(crate) fn place_in_tails(geometry: &Geometry, level: u8, index: u32) -> usize
     requires { IsOnDevice geometry.now level }
     ensures value { result ≡ tail_number geometry.now level index }
@@ -62,6 +66,7 @@ pub(crate) fn begin_of_tail(geometry: &Geometry, level: u8) -> usize
 }
 
 /// How the shadow of a level stands.
+#[inline]
 pub(crate) fn shadow_of(shadows: &[Shadow], level: u8) -> Shadow
     requires { level < length shadows.now }
     ensures { result ≡ shadow_at shadows.now level }
@@ -96,6 +101,7 @@ pub(crate) fn saved(shadow: Shadow) -> Shadow
 }
 
 /// The number of the block in which a place lies, counted from the first byte of the file.
+#[inline]
 pub(crate) fn block_at(geometry: &Geometry, level: u8, slot: u8, index: u32) -> u64
     requires { IsPlace (geometry.now.bottom + 1) level slot index }
     ensures value { result ≡ block_number geometry.now level slot index }
@@ -105,6 +111,7 @@ pub(crate) fn block_at(geometry: &Geometry, level: u8, slot: u8, index: u32) -> 
 }
 
 /// The cell, or the number of the cell whose bytes spell none.
+#[inline]
 pub(crate) fn cell_or_bad(cell: Option<Cell>, number: u64) -> Result<Cell, ReadFault>
     ensures { result ≡ found number cell }
 {
@@ -113,6 +120,7 @@ pub(crate) fn cell_or_bad(cell: Option<Cell>, number: u64) -> Result<Cell, ReadF
 }
 
 /// Reads a cell of a level on the device by way of a buffer.
+#[inline]
 pub(crate) fn read_by_buffer<D: Device>(
     buffers: &mut Buffers<D>,
     geometry: &Geometry,

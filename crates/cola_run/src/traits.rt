@@ -22,6 +22,7 @@ use cola_outside::Steps;
 use std::sync::ledger::Ledger;
 
 /// Which of the three buffers of a level a reader has.
+#[inline]
 fn number_of_reader(reader: Reader) -> usize
     ensures { result ≡ reader_number reader }
 {
@@ -33,6 +34,7 @@ fn number_of_reader(reader: Reader) -> usize
 }
 
 /// The buffer of a reader at a level on the device, or that of searches.
+#[inline]
 fn buffer_of(geometry: &Geometry, reader: Option<Reader>, level: u8) -> usize
     requires { IsOnDevice geometry.now level }
     ensures { result ≡ buffer_index geometry.now reader level }
@@ -47,6 +49,7 @@ fn buffer_of(geometry: &Geometry, reader: Option<Reader>, level: u8) -> usize
 
 impl<D: Device> RunStore<D> {
     /// The cell at a place of a level that is in memory.
+    #[inline]
     fn read_in_front(&self, level: u8, slot: u8, index: u32) -> Result<Cell, ReadFault>
         requires place { IsPlace (self.now.geometry.bottom + 1) level slot index }
         requires front { level + 2 < self.now.geometry.block_exp }
@@ -58,6 +61,7 @@ impl<D: Device> RunStore<D> {
     }
 
     /// The cell at a place that is in the tail of its level.
+    #[inline]
     fn read_in_tail(&self, level: u8, slot: u8, index: u32) -> Result<Cell, ReadFault>
         requires place { IsPlace (self.now.geometry.bottom + 1) level slot index }
         requires device { self.now.geometry.block_exp ≤ level + 2 }
@@ -71,6 +75,7 @@ impl<D: Device> RunStore<D> {
     }
 
     /// The cell at a place, by the buffer of a reader or that of searches.
+    #[inline]
     fn read_by<L: Ledger>(
         &mut self,
         reader: Option<Reader>,

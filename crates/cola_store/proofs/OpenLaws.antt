@@ -25,7 +25,7 @@ use Rattle.cola_store.specs.declared.fault.OpenFault.{OpenFault}
 use Rattle.cola_store.specs.declared.fault.OpenFault.TheVariants.{NotStore, NotClosed, Small, Device, OutOfMemory, BadCell}
 use Rattle.cola_store.specs.Create.{file_size, new_header, IsNewFile, Created}
 use Rattle.cola_store.specs.Open.{IsSmall, IsNoStore, IsInUse, WasClosed, IsReady, HasBadCell, Opens}
-use Rattle.cola_store.specs.Sessions.{OpensStore, ClosesStore, MetNoFault, OpensTo, RefusesAs}
+use Rattle.cola_store.specs.Sessions.{OpensStore, ClosesStore, MetFault, OpensTo, RefusesAs}
 use Rattle.cola_store.specs.Store.{Stored, Holds}
 use Rattle.cola_store.proofs.Filled.{header_fits}
 use Rattle.cola_store.proofs.Opened.{slot-in}
@@ -165,48 +165,48 @@ lost-small bytes lost (inr (header, (spelled, less))) = lost.none header spelled
 
 module _ {D : Type 0} (d : device.Ghosts D) (cache : ℕ) (before : D) where
   -- the header of an opening, and that of each of its refusals that has one, is that of a closed store
-  to-refusal : (m : Map) (now : D) (fault : OpenFault) → IsSomeAnd (d.bytes before) (λ bytes. FileStandsFor bytes m) → Opens d before cache (Err (now, fault)) → MetNoFault d before (Err (now, fault)) → fault ≡ OutOfMemory
-  to-refusal m now NotStore file is calm = absurd (refute (d.bytes before) (λ bytes. FileStandsFor bytes m) IsNoStore (not-no_store m) file is.why_is)
-  to-refusal m now NotClosed file is calm = absurd (refute (d.bytes before) (λ bytes. FileStandsFor bytes m) IsInUse (not-in_use m) file is.why_is)
-  to-refusal m now Small file is calm = absurd (refute (d.bytes before) (λ bytes. FileStandsFor bytes m) IsSmall (not-small m) file is.why_is)
-  to-refusal m now Device file is calm = absurd (calm is.cause)
-  to-refusal m now OutOfMemory file is calm = refl
-  to-refusal m now (BadCell number) file (header, is) calm =
+  to-refusal : (m : Map) (now : D) (fault : OpenFault) → IsSomeAnd (d.bytes before) (λ bytes. FileStandsFor bytes m) → Opens d before cache (Err (now, fault)) → (fault ≡ OutOfMemory) ⊎ MetFault d before (now, fault)
+  to-refusal m now NotStore file is = absurd (refute (d.bytes before) (λ bytes. FileStandsFor bytes m) IsNoStore (not-no_store m) file is.why_is)
+  to-refusal m now NotClosed file is = absurd (refute (d.bytes before) (λ bytes. FileStandsFor bytes m) IsInUse (not-in_use m) file is.why_is)
+  to-refusal m now Small file is = absurd (refute (d.bytes before) (λ bytes. FileStandsFor bytes m) IsSmall (not-small m) file is.why_is)
+  to-refusal m now Device file is = inr (refl, is.cause)
+  to-refusal m now OutOfMemory file is = inl refl
+  to-refusal m now (BadCell number) file (header, is) =
       absurd (refute (d.bytes before) (λ bytes. FileStandsFor bytes m) (HasBadCell header number) (λ bytes f. not-bad_cell m bytes f header number) file is.why_is)
 
   pub holds-so : (m : Map) (store : Stored D) (told : Option (List ℕ)) → IsSomeAnd told (λ bytes. FileStandsFor bytes m) → IfSome told (λ bytes. (n : Map) → FileStandsFor bytes n → Holds d.bytes store n) → Holds d.bytes store m
   holds-so m store None file holds = absurd file
   holds-so m store (Some bytes) file holds = holds m file
 
-  pub opens-to : (m : Map) (result : Result (Stored D) (D × OpenFault)) → IsSomeAnd (d.bytes before) (λ bytes. FileStandsFor bytes m) → OpensStore d before cache result → MetNoFault d before result → OpensTo d m result
-  opens-to m (Ok store) file is calm = holds-so m store (d.bytes before) file is.holds
-  opens-to m (Err refusal) file is calm = to-refusal m refusal.0 refusal.1 file is calm
+  pub opens-to : (m : Map) (result : Result (Stored D) (D × OpenFault)) → IsSomeAnd (d.bytes before) (λ bytes. FileStandsFor bytes m) → OpensStore d before cache result → OpensTo d before m result
+  opens-to m (Ok store) file is = holds-so m store (d.bytes before) file is.holds
+  opens-to m (Err refusal) file is = to-refusal m refusal.0 refusal.1 file is
 
-  used-refusal : (now : D) (fault : OpenFault) → IsSomeAnd (d.bytes before) IsUsed → Opens d before cache (Err (now, fault)) → MetNoFault d before (Err (now, fault)) → fault ≡ NotClosed
-  used-refusal now NotStore file is calm = absurd (refute (d.bytes before) IsUsed IsNoStore used-no_store file is.why_is)
-  used-refusal now NotClosed file is calm = refl
-  used-refusal now Small file is calm = absurd (refute (d.bytes before) IsUsed IsSmall used-small file is.why_is)
-  used-refusal now Device file is calm = absurd (calm is.cause)
-  used-refusal now OutOfMemory file is calm = absurd (refute (d.bytes before) IsUsed (λ bytes. (header : Header) × WasClosed header bytes) (λ bytes used closed. used-closed bytes used closed.0 closed.1) file is.why_is)
-  used-refusal now (BadCell number) file (header, is) calm = absurd (refute (d.bytes before) IsUsed (HasBadCell header number) (λ bytes used bad. used-closed bytes used header bad.was) file is.why_is)
+  used-refusal : (now : D) (fault : OpenFault) → IsSomeAnd (d.bytes before) IsUsed → Opens d before cache (Err (now, fault)) → (fault ≡ NotClosed) ⊎ MetFault d before (now, fault)
+  used-refusal now NotStore file is = absurd (refute (d.bytes before) IsUsed IsNoStore used-no_store file is.why_is)
+  used-refusal now NotClosed file is = inl refl
+  used-refusal now Small file is = absurd (refute (d.bytes before) IsUsed IsSmall used-small file is.why_is)
+  used-refusal now Device file is = inr (refl, is.cause)
+  used-refusal now OutOfMemory file is = absurd (refute (d.bytes before) IsUsed (λ bytes. (header : Header) × WasClosed header bytes) (λ bytes used closed. used-closed bytes used closed.0 closed.1) file is.why_is)
+  used-refusal now (BadCell number) file (header, is) = absurd (refute (d.bytes before) IsUsed (HasBadCell header number) (λ bytes used bad. used-closed bytes used header bad.was) file is.why_is)
 
-  pub used-answer : (closed : List ℕ) (m : Map) (result : Result (Stored D) (D × OpenFault)) → FileStandsFor closed m → d.bytes before ≡ Some (with_state 1 closed) → OpensStore d before cache result → MetNoFault d before result → RefusesAs NotClosed result
-  used-answer closed m (Ok store) file told is calm =
+  pub used-answer : (closed : List ℕ) (m : Map) (result : Result (Stored D) (D × OpenFault)) → FileStandsFor closed m → d.bytes before ≡ Some (with_state 1 closed) → OpensStore d before cache result → RefusesAs d before NotClosed result
+  used-answer closed m (Ok store) file told is =
       absurd (refute (d.bytes before) IsUsed (IsReady is.header) (λ bytes used ready. used-closed bytes used is.header ready.was) (subst (λ (t : Option (List ℕ)). IsSomeAnd t IsUsed) (sym told) (used-file m closed file)) is.opened.was)
-  used-answer closed m (Err refusal) file told is calm = used-refusal refusal.0 refusal.1 (subst (λ (t : Option (List ℕ)). IsSomeAnd t IsUsed) (sym told) (used-file m closed file)) is calm
+  used-answer closed m (Err refusal) file told is = used-refusal refusal.0 refusal.1 (subst (λ (t : Option (List ℕ)). IsSomeAnd t IsUsed) (sym told) (used-file m closed file)) is
 
-  lost-refusal : (now : D) (fault : OpenFault) → IsSomeAnd (d.bytes before) IsLost → Opens d before cache (Err (now, fault)) → MetNoFault d before (Err (now, fault)) → fault ≡ NotStore
-  lost-refusal now NotStore file is calm = refl
-  lost-refusal now NotClosed file is calm = absurd (refute (d.bytes before) IsLost IsInUse (λ bytes lost used. lost.none used.0 used.1.0.spelled) file is.why_is)
-  lost-refusal now Small file is calm = absurd (refute (d.bytes before) IsLost IsSmall lost-small file is.why_is)
-  lost-refusal now Device file is calm = absurd (calm is.cause)
-  lost-refusal now OutOfMemory file is calm = absurd (refute (d.bytes before) IsLost (λ bytes. (header : Header) × WasClosed header bytes) (λ bytes lost closed. lost.none (fields_of closed.0) closed.1.has.spelled) file is.why_is)
-  lost-refusal now (BadCell number) file (header, is) calm = absurd (refute (d.bytes before) IsLost (HasBadCell header number) (λ bytes lost bad. lost.none (fields_of header) bad.was.has.spelled) file is.why_is)
+  lost-refusal : (now : D) (fault : OpenFault) → IsSomeAnd (d.bytes before) IsLost → Opens d before cache (Err (now, fault)) → (fault ≡ NotStore) ⊎ MetFault d before (now, fault)
+  lost-refusal now NotStore file is = inl refl
+  lost-refusal now NotClosed file is = absurd (refute (d.bytes before) IsLost IsInUse (λ bytes lost used. lost.none used.0 used.1.0.spelled) file is.why_is)
+  lost-refusal now Small file is = absurd (refute (d.bytes before) IsLost IsSmall lost-small file is.why_is)
+  lost-refusal now Device file is = inr (refl, is.cause)
+  lost-refusal now OutOfMemory file is = absurd (refute (d.bytes before) IsLost (λ bytes. (header : Header) × WasClosed header bytes) (λ bytes lost closed. lost.none (fields_of closed.0) closed.1.has.spelled) file is.why_is)
+  lost-refusal now (BadCell number) file (header, is) = absurd (refute (d.bytes before) IsLost (HasBadCell header number) (λ bytes lost bad. lost.none (fields_of header) bad.was.has.spelled) file is.why_is)
 
-  pub lost-answer : (state : ℕ) (closed : List ℕ) (m : Map) (result : Result (Stored D) (D × OpenFault)) → 1 < state → FileStandsFor closed m → d.bytes before ≡ Some (with_state state closed) → OpensStore d before cache result → MetNoFault d before result → RefusesAs NotStore result
-  lost-answer state closed m (Ok store) h file told is calm =
+  pub lost-answer : (state : ℕ) (closed : List ℕ) (m : Map) (result : Result (Stored D) (D × OpenFault)) → 1 < state → FileStandsFor closed m → d.bytes before ≡ Some (with_state state closed) → OpensStore d before cache result → RefusesAs d before NotStore result
+  lost-answer state closed m (Ok store) h file told is =
       absurd (refute (d.bytes before) IsLost (IsReady is.header) (λ bytes lost ready. lost.none (fields_of is.header) ready.was.has.spelled) (subst (λ (t : Option (List ℕ)). IsSomeAnd t IsLost) (sym told) (lost-file state m closed h file)) is.opened.was)
-  lost-answer state closed m (Err refusal) h file told is calm = lost-refusal refusal.0 refusal.1 (subst (λ (t : Option (List ℕ)). IsSomeAnd t IsLost) (sym told) (lost-file state m closed h file)) is calm
+  lost-answer state closed m (Err refusal) h file told is = lost-refusal refusal.0 refusal.1 (subst (λ (t : Option (List ℕ)). IsSomeAnd t IsLost) (sym told) (lost-file state m closed h file)) is
 
 -- ---- files that stand for a map
 

@@ -218,11 +218,13 @@ module _ {D : Type 0} (bytes : D → Option (List ℕ)) (counts : D → Counts) 
   StepsBy old new key item count last (Ok a) = Changed old new key item count last
   StepsBy old new key item count last (Err fault) = Unchanged old new fault
 
-  -- the same, over the same geometry, and how the chain counts it
+  -- the same, over the same geometry; how the chain counts it; and the device's counts of reads and writes do not fall
   pub record Steps {A : Type 0} (old new : Stored D) (key : List ℕ) (item : Item) (count last : ℕ) (result : Result A StepFault) : Type 0 where
     pub by : StepsBy old new key item count last result
     pub geometry_is : geometry_of new ≡ geometry_of old
     pub counts_step : CountsStep counts old.chain new.chain result
+    pub turned_stays : (spent_of counts old).turned ≤ (spent_of counts new).turned
+    pub written_stays : (spent_of counts old).written ≤ (spent_of counts new).written
 
   -- Puts and deletes
 

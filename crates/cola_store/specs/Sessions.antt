@@ -1,5 +1,5 @@
 -- What opening and closing a store answer, with its chain, its count, its last number and its account.
-use Rattle.std.specs.Prelude.{◌≡◌, ℕ, true, List, Option, Result, Ok, Err, IfSome, MatchResult}
+use Rattle.std.specs.Prelude.{◌≡◌, ◌⊎◌, ℕ, true, List, Option, Result, Ok, Err, IfSome, MatchResult}
 use Rattle.std.specs.Result.{IsErrAnd}
 use Rattle.cola_outside.specs.Faults.{Rose}
 use Rattle.cola_device.specs.declared.device.Device as device
@@ -11,7 +11,7 @@ use Rattle.cola_image.specs.Standing.{FileStandsFor}
 use Rattle.cola_run.specs.Store as run
 use Rattle.cola_store.specs.declared.closing.Closing.{Closing}
 use Rattle.cola_store.specs.declared.fault.OpenFault.{OpenFault}
-use Rattle.cola_store.specs.declared.fault.OpenFault.TheVariants.{OutOfMemory}
+use Rattle.cola_store.specs.declared.fault.OpenFault.TheVariants.{Device, OutOfMemory}
 use Rattle.cola_store.specs.Store.{Stored, new_account, Holds, HasRead, geometry_of}
 use Rattle.cola_store.specs.Runs.{StoreStandsFor}
 use Rattle.cola_store.specs.Open.{IsOpened, Opens}
@@ -71,14 +71,14 @@ module _ {D : Type 0} (d : device.Ghosts D) where
 
   -- Laws
 
-  -- an opening met no fault
-  abbrev pub MetNoFault : D → Result (Stored D) (D × OpenFault) → Type 0
-  MetNoFault before result = Rose (d.counts before).faults (d.counts (device_of result)).faults → ⊥
+  -- an opening was refused by the device, whose count of faults rose
+  abbrev pub MetFault : D → D × OpenFault → Type 0
+  MetFault before refusal = (refusal.1 ≡ Device) × Rose (d.counts before).faults (d.counts refusal.0).faults
 
-  -- it gave a store that holds the map, or there was no memory for one
-  abbrev pub OpensTo : Map → Result (Stored D) (D × OpenFault) → Type 0
-  OpensTo m result = MatchResult result (λ store. Holds d.bytes store m) (λ refusal. refusal.1 ≡ OutOfMemory)
+  -- it gave a store that holds the map, or there was no memory for one, or the device failed
+  abbrev pub OpensTo : D → Map → Result (Stored D) (D × OpenFault) → Type 0
+  OpensTo before m result = MatchResult result (λ store. Holds d.bytes store m) (λ refusal. (refusal.1 ≡ OutOfMemory) ⊎ MetFault before refusal)
 
--- an opening was refused for this reason
-abbrev pub RefusesAs : {D : Type 0} → OpenFault → Result (Stored D) (D × OpenFault) → Type 0
-RefusesAs fault result = IsErrAnd result (λ refusal. refusal.1 ≡ fault)
+  -- it was refused for this reason, or the device failed
+  abbrev pub RefusesAs : D → OpenFault → Result (Stored D) (D × OpenFault) → Type 0
+  RefusesAs before fault result = IsErrAnd result (λ refusal. (refusal.1 ≡ fault) ⊎ MetFault before refusal)

@@ -13,6 +13,7 @@ use cola_cell::Value;
 pub use flat::{FlatTable, FlatWalk};
 pub use law::{entries_fit_cells, stored_is_stamped};
 pub use table::Table;
+use thiserror::Error;
 
 /// What an accepted put did.
 #[derive(Clone, Copy, Debug, PartialEq, Eq, Drop)]
@@ -48,17 +49,22 @@ impl From<Put> for PutIf {
     }
 }
 
-/// Why a put was refused. Nothing that the table holds changed.
-#[derive(Clone, Copy, Debug, PartialEq, Eq, Drop)]
+/// Why a put was refused. Nothing that the table holds changed. Its message says what happened and what the caller may do.
+#[derive(Clone, Copy, Debug, PartialEq, Eq, Drop, Error)]
 pub enum PutFault {
     /// The key is new, and the table has as many keys as it may have.
+    #[error("the key is new, and the table has as many keys as it may have: delete one first")]
     Full,
     /// No stamp is left to give. Only in format Two.
+    #[error("no stamp is left to give: put the pairs into a new table")]
     Worn,
     /// The device failed.
+    #[error("the device failed: try again")]
     Device,
     /// The bytes of the cell of this number are no spelling. Never on a sound table.
+    #[error("the bytes of cell {0} spell no cell: the file is damaged")]
     BadCell(u64),
     /// The next run of this level has no room. Never on a sound table.
+    #[error("the next run of level {0} has no room: the file is damaged")]
     Overfull(u8),
 }

@@ -185,3 +185,31 @@ fn the_largest_table(rt: HostRuntime) -> Result<(), Fail> {
     assert_eq!(rt; table.count(), 0);
     Ok(())
 }
+
+#[test]
+fn messages(rt: HostRuntime) -> Result<(), Fail> {
+    let faults = [
+        (
+            PutFault::Full,
+            "the key is new, and the table has as many keys as it may have: delete one first",
+        ),
+        (
+            PutFault::Worn,
+            "no stamp is left to give: put the pairs into a new table",
+        ),
+        (PutFault::Device, "the device failed: try again"),
+        (
+            PutFault::BadCell(87),
+            "the bytes of cell 87 spell no cell: the file is damaged",
+        ),
+        (
+            PutFault::Overfull(3),
+            "the next run of level 3 has no room: the file is damaged",
+        ),
+    ];
+    for (fault, text) in faults {
+        let message = format!(in rt.alloc(); "{fault}")?;
+        assert_eq!(rt; message.as_str(), text);
+    }
+    Ok(())
+}

@@ -2,7 +2,7 @@
 use std::alloc::{AllocError, Global};
 
 /// The next number of a sequence that visits all numbers of 32 bits, by the rule of Knuth and Lewis.
-fn next_number(number: u32) -> u32 {
+pub(crate) fn next_number(number: u32) -> u32 {
     number.wrapping_mul(1_664_525).wrapping_add(1_013_904_223)
 }
 

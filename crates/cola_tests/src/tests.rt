@@ -270,7 +270,7 @@ fn many_lines(rt: HostRuntime) -> Result<(), Fail> {
 
 /// The words of a text, between single spaces, served over a device with an input that no new file
 /// reads: the status and the device.
-fn without_input(
+pub(crate) fn without_input(
     rt: &impl Abort,
     alloc: Global,
     text: &str,
@@ -330,7 +330,7 @@ fn files_that_are_not_made(rt: HostRuntime) -> Result<(), Fail> {
 }
 
 /// An upgrade from one device to another: the status and both devices. It takes no input and writes none.
-fn upgraded(
+pub(crate) fn upgraded(
     rt: &impl Abort,
     alloc: Global,
     device: MemoryDevice,
@@ -376,7 +376,7 @@ fn upgrades(rt: HostRuntime) -> Result<(), Fail> {
 }
 
 /// The words of a text, served over a device with an input: what is written, the status and the device.
-fn on_file(
+pub(crate) fn on_file(
     alloc: Global,
     text: &str,
     input: &[u8],
@@ -387,7 +387,7 @@ fn on_file(
         words.push(String::from_str(alloc, word)?)?;
     }
     let mut source = memory_source(alloc, input, &[])?;
-    let mut sink = MemorySink::new(alloc, 8192, Vec::new(alloc))?;
+    let mut sink = MemorySink::new(alloc, 1 << 22, Vec::new(alloc))?;
     let served = run(alloc, words.as_slice(), &mut source, &mut sink, device);
     Ok((
         Vec::from_slice(alloc, sink.bytes())?,

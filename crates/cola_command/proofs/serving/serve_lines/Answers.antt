@@ -1,6 +1,7 @@
-use Rattle.std.proofs.Common.{◌≡◌, ◌++◌, ◌∷◌, [], refl, sym, ap, ◌∙◌, subst, option_copied}
+use Rattle.std.proofs.Common.{◌++◌, ◌∷◌, [], refl, sym, ap, ◌∙◌, subst, option_copied}
 use Rattle.cola_io.specs.Counted.{after_fault}
 use Rattle.cola_io.specs.Reads.{bytes_read}
+use Rattle.cola_store.specs.contracts.table.StoreTable.TheImpl.{ghosts}
 use Rattle.cola_command.specs.File.{line_read}
 use Rattle.cola_command.specs.SoFar.{Lines0, Lines3, Lines4, Lines9}
 use Rattle.cola_command.proofs.ReadingOn.{ReadSoFar, read_none, read_line, ends_whole, ends_by_source, ends_spent, ends_by_sink, holds_line, line_no_fault, line_faults, fewer_left}
@@ -41,7 +42,7 @@ returns-in-Err g c =
     let holds = holds_line c.lines.reader reader (bytes_read call.reads) next call.line c.in_default.not-End c.in_default.not-Fault c.in_default.not-Budget in
     Lines4 refl (ends_by_sink g.S.Source c.args.source.now c.lines.source c.next_line-next.new.source c.lines.reader reader i.reads i.told next i.read call g.K.Sink c.args.sink.now c.line-after.new.sink _ line
     c.text_of-text.ensures (line_no_fault next reader.line holds)
-    (front-then _ g.D.Device g.K.Sink c.args.session c.lines.session c.line-after.result.0 c.args.sink.now c.lines.sink c.line-after.new.sink c.args.steps.now c.lines.steps c.line-after.new.steps line i.told c.line-after.result.1 i.carried
+    (front-then (ghosts g.row.D g.D.Device g.D.Device-dict) g.D.Device g.K.Sink (record { answers = λ old turn new a. a; begins = λ old low high result new b. b; goes = λ old walk result new after g. g }) c.args.session c.lines.session c.line-after.result.0 c.line-after.ensures.few c.args.sink.now c.lines.sink c.line-after.new.sink c.args.steps.now c.lines.steps c.line-after.new.steps line i.told c.line-after.result.1 i.carried
     c.line-after.ensures.terms c.line-after.ensures.line c.in-Err.field-0 c.in-Err.is)
     (line_faults next reader.line _ _ holds c.next_line-next.ensures.faults)
     (counts-err c.line-after.result.1 c.in-Err.field-0 _ _ c.in-Err.is c.line-after.ensures.faults_counted ∙ ap after_fault i.sink_faults))
@@ -65,6 +66,6 @@ lines-preserved g c =
       read = read_line g.S.Source c.args.source.now c.lines.source c.next_line-next.new.source c.lines.reader reader i.reads i.told next i.read call line
           c.text_of-text.ensures (line_no_fault next reader.line holds) (line_faults next reader.line _ _ holds c.next_line-next.ensures.faults);
       sink_faults = counts-ok c.line-after.result.1 c.in_default-written.field-0 _ _ c.in_default-written.is c.line-after.ensures.faults_counted ∙ i.sink_faults;
-      carried = whole-then _ g.D.Device g.K.Sink c.args.session c.lines.session c.line-after.result.0 c.args.sink.now c.lines.sink c.line-after.new.sink c.args.steps.now c.lines.steps c.line-after.new.steps line i.told c.line-after.result.1 i.carried
+      carried = whole-then (ghosts g.row.D g.D.Device g.D.Device-dict) g.D.Device g.K.Sink (record { answers = λ old turn new a. a; begins = λ old low high result new b. b; goes = λ old walk result new after g. g }) c.args.session c.lines.session c.line-after.result.0 c.line-after.ensures.few c.args.sink.now c.lines.sink c.line-after.new.sink c.args.steps.now c.lines.steps c.line-after.new.steps line i.told c.line-after.result.1 i.carried
           c.line-after.ensures.terms c.line-after.ensures.line c.in_default-written.field-0 c.in_default-written.is;
     }

@@ -49,6 +49,8 @@ returns-in-Ok-clause-steps g c =
       };
       geometry_is = ap (λ (k : run.Kept _). k.geometry) c.in-Ok.ensures.kept;
       counts_step = c.in-Ok.ensures.counts;
+      turned_stays = c.in-Ok.ensures.costs.turned_stays;
+      written_stays = c.in-Ok.ensures.costs.written_stays;
     })
 
 pub returns-in-Ok-clause-right : goal.returns-in-Ok-clause-right
