@@ -1,5 +1,5 @@
 -- A turn of the session: what follows of its cause, for each kind of command.
-use Rattle.std.proofs.Common.{◌≡◌, ℕ, ◌+◌, ◌≤◌, Bool, List, [], Option, Some, None, Result, refl, sym, ◌∙◌, ap, subst, arith}
+use Rattle.std.proofs.Common.{◌≡◌, ℕ, ◌+◌, ◌≤◌, Bool, List, [], Option, Some, None, Result, refl, ◌∙◌, ap, subst, arith}
 use Rattle.std.specs.Prelude.{IsSome, option_map}
 use Rattle.cola_outside.specs.Told.{Both}
 use Rattle.cola_device.specs.declared.device.Device as device
@@ -183,23 +183,11 @@ module _ {D : Type 0} (d : device.Ghosts D) (command : Command) (of_table : IsOf
 
 -- ---- a command
 
-abbrev pub CommandTurn : {D K A E : Type 0} → table.Ghosts (Stored D) Cursor → (d : device.Ghosts D) → sink.Ghosts K → State → ℕ → Bool → Command → Result A E → (old new : Place D d) → (sink sink' : K) → (steps steps' : ℕ) → (cut cut' : Bool) → Type 0
+abbrev pub CommandTurn : {D K A E : Type 0} → table.Ghosts (Stored D) Cursor → (d : device.Ghosts D) → sink.Ghosts K → State → ℕ → Bool → spec.Command → Result A E → (old new : Place D d) → (sink sink' : K) → (steps steps' : ℕ) → (cut cut' : Bool) → Type 0
 CommandTurn t d k state cache cost command result old new sink sink' steps steps' cut cut' =
-    (turn : Turn) × Turned t d k state cache cost (Some (spoken command)) result old new sink sink' steps steps' turn × (cut' ≡ cut_by_request turn.request turn.answer cut)
+    (turn : Turn) × Turned t d k state cache cost (Some command) result old new sink sink' steps steps' turn × (cut' ≡ cut_by_request turn.request turn.answer cut)
 
-pub of-table : (command : Command) → (command ≡ code.Close → ⊥) → (command ≡ code.Reopen → ⊥) → IsOfTable command
-of-table (code.Put key value) c r = tt
-of-table (code.PutIf key seen value) c r = tt
-of-table (code.Del key) c r = tt
-of-table (code.Get key) c r = tt
-of-table (code.Stamp key) c r = tt
-of-table (code.Range low high) c r = tt
-of-table (code.Scan low most) c r = tt
-of-table code.Count c r = tt
-of-table code.Close c r = absurd (c refl)
-of-table code.Reopen c r = absurd (r refl)
-
-cut-table : (command : Command) → IsOfTable command → (answer : Reply) (cut : Bool) → cut ≡ cut_by_request (Some (spoken command)) answer cut
+pub cut-table : (command : Command) → IsOfTable command → (answer : Reply) (cut : Bool) → cut ≡ cut_by_request (Some (spoken command)) answer cut
 cut-table (code.Put key value) is answer cut = refl
 cut-table (code.PutIf key seen value) is answer cut = refl
 cut-table (code.Del key) is answer cut = refl
@@ -211,19 +199,11 @@ cut-table code.Count is answer cut = refl
 cut-table code.Close is answer cut = absurd is
 cut-table code.Reopen is answer cut = absurd is
 
-module _ {D K A E : Type 0} (t : table.Ghosts (Stored D) Cursor) (d : device.Ghosts D) (k : sink.Ghosts K) (state : State) (cache : ℕ) (cost : Bool) (command : Command) (result : Result A E) (old new : Place D d) (sink sink' : K) (steps : ℕ) (cut : Bool) where
-  pub close-turn : (answer : Reply) → command ≡ code.Close → CloseCause d old answer new → d.kept (device_of new) ≡ d.kept (device_of old) → Wrote (reply_text cost 0 answer) result (k.written sink) (k.written sink')
-      → CommandTurn t d k state cache cost command result old new sink sink' steps steps cut cut
-  close-turn answer is cause kept wrote =
-      subst (λ (x : Command). CommandTurn t d k state cache cost x result old new sink sink' steps steps cut cut) (sym is)
-      (turn_of Close answer 0, turned t d k state cache cost result sink sink' steps Close old new answer wrote (close-facts d old answer new cause kept) cause, refl)
+module _ {D K A E : Type 0} (t : table.Ghosts (Stored D) Cursor) (d : device.Ghosts D) (k : sink.Ghosts K) (state : State) (cache : ℕ) (cost : Bool) (result : Result A E) (old new : Place D d) (sink sink' : K) (steps : ℕ) (cut : Bool) where
+  pub close-turn : (answer : Reply) → CloseCause d old answer new → d.kept (device_of new) ≡ d.kept (device_of old) → Wrote (reply_text cost 0 answer) result (k.written sink) (k.written sink')
+      → CommandTurn t d k state cache cost Close result old new sink sink' steps steps cut cut
+  close-turn answer cause kept wrote = (turn_of Close answer 0, turned t d k state cache cost result sink sink' steps Close old new answer wrote (close-facts d old answer new cause kept) cause, refl)
 
-  pub open-turn : (answer : Reply) → command ≡ code.Reopen → OpenCause d cache old answer new → d.kept (device_of new) ≡ d.kept (device_of old) → Wrote (reply_text cost 0 answer) result (k.written sink) (k.written sink')
-      → CommandTurn t d k state cache cost command result old new sink sink' steps steps cut (cut_by answer cut)
-  open-turn answer is cause kept wrote =
-      subst (λ (x : Command). CommandTurn t d k state cache cost x result old new sink sink' steps steps cut (cut_by answer cut)) (sym is)
-      (turn_of Reopen answer 0, turned t d k state cache cost result sink sink' steps Reopen old new answer wrote (open-facts d cache old answer new cause kept) cause, refl)
-
-  pub table-turn : (steps' : ℕ) → IsOfTable command → (turn : Turn) → Turned t d k state cache cost (Some (spoken command)) result old new sink sink' steps steps' turn → CommandTurn t d k state cache cost command result old new sink sink' steps steps' cut cut
-  table-turn steps' is turn made =
-      (turn, made, subst (λ (r : Option spec.Command). cut ≡ cut_by_request r turn.answer cut) (sym made.asks) (cut-table command is turn.answer cut))
+  pub open-turn : (answer : Reply) → OpenCause d cache old answer new → d.kept (device_of new) ≡ d.kept (device_of old) → Wrote (reply_text cost 0 answer) result (k.written sink) (k.written sink')
+      → CommandTurn t d k state cache cost Reopen result old new sink sink' steps steps cut (cut_by answer cut)
+  open-turn answer cause kept wrote = (turn_of Reopen answer 0, turned t d k state cache cost result sink sink' steps Reopen old new answer wrote (open-facts d cache old answer new cause kept) cause, refl)

@@ -3,7 +3,7 @@ use Rattle.std.specs.Prelude.{nat_eq}
 use Rattle.std.proofs.lemmas.List.Elements.{All-cons}
 use Rattle.std.proofs.lemmas.Bool.{false≢true}
 use Rattle.std.proofs.lemmas.Bool.Decides.{eqb_tells}
-use Rattle.std.proofs.Common.{length, inl, inr, ◌⊎◌, ◌≡◌, ℕ, ◌≤◌, Bool, true, false, List, [], ◌∷◌, Option, None, Result, refl, sym, ◌∙◌, ap, subst, arith, append-nil}
+use Rattle.std.proofs.Common.{length, inl, inr, ◌⊎◌, ◌≡◌, ℕ, ◌≤◌, Bool, true, false, List, [], ◌∷◌, Option, Some, None, Result, refl, sym, ◌∙◌, ap, subst, arith, append-nil}
 use Rattle.cola_cell.specs.declared.format.Format.{Format}
 use Rattle.cola_device.specs.declared.device.Device as device
 use Rattle.cola_io.specs.declared.sink.Sink as sink
@@ -24,9 +24,10 @@ use Rattle.cola_command.specs.declared.place.Place.{Place}
 use Rattle.cola_command.specs.declared.place.Place.TheVariants.{Open, Closing, Closed}
 use Rattle.cola_command.specs.declared.file.Session.{Session}
 use Rattle.cola_store.specs.Store.{Stored}
-use Rattle.cola_command.specs.File.{Sizes, shape, depth_of, format_of, faults_of, IsAt}
+use Rattle.cola_command.specs.File.{Sizes, shape, line_read, depth_of, format_of, faults_of, IsAt}
 use Rattle.cola_command.specs.Turns.{Keeps, StepsTo, Turned, Cause, Carried, SessionAt, RunsTo, cut_by_request}
 use Rattle.cola_command.proofs.PlaceTurns.{keeps-same}
+use Rattle.cola_command.proofs.Asking.{CommandTurn}
 
 -- the format at a state is that of the sizes
 format-at : {D : Type 0} (d : device.Ghosts D) (sizes : Sizes) (place : Place D d) (state : State) (last : Format) → IsAt d sizes place state → last ≡ sizes.format → format_of place last ≡ sizes.format
@@ -114,3 +115,17 @@ pub format-twice : {D : Type 0} {d : device.Ghosts D} (place : Place D d) (last 
 format-twice (Open store) last = refl
 format-twice (Closing closing) last = refl
 format-twice (Closed now) last = refl
+
+-- a command was read, and carried out
+pub carried-command : {D K A E : Type 0} (t : table.Ghosts (Stored D) Cursor) (d : device.Ghosts D) (k : sink.Ghosts K) (state : State) (text : Option (List ℕ)) (bytes : List ℕ) (format : Format) (command : spec.Command) (result : Result A E) (old new : Session D d) (sink sink' : K) (steps steps' : ℕ)
+    → new.format ≡ format_of old.place old.format → format ≡ format_of old.place old.format → text ≡ Some bytes → nat_eq (length bytes) 0 ≡ false → ((keys : ℕ) → Some command ≡ command_of (shape_of format keys) bytes)
+    → CommandTurn t d k state old.cache old.cost command result old.place new.place sink sink' steps steps' old.cut_off new.cut_off → (turns : List Turn) × Carried t d k state (line_read text) result old new sink sink' steps steps' turns
+carried-command t d k state text bytes format command result old new sink sink' steps steps' new_format format_is text_is some means made = (
+  made.0 ∷ [],
+  carried-one t d k state (line_read text) result old new sink sink' steps steps' new_format (Some command) made.0
+      (λ keys.
+      subst (λ (f : Format). Some command ∷ [] ≡ line_requests (shape_of f keys) (line_read text)) format_is
+      (subst (λ (x : Option (List ℕ)). Some command ∷ [] ≡ line_requests (shape_of format keys) (line_read x)) (sym text_is)
+      (asks-text (shape_of format keys) bytes (Some command) some (means keys))))
+      made.1 made.2,
+)

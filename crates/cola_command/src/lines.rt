@@ -1,6 +1,8 @@
 //! What a session over a store in a file does line by line.
-ghost use Rattle.std.specs.Prelude.{◌≡◌, ◌+◌, ◌≤◌, ◌∷◌, [], ℕ, List, Some, option_copied};
+ghost use Rattle.std.specs.Prelude.{◌≡◌, ◌+◌, ◌≤◌, ◌∷◌, [], ℕ, Bool, List, Some, option_copied};
 ghost use Rattle.cola_io.specs.Counted.{CountsFaults};
+ghost use Rattle.cola_spec.specs.Command.{Close, Reopen};
+ghost use Rattle.cola_spec.specs.Reply as reply;
 ghost use Rattle.cola_spec.specs.Machine.{State, Turn};
 ghost use Rattle.cola_line.specs.Replied.{Wrote, reply_of};
 ghost use Rattle.cola_line.specs.Spoken.{spoken, CommandFits, IsOfTable};
@@ -57,32 +59,23 @@ fn know_transfers<D: Device>(place: &Place<D>)
 
 /// Answers a command that a store answers while it is open: all but `close` and `open`.
 fn ask<D: Device, K: Sink, L: Ledger>(
-    place: Place<D>,
+    place: &mut Place<D>,
     command: &Command,
     cost: bool,
     sink: &mut K,
     steps: &mut Steps<L>,
-) -> (Place<D>, Result<(), SinkFault>)
+) -> Result<(), SinkFault>
     requires of_table { IsOfTable command.now }
-    requires fits { (last : Format) × CommandFits (format_of place last) command.now }
-    ensures turn { (state : State) → (cache : ℕ) → (turn : Turn) × Turned ⟦<Store<D> as Table>⟧ D.Device K.Sink state cache cost (Some (spoken command.now)) result.1 place result.0 sink.old sink.new steps.old steps.new turn }
-    ensures faults_counted { CountsFaults result.1 (K.faults sink.old) (K.faults sink.new) }
+    requires fits { (last : Format) × CommandFits (format_of place.old last) command.now }
+    ensures turn { (state : State) → (cache : ℕ) → (turn : Turn) × Turned ⟦<Store<D> as Table>⟧ D.Device K.Sink state cache cost (Some (spoken command.now)) result place.old place.new sink.old sink.new steps.old steps.new turn }
+    ensures none_cut { (answer : reply.Reply) → (cut : Bool) → cut ≡ cut_by_request (Some (spoken command.now)) answer cut }
+    ensures faults_counted { CountsFaults result (K.faults sink.old) (K.faults sink.new) }
     ensures faults_kept { K.faults sink.old ≤ K.faults sink.new }
 {
     match place {
-        Place::Open(store) => {
-            let mut store = store;
-            let written = answer(&mut store, command, cost, sink, steps);
-            (Place::Open(store), written)
-        }
-        Place::Closing(closing) => (
-            Place::Closing(closing),
-            write_reply(&Reply::Shut, cost, 0, sink),
-        ),
-        Place::Closed(device) => (
-            Place::Closed(device),
-            write_reply(&Reply::Shut, cost, 0, sink),
-        ),
+        Place::Open(store) => answer(store, command, cost, sink, steps),
+        Place::Closing(_) => write_reply(&Reply::Shut, cost, 0, sink),
+        Place::Closed(_) => write_reply(&Reply::Shut, cost, 0, sink),
     }
 }
 
@@ -118,17 +111,10 @@ impl<D: Device> Session<D> {
         }
     }
 
-    /// Carries out a command, and writes its reply.
-    fn command<K: Sink, L: Ledger>(
-        self,
-        alloc: Global,
-        command: &Command,
-        sink: &mut K,
-        steps: &mut Steps<L>,
-    ) -> (Session<D>, Result<(), SinkFault>)
+    /// Carries out `close`, and writes its reply.
+    fn close<K: Sink>(self, sink: &mut K) -> (Session<D>, Result<(), SinkFault>)
         requires format { self.format ≡ format_of self.place self.format }
-        requires fits { CommandFits self.format command.now }
-        ensures turn { (state : State) → (turn : Turn) × Turned ⟦<Store<D> as Table>⟧ D.Device K.Sink state self.cache self.cost (Some (spoken command.now)) result.1 self.place result.0.place sink.old sink.new steps.old steps.new turn × (result.0.cut_off ≡ cut_by_request turn.request turn.answer self.cut_off) }
+        ensures turn { (state : State) → (steps : ℕ) → (turn : Turn) × Turned ⟦<Store<D> as Table>⟧ D.Device K.Sink state self.cache self.cost (Some Close) result.1 self.place result.0.place sink.old sink.new steps steps turn × (result.0.cut_off ≡ cut_by_request turn.request turn.answer self.cut_off) }
         ensures terms { SameTerms self result.0 }
         ensures faults_counted { CountsFaults result.1 (K.faults sink.old) (K.faults sink.new) }
         ensures faults_kept { K.faults sink.old ≤ K.faults sink.new }
@@ -140,50 +126,53 @@ impl<D: Device> Session<D> {
             format,
             cut_off,
         } = self;
-        match command {
-            Command::Close => {
-                let (place, reply) = close(place);
-                let written = write_reply(&reply, cost, 0, sink);
-                (
-                    Session {
-                        place,
-                        cache,
-                        cost,
-                        format,
-                        cut_off,
-                    },
-                    written,
-                )
-            }
-            Command::Reopen => {
-                let (place, reply) = open(alloc, place, cache, steps);
-                let written = write_reply(&reply, cost, 0, sink);
-                let cut_off = cut_after(&reply, cut_off);
-                (
-                    Session {
-                        place,
-                        cache,
-                        cost,
-                        format,
-                        cut_off,
-                    },
-                    written,
-                )
-            }
-            _ => {
-                let (place, written) = ask(place, command, cost, sink, steps);
-                (
-                    Session {
-                        place,
-                        cache,
-                        cost,
-                        format,
-                        cut_off,
-                    },
-                    written,
-                )
-            }
-        }
+        let (place, reply) = close(place);
+        let written = write_reply(&reply, cost, 0, sink);
+        (
+            Session {
+                place,
+                cache,
+                cost,
+                format,
+                cut_off,
+            },
+            written,
+        )
+    }
+
+    /// Carries out `open`, and writes its reply.
+    fn reopen<K: Sink, L: Ledger>(
+        self,
+        alloc: Global,
+        sink: &mut K,
+        steps: &mut Steps<L>,
+    ) -> (Session<D>, Result<(), SinkFault>)
+        requires format { self.format ≡ format_of self.place self.format }
+        ensures turn { (state : State) → (turn : Turn) × Turned ⟦<Store<D> as Table>⟧ D.Device K.Sink state self.cache self.cost (Some Reopen) result.1 self.place result.0.place sink.old sink.new steps.old steps.new turn × (result.0.cut_off ≡ cut_by_request turn.request turn.answer self.cut_off) }
+        ensures terms { SameTerms self result.0 }
+        ensures faults_counted { CountsFaults result.1 (K.faults sink.old) (K.faults sink.new) }
+        ensures faults_kept { K.faults sink.old ≤ K.faults sink.new }
+    {
+        let Session {
+            place,
+            cache,
+            cost,
+            format,
+            cut_off,
+        } = self;
+        let (place, reply) = open(alloc, place, cache, steps);
+        let written = write_reply(&reply, cost, 0, sink);
+        let cut_off = cut_after(&reply, cut_off);
+        (
+            Session {
+                place,
+                cache,
+                cost,
+                format,
+                cut_off,
+            },
+            written,
+        )
     }
 
     /// Carries out a line, of which the text is given, or none where it was too long, and writes its reply. An empty line
@@ -222,7 +211,13 @@ impl<D: Device> Session<D> {
             return (session, Ok(()));
         }
         match parse_line(text, session.format) {
-            Some(command) => session.command(alloc, &command, sink, steps),
+            Some(Command::Close) => session.close(sink),
+            Some(Command::Reopen) => session.reopen(alloc, sink, steps),
+            Some(command) => {
+                let cost = session.cost;
+                let written = ask(&mut session.place, &command, cost, sink, steps);
+                (session, written)
+            }
             None => {
                 let written = write_reply(&Reply::Bad, session.cost, 0, sink);
                 (session, written)
