@@ -317,6 +317,7 @@ impl<D: Device> Buffers<D> {
 
     /// Asks that all that was written be finished.
     pub fn settle(&mut self) -> Result<(), DeviceFault>
+        ensures settled { D.settles self.old.cache.device result self.new.cache.device }
         ensures bytes_stay { D.bytes self.new.cache.device ≡ D.bytes self.old.cache.device }
         ensures kept { D.kept self.new.cache.device ≡ D.kept self.old.cache.device }
         ensures counts { Called (D.counts self.old.cache.device) (D.counts self.new.cache.device) 0 0 result }

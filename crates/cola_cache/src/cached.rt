@@ -210,6 +210,8 @@ impl<D: Device> Device for Cached<D> {
 
     ghost kept = { λ c. record { blocks = c.blocks; size = c.size; device = D.kept c.device } };
 
+    ghost settles = { λ old result new. D.settles old.device result new.device };
+
     ghost told = { λ c. D.told c.device };
 
     fn size(&mut self) -> Result<u64, DeviceFault>
@@ -291,6 +293,7 @@ impl<D: Device> Device for Cached<D> {
     }
 
     fn settle(&mut self) -> Result<(), DeviceFault>
+        ensures settled { D.settles self.old.device result self.new.device }
         ensures bytes_stay { D.bytes self.new.device ≡ D.bytes self.old.device }
         ensures kept { D.kept self.new.device ≡ D.kept self.old.device }
         ensures counts { Called (D.counts self.old.device) (D.counts self.new.device) 0 0 result }

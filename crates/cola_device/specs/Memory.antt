@@ -1,5 +1,5 @@
 -- A device in memory, and what each of its calls leaves.
-use Rattle.std.specs.Prelude.{ℕ, ◌==◌, nat_lt, Bool, ◌||◌, if◌then◌else◌, List, length, replicate, min}
+use Rattle.std.specs.Prelude.{◌≡◌, ℕ, ◌==◌, nat_lt, Bool, ◌||◌, if◌then◌else◌, List, length, replicate, min, Result, is_err}
 use Rattle.std.specs.List.{list_any}
 use Rattle.cola_device.specs.declared.counts.Counts.{Counts}
 use Rattle.cola_device.specs.declared.memory.TheConstants.{SPOILED}
@@ -71,3 +71,8 @@ after_write at from memory =
       bytes = splice memory.bytes at (if next_fails memory then replicate (length from) SPOILED else from);
       counts = count_write (count_fault (next_fails memory) memory.counts);
     }
+
+-- a settle: it fails where its number is listed, and changes that number and the counts alone
+pub record IsSettle {T E : Type 0} (result : Result T E) (before now : Memory) : Type 0 where
+  pub fails : is_err result ≡ next_fails before
+  pub after : now ≡ after_call (next_fails before) before

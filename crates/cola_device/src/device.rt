@@ -1,6 +1,7 @@
 //! The trait of devices.
-ghost use Rattle.std.specs.Prelude.{◌≡◌, ℕ, ◌≤◌, Bool, List, Option, length, is_some, IfOk, OnOk};
+ghost use Rattle.std.specs.Prelude.{◌≡◌, ℕ, ◌≤◌, Bool, List, Option, Result, length, is_some, IfOk, OnOk};
 ghost use Rattle.cola_device.specs.declared.counts.Counts.{Counts};
+ghost use Rattle.cola_device.specs.declared.device.DeviceFault.{DeviceFault};
 ghost use Rattle.cola_device.specs.Bytes.{IsEmpty, HasSize, HasRange, Gives, LaidOut, Wrote};
 ghost use Rattle.cola_device.specs.Counts.{Called};
 
@@ -31,6 +32,10 @@ pub trait Device {
     ghost Kept: { Type 0 } = { Unit {0} };
 
     ghost kept: { Self → Self.Kept };
+
+    /// A settle with this answer took the one to the other. A device over a device says with it that the
+    /// one below settled.
+    ghost settles: { Self → Result (Unit {0}) DeviceFault → Self → Type 0 };
 
     /// The number of bytes.
     fn size(&mut self) -> Result<u64, DeviceFault>
@@ -67,6 +72,7 @@ pub trait Device {
 
     /// Asks that all that was written be finished.
     fn settle(&mut self) -> Result<(), DeviceFault>
+        ensures settled { settles self.old result self.new }
         ensures bytes_stay { bytes self.new ≡ bytes self.old }
         ensures kept { kept self.new ≡ kept self.old }
         ensures counts { Called (counts self.old) (counts self.new) 0 0 result };

@@ -1,7 +1,7 @@
 //! A device in memory, whose calls fail where the caller wants them to.
 ghost use Rattle.std.specs.Prelude.{◌≡◌, ◌+◌, ◌||◌, ◌≤◌, [], true, Some, refl, not, length, replicate, is_err, IfOk, OnOk, OnErr};
 ghost use Rattle.cola_device.specs.Bytes.{part};
-ghost use Rattle.cola_device.specs.Memory.{Settings, settings, unused, next_fails, layout_fails, after_call, after_layout, after_read, after_write};
+ghost use Rattle.cola_device.specs.Memory.{Settings, settings, unused, next_fails, layout_fails, after_call, after_layout, after_read, after_write, IsSettle};
 
 use crate::{Counts, Device, DeviceFault, MAX_TRANSFER};
 use std::alloc::{AllocError, Global};
@@ -122,6 +122,8 @@ impl Device for MemoryDevice {
 
     ghost kept = { settings };
 
+    ghost settles = { λ old result new. IsSettle result old new };
+
     ghost told = { λ _. refl };
 
     fn size(&mut self) -> Result<u64, DeviceFault>
@@ -197,8 +199,7 @@ impl Device for MemoryDevice {
     }
 
     fn settle(&mut self) -> Result<(), DeviceFault>
-        ensures fails { is_err result ≡ next_fails self.old }
-        ensures after { self.new ≡ after_call (next_fails self.old) self.old }
+        ensures is { IsSettle result self.old self.new }
     {
         // Bytes in memory are always settled.
         self.begin(true)

@@ -82,6 +82,8 @@ impl<'a, R: Files> Device for FileDevice<'a, R> {
 
     ghost kept = { λ d. d.wanted };
 
+    ghost settles = { λ old result new. Asked old.handle new.handle result };
+
     ghost told = { λ _. refl };
 
     fn size(&mut self) -> Result<u64, DeviceFault>

@@ -35,6 +35,7 @@ write-tells g c = record {
 
 pub settle-tells : goal.settle-tells
 settle-tells g c = record {
+  settled = c.ensures.asked;
   bytes_stay = refl;
   kept = c.ensures.wanted;
   counts = Called-count_fault c.result c.args.self.now.counts c.new.self.now.counts c.ensures.counted;
