@@ -1,4 +1,5 @@
 pub mod BytesLemmas
 pub mod ToldLemmas
 pub mod CountsLemmas
+pub mod SettlingLemmas
 mod Examples
