@@ -1,9 +1,10 @@
 -- A device that settled.
-use Rattle.std.specs.Prelude.{◌≡◌, Ok}
+use Rattle.std.specs.Prelude.{◌≡◌, Result, Ok}
 use Rattle.cola_device.specs.declared.device.Device as device
 
--- the last call was a settle that was carried out: from then on no byte changed
+-- a settle was carried out when the device had the bytes that it has
 pub record IsSettled {D : Type 0} (d : device.Ghosts D) (now : D) : Type 0 where
   pub before : D
-  pub settled : d.settles before (Ok tt) now
+  pub after : D
+  pub settled : d.settles before (Ok tt) after
   pub bytes_stay : d.bytes now ≡ d.bytes before
