@@ -1,5 +1,5 @@
 -- A device that settled.
-use Rattle.std.specs.Prelude.{◌≡◌, Result, Ok}
+use Rattle.std.specs.Prelude.{◌≡◌, Ok}
 use Rattle.cola_device.specs.declared.device.Device as device
 
 -- a settle was carried out when the device had the bytes that it has
