@@ -34,8 +34,9 @@ use Rattle.cola_command.specs.Headline.{Known, asked, AreAsked}
 use Rattle.cola_command.specs.Moves.{AreFew, AllMove}
 use Rattle.cola_command.proofs.CutOff.{quiet-run}
 use Rattle.cola_command.proofs.Counting.{Means}
+use Rattle.cola_command.proofs.Settling.{line-settles}
 use Rattle.cola_command.proofs.Moving.{moves-append, line-moves}
-use Rattle.cola_command.specs.SoFar.{StillOf, RunsSoFar, BeginsAt, SoFar, WholeSoFar, FrontSoFar}
+use Rattle.cola_command.specs.SoFar.{IsSettledAt, StillOf, RunsSoFar, BeginsAt, SoFar, WholeSoFar, FrontSoFar}
 
 -- Turns one after another
 
@@ -121,6 +122,7 @@ module _ {D : Type 0} (d : device.Ghosts D) (first : Session D d) (steps : ℕ) 
     cut_off = refl;
     cache_is = refl;
     cost_is = refl;
+    settled = λ at. at;
     sized = λ sizes of. record { of_sizes = of; within = All-nil _; behind = both-same sizes (d.bytes (device_of first.place)) };
     runs = runs-none known begins;
   }
@@ -164,6 +166,7 @@ module _ {D K A E : Type 0} (t : table.Ghosts (Stored D) Cursor) (d : device.Gho
       cut_off = c.cut_off ∙ ap (cut_after more) so_far.cut_off ∙ sym (cut-append turns more first.cut_off);
       cache_is = same.cache_is ∙ so_far.cache_is;
       cost_is = same.cost_is ∙ so_far.cost_is;
+      settled = λ begins. subst (λ (b : Bool). IsSettledAt d now.place b) (sym c.cut_off) (line-settles t d k mid.cache result mid.place sink' now.place sink'' mid.cut_off (so_far.settled begins) more c.cause);
       sized = λ sizes of. sized-then sizes state c (so_far.sized sizes of);
       runs = runs;
     }

@@ -6,6 +6,7 @@ use Rattle.std.proofs.lemmas.Bool.Decides.{leb_tells}
 use Rattle.cola_outside.specs.Faults.{Rose}
 use Rattle.cola_outside.specs.Told.{Both}
 use Rattle.cola_device.specs.declared.device.Device as device
+use Rattle.cola_device.specs.Settling.{IsSettled}
 use Rattle.cola_io.specs.Streams.{Appended}
 use Rattle.cola_io.specs.declared.source.Source as source
 use Rattle.cola_io.specs.declared.sink.Sink as sink
@@ -25,13 +26,14 @@ use Rattle.cola_command.specs.File.{Sizes, shape, KeepsBehind, StandsBut, device
 use Rattle.cola_command.specs.Turns.{FaultsOver, cut_after, CloseCause, StepsTo, Begun, Ended, is_closed}
 use Rattle.cola_command.specs.Ends.{ReadToEnd}
 use Rattle.cola_command.specs.Headline.{StandsAs, Known, IsKnown, IsLeft, IsLeftWhole, last_close, StaysWithin, RunsToEnd, CarriedOut, WroteFront, EndsWell, EndsIll, EndsAnyhow, Whole, Front, FileEnds, Status0, Status3, Status4, Status5, Status9}
-use Rattle.cola_command.specs.SoFar.{BeginsAt, StillOf, RunsSoFar, SoFar, WholeSoFar, FrontSoFar, LinesEnd, Lines0, Lines3, Lines4, Lines9, end_status, EndsAfter}
+use Rattle.cola_command.specs.SoFar.{BeginsAt, IsSettledAt, StillOf, RunsSoFar, SoFar, WholeSoFar, FrontSoFar, LinesEnd, Lines0, Lines3, Lines4, Lines9, end_status, EndsAfter}
 use Rattle.cola_command.proofs.PlaceTurns.{TurnFacts, stands-now, close-facts}
 use Rattle.cola_command.proofs.Reopening.{open-facts}
 use Rattle.cola_command.specs.Memory.{input_limit}
 use Rattle.cola_command.specs.RunTransfers.{short, FewTransfers}
 use Rattle.cola_command.specs.Moves.{AreFew, Moves, AllMove}
 use Rattle.cola_command.proofs.CutOff.{Safe, safe-run, safe-step, not-faulted, quiet-run}
+use Rattle.cola_command.proofs.Settling.{close-settles}
 use Rattle.cola_command.proofs.Moving.{kind-stays, closes-moves}
 use Rattle.cola_command.proofs.Transferring.{few-transfers}
 use Rattle.cola_command.proofs.Carrying.{both-then, faults-append, faulted-append}
@@ -81,6 +83,9 @@ below-last before now same calm = by-test (leb_tells (2 ^ 64) (before + 1))
     by-test : ((nat_le (2 ^ 64) (before + 1) ≡ true) × (2 ^ 64 ≤ before + 1)) ⊎ ((nat_le (2 ^ 64) (before + 1) ≡ false) × (before + 1 < 2 ^ 64)) → before + 1 < 2 ^ 64
     by-test (inl (is, last)) = absurd (calm (omega (arith, same, last)))
     by-test (inr (is, below)) = below
+
+plain-is-not-faulted : PlainStep ≡ FaultedStep → ⊥
+plain-is-not-faulted same = cc
 
 module _ {D : Type 0} (d : device.Ghosts D) where
   -- what an attempt to close says, and where the store is then
@@ -182,6 +187,13 @@ module _ {D : Type 0} (d : device.Ghosts D) (device : D) (cache : ℕ) (cost : B
         let end : Safe close.next false = safe-step (shape known.sizes) r.runs.last (Some Close) ended.answer 0 close.next (kind_of ended.answer) false close.step safe in
         subst (λ (x : D). IsLeftWhole known.sizes close.next (d.bytes x)) (sym ended.device_is) (whole-is d known.sizes ended.answer ended.place close.next said (sym ended.closed_is ∙ is_whole) close.at end)
 
+    -- a store that is closed at the end has a settled device where its last opening met no fault
+    settled-at-end : kind_of ended.answer ≡ PlainStep → last.cut_off ≡ false → IsSettledAt d last.place last.cut_off → IsSettled d device'
+    settled-at-end plain none at =
+        let closed_place = never-faulted d ended.answer ended.place said (λ faulted. plain-is-not-faulted (sym plain ∙ faulted)) in
+        let end = subst (λ (p : Place D d). IsSettledAt d p last.cut_off) closed_place (close-settles d last.place ended.answer ended.place last.cut_off ended.cause at) in
+        subst (λ (x : D). IsSettled d x) (sym ended.device_is) (end none)
+
     -- where no fault was counted, the reads and writes are few
     few-at-end : (known : Known) (lines : List Line) (turns : List Turn) → RunsSoFar d first last known lines turns → FaultsOver (turns ++ last_close ended.answer ∷ []) (d.counts device).faults (d.counts device').faults → (Rose (d.counts device).faults (d.counts device').faults → ⊥)
         → length turns ≤ input_limit → FewTransfers known.sizes cache turns (d.counts device) (d.counts device')
@@ -229,6 +241,7 @@ module _ {D : Type 0} (d : device.Ghosts D) (device : D) (cache : ℕ) (cost : B
             counted = so_far.counted;
             faults = over;
             kept = kept ∙ so_far.kept ∙ kept_first;
+            settled = λ well. settled-at-end well.0 (sym cut ∙ well.1) (so_far.settled (subst (λ (p : Place D d). IsSettledAt d p first.cut_off) (sym begun.place_is) tt));
             sized = λ sizes of. stays-within sizes of (so_far.sized sizes (first-sizes sizes of));
             runs = runs-to-end known cut over so_far.runs;
           }

@@ -9,6 +9,7 @@ pub mod Asking
 pub mod Lining
 pub mod ReadingOn
 pub mod CutOff
+pub mod Settling
 pub mod Counting
 pub mod Moving
 pub mod Transferring

@@ -5,6 +5,7 @@ use Rattle.cola_outside.specs.Faults.{Rose}
 use Rattle.cola_outside.specs.Told.{Both}
 use Rattle.cola_cell.specs.declared.format.Format.{Format}
 use Rattle.cola_device.specs.declared.device.Device as device
+use Rattle.cola_device.specs.Settling.{IsSettled}
 use Rattle.cola_io.specs.Streams.{Appended}
 use Rattle.cola_io.specs.declared.source.Source as source
 use Rattle.cola_io.specs.declared.sink.Sink as sink
@@ -75,6 +76,22 @@ AreAsked (line ∷ lines) requests = (format : Format) × ((rest : List (Option 
 abbrev pub last_close : Reply → Turn
 last_close answer = turn_of Close answer 0
 
+-- The end
+
+-- the store is closed at the end, and its last opening met no fault
+abbrev pub EndsWell : List Turn → Reply → Type 0
+EndsWell turns answer = (kind_of answer ≡ PlainStep) × (cut_after turns false ≡ false)
+
+-- the close at the end met a fault, or the last opening did
+abbrev pub EndsIll : List Turn → Reply → Type 0
+EndsIll turns answer = (kind_of answer ≡ FaultedStep) ⊎ (cut_after turns false ≡ true)
+
+-- the session may end either way
+abbrev pub EndsAnyhow : List Turn → Reply → Type 0
+EndsAnyhow turns answer = ⊤
+
+-- What was carried out
+
 module _ {D : Type 0} (d : device.Ghosts D) (cache : ℕ) (device device' : D) (steps steps' : ℕ) where
   -- of a file of these sizes: each turn is within the bound of its request, and the bytes stay in number, and behind the cells
   pub record StaysWithin (sizes : Sizes) (turns : List Turn) : Type 0 where
@@ -92,7 +109,7 @@ module _ {D : Type 0} (d : device.Ghosts D) (cache : ℕ) (device device' : D) (
       pub left : Left known.sizes end (d.bytes device')
       pub few : (Rose (d.counts device).faults (d.counts device').faults → ⊥) → length turns ≤ input_limit → FewTransfers known.sizes cache turns (d.counts device) (d.counts device')
 
-    -- the file was opened, lines were carried out by turns, and the session was closed with this answer: the cell accesses are those of the turns; the device's count of faults rises in each faulted one and in no other, the close at the end among them; and what the device keeps stays
+    -- the file was opened, lines were carried out by turns, and the session was closed with this answer: the cell accesses are those of the turns; the device's count of faults rises in each faulted one and in no other, the close at the end among them; what the device keeps stays; and where the session ends well, the device settled with the bytes that it has
     pub record CarriedOut (known : Option Known) (lines : List Line) (turns : List Turn) (answer : Reply) : Type 0 where
       pub store : Stored D
       pub opened : IsStoreOpened d device cache store
@@ -100,6 +117,7 @@ module _ {D : Type 0} (d : device.Ghosts D) (cache : ℕ) (device device' : D) (
       pub counted : steps' ≡ steps + ticks_of turns
       pub faults : FaultsOver (turns ++ last_close answer ∷ []) (d.counts device).faults (d.counts device').faults
       pub kept : d.kept device' ≡ d.kept device
+      pub settled : EndsWell turns answer → IsSettled d device'
       pub sized : (sizes : Sizes) → IsOfSizes d sizes (place.Closed device) → StaysWithin sizes turns
       pub runs : IfSome known (λ known. RunsToEnd known lines turns answer)
 
@@ -123,18 +141,6 @@ refusal_status fault.NotStore = 6
 refusal_status fault.Small = 6
 refusal_status fault.NotClosed = 7
 refusal_status (fault.BadCell cell) = 10
-
--- the store is closed at the end, and its last opening met no fault
-abbrev pub EndsWell : List Turn → Reply → Type 0
-EndsWell turns answer = (kind_of answer ≡ PlainStep) × (cut_after turns false ≡ false)
-
--- the close at the end met a fault, or the last opening did
-abbrev pub EndsIll : List Turn → Reply → Type 0
-EndsIll turns answer = (kind_of answer ≡ FaultedStep) ⊎ (cut_after turns false ≡ true)
-
--- the session may end either way
-abbrev pub EndsAnyhow : List Turn → Reply → Type 0
-EndsAnyhow turns answer = ⊤
 
 module _ {K D : Type 0} (h : sink.Ghosts K) (d : device.Ghosts D) (cache : ℕ) (cost : Bool) (sink sink' : K) (device device' : D) (steps steps' : ℕ) where
   -- lines were carried out by turns, and the texts of their replies were written

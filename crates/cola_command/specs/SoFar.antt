@@ -1,8 +1,9 @@
 -- A session that carries out the lines of a source: what became of it so far, and how it is ended.
-use Rattle.std.specs.Prelude.{ℕ, nat_eq, ◌≡◌, ◌+◌, ◌≤◌, Bool, ◌&&◌, ◌||◌, not, if◌then◌else◌, List, [], ◌∷◌, ◌++◌, All, Option, IfSome}
+use Rattle.std.specs.Prelude.{ℕ, nat_eq, ◌≡◌, ◌+◌, ◌≤◌, Bool, false, ◌&&◌, ◌||◌, not, if◌then◌else◌, List, [], ◌∷◌, ◌++◌, All, Option, IfSome, ⊤}
 use Rattle.std.specs.List.{flat_map}
 use Rattle.cola_outside.specs.Told.{Both}
 use Rattle.cola_device.specs.declared.device.Device as device
+use Rattle.cola_device.specs.Settling.{IsSettled}
 use Rattle.cola_io.specs.Streams.{Appended}
 use Rattle.cola_io.specs.declared.source.Source as source
 use Rattle.cola_io.specs.declared.sink.Sink as sink
@@ -12,6 +13,8 @@ use Rattle.cola_spec.specs.Machine as machine
 use Rattle.cola_spec.specs.Machine.{Turn, turns_text, ticks_of, faulted_steps}
 use Rattle.cola_spec.specs.Bounds.{request_bound}
 use Rattle.cola_command.specs.declared.file.Session.{Session}
+use Rattle.cola_command.specs.declared.place.Place.{Place}
+use Rattle.cola_command.specs.declared.place.Place.TheVariants as place
 use Rattle.cola_command.specs.File.{Sizes, shape, KeepsBehind, device_of, faults_of, IsOfSizes}
 use Rattle.cola_command.specs.Moves.{AreFew, AllMove}
 use Rattle.cola_command.specs.Turns.{FaultsOver, cut_after, SessionAt, RunsTo, Ended}
@@ -21,6 +24,12 @@ use Rattle.cola_command.specs.Headline.{Known, asked, AreAsked, WroteFront}
 -- what is known of the file holds of the store at the beginning
 abbrev pub BeginsAt : {D : Type 0} (d : device.Ghosts D) → Session D d → Option Known → Type 0
 BeginsAt d first known = IfSome known (λ known. SessionAt d known.sizes first (machine.Open known.map))
+
+-- a store that is closed has a settled device, but behind an opening that met a fault
+abbrev pub IsSettledAt : {D : Type 0} (d : device.Ghosts D) → Place D d → Bool → Type 0
+IsSettledAt d (place.Open store) cut = ⊤
+IsSettledAt d (place.Closing closing) cut = ⊤
+IsSettledAt d (place.Closed now) cut = cut ≡ false → IsSettled d now
 
 module _ {D : Type 0} (d : device.Ghosts D) (first now : Session D d) where
   -- of a session over a file of these sizes: it still is, each turn is within the bound of its request, and the bytes stay in number, and behind the cells
@@ -44,6 +53,7 @@ module _ {D : Type 0} (d : device.Ghosts D) (first now : Session D d) where
     pub cut_off : now.cut_off ≡ cut_after turns first.cut_off
     pub cache_is : now.cache ≡ first.cache
     pub cost_is : now.cost ≡ first.cost
+    pub settled : IsSettledAt d first.place first.cut_off → IsSettledAt d now.place now.cut_off
     pub sized : (sizes : Sizes) → IsOfSizes d sizes first.place → StillOf sizes turns
     pub runs : IfSome known (λ known. RunsSoFar known lines turns)
 

@@ -30,7 +30,8 @@ pub fn file_sessions_complete<S: Source, K: Sink, D: Device>()
 /// Over a file that stands for a map, with status 0 and no fault of the device, a session writes at most what its stores may,
 /// each from its opening to its close, by the mutations that were accepted in it; where no range and no scan is asked, it
 /// reads at most what these may, by their mutations and searches, and one block more for each opening that found no memory;
-/// and where the cache has room for every block of the file, it reads each of them at most once for each store.
+/// and where the cache has room for every block of the file, it reads at most as many blocks for each store as the file has,
+/// one for each level and 4, and one more for each opening that found no memory.
 pub fn file_sessions_transfer_few<S: Source, K: Sink, D: Device>()
     ensures { (cache steps steps' : ℕ) (cost : Bool) (m : Map) (source source' : S) (sink sink' : K) (device device' : D) →
         FileEnds S.Source K.Sink D.Device cache cost source source' sink sink' device device' steps steps' 0 →

@@ -1,5 +1,6 @@
 -- What a flush leaves, step by step.
-use Rattle.std.proofs.Common.{◌≡◌, inl, inr, ℕ, zero, suc, ◌+◌, ◌-◌, ◌*◌, ◌<◌, ◌≤◌, List, [], ◌∷◌, ◌++◌, length, take, drop, replicate, get_or, Option, None, Some, IfSome, option_map, Result, Ok, refl, sym, ap, subst, ◌∙◌, arith, length-append}
+use Rattle.std.proofs.Common.{◌≡◌, inl, inr, ℕ, zero, suc, ◌+◌, ◌-◌, ◌*◌, ◌<◌, ◌≤◌, List, [], ◌∷◌, ◌++◌, length, take, drop, replicate, get_or, Option, None, Some, IfSome, option_map, Result, Ok, Err, refl, sym, ap, subst, ◌∙◌, arith, length-append}
+use Rattle.std.specs.Prelude.{OnOk}
 use Rattle.std.proofs.lemmas.List.{drop-take, drop-replicate, length-replicate, replicate-append-replicate}
 use Rattle.std.proofs.Math.Seq.{take-append-add}
 use Rattle.cola_outside.specs.Told.{Both}
@@ -10,6 +11,10 @@ use Rattle.cola_cell.specs.declared.sink.Shadow.{Shadow}
 use Rattle.cola_cell.specs.Decoded.{decoded}
 use Rattle.cola_cell.specs.Format.{width}
 use Rattle.cola_cell.specs.Held.{Spots}
+use Rattle.cola_device.specs.declared.device.Device as device
+use Rattle.cola_device.specs.declared.device.DeviceFault.{DeviceFault}
+use Rattle.cola_device.specs.Settling.{IsSettled}
+use Rattle.cola_device.proofs.SettlingLemmas.{settled-by}
 use Rattle.cola_device.specs.Bytes.{part, splice, WroteSome, Wrote}
 use Rattle.cola_device.proofs.BytesLemmas.{part-splice_inside}
 use Rattle.cola_front.specs.Front.{FrontCells, IsFront, IsLoaded, block_size, stored, stored_all, second_block, image}
@@ -19,7 +24,7 @@ use Rattle.cola_layout.specs.declared.geometry.Geometry.{Geometry}
 use Rattle.cola_layout.specs.Geometry.{IsBlock}
 use Rattle.cola_run.specs.Cells.{Lower, block_bytes, spots_of, IsShape, IsBacked}
 use Rattle.cola_run.specs.Store.{Beside, beside}
-use Rattle.cola_run.specs.Saving.{IsFlushed, IsFrontLast, SameBehind}
+use Rattle.cola_run.specs.Saving.{IsFlushed, IsFrontLast, SameFront, SameLevels, SameBehind, SettlesTwice}
 use Rattle.cola_run.specs.Loading.{StayRead, SameCells, AreSavedBelow}
 use Rattle.cola_run.proofs.Heads.{heads-backed, heads-behind, heads-spots, head-long, level-spots, saved-spots}
 
@@ -128,15 +133,21 @@ behind-of g (Some b) (Some c) h e = record { many = ap (λ (o : Option Beside). 
     behind-at (Some x) = x.behind
 
 -- the first two blocks stay where all that lies beside the levels on the device does
-pub front-stays : (g : Geometry) (spots : Spots) (x y : Option (List ℕ)) → Both x y (λ _ _. Unit {0}) → option_map (beside g) y ≡ option_map (beside g) x → Both x y (IsFrontLast g spots)
-front-stays g spots None None h e = tt
-front-stays g spots None (Some c) h e = absurd h
-front-stays g spots (Some b) None h e = absurd h
-front-stays g spots (Some b) (Some c) h e = inl (ap (λ (o : Option Beside). front-of o) e)
+pub front-waits : (g : Geometry) (x y : Option (List ℕ)) → Both x y (λ _ _. Unit {0}) → option_map (beside g) y ≡ option_map (beside g) x → Both x y (SameFront g)
+front-waits g None None h e = tt
+front-waits g None (Some c) h e = absurd h
+front-waits g (Some b) None h e = absurd h
+front-waits g (Some b) (Some c) h e = ap (λ (o : Option Beside). front-of o) e
   where
     front-of : Option Beside → List ℕ
     front-of None = []
     front-of (Some x) = x.front
+
+pub front-stays : (g : Geometry) (spots : Spots) (x y : Option (List ℕ)) → Both x y (SameFront g) → Both x y (IsFrontLast g spots)
+front-stays g spots None None h = tt
+front-stays g spots None (Some c) h = absurd h
+front-stays g spots (Some b) None h = absurd h
+front-stays g spots (Some b) (Some c) h = inl h
 
 -- every cell of the levels on the device is in the file where each shadow is there
 pub levels-are-saved : (g : Geometry) (front : FrontCells) (shadows : List Shadow) (tails : List ℕ) (x y : Option (List ℕ)) → Both x y (SameBehind g) → IfSome y (IsBacked g shadows tails) → AreSavedBelow g shadows (g.bottom + 1)
@@ -205,3 +216,15 @@ flushed-by T E value g front shadows tails header (Some x) (Some y) shape is hea
           ∙ subst (λ (f : Format). take (8 * width f) (splice x 0 (image front header)) ≡ header ++ replicate (8 * width f - 512) 0) shape.format (written-head front header x is head inside);
       cells_are = λ l s i p. saved-spots g front (record { told = Some y; shadows = shadows; tails = tails }) y shape file saved (subst (λ (bytes : List ℕ). IsLoaded bytes front) (sym at) (written-loaded front header x is head inside)) l s i p;
     }
+
+-- a flush that settled, wrote the front and settled again
+pub settles-twice : {D : Type 0} (d : device.Ghosts D) (g : Geometry) (result : Result (Unit {0}) DeviceFault) (before between last now : D) → IsSettled d between → Both (d.bytes before) (d.bytes between) (SameFront g)
+    → Both (d.bytes between) (d.bytes last) (SameLevels g) → d.settles last result now → d.bytes now ≡ d.bytes last → OnOk result (SettlesTwice d g before now)
+settles-twice d g (Ok value) before between last now settled waits stay settles same = record {
+  between = between;
+  levels_settled = settled;
+  front_waits = waits;
+  levels_stay = subst (λ (x : Option (List ℕ)). Both (d.bytes between) x (SameLevels g)) (sym same) stay;
+  settled = settled-by d (Ok value) last now settles same;
+}
+settles-twice d g (Err fault) before between last now settled waits stay settles same = tt

@@ -20,7 +20,7 @@ use Rattle.cola_layout.specs.Geometry.{IsBlock}
 use Rattle.cola_layout.proofs.Places.{device-behind, place-behind, front-below}
 use Rattle.cola_layout.proofs.Powers.{next_power, power-le}
 use Rattle.cola_run.specs.Cells.{Lower, block_cells, block_bytes, file_bytes, device_cell, known_spot, told_spot, spots_of, IsShape, IsBacked}
-use Rattle.cola_run.specs.Saving.{AreFileSpots, AreLevelSpots, SameBehind}
+use Rattle.cola_run.specs.Saving.{AreFileSpots, AreLevelSpots, SameLevels, SameBehind}
 use Rattle.cola_image.specs.Cells.{file_spots}
 use Rattle.cola_run.specs.Loading.{StaySound, AreSavedBelow}
 use Rattle.cola_run.proofs.Lowers.{on-device}
@@ -61,6 +61,9 @@ module _ (g : Geometry) (fits : IsBlock g.block_exp g.bottom) (bytes left : List
   pub head-behind : drop (file_bytes g) (splice bytes at left) ≡ drop (file_bytes g) bytes
   head-behind = let h = head-fits in drop-behind bytes left at (file_bytes g) (omega (arith, h, long)) h
 
+  pub head-levels : SameLevels g bytes (splice bytes at left)
+  head-levels = let h = head-fits in drop-behind bytes left at (2 * block_bytes g) (omega (arith, h, long)) within
+
   pub head-backed : (shadows : List Shadow) (tails : List ℕ) → IsBacked g shadows tails bytes → IsBacked g shadows tails (splice bytes at left)
   head-backed shadows tails b = record {
     long = let m = head-many in omega (arith, m, long);
@@ -96,6 +99,15 @@ module _ {T E : Type 0} (g : Geometry) (fits : IsBlock g.block_exp g.bottom) (sh
       let many = v.as_many in
       subst (λ (bytes : List ℕ). SameBehind g x bytes) (sym v.others_stay)
       (record { many = head-many g fits x v.left at b.long (omega (arith, many, within)); behind = head-behind g fits x v.left at b.long (omega (arith, many, within)) })
+
+  pub heads-levels : (x y : Option (List ℕ)) → Wrote result at from x y → IfSome x (IsBacked g shadows tails) → Both x y (SameLevels g)
+  heads-levels None None w b = tt
+  heads-levels None (Some y) w b = absurd w
+  heads-levels (Some x) None w b = absurd w
+  heads-levels (Some x) (Some y) w b =
+      let v : WroteSome result at from x y = w in
+      let many = v.as_many in
+      subst (λ (bytes : List ℕ). SameLevels g x bytes) (sym v.others_stay) (head-levels g fits x v.left at b.long (omega (arith, many, within)))
 
   pub heads-spots : (front : FrontCells) (x y : Option (List ℕ)) → Wrote result at from x y → IfSome x (IsBacked g shadows tails) → (l s i : ℕ) →
       spots_of (record { geometry = g; front = front; lower = record { told = y; shadows = shadows; tails = tails } }) l s i ≡ spots_of (record { geometry = g; front = front; lower = record { told = x; shadows = shadows; tails = tails } }) l s i

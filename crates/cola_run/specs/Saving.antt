@@ -1,6 +1,7 @@
 -- What loading and flushing a run store leave.
 use Rattle.std.specs.Prelude.{◌≡◌, ◌≢◌, ◌⊎◌, ℕ, ◌+◌, ◌-◌, ◌*◌, ◌≤◌, ◌<◌, ◌==◌, if◌then◌else◌, List, ◌++◌, length, take, drop, replicate, Option, IfSome, Result, Ok, Err, true}
 use Rattle.cola_outside.specs.Faults.{Rose}
+use Rattle.cola_outside.specs.Told.{Both}
 use Rattle.cola_cell.specs.declared.fault.ReadFault.{ReadFault}
 use Rattle.cola_cell.specs.declared.fault.ReadFault.TheVariants.{Device, BadCell}
 use Rattle.cola_cell.specs.declared.sink.Shadow.{Shadow}
@@ -10,6 +11,8 @@ use Rattle.cola_cell.specs.Places.{number_of, IsPlace}
 use Rattle.cola_cell.specs.Spent.{ReadCalm}
 use Rattle.cola_clock.specs.Clock.{visible_slot}
 use Rattle.cola_device.specs.declared.counts.Counts.{Counts}
+use Rattle.cola_device.specs.declared.device.Device as device
+use Rattle.cola_device.specs.Settling.{IsSettled}
 use Rattle.cola_image.specs.Cells.{file_spots}
 use Rattle.cola_layout.specs.declared.geometry.Geometry.{Geometry}
 use Rattle.cola_layout.specs.declared.header.Header.{Header}
@@ -83,11 +86,28 @@ pub record IsFlushed (geometry : Geometry) (header : List ℕ) (spots : Spots) (
 abbrev pub AreLevelSpots : Geometry → Spots → List ℕ → Type 0
 AreLevelSpots geometry spots bytes = (level slot index : ℕ) → IsOnDevice geometry level → IsPlace (geometry.bottom + 1) level slot index → spots level slot index ≡ file_spots geometry.format bytes level slot index
 
+-- the front's two blocks are as before
+abbrev pub SameFront : Geometry → (before now : List ℕ) → Type 0
+SameFront geometry before now = take (2 * block_bytes geometry) now ≡ take (2 * block_bytes geometry) before
+
+-- all behind the front's two blocks is as before
+abbrev pub SameLevels : Geometry → (before now : List ℕ) → Type 0
+SameLevels geometry before now = drop (2 * block_bytes geometry) now ≡ drop (2 * block_bytes geometry) before
+
 -- the front comes last: the first two blocks of the file are as before, or every cell of the levels on the device is in it already
 abbrev pub IsFrontLast : Geometry → Spots → (before now : List ℕ) → Type 0
-IsFrontLast geometry spots before now = (take (2 * block_bytes geometry) now ≡ take (2 * block_bytes geometry) before) ⊎ AreLevelSpots geometry spots now
+IsFrontLast geometry spots before now = SameFront geometry before now ⊎ AreLevelSpots geometry spots now
 
 -- bytes of which none at or behind the end of a store's file changed
 pub record SameBehind (geometry : Geometry) (before now : List ℕ) : Type 0 where
   pub many : length now ≡ length before
   pub behind : drop (file_bytes geometry) now ≡ drop (file_bytes geometry) before
+
+-- the device settled between the levels and the front, and at the end: the front waited for the first, and nothing but the
+-- front changed after it
+pub record SettlesTwice {D : Type 0} (d : device.Ghosts D) (geometry : Geometry) (before now : D) : Type 0 where
+  pub between : D
+  pub levels_settled : IsSettled d between
+  pub front_waits : Both (d.bytes before) (d.bytes between) (SameFront geometry)
+  pub levels_stay : Both (d.bytes between) (d.bytes now) (SameLevels geometry)
+  pub settled : IsSettled d now

@@ -7,6 +7,7 @@ ghost use Rattle.cola_cell.specs.Places.{slot_size, number_of, IsPlace};
 ghost use Rattle.cola_cell.specs.Shadows.{emptied};
 ghost use Rattle.cola_device.specs.Bytes.{splice, Wrote};
 ghost use Rattle.cola_device.specs.Counts.{Called};
+ghost use Rattle.cola_device.specs.Settling.{IsSettled};
 ghost use Rattle.cola_buffers.specs.Blocks.{Stays};
 ghost use Rattle.cola_front.specs.Front.{FrontCells, IsFront, SameShape, IsLoaded as IsFrontLoaded, block_size, cell_at, image};
 ghost use Rattle.cola_clock.specs.Clock.{visible_slot};
@@ -15,7 +16,7 @@ ghost use Rattle.cola_layout.specs.declared.header.Header.{Header as AnyHeader};
 ghost use Rattle.cola_run.specs.Cells.{IsOnDevice, IsShadow, IsShape, IsBacked, AreCells, spots_of, block_cells, block_bytes, file_blocks, device_levels};
 ghost use Rattle.cola_run.specs.Store.{IsStore, held_of, kept_of};
 ghost use Rattle.cola_run.specs.Parts.{OneShadow};
-ghost use Rattle.cola_run.specs.Saving.{header_shadow, run_len, IsFrontRun, LoadAnswers, LoadSpends, IsLoaded, SameReads, IsFlushed, IsFrontLast, SameBehind};
+ghost use Rattle.cola_run.specs.Saving.{header_shadow, run_len, IsFrontRun, LoadAnswers, LoadSpends, IsLoaded, SameReads, IsFlushed, IsFrontLast, SameBehind, SettlesTwice};
 ghost use Rattle.cola_run.specs.Loading.{BadInRun, BadInLevel, BadInFront, NoneBadInFront, IsReading, IsWriting, loaded_shadow, StaySound, StayRead, SameCells, AreSavedBelow};
 
 use crate::device_cells::{begin_of_tail, block_at, cells_of_block, finish_on_device, set_shadow};
@@ -352,6 +353,7 @@ fn flush_parts<D: Device>(
         (record { told = D.bytes buffers.new.cache.device; shadows = shadows.new; tails = tails.now }) }
     ensures order { Both (D.bytes buffers.old.cache.device) (D.bytes buffers.new.cache.device) (IsFrontLast geometry.now
         (spots_of (record { geometry = geometry.now; front = front.now; lower = record { told = D.bytes buffers.new.cache.device; shadows = shadows.new; tails = tails.now } }))) }
+    ensures settles { OnOk result (SettlesTwice D.Device geometry.now buffers.old.cache.device buffers.new.cache.device) }
     ensures writing { IsWriting D.counts D.kept buffers.old buffers.new (geometry.now.bottom + 3) result }
 {
     match save_tails(buffers, geometry, shadows, tails) {
@@ -394,6 +396,7 @@ impl<D: Device> RunStore<D> {
     /// Writes the state byte of a store in use, and settles. No cell of the store changes.
     pub fn mark_in_use(&mut self) -> Result<(), DeviceFault>
         ensures wrote { Wrote result 14 (1 ∷ []) (D.bytes self.old.buffers.cache.device) (D.bytes self.new.buffers.cache.device) }
+        ensures settled { OnOk result (IsSettled D.Device self.new.buffers.cache.device) }
         ensures fixed { (held_of D.bytes self.new).fixed ≡ (held_of D.bytes self.old).fixed }
         ensures shadows { (held_of D.bytes self.new).shadows ≡ (held_of D.bytes self.old).shadows }
         ensures cells_stay { (level slot index : ℕ) → (held_of D.bytes self.new).spots level slot index ≡ (held_of D.bytes self.old).spots level slot index }
@@ -410,14 +413,15 @@ impl<D: Device> RunStore<D> {
         }
     }
 
-    /// Makes the file that of the store, with this header: writes every tail that is not on the device yet, and then the
-    /// two blocks of the front, of which the first begins with the header. After an error the store reads as before, the
+    /// Makes the file that of the store, with this header: writes every tail that is not on the device yet, settles, writes
+    /// the two blocks of the front, of which the first begins with the header, and settles. After an error the store reads as before, the
     /// first two blocks of the file are as before or every cell of the levels on the device is in it already, and the
     /// call may be repeated.
     pub fn flush(&mut self, header: &[u8; 512]) -> Result<(), DeviceFault>
         ensures flushed { OnOk result (IfSome (D.bytes self.new.buffers.cache.device) (IsFlushed self.old.geometry header.now (held_of D.bytes self.new).spots)) }
         ensures reads { SameReads (held_of D.bytes self.old) (held_of D.bytes self.new) }
         ensures order { Both (D.bytes self.old.buffers.cache.device) (D.bytes self.new.buffers.cache.device) (IsFrontLast self.old.geometry (held_of D.bytes self.new).spots) }
+        ensures settles { OnOk result (SettlesTwice D.Device self.old.geometry self.old.buffers.cache.device self.new.buffers.cache.device) }
         ensures behind { Both (D.bytes self.old.buffers.cache.device) (D.bytes self.new.buffers.cache.device) (SameBehind self.old.geometry) }
         ensures geometry { self.new.geometry ≡ self.old.geometry }
         ensures cache { self.new.buffers.cache.blocks ≡ self.old.buffers.cache.blocks }

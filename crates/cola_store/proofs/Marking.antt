@@ -87,6 +87,7 @@ module _ {D : Type 0} (d : device.Ghosts D) (cache : ℕ) (before first : D) (he
         was = ready header told found.why_is (subst (λ (t : Option (List ℕ)). IfSome t (λ bytes. AreFrontRunsSpelled header (file_spots header.geometry.format bytes))) found.bytes_stay m.spelled);
         closed = closed;
         marked = subst (λ (t : Option (List ℕ)). Both t (d.bytes store.buffers.cache.device) (λ old new. new ≡ with_state 1 old)) found.bytes_stay m.marked;
+        settled = m.settled;
         geometry = m.geometry;
         loaded = record { spots = spots; shadows = m.shadows };
         stands = stand header (held_of d.bytes store) told found.why_is spots m.shadows;

@@ -11,7 +11,7 @@ use Rattle.cola_spec.specs.Map.{Map}
 use Rattle.cola_image.specs.Cells.{file_spots}
 use Rattle.cola_image.specs.Standing.{HeaderStandsFor}
 use Rattle.cola_run.specs.Store.{Store, held_of}
-use Rattle.cola_run.specs.Saving.{SameReads, SameBehind}
+use Rattle.cola_run.specs.Saving.{SameReads, IsFrontLast, SameBehind, SettlesTwice}
 use Rattle.cola_store.specs.Open.{Spends}
 use Rattle.cola_store.specs.Runs.{HasHeader, StoreStandsFor}
 
@@ -31,19 +31,23 @@ abbrev pub closing_writes : Header → ℕ
 closing_writes header = header.geometry.bottom + 3
 
 module _ {D : Type 0} (d : device.Ghosts D) (header : Header) (before : Store D) where
-  -- the store was closed: its file is that of its header and cells, and bytes behind it stay
+  -- the store was closed: its file is that of its header and cells, bytes behind it stay, and the device settled before the
+  -- front was written and at the end
   pub record IsClosed (now : D) : Type 0 where
     pub file : IfSome (d.bytes now) (IsFileOf header (held_of d.bytes before))
     pub behind : Both (d.bytes before.buffers.cache.device) (d.bytes now) (SameBehind header.geometry)
+    pub settles : SettlesTwice d header.geometry before.buffers.cache.device now
     pub spends : Spends (d.counts before.buffers.cache.device) (d.counts now) 0 (closing_writes header)
     pub no_fault : (d.counts now).faults ≡ (d.counts before.buffers.cache.device).faults
 
-  -- the device failed, and all that is owed to the file still is: the cells that are read, and the header
+  -- the device failed, and all that is owed to the file still is: the cells that are read, and the header; the first two
+  -- blocks of the file are as before, or it has every other cell already
   pub record StillOwes (now : Store D) (kept_header : Header) : Type 0 where
     pub cause : Rose (d.counts before.buffers.cache.device).faults (d.counts now.buffers.cache.device).faults
     pub header_is : kept_header ≡ header
     pub reads : SameReads (held_of d.bytes before) (held_of d.bytes now)
     pub geometry : now.geometry ≡ before.geometry
+    pub order : Both (d.bytes before.buffers.cache.device) (d.bytes now.buffers.cache.device) (IsFrontLast header.geometry (held_of d.bytes now).spots)
     pub behind : Both (d.bytes before.buffers.cache.device) (d.bytes now.buffers.cache.device) (SameBehind header.geometry)
     pub spends : Spends (d.counts before.buffers.cache.device) (d.counts now.buffers.cache.device) 0 (closing_writes header)
     pub stands : (m : Map) → StoreStandsFor header (held_of d.bytes before) m → StoreStandsFor header (held_of d.bytes now) m

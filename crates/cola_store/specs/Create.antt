@@ -7,6 +7,7 @@ use Rattle.cola_cell.specs.Format.{width}
 use Rattle.cola_device.specs.declared.counts.Counts.{Counts}
 use Rattle.cola_device.specs.declared.device.Device as device
 use Rattle.cola_device.specs.Bytes.{IsEmpty}
+use Rattle.cola_device.specs.Settling.{IsSettled}
 use Rattle.cola_layout.specs.declared.fault.LayoutFault.TheVariants as layout
 use Rattle.cola_layout.specs.Geometry.{AreKeys, IsBottom, IsBlock, Refuses}
 use Rattle.cola_layout.specs.Header.{Fields}
@@ -60,12 +61,13 @@ pub record CountsOneWrite (before now : Counts) : Type 0 where
   pub writes_rise : now.writes ≤ before.writes + 1
 
 module _ {D : Type 0} (d : device.Ghosts D) (format : Format) (keys block_exp : ℕ) (before now : D) where
-  -- the device was empty and has a new file, where it tells its bytes, and met no fault
+  -- the device was empty and has a new file, where it tells its bytes, settled with it, and met no fault
   pub record Made : Type 0 where
     pub bottom : ℕ
     pub suits : Suits keys block_exp bottom
     pub was_empty : IsEmpty (d.bytes before)
     pub file : IfSome (d.bytes now) (IsNewFile format keys block_exp bottom)
+    pub settled : IsSettled d now
     pub no_fault : (d.counts now).faults ≡ (d.counts before).faults
 
   -- the device had bytes, where it tells them: they stay, and so do the counts

@@ -4,6 +4,7 @@ use Rattle.cola_outside.specs.Faults.{Rose}
 use Rattle.cola_outside.specs.Told.{Both}
 use Rattle.cola_device.specs.declared.counts.Counts.{Counts}
 use Rattle.cola_device.specs.declared.device.Device as device
+use Rattle.cola_device.specs.Settling.{IsSettled}
 use Rattle.cola_layout.specs.declared.header.Header.{Header}
 use Rattle.cola_layout.specs.Fields.{fields_of}
 use Rattle.cola_layout.specs.Header.{Fields, IsSpelling, IsNoSpelling}
@@ -90,12 +91,13 @@ module _ {D : Type 0} (d : device.Ghosts D) (before : D) where
     pub cause : Rose (d.counts before).faults (d.counts now).faults
     pub at : FailedAtHeader now ⊎ (FailedAtCells now ⊎ FailedAtMark now)
 
-  -- the store is open: its file was closed, has this header and its state byte says now that it is in use; the cells are
-  -- those of the file, and stand for the map that this stood for
+  -- the store is open: its file was closed, has this header and its state byte says now that it is in use, with which the
+  -- device settled; the cells are those of the file, and stand for the map that this stood for
   pub record IsOpened (cache : ℕ) (store : Store D) (header : Header) : Type 0 where
     pub was : IfSome (d.bytes before) (IsReady header)
     pub closed : header.closed ≡ true
     pub marked : Both (d.bytes before) (d.bytes store.buffers.cache.device) (λ old new. new ≡ with_state 1 old)
+    pub settled : IsSettled d store.buffers.cache.device
     pub geometry : store.geometry ≡ header.geometry
     pub loaded : IsLoaded header (held_of d.bytes store) (d.bytes before)
     pub stands : IfSome (d.bytes before) (λ bytes. (m : Map) → FileStandsFor bytes m → StoreStandsFor header (held_of d.bytes store) m)
@@ -142,10 +144,11 @@ module _ {D : Type 0} (d : device.Ghosts D) (before now : D) where
   FindsHeader (Err (BadCell number)) = ⊥
 
 module _ {D : Type 0} (d : device.Ghosts D) (header : Header) (before now : Store D) where
-  -- the cells of the file are loaded by the header, and its state byte says that the store is in use
+  -- the cells of the file are loaded by the header, and its state byte says that the store is in use, with which the device settled
   pub record IsMarked : Type 0 where
     pub spelled : IfSome (d.bytes before.buffers.cache.device) (λ bytes. AreFrontRunsSpelled header (file_spots header.geometry.format bytes))
     pub marked : Both (d.bytes before.buffers.cache.device) (d.bytes now.buffers.cache.device) (λ old new. new ≡ with_state 1 old)
+    pub settled : IsSettled d now.buffers.cache.device
     pub geometry : now.geometry ≡ header.geometry
     pub spots : IfSome (d.bytes before.buffers.cache.device) (AreFileSpots header.geometry (held_of d.bytes now).spots)
     pub shadows : (level : ℕ) → level ≤ header.geometry.bottom → (held_of d.bytes now).shadows level ≡ header_shadow header level

@@ -4,6 +4,7 @@ ghost use Rattle.cola_outside.specs.Told.{Both};
 ghost use Rattle.cola_cell.specs.declared.format.Format.TheVariants.{One};
 ghost use Rattle.cola_device.specs.Bytes.{IsEmpty};
 ghost use Rattle.cola_device.specs.Counts.{Called};
+ghost use Rattle.cola_device.specs.Settling.{IsSettled};
 ghost use Rattle.cola_layout.specs.Header.{IsSpelling};
 ghost use Rattle.cola_store.specs.Create.{Created, CountsOneWrite, new_header, file_size};
 
@@ -35,6 +36,7 @@ fn fill<D: Device>(device: &mut D, size: u64, header: &[u8; 512]) -> Result<(), 
     requires empty { IsEmpty (D.bytes device.old) }
     requires room { 512 ≤ size }
     ensures filled { OnOk result (IfSome (D.bytes device.new) (λ bytes. bytes ≡ header.now ++ replicate (size - 512) 0)) }
+    ensures settled { OnOk result (IsSettled D.Device device.new) }
     ensures left { Both (D.bytes device.old) (D.bytes device.new) (λ _ bytes. length bytes ≤ size) }
     ensures kept { D.kept device.new ≡ D.kept device.old }
     ensures counts { Called (D.counts device.old) (D.counts device.new) 0 1 result }

@@ -1,6 +1,7 @@
 //! Open stores for 32 keys over devices in memory, in blocks of 32 cells, on files of both formats.
 ghost use Rattle.std.specs.Prelude.{◌≡◌, ◌<◌, IfSome, Some, true, refl};
 ghost use Rattle.cola_cell.specs.Format.{KeyFits, ValueFits};
+ghost use Rattle.cola_device.specs.Memory.{IsSettle};
 ghost use Rattle.cola_store.specs.Walks.{Stands};
 
 use crate::{OpenFault, Store, create_as};
@@ -544,6 +545,8 @@ impl Device for Measured {
     ghost counts = { λ d. d.inner.counts };
 
     ghost kept = { λ d. tt };
+
+    ghost settles = { λ old result new. IsSettle result old.inner new.inner };
 
     ghost told = { λ _. refl };
 

@@ -1,11 +1,12 @@
 -- The steps of an upgrade, one after the other.
 use Rattle.std.proofs.Common.{◌≡◌, ℕ, ◌+◌, ◌*◌, ◌≤◌, inl, inr, List, length, Option, Result, Ok, Err, refl, subst, ◌∙◌, arith}
-use Rattle.std.specs.Prelude.{IfSome, IfErr}
+use Rattle.std.specs.Prelude.{IfSome, IfErr, OnOk}
 use Rattle.cola_outside.specs.Faults.{Rose}
 use Rattle.cola_device.specs.declared.counts.Counts.{Counts}
 use Rattle.cola_device.specs.declared.device.Device as device
 use Rattle.cola_device.specs.Bytes.{splice, Wrote}
 use Rattle.cola_device.specs.Counts.{Called}
+use Rattle.cola_device.specs.Settling.{IsSettled}
 use Rattle.cola_device.proofs.BytesLemmas.{length-splice}
 use Rattle.cola_layout.specs.Header.{Fields}
 use Rattle.cola_wide.specs.declared.fault.UpgradeFault.{UpgradeFault}
@@ -229,6 +230,7 @@ module _ {D E : Type 0} (d : device.Ghosts D) (e : device.Ghosts E) (header : Fi
       source = found-then d from mid now why q r reads within first stay (AreSpelled header 0 (cells_of header)) next.source;
       size = next.size;
       filled = subst (λ (t : Option (List ℕ)). IfSome t (λ old. IfSome (e.bytes last) (IsFilled header head old))) stay next.filled;
+      settled = next.settled;
       writes_are = writes-then (e.counts to) (e.counts other) (e.counts last) w v writes few counted next.writes_are;
       no_fault = next.no_fault ∙ calm;
     }
@@ -265,30 +267,31 @@ module _ {D E : Type 0} (d : device.Ghosts D) (e : device.Ghosts E) (header : Fi
       no_fault = loaded.no_fault;
     }
 
-    first-written : (result : Result (Unit {0}) UpgradeFault) → Wrote result 0 (splice wide 0 head) (e.bytes to) (e.bytes last) → Called (e.counts to) (e.counts last) 0 1 result → IfErr result (λ fault. fault ≡ Device) →
+    first-written : (result : Result (Unit {0}) UpgradeFault) → Wrote result 0 (splice wide 0 head) (e.bytes to) (e.bytes last) → OnOk result (IsSettled e last) → Called (e.counts to) (e.counts last) 0 1 result → IfErr result (λ fault. fault ≡ Device) →
         CopiesAll d e header from now to last head 1 1 result
-    first-written (Ok value) wrote called fault = record {
+    first-written (Ok value) wrote settled called fault = record {
       source = all-spelled;
       size = first-size header (splice wide 0 head) size within (e.bytes to) (e.bytes last) begun {T = Unit {0}} {E = UpgradeFault} (Ok value) wrote;
       filled = first-whole UpgradeFault value header head wide (d.bytes from) (e.bytes to) (e.bytes last) many some long wrote copied loaded.why_is;
+      settled = settled;
       writes_are = called-writes {T = Unit {0}} {E = UpgradeFault} (Ok value) (e.counts to) (e.counts last) 1 1 (omega arith) called;
       no_fault = called.none_hidden;
     }
-    first-written (Err Small) wrote called fault = cc
-    first-written (Err NotStore) wrote called fault = cc
-    first-written (Err Already) wrote called fault = cc
-    first-written (Err NotClosed) wrote called fault = cc
-    first-written (Err OutOfMemory) wrote called fault = cc
-    first-written (Err NotEmpty) wrote called fault = cc
-    first-written (Err Device) wrote called fault = inr (record {
+    first-written (Err Small) wrote settled called fault = cc
+    first-written (Err NotStore) wrote settled called fault = cc
+    first-written (Err Already) wrote settled called fault = cc
+    first-written (Err NotClosed) wrote settled called fault = cc
+    first-written (Err OutOfMemory) wrote settled called fault = cc
+    first-written (Err NotEmpty) wrote settled called fault = cc
+    first-written (Err Device) wrote settled called fault = inr (record {
       cause = called.cause;
       source = all-spelled;
       size = first-size header (splice wide 0 head) size within (e.bytes to) (e.bytes last) begun {T = Unit {0}} {E = UpgradeFault} (Err Device) wrote;
       copied = first-behind header (splice wide 0 head) size within (e.bytes to) (e.bytes last) begun {T = Unit {0}} {E = UpgradeFault} (Err Device) (d.bytes from) wrote copied;
       writes_are = called-writes {T = Unit {0}} {E = UpgradeFault} (Err Device) (e.counts to) (e.counts last) 1 1 (omega arith) called;
     })
-    first-written (Err (BadCell number)) wrote called fault = cc
+    first-written (Err (BadCell number)) wrote settled called fault = cc
 
-    pub first-copied : (left : List ℕ) (result : Result (Unit {0}) UpgradeFault) → left ≡ splice wide 0 head → Wrote result 0 left (e.bytes to) (e.bytes last) → Called (e.counts to) (e.counts last) 0 1 result → IfErr result (λ fault. fault ≡ Device) →
+    pub first-copied : (left : List ℕ) (result : Result (Unit {0}) UpgradeFault) → left ≡ splice wide 0 head → Wrote result 0 left (e.bytes to) (e.bytes last) → OnOk result (IsSettled e last) → Called (e.counts to) (e.counts last) 0 1 result → IfErr result (λ fault. fault ≡ Device) →
         CopiesAll d e header from now to last head 1 1 result
-    first-copied left result is wrote called fault = first-written result (subst (λ (xs : List ℕ). Wrote result 0 xs (e.bytes to) (e.bytes last)) is wrote) called fault
+    first-copied left result is wrote settled called fault = first-written result (subst (λ (xs : List ℕ). Wrote result 0 xs (e.bytes to) (e.bytes last)) is wrote) settled called fault

@@ -76,6 +76,7 @@ module _ {D E : Type 0} (d : device.Ghosts D) (e : device.Ghosts E) (from mid : 
           size = all.size;
           copy = some-both (λ bytes. IsClosedFile (fields_of header) bytes × (head ≡ take 512 bytes)) (λ old. IfSome (e.bytes last) (IsFilled (fields_of header) two old)) (λ old. IfSome (e.bytes last) (IsCopyOf (fields_of header) old)) (d.bytes from)
               (λ old both filled. copies old both all.size filled) found.why_is all.filled;
+          settled = all.settled;
           writes_are = all.writes_are;
           no_fault = all.no_fault;
         }),

@@ -6,6 +6,7 @@ use Rattle.cola_cell.specs.Format.{width}
 use Rattle.cola_device.specs.declared.counts.Counts.{Counts}
 use Rattle.cola_device.specs.declared.device.Device as device
 use Rattle.cola_device.specs.Bytes.{IsEmpty}
+use Rattle.cola_device.specs.Settling.{IsSettled}
 use Rattle.cola_layout.specs.declared.header.Header.{Header}
 use Rattle.cola_layout.specs.Fields.{fields_of}
 use Rattle.cola_layout.specs.Header.{Fields, IsSpelling, IsNoSpelling}
@@ -150,11 +151,12 @@ module _ {D E : Type 0} (d : device.Ghosts D) (e : device.Ghosts E) (header : Fi
     pub writes_are : CountsWrites (e.counts to) (e.counts to_now) writes
     pub no_fault : (e.counts to_now).faults ≡ (e.counts to).faults
 
-  -- all is copied, and these are the first bytes of the copy
+  -- all is copied, these are the first bytes of the copy, and its device settled with it
   pub record AllIsCopied (head : List ℕ) (reads writes : ℕ) : Type 0 where
     pub source : IsFound d from from_now (AreSpelled header 0 (cells_of header)) reads
     pub size : IfSome (e.bytes to_now) (λ new. length new ≡ wide_size header)
     pub filled : IfSome (d.bytes from) (λ old. IfSome (e.bytes to_now) (IsFilled header head old))
+    pub settled : IsSettled e to_now
     pub writes_are : CountsWrites (e.counts to) (e.counts to_now) writes
     pub no_fault : (e.counts to_now).faults ≡ (e.counts to).faults
 
@@ -250,11 +252,12 @@ module _ {D E : Type 0} (d : device.Ghosts D) (e : device.Ghosts E) (from from_n
       ⊎ (WasBegun (fields_of header) (FailedCopying d e (fields_of header) from from_now to to_now (upgrade_reads (fields_of header)) (block_count (fields_of header)))
       ⊎ WasBegun (fields_of header) (FailedLast d e (fields_of header) from from_now to to_now (upgrade_reads (fields_of header)) (block_count (fields_of header))))))
 
-  -- the copy is whole, and no fault was met
+  -- the copy is whole, its device settled with it, and no fault was met
   pub record IsWhole (header : Fields) : Type 0 where
     pub source : IsFound d from from_now (AreSpelled header 0 (cells_of header)) (upgrade_reads header)
     pub size : IfSome (e.bytes to_now) (λ new. length new ≡ wide_size header)
     pub copy : IfSome (d.bytes from) (λ old. IfSome (e.bytes to_now) (IsCopyOf header old))
+    pub settled : IsSettled e to_now
     pub writes_are : CountsWrites (e.counts to) (e.counts to_now) (block_count header)
     pub no_fault : (e.counts to_now).faults ≡ (e.counts to).faults
 

@@ -1,7 +1,8 @@
 //! The blocks of a file, copied.
-ghost use Rattle.std.specs.Prelude.{◌≡◌, ◌+◌, ◌-◌, ◌*◌, ◌^◌, ◌≤◌, length, IfSome, IfErr};
+ghost use Rattle.std.specs.Prelude.{◌≡◌, ◌+◌, ◌-◌, ◌*◌, ◌^◌, ◌≤◌, length, IfSome, IfErr, OnOk};
 ghost use Rattle.cola_device.specs.Bytes.{HasRange, Wrote, splice};
 ghost use Rattle.cola_device.specs.Counts.{Called};
+ghost use Rattle.cola_device.specs.Settling.{IsSettled};
 ghost use Rattle.cola_layout.specs.Fields.{fields_of};
 ghost use Rattle.cola_wide.specs.Copied.{block_cells, block_count, cells_of, IsBegun, AreSpelled, AreCopied};
 ghost use Rattle.cola_wide.specs.Upgrade.{LoadsBlock, CopiesBlocks, CopiesAll};
@@ -130,6 +131,7 @@ fn write_first<E: Device>(to: &mut E, wide: &[u8]) -> Result<(), UpgradeFault>
     requires block { length wide.now ≤ 65536 }
     requires inside { HasRange (E.bytes to.old) 0 (length wide.now) }
     ensures wrote { Wrote result 0 wide.now (E.bytes to.old) (E.bytes to.new) }
+    ensures settled { OnOk result (IsSettled E.Device to.new) }
     ensures fault { IfErr result (λ fault. fault ≡ UpgradeFault.Device) }
     ensures counts { Called (E.counts to.old) (E.counts to.new) 0 1 result }
     ensures kept { E.kept to.new ≡ E.kept to.old }

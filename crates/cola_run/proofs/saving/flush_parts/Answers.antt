@@ -8,11 +8,11 @@ use Rattle.cola_device.specs.Bytes.{Wrote}
 use Rattle.cola_front.specs.Front.{block_size, image}
 use Rattle.cola_layout.proofs.Powers.{power-le}
 use Rattle.cola_run.specs.Cells.{Lower, block_bytes, file_blocks, spots_of, IsShape, IsBacked}
-use Rattle.cola_run.specs.Saving.{IsFlushed, IsFrontLast}
+use Rattle.cola_run.specs.Saving.{IsFlushed, IsFrontLast, SameFront}
 use Rattle.cola_run.specs.Loading.{SameCells}
 use Rattle.cola_run.proofs.Finishes.{ends-within}
-use Rattle.cola_run.proofs.Flushes.{image-many, same-two, same-read, same-head, order-head, front-stays, flushed-by}
-use Rattle.cola_run.proofs.Heads.{heads-backed}
+use Rattle.cola_run.proofs.Flushes.{image-many, same-two, same-read, same-head, order-head, front-waits, front-stays, flushed-by, settles-twice}
+use Rattle.cola_run.proofs.Heads.{heads-backed, heads-levels}
 use Rattle.cola_run.proofs.saving.flush_parts.Goals as goal
 
 -- a fact is one on Ok
@@ -235,7 +235,7 @@ returns-in-Err-settle-clause-order g c =
     let old : Lower = record { told = told c.args.buffers.now.cache.device; shadows = c.args.shadows.now; tails = c.args.tails.now } in
     let mid : Lower = record { told = told c.save_tails.new.buffers.cache.device; shadows = c.save_tails.new.shadows; tails = c.args.tails.now } in
     subst (λ (x : Option (List ℕ)). Both old.told x (IsFrontLast geometry (spots_of (record { geometry = geometry; front = front; lower = record { told = x; shadows = mid.shadows; tails = mid.tails } })))) (sym c.settle.ensures.bytes_stay)
-    (front-stays geometry (spots_of (record { geometry = geometry; front = front; lower = mid })) old.told mid.told c.save_tails.ensures.stays.told (c.save_tails.ensures.stays.beside_stays front c.requires.shape c.requires.backed))
+    (front-stays geometry (spots_of (record { geometry = geometry; front = front; lower = mid })) old.told mid.told (front-waits geometry old.told mid.told c.save_tails.ensures.stays.told (c.save_tails.ensures.stays.beside_stays front c.requires.shape c.requires.backed)))
 
 pub returns-in-Err-clause-order : goal.returns-in-Err-clause-order
 returns-in-Err-clause-order g c =
@@ -244,4 +244,28 @@ returns-in-Err-clause-order g c =
     let told = g.D.Device.bytes in
     let old : Lower = record { told = told c.args.buffers.now.cache.device; shadows = c.args.shadows.now; tails = c.args.tails.now } in
     let mid : Lower = record { told = told c.save_tails.new.buffers.cache.device; shadows = c.save_tails.new.shadows; tails = c.args.tails.now } in
-    front-stays geometry (spots_of (record { geometry = geometry; front = front; lower = mid })) old.told mid.told c.save_tails.ensures.stays.told (c.save_tails.ensures.stays.beside_stays front c.requires.shape c.requires.backed)
+    front-stays geometry (spots_of (record { geometry = geometry; front = front; lower = mid })) old.told mid.told (front-waits geometry old.told mid.told c.save_tails.ensures.stays.told (c.save_tails.ensures.stays.beside_stays front c.requires.shape c.requires.backed))
+
+pub returns-in-Ok-save_front-clause-settles : goal.returns-in-Ok-save_front-clause-settles
+returns-in-Ok-save_front-clause-settles g c =
+    let geometry = c.args.geometry.now in
+    let front = c.args.front.now in
+    let told = g.D.Device.bytes in
+    let old = told c.args.buffers.now.cache.device in
+    let mid = told c.save_tails.new.buffers.cache.device in
+    let between = c.settle.new.self.cache.device in
+    let last = c.save_front.new.buffers.cache.device in
+    let shape : IsShape geometry front c.save_tails.new.shadows c.args.tails.now = c.save_tails.ensures.sound.shape front c.requires.shape in
+    let backed : IfSome mid (IsBacked geometry c.save_tails.new.shadows c.args.tails.now) = c.save_tails.ensures.sound.backed front c.requires.shape c.requires.backed in
+    let many : length (image front c.args.header.now) ≡ 2 * block_size front = image-many front c.args.header.now c.save_front.ensures.sound (omega (arith, c.told-header)) in
+    let size : block_size front ≡ block_bytes geometry = ap (λ (f : Format). width f * front.block) shape.format ∙ ap (λ (n : ℕ). width geometry.format * n) shape.front_block in
+    let within : 0 + length (image front c.args.header.now) ≤ 2 * block_bytes geometry = omega (arith, many, size) in
+    let settled_bytes : told between ≡ mid = c.settle.ensures.bytes_stay in
+    settles-twice g.D.Device geometry c.settle-in-Ok-save_front.result c.args.buffers.now.cache.device between last c.settle-in-Ok-save_front.new.self.cache.device
+    (record { before = c.save_tails.new.buffers.cache.device; after = between; settled = c.in-Ok-settle.ensures.settled; bytes_stay = settled_bytes })
+    (subst (λ (x : Option (List ℕ)). Both old x (SameFront geometry)) (sym settled_bytes)
+    (front-waits geometry old mid c.save_tails.ensures.stays.told (c.save_tails.ensures.stays.beside_stays front c.requires.shape c.requires.backed)))
+    (heads-levels geometry shape.block c.save_tails.new.shadows c.args.tails.now c.save_front.result 0 (image front c.args.header.now) within (told between) (told last) c.save_front.ensures.wrote
+    (subst (λ (x : Option (List ℕ)). IfSome x (IsBacked geometry c.save_tails.new.shadows c.args.tails.now)) (sym settled_bytes) backed))
+    c.settle-in-Ok-save_front.ensures.settled
+    c.settle-in-Ok-save_front.ensures.bytes_stay

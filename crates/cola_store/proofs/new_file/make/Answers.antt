@@ -15,5 +15,6 @@ returns-in-Ok-fill-clause-created g c =
       file =
           told_new_file geometry.format geometry.keys geometry.block_exp geometry.bottom c.size_of-size.result header.result (told c.fill.new.device)
           c.size_of-size.ensures.value header.ensures.size header.ensures.spelled c.size_of-size.ensures.header c.in-Ok-fill.ensures.filled;
+      settled = c.in-Ok-fill.ensures.settled;
       no_fault = c.in-Ok-fill.ensures.counts.none_hidden ∙ c.in-Ok-eq0.ensures.counts.none_hidden;
     }

@@ -26,6 +26,7 @@ returns-in-Ok-mark_in_use-clause-loaded g c =
       spelled = c.in-Ok.ensures.answer;
       marked = subst (λ (t : Option (List ℕ)). Both t (told now.buffers.cache.device) (λ old new. new ≡ with_state 1 old)) c.load.ensures.bytes_stay
           (marked DeviceFault c.in-Ok-mark_in_use.field-0 (told mid.buffers.cache.device) (told now.buffers.cache.device) c.in-Ok-mark_in_use.ensures.wrote);
+      settled = c.in-Ok-mark_in_use.ensures.settled;
       geometry = c.mark_in_use.ensures.geometry ∙ ap (λ (k : Kept _). k.geometry) c.load.ensures.kept ∙ sym c.requires;
       spots = marked-spots d c.args.header.now before mid now c.in-Ok.ensures.loaded.spots c.mark_in_use.ensures.cells_stay;
       shadows = λ level within. ap (λ (f : ℕ → Shadow). f level) c.mark_in_use.ensures.shadows ∙ c.in-Ok.ensures.loaded.shadows level within;

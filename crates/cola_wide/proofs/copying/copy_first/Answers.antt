@@ -29,7 +29,7 @@ pub returns-clause-copied : goal.returns-clause-copied
 returns-clause-copied g c =
     first-copied g.D.Device g.E.Device (fields_of c.args.header.now) c.args.from.now c.load_block.new.from c.args.to.now c.write_first.new.to c.args.head.now c.load_block.new.wide
     (c.load_block.auto.wide ∙ c.requires.wide) (omega (arith, c.told-head)) (span-some c.args.header.now) (span-within c.args.header.now) c.requires.begun c.requires.spelled c.requires.copied c.in-Ok.ensures.loaded
-    c.put_head.new.wide c.write_first.result c.put_head.ensures c.write_first.ensures.wrote c.write_first.ensures.counts c.write_first.ensures.fault
+    c.put_head.new.wide c.write_first.result c.put_head.ensures c.write_first.ensures.wrote c.write_first.ensures.settled c.write_first.ensures.counts c.write_first.ensures.fault
 
 pub load_block-requires-clause-inside : goal.load_block-requires-clause-inside
 load_block-requires-clause-inside g c = (let within = span-within c.args.header.now in omega (arith, within))

@@ -4,6 +4,7 @@ use Rattle.cola_run.specs.Cells.{block_bytes, spots_of, IsBacked}
 use Rattle.cola_run.specs.Store.{Store, cells_of}
 use Rattle.std.proofs.lemmas.List.{length-map}
 use Rattle.cola_buffers.specs.Blocks.{forgotten}
+use Rattle.cola_device.proofs.SettlingLemmas.{settled-by}
 use Rattle.cola_run.proofs.Heads.{heads-backed, heads-spots, block-least}
 use Rattle.cola_run.proofs.run_store.RunStore.mark_in_use.Goals as goal
 
@@ -75,3 +76,6 @@ returns-in-Err-clause-cells_stay g c =
     λ l s j.
     heads-spots i.geometry shape.block i.shadows.items i.tails.items c.write_byte.result 14 (1 ∷ []) within i.front (told i.buffers.cache.device) (told c.write_byte.new.self.cache.device) c.write_byte.ensures.wrote backed l s j
     ∙ ap (λ (x : Store _). spots_of (cells_of (told x.buffers.cache.device) x) l s j) c.self.view_is
+
+pub returns-in-Ok-clause-settled : goal.returns-in-Ok-clause-settled
+returns-in-Ok-clause-settled g c = settled-by g.D.Device c.settle.result c.write_byte.new.self.cache.device c.settle.new.self.cache.device c.settle.ensures.settled c.settle.ensures.bytes_stay

@@ -3,7 +3,7 @@ use Rattle.std.specs.Prelude.{IfSome}
 use Rattle.cola_outside.specs.Told.{Both}
 use Rattle.cola_layout.specs.declared.geometry.Geometry.{Geometry}
 use Rattle.cola_run.specs.Store.{held_of}
-use Rattle.cola_run.specs.Saving.{SameBehind}
+use Rattle.cola_run.specs.Saving.{IsFrontLast, SameBehind, SettlesTwice}
 use Rattle.cola_store.specs.Create.{file_size}
 use Rattle.cola_store.specs.Close.{IsClosed}
 use Rattle.cola_store.proofs.Closed.{told-file, stands-still, closing-spends}
@@ -26,6 +26,7 @@ returns-in-Ok-clause-closed g c =
           (subst (λ (geometry : Geometry). IfSome (d.bytes now.buffers.cache.device) (λ bytes. file_size geometry.format geometry.bottom ≤ length bytes)) c.flush-flushed.ensures.geometry c.know_whole_file.ensures)
           c.in-Ok.ensures.flushed;
       behind = subst (λ (geometry : Geometry). Both (d.bytes before.buffers.cache.device) (d.bytes now.buffers.cache.device) (SameBehind geometry)) (sym fits) c.flush-flushed.ensures.behind;
+      settles = subst (λ (geometry : Geometry). SettlesTwice d geometry before.buffers.cache.device now.buffers.cache.device) (sym fits) c.in-Ok.ensures.settles;
       spends = closing-spends d header before now (Ok c.in-Ok.field-0) fits c.in-Ok.ensures.counts;
       no_fault = c.in-Ok.ensures.counts.none_hidden;
     })
@@ -45,6 +46,7 @@ returns-in-Err-clause-owes g c =
       header_is = refl;
       reads = c.flush-flushed.ensures.reads;
       geometry = c.flush-flushed.ensures.geometry;
+      order = subst (λ (geometry : Geometry). Both (d.bytes before.buffers.cache.device) (d.bytes now.buffers.cache.device) (IsFrontLast geometry (held_of d.bytes now).spots)) (sym fits) c.flush-flushed.ensures.order;
       behind = subst (λ (geometry : Geometry). Both (d.bytes before.buffers.cache.device) (d.bytes now.buffers.cache.device) (SameBehind geometry)) (sym fits) c.flush-flushed.ensures.behind;
       spends = closing-spends d header before now (Err c.in-Err.field-0) fits c.in-Err.ensures.counts;
       stands = stands-still header (held_of d.bytes before) (held_of d.bytes now) c.flush-flushed.ensures.reads;
