@@ -3,6 +3,7 @@ pub mod Numbers
 pub mod Padding
 pub mod Parts
 pub mod Reading
+pub mod RoomWords
 pub mod Unique
 pub mod Words
 mod Worked

@@ -1,5 +1,6 @@
 //! Short lists of bytes that lie in the value itself.
-ghost use Rattle.std.specs.Prelude.{◌≡◌, ◌≤◌, ◌%◌, ◌↔◌, ℕ, List, length, take, slice_index, IsTrue};
+ghost use Rattle.std.specs.Prelude.{◌≡◌, ◌+◌, ◌≤◌, ◌%◌, ◌↔◌, ℕ, List, length, take, drop, replicate, slice_index, IsTrue};
+ghost use Rattle.byteorder.specs.Endian.{little_bytes};
 ghost use Rattle.std.specs.Bool.{MatchBool};
 ghost use Rattle.cola_cell.specs.Bytes.{padded, Fills};
 
@@ -90,9 +91,76 @@ impl<const N: usize> Short<N> {
         ensures { result ≡ take len room.now }
     {
         let mut bytes = [0u8; N];
-        bytes[..room.len()].copy_from_slice(room);
+        put_room(room, &mut bytes);
         Short { bytes, len }
     }
+}
+
+/// Copies the room to the front of zeros.
+#[inline(always)]
+fn put_room(room: &[u8], into: &mut [u8])
+    requires fits { length room.now ≤ length into.old }
+    requires zeros { into.old ≡ replicate (length into.old) 0 }
+    ensures { into.new ≡ padded (length into.old) room.now }
+{
+    let size = into.len();
+    if room.len() < size && room.len() % 8 == 0 && size % 8 == 0 && size <= 72 {
+        put_words(room, into);
+    } else {
+        into[..room.len()].copy_from_slice(room);
+    }
+}
+
+/// Writes the room to the front of a larger one, and zeros behind it. Both are whole words of 8 bytes, at
+/// most 9. Each word has a line of its own, and the zeros are written again: so the compiler keeps the words
+/// in registers until the answer is written. Of a loop it makes a copy in memory.
+#[inline(always)]
+fn put_words(room: &[u8], into: &mut [u8])
+    requires words { length room.now % 8 ≡ 0 }
+    requires whole { length into.old % 8 ≡ 0 }
+    requires small { length into.old ≤ 72 }
+    requires fits { length room.now ≤ length into.old }
+    ensures { into.new ≡ padded (length into.old) room.now }
+{
+    put_word(room, 0, into);
+    put_word(room, 8, into);
+    put_word(room, 16, into);
+    put_word(room, 24, into);
+    put_word(room, 32, into);
+    put_word(room, 40, into);
+    put_word(room, 48, into);
+    put_word(room, 56, into);
+    put_word(room, 64, into);
+}
+
+/// Writes the word at the place, where `into` has one there.
+#[inline(always)]
+fn put_word(room: &[u8], place: usize, into: &mut [u8])
+    requires words { length room.now % 8 ≡ 0 }
+    requires whole { length into.old % 8 ≡ 0 }
+    requires word { place % 8 ≡ 0 }
+    requires low { place ≤ 64 }
+    requires fits { length room.now ≤ length into.old }
+    requires front { take place into.old ≡ take place (padded (length into.old) room.now) }
+    ensures front { take (place + 8) into.new ≡ take (place + 8) (padded (length into.old) room.now) }
+    ensures size { length into.new ≡ length into.old }
+{
+    if place < into.len() {
+        LittleEndian::write_u64(&mut into[place..place + 8], word_at(room, place));
+    }
+}
+
+/// The word of the room at the place, zero behind the room.
+#[inline(always)]
+fn word_at(room: &[u8], place: usize) -> u64
+    requires words { length room.now % 8 ≡ 0 }
+    requires word { place % 8 ≡ 0 }
+    ensures { (n : ℕ) → place + 8 ≤ n → little_bytes 8 result ≡ take 8 (drop place (padded n room.now)) }
+{
+    if place >= room.len() {
+        return 0;
+    }
+    LittleEndian::read_u64(&room[place..place + 8])
 }
 
 /// Whether a list of `len` bytes fills the room: the room has that many, and zeros behind them. A
