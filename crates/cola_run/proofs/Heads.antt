@@ -90,24 +90,22 @@ module _ {T E : Type 0} (g : Geometry) (fits : IsBlock g.block_exp g.bottom) (sh
   pub heads-sound : (x y : Option (List ℕ)) → Wrote result at from x y → StaySound g (record { told = x; shadows = shadows; tails = tails }) (record { told = y; shadows = shadows; tails = tails })
   heads-sound x y w = record { shape = λ front h. h; backed = λ front h b. heads-backed x y w b }
 
-  pub heads-behind : (x y : Option (List ℕ)) → Wrote result at from x y → IfSome x (IsBacked g shadows tails) → Both x y (SameBehind g)
-  heads-behind None None w b = tt
-  heads-behind None (Some y) w b = absurd w
-  heads-behind (Some x) None w b = absurd w
-  heads-behind (Some x) (Some y) w b =
+  -- what the bytes of before and the written ones have, told contents have
+  heads-have : (P : List ℕ → List ℕ → Type 0) → ((bytes left : List ℕ) → file_bytes g ≤ length bytes → at + length left ≤ 2 * block_bytes g → P bytes (splice bytes at left)) → (x y : Option (List ℕ)) → Wrote result at from x y → IfSome x (IsBacked g shadows tails)
+      → Both x y P
+  heads-have P has None None w b = tt
+  heads-have P has None (Some y) w b = absurd w
+  heads-have P has (Some x) None w b = absurd w
+  heads-have P has (Some x) (Some y) w b =
       let v : WroteSome result at from x y = w in
       let many = v.as_many in
-      subst (λ (bytes : List ℕ). SameBehind g x bytes) (sym v.others_stay)
-      (record { many = head-many g fits x v.left at b.long (omega (arith, many, within)); behind = head-behind g fits x v.left at b.long (omega (arith, many, within)) })
+      subst (λ (bytes : List ℕ). P x bytes) (sym v.others_stay) (has x v.left b.long (omega (arith, many, within)))
+
+  pub heads-behind : (x y : Option (List ℕ)) → Wrote result at from x y → IfSome x (IsBacked g shadows tails) → Both x y (SameBehind g)
+  heads-behind = heads-have (SameBehind g) (λ bytes left long inside. record { many = head-many g fits bytes left at long inside; behind = head-behind g fits bytes left at long inside })
 
   pub heads-levels : (x y : Option (List ℕ)) → Wrote result at from x y → IfSome x (IsBacked g shadows tails) → Both x y (SameLevels g)
-  heads-levels None None w b = tt
-  heads-levels None (Some y) w b = absurd w
-  heads-levels (Some x) None w b = absurd w
-  heads-levels (Some x) (Some y) w b =
-      let v : WroteSome result at from x y = w in
-      let many = v.as_many in
-      subst (λ (bytes : List ℕ). SameLevels g x bytes) (sym v.others_stay) (head-levels g fits x v.left at b.long (omega (arith, many, within)))
+  heads-levels = heads-have (SameLevels g) (λ bytes left long inside. head-levels g fits bytes left at long inside)
 
   pub heads-spots : (front : FrontCells) (x y : Option (List ℕ)) → Wrote result at from x y → IfSome x (IsBacked g shadows tails) → (l s i : ℕ) →
       spots_of (record { geometry = g; front = front; lower = record { told = y; shadows = shadows; tails = tails } }) l s i ≡ spots_of (record { geometry = g; front = front; lower = record { told = x; shadows = shadows; tails = tails } }) l s i
