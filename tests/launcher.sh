@@ -83,6 +83,11 @@ printf '%s\n' '# crates' 'low:' 'cola: low std_like' 'apart: low' >"$copy/crates
 touch "$copy/crates/cola/src/main.rt" "$copy/crates/low/src/lib.rt" "$copy/crates/apart/src/lib.rt"
 cat >"$room/bin/rt" <<'PLAYED'
 #!/bin/sh
+if [ "$1" = all ]; then
+    echo "$(ls crates | tr '\n' ' ')$(cat crates.txt | tr '\n' ';')" >>"$BUILDS.beside"
+    for it in crates/*/src; do mkdir -p "${it%src}out/rlib"; echo built >"${it%src}out/rlib/stamp"; done
+    exit 1 # (rt run is to say what was refused)
+fi
 echo "$*" >>"$BUILDS"
 echo 'rt: proving'
 [ -e "$REFUSES" ] || sleep 0.2
@@ -105,6 +110,12 @@ mkdir "$room/elsewhere"
 cd "$room/elsewhere" || exit 1
 run "$copy/cola" 0 'two words' '' '*' $'a\nb' -- "\$x" <<<'some input'
 check 'the first use builds' builds 1
+if [ "$(getconf _NPROCESSORS_ONLN)" -gt 1 ] && [ "$(awk '/^MemAvailable:/ { print int($2 / 4000000) }' /proc/meminfo)" -gt 0 ]; then
+    check 'what the first use stands on is proved side by side, once' \
+        test "$(cat "$BUILDS.beside")" = 'beside low low:;beside: low;'
+    check 'what was built side by side is in its place' test "$(cat "$copy/crates/low/out/rlib/stamp")" = built
+fi
+check 'nothing is left of what was proved side by side' test ! -e "$copy/crates/cola/out/beside"
 check 'words, working folder and input are passed as they are' \
     wrote_text $'<0>\n<two words>\n<>\n<*>\n<a\nb>\n<-->\n<$x>\n'"$PWD"$'\nsome input\n'
 check 'a build says how long it usually takes' grep -q '^cola: .*minutes' "$room/err"

@@ -8,6 +8,7 @@ use cola_filedev::FileDevice;
 use cola_io::{StdSink, StdSource};
 use cola_outside::Steps;
 use std::marker::Brand;
+use std::os::unix::fs::FileExt;
 use std::process::ExitCode;
 use std::rt::{Env, Files};
 use std::sync::ledger::{Blank, Ledger};
@@ -28,7 +29,10 @@ fn makes_file(mode: &str) -> bool {
 }
 
 /// The file that the second word names, opened by the first call on it; none where a mode has none.
-fn first_file<'a, R: Files>(rt: &'a R, words: &'a [String]) -> FileDevice<'a, R> {
+fn first_file<'a, R: Files>(rt: &'a R, words: &'a [String]) -> FileDevice<'a, R>
+where
+    R::File: FileExt,
+{
     if words.len() < 2 || words[0].as_str() == "mem" {
         return FileDevice::none(rt);
     }
@@ -36,7 +40,10 @@ fn first_file<'a, R: Files>(rt: &'a R, words: &'a [String]) -> FileDevice<'a, R>
 }
 
 /// The file that the third word names, made where it is not there, in the modes that write one; none in all others.
-fn second_file<'a, R: Files>(rt: &'a R, words: &'a [String]) -> FileDevice<'a, R> {
+fn second_file<'a, R: Files>(rt: &'a R, words: &'a [String]) -> FileDevice<'a, R>
+where
+    R::File: FileExt,
+{
     if words.len() > 2 && matches!(words[0].as_str(), "upgrade" | "grow" | "rebuild") {
         return FileDevice::new(rt, words[2].as_str(), true);
     }

@@ -5,7 +5,5 @@
 
 mod aim;
 pub mod laws;
-#[cfg(test)]
-mod tests;
 
 pub use aim::bottom_aim;

@@ -2,7 +2,7 @@
 use Rattle.std.specs.Prelude.{◌≡◌, ℕ, ◌+◌, ◌-◌, ◌*◌, ◌/◌, ◌%◌, ◌==◌, if◌then◌else◌, List, ◌∷◌, take, Option}
 use Rattle.cola_device.specs.Bytes.{part, splice, Gives}
 use Rattle.cola_outside.specs.Told.{Both}
-use Rattle.cola_cache.specs.Order.{Buffers, Holds, outside}
+use Rattle.cola_cache.specs.Order.{Frames, Holds, outside}
 
 -- the device, the whole blocks that are held, the most recently used first, how many may be, and the bytes of a block
 pub record Cache (D : Type 0) : Type 0 where
@@ -18,9 +18,9 @@ pub record Settings (K : Type 0) : Type 0 where
   pub device : K
 
 -- the bytes of each held block are the device's, where it tells them
-abbrev pub Agree : Option (List ℕ) → Buffers → List ℕ → ℕ → Type 0
-Agree told buffers copies size =
-    (buffer block : ℕ) → Holds buffers buffer block → Gives told (block * size) (part copies (buffer * size) size)
+abbrev pub Agree : Option (List ℕ) → Frames → List ℕ → ℕ → Type 0
+Agree told frames copies size =
+    (frame block : ℕ) → Holds frames frame block → Gives told (block * size) (part copies (frame * size) size)
 
 -- a range is exactly this block
 abbrev pub IsBlock : ℕ → ℕ → ℕ → ℕ → Type 0

@@ -1,3 +1,4 @@
 pub mod Order
 pub mod Index
 pub mod Cache
+pub mod Blocks

@@ -39,7 +39,7 @@ impl<D: Device> Model for Cached<D> {
 }
 
 /// The bytes of a block.
-fn size_of_block(block_exp: u8) -> u32
+pub(crate) fn size_of_block(block_exp: u8) -> u32
     requires least { 3 ≤ block_exp }
     requires most { block_exp ≤ 10 }
     ensures is { result ≡ 64 * 2 ^ block_exp }
@@ -49,8 +49,8 @@ fn size_of_block(block_exp: u8) -> u32
     64 << block_exp
 }
 
-/// Buffers for so many blocks, and what says which block each holds: none.
-fn buffers(alloc: Global, blocks: u32, size: u32) -> Result<(Order, Vec<u8>), AllocError>
+/// Frames for so many blocks, and what says which block each holds: none.
+fn frames(alloc: Global, blocks: u32, size: u32) -> Result<(Order, Vec<u8>), AllocError>
     requires blocks { blocks ≤ 4096 }
     requires size { size ≤ 65536 }
     ensures order { IfOk result (λ made. made.0 ≡ unheld blocks) }
@@ -61,19 +61,19 @@ fn buffers(alloc: Global, blocks: u32, size: u32) -> Result<(Order, Vec<u8>), Al
     Ok((order, copies))
 }
 
-/// The one block that a range is, where it is exactly one and there are buffers.
-fn one_block(size: u32, buffers: u32, at: u64, count: usize) -> Option<u64>
+/// The one block that a range is, where it is exactly one and there are frames.
+fn one_block(size: u32, frames: u32, at: u64, count: usize) -> Option<u64>
     requires { 512 ≤ size }
-    ensures some { IfSome result (λ block. IsBlock size at count block × (0 < buffers)) }
-    ensures none { result ≡ None → 0 < buffers → (block : ℕ) → IsBlock size at count block → ⊥ }
+    ensures some { IfSome result (λ block. IsBlock size at count block × (0 < frames)) }
+    ensures none { result ≡ None → 0 < frames → (block : ℕ) → IsBlock size at count block → ⊥ }
 {
-    if buffers == 0 || count != size as usize || at % size as u64 != 0 {
+    if frames == 0 || count != size as usize || at % size as u64 != 0 {
         return None;
     }
     Some(at / size as u64)
 }
 
-/// Copies a buffer to where it is asked for.
+/// Copies a frame to where it is asked for.
 fn copy_out(copies: &[u8], at: usize, into: &mut [u8])
     requires { at + length into.old ≤ length copies.now }
     ensures { into.new ≡ part copies.now at (length into.old) }
@@ -81,7 +81,7 @@ fn copy_out(copies: &[u8], at: usize, into: &mut [u8])
     into.copy_from_slice(&copies[at..at + into.len()]);
 }
 
-/// Copies bytes into a buffer, or a part of one.
+/// Copies bytes into a frame, or a part of one.
 fn copy_in(copies: &mut [u8], at: usize, from: &[u8])
     requires { at + length from.now ≤ length copies.old }
     ensures { copies.new ≡ splice copies.old at from.now }
@@ -89,7 +89,7 @@ fn copy_in(copies: &mut [u8], at: usize, from: &[u8])
     copies[at..at + from.len()].copy_from_slice(from);
 }
 
-/// Reads one block, from the buffer that holds it or from the device. On success its buffer comes to the front.
+/// Reads one block, from the frame that holds it or from the device. On success its frame comes to the front.
 fn read_block<D: Device>(
     device: &mut D,
     order: &mut Order,
@@ -107,7 +107,7 @@ fn read_block<D: Device>(
     ensures given { OnOk result (Gives (D.bytes device.old) at into.new) }
     ensures bytes_stay { D.bytes device.new ≡ D.bytes device.old }
     ensures kept { D.kept device.new ≡ D.kept device.old }
-    ensures counts { Called (D.counts device.old) (D.counts device.new) 1 0 result }
+    ensures counts { Called (D.counts device.old) (D.counts device.new) 1 0 0 result }
     ensures agree { Agree (D.bytes device.new) order.new copies.new (length into.old) }
     ensures room { length copies.new ≡ length copies.old }
     ensures count { length order.new ≡ length order.old }
@@ -117,15 +117,15 @@ fn read_block<D: Device>(
     ensures reads { (IsAbsent block (blocks_of order.old) → length (blocks_of order.old) < length order.old) → OnOk result ((D.counts device.new).reads + length (blocks_of order.old) ≤ (D.counts device.old).reads + length (blocks_of order.new)) }
 {
     let size = into.len();
-    if let Some(buffer) = order.find(block) {
-        copy_out(copies, buffer as usize * size, into);
-        order.touch(buffer, block);
+    if let Some(frame) = order.find(block) {
+        copy_out(copies, frame as usize * size, into);
+        order.touch(frame, block);
         return Ok(());
     }
     match device.read(at, into) {
         Ok(()) => {
-            let buffer = order.admit(block);
-            copy_in(copies, buffer as usize * size, into);
+            let frame = order.admit(block);
+            copy_in(copies, frame as usize * size, into);
             Ok(())
         }
         Err(fault) => Err(fault),
@@ -162,7 +162,7 @@ impl<D: Device> Cached<D> {
         ensures back { IfErr result (λ error. error.0 ≡ device) }
     {
         let size = size_of_block(block_exp);
-        match buffers(alloc, blocks, size) {
+        match frames(alloc, blocks, size) {
             Ok((order, copies)) => Ok(Cached {
                 device,
                 order,
@@ -179,6 +179,45 @@ impl<D: Device> Cached<D> {
         ensures absent { result ≡ false → IsAbsent block self.now.held }
     {
         self.order.find(block).is_some()
+    }
+
+    /// The frame that holds a block, where the block is held.
+    pub(crate) fn find(&self, block: u64) -> Option<u32>
+        ensures some { IfSome result (λ _. IsAbsent block self.now.held → ⊥) }
+        ensures none { result ≡ None → IsAbsent block self.now.held }
+    {
+        self.order.find(block)
+    }
+
+    /// Brings a block that is held to the front, by the frame that is likely to hold it. No call of the device is made.
+    pub(crate) fn touch(&mut self, block: u64, likely: u32)
+        requires { IsAbsent block self.old.held → ⊥ }
+        ensures device { self.new.device ≡ self.old.device }
+        ensures settings { (self.new.blocks ≡ self.old.blocks) × (self.new.size ≡ self.old.size) }
+        ensures held { self.new.held ≡ used self.old.blocks block self.old.held }
+        ensures stay { (other : ℕ) → IsAbsent other self.new.held → IsAbsent other self.old.held }
+        ensures as_many { length self.new.held ≡ length self.old.held }
+    {
+        let frame = self.order.frame_of(block, likely);
+        self.order.touch(frame, block);
+    }
+
+    /// The block that is given up where this one, which is not held, is read.
+    pub(crate) fn leaving(&self, block: u64) -> Option<u64>
+        requires { IsAbsent block self.now.held }
+        ensures { (other : ℕ) → result ≢ Some other → IsAbsent other (used self.now.blocks block self.now.held) → IsAbsent other self.now.held }
+    {
+        self.order.leaving()
+    }
+
+    /// The bytes of a block that is held, by the frame that is likely to hold it.
+    pub(crate) fn bytes_of(&self, block: u64, likely: u32) -> &[u8]
+        requires { IsAbsent block self.now.held → ⊥ }
+        ensures size { length result.now ≡ self.now.size }
+        ensures given { Gives (D.bytes self.now.device) (block * self.now.size) result.now }
+    {
+        let at = self.order.frame_of(block, likely) as usize * self.size as usize;
+        &self.copies[at..at + self.size as usize]
     }
 
     /// The device below.
@@ -218,7 +257,7 @@ impl<D: Device> Device for Cached<D> {
         ensures value { IfOk result (HasSize (D.bytes self.old.device)) }
         ensures bytes_stay { D.bytes self.new.device ≡ D.bytes self.old.device }
         ensures kept { D.kept self.new.device ≡ D.kept self.old.device }
-        ensures counts { Called (D.counts self.old.device) (D.counts self.new.device) 0 0 result }
+        ensures counts { Called (D.counts self.old.device) (D.counts self.new.device) 0 0 1 result }
         ensures settings { (self.new.blocks ≡ self.old.blocks) × (self.new.size ≡ self.old.size) }
         ensures held { self.new.held ≡ self.old.held }
     {
@@ -230,7 +269,7 @@ impl<D: Device> Device for Cached<D> {
         requires { IsEmpty (D.bytes self.old.device) }
         ensures laid { LaidOut result size (D.bytes self.old.device) (D.bytes self.new.device) }
         ensures kept { D.kept self.new.device ≡ D.kept self.old.device }
-        ensures counts { Called (D.counts self.old.device) (D.counts self.new.device) 0 0 result }
+        ensures counts { Called (D.counts self.old.device) (D.counts self.new.device) 0 0 1 result }
         ensures settings { (self.new.blocks ≡ self.old.blocks) × (self.new.size ≡ self.old.size) }
         ensures held { self.new.held ≡ [] }
     {
@@ -246,7 +285,7 @@ impl<D: Device> Device for Cached<D> {
         ensures given { OnOk result (Gives (D.bytes self.old.device) at into.new) }
         ensures bytes_stay { D.bytes self.new.device ≡ D.bytes self.old.device }
         ensures kept { D.kept self.new.device ≡ D.kept self.old.device }
-        ensures counts { Called (D.counts self.old.device) (D.counts self.new.device) 1 0 result }
+        ensures counts { Called (D.counts self.old.device) (D.counts self.new.device) 1 0 0 result }
         ensures settings { (self.new.blocks ≡ self.old.blocks) × (self.new.size ≡ self.old.size) }
         ensures block { (block : ℕ) → IsBlock self.old.size at (length into.old) block → OnOk result (self.new.held ≡ used self.old.blocks block self.old.held) }
         ensures other { ((block : ℕ) → IsBlock self.old.size at (length into.old) block → ⊥) → self.new.held ≡ self.old.held }
@@ -274,7 +313,7 @@ impl<D: Device> Device for Cached<D> {
         requires inside { HasRange (D.bytes self.old.device) at (length from.now) }
         ensures wrote { Wrote result at from.now (D.bytes self.old.device) (D.bytes self.new.device) }
         ensures kept { D.kept self.new.device ≡ D.kept self.old.device }
-        ensures counts { Called (D.counts self.old.device) (D.counts self.new.device) 0 1 result }
+        ensures counts { Called (D.counts self.old.device) (D.counts self.new.device) 0 1 0 result }
         ensures settings { (self.new.blocks ≡ self.old.blocks) × (self.new.size ≡ self.old.size) }
         ensures ok { OnOk result (self.new.held ≡ self.old.held) }
         ensures err { OnErr result (self.new.held ≡ untouched self.old.size at (length from.now) self.old.held) }
@@ -296,7 +335,7 @@ impl<D: Device> Device for Cached<D> {
         ensures settled { D.settles self.old.device result self.new.device }
         ensures bytes_stay { D.bytes self.new.device ≡ D.bytes self.old.device }
         ensures kept { D.kept self.new.device ≡ D.kept self.old.device }
-        ensures counts { Called (D.counts self.old.device) (D.counts self.new.device) 0 0 result }
+        ensures counts { Called (D.counts self.old.device) (D.counts self.new.device) 0 0 1 result }
         ensures settings { (self.new.blocks ≡ self.old.blocks) × (self.new.size ≡ self.old.size) }
         ensures held { self.new.held ≡ self.old.held }
     {
@@ -332,7 +371,7 @@ fn piece(size: usize, before: usize, done: usize, len: usize) -> (usize, usize, 
     (into, gone, (len - gone).min(size - into))
 }
 
-/// Copies what was written into the buffer of one block of its range, where the block is held.
+/// Copies what was written into the frame of one block of its range, where the block is held.
 fn renew_block(order: &Order, copies: &mut [u8], size: u32, at: u64, from: &[u8], step: u64)
     requires size { 512 ≤ size }
     requires most { size ≤ 65536 }
@@ -341,9 +380,9 @@ fn renew_block(order: &Order, copies: &mut [u8], size: u32, at: u64, from: &[u8]
     requires step { step < blocks_touched size at (length from.now) }
     requires fits { at / size + step < 2 ^ 64 }
     ensures room { length copies.new ≡ length copies.old }
-    ensures here { (told now : Option (List ℕ)) (buffer : ℕ) → IsWritten at from.now told now → HasRange told at (length from.now) → Holds order.now buffer (at / size + step)
-        → Gives told ((at / size + step) * size) (part copies.old (buffer * size) size) → Gives now ((at / size + step) * size) (part copies.new (buffer * size) size) }
-    ensures others { (buffer block : ℕ) → Holds order.now buffer block → block ≢ at / size + step → part copies.new (buffer * size) size ≡ part copies.old (buffer * size) size }
+    ensures here { (told now : Option (List ℕ)) (frame : ℕ) → IsWritten at from.now told now → HasRange told at (length from.now) → Holds order.now frame (at / size + step)
+        → Gives told ((at / size + step) * size) (part copies.old (frame * size) size) → Gives now ((at / size + step) * size) (part copies.new (frame * size) size) }
+    ensures others { (frame block : ℕ) → Holds order.now frame block → block ≢ at / size + step → part copies.new (frame * size) size ≡ part copies.old (frame * size) size }
 {
     let wide = size as usize;
     let (into, gone, count) = piece(
@@ -353,16 +392,16 @@ fn renew_block(order: &Order, copies: &mut [u8], size: u32, at: u64, from: &[u8]
         from.len(),
     );
     match order.find(at / size as u64 + step) {
-        Some(buffer) => copy_in(
+        Some(frame) => copy_in(
             copies,
-            buffer as usize * wide + into,
+            frame as usize * wide + into,
             &from[gone..gone + count],
         ),
         None => {}
     }
 }
 
-/// Copies what was written into the buffers of the held blocks of its range.
+/// Copies what was written into the frames of the held blocks of its range.
 fn renew(order: &Order, copies: &mut [u8], size: u32, at: u64, from: &[u8])
     requires size { 512 ≤ size }
     requires most { size ≤ 65536 }

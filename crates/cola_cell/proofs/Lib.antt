@@ -13,3 +13,4 @@ pub mod FlatLemmas
 pub mod CostsLemmas
 pub mod RunLemmas
 pub mod DecodedLemmas
+pub mod KeyWords

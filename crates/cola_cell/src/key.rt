@@ -1,5 +1,5 @@
 //! Keys.
-ghost use Rattle.std.specs.Prelude.{◌≡◌, ◌≤◌, ◌↔◌, ℕ, List, length, take, IsTrue, SomeIff, Some, nat_eq, refl};
+ghost use Rattle.std.specs.Prelude.{◌≡◌, ◌≤◌, ◌%◌, ◌↔◌, ℕ, List, length, take, IsTrue, SomeIff, Some, nat_eq, refl};
 ghost use Rattle.std.specs.Ordering.{nat_cmp};
 ghost use Rattle.std.specs.Cmp.{partial_equiv_from_equiv};
 ghost use Rattle.std.specs.Cmp.Lexicographic.{pointwise, slice_cmp, nat_list_eq_equiv, nat_list_cmp_total, texts_po, texts_ties};
@@ -8,6 +8,7 @@ ghost use Rattle.cola_cell.specs.Format.{KeyFits};
 
 use crate::format::Format;
 use crate::short::Short;
+use byteorder::{BigEndian, ByteOrder};
 use std::cmp::Ordering;
 use std::marker::Model;
 
@@ -123,7 +124,28 @@ impl Ord for Key {
 
     ghost matches_eq = { texts_ties };
 
+    /// Compares words of 8 bytes, since zeros stand behind both keys; where all are the same, the lengths.
+    #[inline]
     fn cmp(&self, other: &Key) -> Ordering {
-        self.bytes().cmp(&other.bytes())
+        let (length, other_length) = (self.len(), other.len());
+        let order = words_cmp(self.room(40), other.room(40));
+        order.then(length.cmp(&other_length))
     }
+}
+
+/// The order of two lists of as many bytes, which are whole words of 8.
+#[inline(always)]
+fn words_cmp(left: &[u8], right: &[u8]) -> Ordering
+    requires words { length left.now % 8 ≡ 0 }
+    requires same { length left.now ≡ length right.now }
+    ensures { result ≡ slice_cmp nat_cmp left.now right.now }
+{
+    for word in 0..left.len() / 8 {
+        let first = BigEndian::read_u64(&left[8 * word..]);
+        let second = BigEndian::read_u64(&right[8 * word..]);
+        if first != second {
+            return first.cmp(&second);
+        }
+    }
+    Ordering::Equal
 }

@@ -13,8 +13,6 @@ mod format;
 mod key;
 mod law;
 pub mod object_laws;
-#[cfg(test)]
-mod object_tests;
 mod short;
 mod sink;
 mod source;
@@ -31,6 +29,3 @@ pub use sink::{CellSink, Shadow};
 pub use source::CellSource;
 pub use spelling::{decode, decode_wide, encode, encode_wide};
 pub use value::Value;
-
-#[cfg(test)]
-mod tests;

@@ -223,7 +223,7 @@ bounded geometry m r w t levels (top ∷ below) s many few few_reads few_writes 
 
 -- ---- reads by way of the block of searches
 
-pub paid-stays : {D K : Type 0} (bytes : D → Option (List ℕ)) (counts : D → Counts) (kept : D → K) (old new : Contents D) → held_of bytes new ≡ held_of bytes old → kept_of bytes kept new ≡ kept_of bytes kept old →
+pub paid-stays : {D K : Type 0} (bytes : D → Option (List ℕ)) (counts : D → Counts) (kept : D → K) (old new : Contents D) → held_of bytes new ≡ held_of bytes old → kept_of bytes counts kept new ≡ kept_of bytes counts kept old →
     ((buffer : Buffer) → buffer ≢ Search → (spent_of counts new).lasts buffer ≡ (spent_of counts old).lasts buffer) → IsPaid bytes counts old → IsPaid bytes counts new
 paid-stays {D} {K} bytes counts kept old new held_is kept_is lasts p =
     let own : (l : ℕ) → (spent_of counts new).lasts (By Own l) ≡ (spent_of counts old).lasts (By Own l) = λ l. lasts (By Own l) (λ e. let f : ⊥ = cc in f) in

@@ -35,10 +35,10 @@ pub record Kept (K : Type 0) : Type 0 where
   pub writes : ℕ
 
 -- what no read of a chain changes
-abbrev pub kept_of : {D K : Type 0} → (D → Option (List ℕ)) → (D → K) → Contents D → Kept K
-kept_of bytes kept chain =
+abbrev pub kept_of : {D K : Type 0} → (D → Option (List ℕ)) → (D → Counts) → (D → K) → Contents D → Kept K
+kept_of bytes counts kept chain =
     record {
-      store = run.kept_of bytes kept chain.store;
+      store = run.kept_of bytes counts kept chain.store;
       levels = chain.levels;
       clock = chain.clock;
       accepted = chain.accepted;

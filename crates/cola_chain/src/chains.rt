@@ -133,7 +133,7 @@ impl<D: Device> Chain<D> {
     ) -> Result<(), StepFault>
         requires key_fits { KeyFits (held_of D.bytes self.old).fixed.format key.now }
         requires item_fits { ItemFits (held_of D.bytes self.old).fixed.format item.now }
-        ensures kept { run.kept_of D.bytes D.kept self.new.store ≡ run.kept_of D.bytes D.kept self.old.store }
+        ensures kept { run.kept_of D.bytes D.counts D.kept self.new.store ≡ run.kept_of D.bytes D.counts D.kept self.old.store }
         ensures fixed { (held_of D.bytes self.new).fixed ≡ (held_of D.bytes self.old).fixed }
         ensures many { length self.new.levels ≡ length self.old.levels }
         ensures clock { MatchResult result (λ _. self.new.clock ≡ next_clock (length self.old.levels) self.old.clock) (λ _. self.new.clock ≡ self.old.clock) }

@@ -6,7 +6,5 @@ mod counting;
 pub mod laws;
 mod lists;
 mod reading;
-#[cfg(test)]
-mod tests;
 
 pub use chains::Chain;

@@ -17,7 +17,7 @@ impl<D: Device> CellSource for Chain<D> {
 
     ghost Kept = { Kept D.Kept };
 
-    ghost kept = { kept_of D.bytes D.kept };
+    ghost kept = { kept_of D.bytes D.counts D.kept };
 
     /// The cell at a place, for a search or a cursor. The steps of the chain stay counted as they were.
     fn read<L: Ledger>(
@@ -29,7 +29,7 @@ impl<D: Device> CellSource for Chain<D> {
     ) -> Result<Cell, ReadFault>
         requires { HasPlace (held_of D.bytes self.old) level slot index }
         ensures cells_stay { held_of D.bytes self.new ≡ held_of D.bytes self.old }
-        ensures kept { kept_of D.bytes D.kept self.new ≡ kept_of D.bytes D.kept self.old }
+        ensures kept { kept_of D.bytes D.counts D.kept self.new ≡ kept_of D.bytes D.counts D.kept self.old }
         ensures one_tick { steps.new ≡ steps.old + 1 }
         ensures reads { Reads (held_of D.bytes self.old) (spent_of D.counts self.old) (spent_of D.counts self.new) Search level slot index result }
         ensures counted { self.new.counted ≡ self.old.counted }
@@ -49,7 +49,7 @@ impl<D: Device> CellSource for Chain<D> {
     ) -> Result<Cell, ReadFault>
         requires { HasPlace (held_of D.bytes self.old) level slot index }
         ensures cells_stay { held_of D.bytes self.new ≡ held_of D.bytes self.old }
-        ensures kept { kept_of D.bytes D.kept self.new ≡ kept_of D.bytes D.kept self.old }
+        ensures kept { kept_of D.bytes D.counts D.kept self.new ≡ kept_of D.bytes D.counts D.kept self.old }
         ensures one_tick { steps.new ≡ steps.old + 1 }
         ensures reads { Reads (held_of D.bytes self.old) (spent_of D.counts self.old) (spent_of D.counts self.new) (By reader level) level slot index result }
         ensures counted { self.new.counted ≡ false }

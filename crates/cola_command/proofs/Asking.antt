@@ -66,7 +66,7 @@ told-beside geometry (Some a) (Some b) same = record { many = ap size same; behi
     behind None = []
     behind (Some x) = x.behind
 
-module _ {D : Type 0} (d : device.Ghosts D) (old new : Stored D) (kept : kept_of d.bytes d.kept new ≡ kept_of d.bytes d.kept old) where
+module _ {D : Type 0} (d : device.Ghosts D) (old new : Stored D) (kept : kept_of d.bytes d.counts d.kept new ≡ kept_of d.bytes d.counts d.kept old) where
   same-geometry : geometry_of new ≡ geometry_of old
   same-geometry = ap (λ k. k.geometry) kept
 
@@ -97,7 +97,7 @@ module _ {D : Type 0} (d : device.Ghosts D) (old new : Stored D) (kept : kept_of
 -- what a store that is a table answers
 module _ {D K A E : Type 0} (t : table.Ghosts (Stored D) Cursor) (d : device.Ghosts D) (k : sink.Ghosts K) (state : State) (cache : ℕ) (cost : Bool) (command : Command) (result : Result A E) (old new : Stored D) (sink sink' : K) (steps steps' : ℕ) where
   pub ask-turned : IsOfTable command → (turn : Turn) → Answered t k (map_of state) (spoken command) cost result old new sink sink' steps steps' turn → steps' ≤ steps + command_bound (depth_of {d = d} (Open old)) (spoken command)
-      → kept_of d.bytes d.kept new ≡ kept_of d.bytes d.kept old → KindFaults (kind_of turn.answer) (faults_of d (Open old)) (faults_of d (Open new)) → faults_of d (Open old) ≤ faults_of d (Open new)
+      → kept_of d.bytes d.counts d.kept new ≡ kept_of d.bytes d.counts d.kept old → KindFaults (kind_of turn.answer) (faults_of d (Open old)) (faults_of d (Open new)) → faults_of d (Open old) ≤ faults_of d (Open new)
       → (Holds d.bytes old (map_of state) → StepsFrom (shape (sizes_of (geometry_of old))) (map_of state) (Holds d.bytes new) turn)
       → Turned t d k state cache cost (Some (spoken command)) result (Open old) (Open new) sink sink' steps steps' turn
   ask-turned of_table turn a within kept faults stay step = record {

@@ -117,7 +117,7 @@ module _ {D : Type 0} (d : device.Ghosts D) (sizes : Sizes) (cache : ℕ) where
           quiet = quiet-as turn.answer reply.Closed is (record { mutated_none = refl; searched_none = refl; opens_none = refl });
           few = few;
           sizes_are = sizes-at store state at;
-          spends = subst (λ (n : ℕ). Spends (d.counts store.chain.store.buffers.cache.device) (d.counts now) 0 n)
+          spends = subst (λ (n : ℕ). Spends (d.counts store.chain.store.buffers.cache.device) (d.counts now) 0 n 2)
               (ap (λ (g : Geometry). g.bottom + 3) closes.header_is.geometry_is ∙ ap (λ (s : Sizes). s.bottom + 3) (sizes-at store state at)) closes.closed.spends;
         })
     closes-moves (Open store) new state (Err closing, (owed, (is, same))) few at calm quiet = absurd (calm (ap kind_of is))

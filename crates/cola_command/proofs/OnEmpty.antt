@@ -4,6 +4,7 @@ use Rattle.std.specs.Prelude.{IfSome}
 use Rattle.std.specs.Option.{IsSomeAnd}
 use Rattle.cola_cell.specs.declared.format.Format.TheVariants.{One}
 use Rattle.cola_cell.specs.declared.fault.ReadFault.{ReadFault}
+use Rattle.cola_device.specs.declared.counts.Counts.{Counts}
 use Rattle.cola_device.specs.declared.device.Device as device
 use Rattle.cola_io.specs.Streams.{Appended}
 use Rattle.cola_io.specs.declared.sink.Sink as sink
@@ -90,8 +91,8 @@ size-beside geometry None = refl
 size-beside geometry (Some bytes) = refl
 
 -- and every call between
-pub kept-many : {D A : Type 0} (bytes : D → Option (List ℕ)) (kept : D → A) (a b : Stored D) → kept_of bytes kept a ≡ kept_of bytes kept b → many (bytes a.chain.store.buffers.cache.device) ≡ many (bytes b.chain.store.buffers.cache.device)
-kept-many {A = A} bytes kept a b e =
+pub kept-many : {D A : Type 0} (bytes : D → Option (List ℕ)) (counts : D → Counts) (kept : D → A) (a b : Stored D) → kept_of bytes counts kept a ≡ kept_of bytes counts kept b → many (bytes a.chain.store.buffers.cache.device) ≡ many (bytes b.chain.store.buffers.cache.device)
+kept-many {A = A} bytes counts kept a b e =
     sym (size-beside a.chain.store.geometry (bytes a.chain.store.buffers.cache.device))
     ∙ ap (λ (k : Kept A). option_map (λ (x : Beside). x.size) k.beside) e
     ∙ size-beside b.chain.store.geometry (bytes b.chain.store.buffers.cache.device)

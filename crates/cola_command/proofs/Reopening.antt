@@ -228,10 +228,10 @@ module _ {D : Type 0} (d : device.Ghosts D) (cache : ℕ) (before : D) where
   at-still now bytes sizes m byte at = subst (λ (t : Option (List ℕ)). IsSomeAnd t (StandsBut sizes m byte)) (sym bytes) at
 
   -- a refusal for some reason, which the state at the place allows
-  refused-facts : (now : D) (why : List ℕ → Type 0) (reads : ℕ) (answer : Reply) → IsRefused d before why reads now → d.kept now ≡ d.kept before → ((b n : ℕ) → n ≡ b → KindFaults (kind_of answer) b n)
+  refused-facts : (now : D) (why : List ℕ → Type 0) (reads others : ℕ) (answer : Reply) → IsRefused d before why reads others now → d.kept now ≡ d.kept before → ((b n : ℕ) → n ≡ b → KindFaults (kind_of answer) b n)
       → ((sizes : Sizes) (m : Map) (byte : ℕ) → IsSomeAnd (d.bytes before) (StandsBut sizes m byte) → Step (shape sizes) (machine.Closed m byte) (turn_of Reopen answer 0) (machine.Closed m byte))
       → TurnFacts d Reopen (Closed before) answer (Closed now)
-  refused-facts now why reads answer is kept free step = record {
+  refused-facts now why reads others answer is kept free step = record {
     faults = free (d.counts before).faults (d.counts now).faults is.no_fault;
     keeps = refused-keeps now is.bytes_stay kept is.spends.faults_stay;
     steps = at-state;
@@ -242,8 +242,8 @@ module _ {D : Type 0} (d : device.Ghosts D) (cache : ℕ) (before : D) where
       at-state sizes (machine.Closing m) at = absurd at
       at-state sizes (machine.Closed m byte) at = record { next = machine.Closed m byte; step = step sizes m byte at; at = at-still now is.bytes_stay sizes m byte at }
 
-  why-so : {A : Type 0} (now : D) (why : List ℕ → Type 0) (reads : ℕ) → IsRefused d before why reads now → (sizes : Sizes) (m : Map) (byte : ℕ) → IsSomeAnd (d.bytes before) (StandsBut sizes m byte) → ((bytes : List ℕ) → StandsBut sizes m byte bytes → why bytes → A) → A
-  why-so now why reads is sizes m byte at h = so (d.bytes before) (StandsBut sizes m byte) why h at is.why_is
+  why-so : {A : Type 0} (now : D) (why : List ℕ → Type 0) (reads others : ℕ) → IsRefused d before why reads others now → (sizes : Sizes) (m : Map) (byte : ℕ) → IsSomeAnd (d.bytes before) (StandsBut sizes m byte) → ((bytes : List ℕ) → StandsBut sizes m byte bytes → why bytes → A) → A
+  why-so now why reads others is sizes m byte at h = so (d.bytes before) (StandsBut sizes m byte) why h at is.why_is
 
   -- ---- faults
 
@@ -361,22 +361,22 @@ module _ {D : Type 0} (d : device.Ghosts D) (cache : ℕ) (before : D) where
 
   refusal-facts : (now : D) (fault : OpenFault) → Opens d before cache (Err (now, fault)) → d.kept now ≡ d.kept before → TurnFacts d Reopen (Closed before) (refused_reply fault) (Closed now)
   refusal-facts now fault.NotStore is kept =
-      refused-facts now IsNoStore 1 (reply.Refused reply.NotStore) is kept (λ b n e. e)
-      (λ sizes m byte at. reply-above m byte (why-so now IsNoStore 1 is sizes m byte at (no-store-above sizes m byte)))
+      refused-facts now IsNoStore 1 1 (reply.Refused reply.NotStore) is kept (λ b n e. e)
+      (λ sizes m byte at. reply-above m byte (why-so now IsNoStore 1 1 is sizes m byte at (no-store-above sizes m byte)))
   refusal-facts now fault.NotClosed is kept =
-      refused-facts now IsInUse 1 (reply.Refused reply.NotClosed) is kept (λ b n e. e)
-      (λ sizes m byte at. subst (λ (n : ℕ). Step (shape sizes) (machine.Closed m n) (turn_of Reopen (reply.Refused reply.NotClosed) 0) (machine.Closed m n)) (sym (why-so now IsInUse 1 is sizes m byte at (in-use-one sizes m byte))) (refl, refl))
+      refused-facts now IsInUse 1 1 (reply.Refused reply.NotClosed) is kept (λ b n e. e)
+      (λ sizes m byte at. subst (λ (n : ℕ). Step (shape sizes) (machine.Closed m n) (turn_of Reopen (reply.Refused reply.NotClosed) 0) (machine.Closed m n)) (sym (why-so now IsInUse 1 1 is sizes m byte at (in-use-one sizes m byte))) (refl, refl))
   refusal-facts now fault.Small is kept =
-      refused-facts now IsSmall 1 (reply.Refused reply.Small) is kept (λ b n e. e)
-      (λ sizes m byte at. absurd (why-so now IsSmall 1 is sizes m byte at (never-small sizes m byte)))
+      refused-facts now IsSmall 1 1 (reply.Refused reply.Small) is kept (λ b n e. e)
+      (λ sizes m byte at. absurd (why-so now IsSmall 1 1 is sizes m byte at (never-small sizes m byte)))
   refusal-facts now fault.Device is kept = failed-facts now is kept
   refusal-facts now fault.OutOfMemory is kept =
-      refused-facts now (λ bytes. (header : Header) × WasClosed header bytes) 1 (reply.Refused reply.Memory) is kept (λ b n e. e)
+      refused-facts now (λ bytes. (header : Header) × WasClosed header bytes) 1 1 (reply.Refused reply.Memory) is kept (λ b n e. e)
       (λ sizes m byte at. subst (λ (n : ℕ). Step (shape sizes) (machine.Closed m n) (turn_of Reopen (reply.Refused reply.Memory) 0) (machine.Closed m n))
-      (sym (why-so now (λ bytes. (header : Header) × WasClosed header bytes) 1 is sizes m byte at (λ bytes but was. (ready-zero sizes m byte bytes was.0 but was.1).0))) refl)
+      (sym (why-so now (λ bytes. (header : Header) × WasClosed header bytes) 1 1 is sizes m byte at (λ bytes but was. (ready-zero sizes m byte bytes was.0 but was.1).0))) refl)
   refusal-facts now (fault.BadCell number) (header, is) kept =
-      refused-facts now (HasBadCell header number) (opening_reads header) (reply.Failed (reply.Damaged number)) is kept (λ b n e. e)
-      (λ sizes m byte at. absurd (why-so now (HasBadCell header number) (opening_reads header) is sizes m byte at (λ bytes but bad. never-bad sizes m byte bytes header number but bad)))
+      refused-facts now (HasBadCell header number) (opening_reads header) 1 (reply.Failed (reply.Damaged number)) is kept (λ b n e. e)
+      (λ sizes m byte at. absurd (why-so now (HasBadCell header number) (opening_reads header) 1 is sizes m byte at (λ bytes but bad. never-bad sizes m byte bytes header number but bad)))
 
 -- a store that is open, or not closed yet, is not opened again
 already-open : {D : Type 0} (d : device.Ghosts D) (store : Stored D) (sizes : Sizes) (state : State) → IsAt d sizes (Open store) state → (reply.Already ≡ plain_reply (shape sizes) state (Some Reopen)) × (state ≡ plain_after (shape sizes) state (Some Reopen))

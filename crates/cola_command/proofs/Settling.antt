@@ -1,5 +1,5 @@
 -- A store that is closed has a settled device, but behind an opening that met a fault.
-use Rattle.std.proofs.Common.{◌≡◌, ℕ, Bool, true, false, List, [], ◌∷◌, Option, Some, None, Result, Ok, Err, sym, subst}
+use Rattle.std.proofs.Common.{◌≡◌, ℕ, Bool, true, false, List, [], ◌∷◌, Option, Some, None, Result, Ok, Err, sym, subst, arith}
 use Rattle.std.proofs.lemmas.Bool.{false≢true}
 use Rattle.cola_device.specs.declared.device.Device as device
 use Rattle.cola_device.specs.Settling.{IsSettled}
@@ -12,7 +12,7 @@ use Rattle.cola_table.specs.declared.table.Table as table
 use Rattle.cola_cursor.specs.declared.cursor.Cursor.{Cursor}
 use Rattle.cola_store.specs.declared.fault.OpenFault.{OpenFault}
 use Rattle.cola_store.specs.declared.fault.OpenFault.TheVariants as fault
-use Rattle.cola_store.specs.Open.{Opens}
+use Rattle.cola_store.specs.Open.{IsRefused, Opens}
 use Rattle.cola_store.specs.Store.{Stored}
 use Rattle.cola_command.specs.declared.place.Place.{Place}
 use Rattle.cola_command.specs.declared.place.Place.TheVariants as place
@@ -31,14 +31,21 @@ module _ {D : Type 0} (d : device.Ghosts D) where
   close-settles (place.Closing before) answer new cut (Err closing, (closes, (answered, is))) at = settled-is (place.Closing closing) new cut is tt
   close-settles (place.Closed now) answer new cut (answered, is) at = settled-is (place.Closed now) new cut is at
 
-  -- a refused opening changes no byte, or met a fault
+  -- a refused opening without a fault wrote nothing
+  refused-settles : {why : List ℕ → Type 0} {reads others : ℕ} (before now : D) → IsRefused d before why reads others now → IsSettled d before → IsSettled d now
+  refused-settles before now is at =
+      let stay = is.spends.writes_stay in
+      let rise = is.spends.writes_rise in
+      settled-stays d before now is.bytes_stay (omega (arith, stay, rise)) at
+
+  -- a refused opening wrote nothing, or met a fault
   refusal-settles : (cache : ℕ) (before now : D) (why : OpenFault) (cut : Bool) → Opens d before cache (Err (now, why)) → (cut ≡ false → IsSettled d before) → cut_by (refused_reply why) cut ≡ false → IsSettled d now
-  refusal-settles cache before now fault.NotStore cut opens at none = settled-stays d before now opens.bytes_stay (at none)
-  refusal-settles cache before now fault.NotClosed cut opens at none = settled-stays d before now opens.bytes_stay (at none)
-  refusal-settles cache before now fault.Small cut opens at none = settled-stays d before now opens.bytes_stay (at none)
+  refusal-settles cache before now fault.NotStore cut opens at none = refused-settles before now opens (at none)
+  refusal-settles cache before now fault.NotClosed cut opens at none = refused-settles before now opens (at none)
+  refusal-settles cache before now fault.Small cut opens at none = refused-settles before now opens (at none)
   refusal-settles cache before now fault.Device cut opens at none = absurd (false≢true (sym none))
-  refusal-settles cache before now fault.OutOfMemory cut opens at none = settled-stays d before now opens.bytes_stay (at none)
-  refusal-settles cache before now (fault.BadCell cell) cut opens at none = settled-stays d before now opens.1.bytes_stay (at none)
+  refusal-settles cache before now fault.OutOfMemory cut opens at none = refused-settles before now opens (at none)
+  refusal-settles cache before now (fault.BadCell cell) cut opens at none = refused-settles before now opens.1 (at none)
 
   -- an opening
   open-settles : (cache : ℕ) (old : Place D d) (answer : Reply) (new : Place D d) (cut : Bool) → OpenCause d cache old answer new → IsSettledAt d old cut → IsSettledAt d new (cut_by answer cut)

@@ -206,8 +206,8 @@ module _ {D : Type 0} (d : device.Ghosts D) (sizes : Sizes) (cache faults : ℕ)
         writes_few = below-last n store.chain.writes small.writes_few many;
       }
 
-  -- an amount of stores over a session: of a count of the device, where each store keeps to it from its opening to its close, and each file that stays closed to what its reply may take
-  module _ (count : Counts → ℕ) (f : ℕ → ℕ → ℕ) (takes : Reply → ℕ) (Asks : Turn → Type 0) (Keeps : Stored D → Type 0)
+  -- an amount of stores over a session: of a count of the device that is none of its other calls, where each store keeps to it from its opening to its close, and each file that stays closed to what its reply may take
+  module _ (count : Counts → ℕ) (no_other : (counts : Counts) → count (record counts { others = 0 }) ≡ count counts) (f : ℕ → ℕ → ℕ) (takes : Reply → ℕ) (Asks : Turn → Type 0) (Keeps : Stored D → Type 0)
       (goes : (turn : Turn) (old new : Stored D) → Answers d sizes cache turn old new → Asks turn → Keeps old → Keeps new)
       (begins : (before : D) (store : Stored D) → IsStoreOpened d before cache store → Keeps store)
       (closes : (n : ℕ) (turn : Turn) (store : Stored D) (now : D) → n ≤ turns_limit → IsSmall n store → Keeps store → Closes d sizes cache turn store now → count (d.counts now) ≤ count store.account.opened + f store.account.steps store.account.searches)
@@ -277,7 +277,7 @@ module _ {D : Type 0} (d : device.Ghosts D) (sizes : Sizes) (cache faults : ℕ)
           let none-searched : searched turn.answer ≡ 0 = ap searched move.answer_is in
           let steps : next.account.steps ≡ mutated turn.answer = ap (λ (a : Account). a.steps) move.opened.account_is ∙ sym none-mutated in
           let searching : next.account.searches ≡ searched turn.answer = ap (λ (a : Account). a.searches) move.opened.account_is ∙ sym none-searched in
-          let opened : count next.account.opened ≡ count (d.counts before) = ap (λ (a : Account). count a.opened) move.opened.account_is in
+          let opened : count next.account.opened ≡ count (d.counts before) = ap (λ (a : Account). count a.opened) move.opened.account_is ∙ no_other (d.counts before) in
           let bound = within turns (suc n) (Open next) (mutated turn.answer) (searched turn.answer) (omega (arith, many)) (opened-small (suc n) before next move.opened is, (begins before next move.opened, (steps, searching))) asks.1 others in
           let e : amounts f m s (turn ∷ turns) ≡ f m s + amounts f (mutated turn.answer) (searched turn.answer) turns =
           ap (λ (b : Bool). if b then f m s + amounts f (mutated turn.answer) (searched turn.answer) turns else amounts f (m + mutated turn.answer) (s + searched turn.answer) turns) (ap opens move.answer_is) in
@@ -295,7 +295,7 @@ module _ {D : Type 0} (d : device.Ghosts D) (sizes : Sizes) (cache faults : ℕ)
       store-within first before turns opened same many asks moves =
           let account = opened.account_is in
           let bound = within turns 0 (Open first) 0 0 (omega (arith, many)) (opened-small 0 before first opened same, (begins before first opened, (ap (λ (a : Account). a.steps) account, ap (λ (a : Account). a.searches) account))) asks moves in
-          let start : count first.account.opened ≡ count (d.counts before) = ap (λ (a : Account). count a.opened) account in
+          let start : count first.account.opened ≡ count (d.counts before) = ap (λ (a : Account). count a.opened) account ∙ no_other (d.counts before) in
           let sum = amounts-sum f turns in
           whole-bound (count (d.counts end)) (count first.account.opened) (count (d.counts before)) (amounts f 0 0 turns) (sum_by (amount f) (by_store turns)) (all_takes takes turns) bound start sum
 
@@ -368,17 +368,17 @@ few-transfers {D} d sizes cache first before last last_turn end turns few_faults
     let kept : (turn : Turn) (old new : Stored D) → Answers d sizes cache turn old new → Unit {0} → Unit {0} → Unit {0} = λ turn old new a u v. tt in
     record {
       writes =
-          let bound = store-within d sizes cache faults (λ c. c.writes) (λ m s. most_writes sizes m) (λ r. 0) (λ turn. Unit {0}) (λ store. Unit {0}) kept (λ b store o. tt) (closed-writes d sizes cache faults)
+          let bound = store-within d sizes cache faults (λ c. c.writes) (λ c. refl) (λ m s. most_writes sizes m) (λ r. 0) (λ turn. Unit {0}) (λ store. Unit {0}) kept (λ b store o. tt) (closed-writes d sizes cache faults)
           (λ turn b now r. let w = r.writes_rise in omega (arith, w)) last last_turn end final refl first before turns opened refl limit (all-turns turns) moves in
           let none = none-takes turns in
           omega (arith, bound, none);
       reads = λ asks.
-          let bound = store-within d sizes cache faults (λ c. c.reads) (λ m s. most_reads sizes m s) short (λ turn. AsksNoRows turn.request) (λ store. HasRead d.counts store) (λ turn old new a. a.reads_kept) (λ b store o. o.reads) (closed-reads d sizes cache faults)
+          let bound = store-within d sizes cache faults (λ c. c.reads) (λ c. refl) (λ m s. most_reads sizes m s) short (λ turn. AsksNoRows turn.request) (λ store. HasRead d.counts store) (λ turn old new a. a.reads_kept) (λ b store o. o.reads) (closed-reads d sizes cache faults)
           (λ turn b now r. r.reads_rise) last last_turn end final free first before turns opened refl limit (no-rows turns asks) moves in
           let same = short-takes turns in
           omega (arith, bound, same);
       reads_cached = λ room.
-          let bound = store-within d sizes cache faults (λ c. c.reads) (λ m s. cached_reads sizes) short (λ turn. Unit {0}) (λ store. Unit {0}) kept (λ b store o. tt) (closed-cached d sizes cache faults room few_faults)
+          let bound = store-within d sizes cache faults (λ c. c.reads) (λ c. refl) (λ m s. cached_reads sizes) short (λ turn. Unit {0}) (λ store. Unit {0}) kept (λ b store o. tt) (closed-cached d sizes cache faults room few_faults)
           (λ turn b now r. r.reads_rise) last last_turn end final free first before turns opened refl limit (all-turns turns) moves in
           let same = short-takes turns in
           omega (arith, bound, same);

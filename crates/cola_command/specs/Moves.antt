@@ -62,7 +62,7 @@ module _ {D : Type 0} (d : device.Ghosts D) where
       pub quiet : IsQuiet turn.answer
       pub few : TransfersFew store
       pub sizes_are : sizes_of (geometry_of store) ≡ sizes
-      pub spends : Spends (d.counts store.chain.store.buffers.cache.device) (d.counts now) 0 (sizes.bottom + 3)
+      pub spends : Spends (d.counts store.chain.store.buffers.cache.device) (d.counts now) 0 (sizes.bottom + 3) 2
 
     -- a closed file was opened
     pub record Reopens (before : D) (store : Stored D) : Type 0 where

@@ -2,8 +2,6 @@
 #![tactic(auto)]
 
 mod file;
-#[cfg(test)]
-mod file_tests;
 mod laws;
 mod lines;
 mod memory;
@@ -12,8 +10,6 @@ mod program;
 mod reading;
 mod serving;
 mod serving_laws;
-#[cfg(test)]
-mod serving_tests;
 mod upgrading;
 mod workload;
 

@@ -10,8 +10,6 @@ pub mod laws;
 mod line;
 mod lines;
 mod starts;
-#[cfg(test)]
-mod tests;
 
 pub use cursor::Cursor;
 pub use line::Line;

@@ -23,26 +23,26 @@ count_ends : one_more (2 ^ 64 - 1) ≡ 2 ^ 64 - 1
 count_ends = refl
 
 -- the second call fails, and the others do not
-first_call_is_carried_out : next_fails (unused [] 2 (2 ∷ [])) ≡ false
+first_call_is_carried_out : next_fails (unused [] 2 (2 ∷ []) 0) ≡ false
 first_call_is_carried_out = refl
 
-second_call_fails : next_fails (after_call false (unused [] 2 (2 ∷ []))) ≡ true
+second_call_fails : next_fails (after_call false (unused [] 2 (2 ∷ []) 0)) ≡ true
 second_call_fails = refl
 
-layout_within_the_room : (after_layout 2 (unused [] 2 [])).bytes ≡ 0 ∷ 0 ∷ []
+layout_within_the_room : (after_layout 2 (unused [] 2 [] 0)).bytes ≡ 0 ∷ 0 ∷ []
 layout_within_the_room = refl
 
-layout_past_the_room : (after_layout 3 (unused [] 2 [])).bytes ≡ 0xa5 ∷ 0xa5 ∷ []
+layout_past_the_room : (after_layout 3 (unused [] 2 [] 0)).bytes ≡ 0xa5 ∷ 0xa5 ∷ []
 layout_past_the_room = refl
 
-layout_past_the_room_is_a_fault : (after_layout 3 (unused [] 2 [])).counts.faults ≡ 1
+layout_past_the_room_is_a_fault : (after_layout 3 (unused [] 2 [] 0)).counts.faults ≡ 1
 layout_past_the_room_is_a_fault = refl
 
-write_takes_its_place : (after_write 1 (8 ∷ []) (unused (1 ∷ 2 ∷ 3 ∷ []) 3 [])).bytes ≡ 1 ∷ 8 ∷ 3 ∷ []
+write_takes_its_place : (after_write 1 (8 ∷ []) (unused (1 ∷ 2 ∷ 3 ∷ []) 3 [] 0)).bytes ≡ 1 ∷ 8 ∷ 3 ∷ []
 write_takes_its_place = refl
 
-failing_write_spoils_its_place : (after_write 1 (8 ∷ []) (unused (1 ∷ 2 ∷ 3 ∷ []) 3 (1 ∷ []))).bytes ≡ 1 ∷ 0xa5 ∷ 3 ∷ []
+failing_write_spoils_its_place : (after_write 1 (8 ∷ []) (unused (1 ∷ 2 ∷ 3 ∷ []) 3 (1 ∷ []) 0)).bytes ≡ 1 ∷ 0xa5 ∷ 3 ∷ []
 failing_write_spoils_its_place = refl
 
-failing_read_counts : (after_read (unused [] 0 (1 ∷ []))).counts ≡ record { faults = 1; reads = 1; writes = 0 }
+failing_read_counts : (after_read (unused [] 0 (1 ∷ []) 0)).counts ≡ record { faults = 1; reads = 1; writes = 0; others = 0 }
 failing_read_counts = refl

@@ -20,9 +20,13 @@ count_read counts = record counts { reads = one_more counts.reads }
 abbrev pub count_write : Counts → Counts
 count_write counts = record counts { writes = one_more counts.writes }
 
--- a call that makes at most so many reads and writes: no count falls, an error has its cause, and a call that is carried
--- out met no fault
-pub record Called {T E : Type 0} (before now : Counts) (reads writes : ℕ) (result : Result T E) : Type 0 where
+-- one more of the calls that neither read nor write
+abbrev pub count_other : Counts → Counts
+count_other counts = record counts { others = one_more counts.others }
+
+-- a call that makes at most so many reads, writes and others: no count falls, an error has its cause, and a call that is
+-- carried out met no fault
+pub record Called {T E : Type 0} (before now : Counts) (reads writes others : ℕ) (result : Result T E) : Type 0 where
   pub faults_stay : before.faults ≤ now.faults
   pub cause : HasCause result before.faults now.faults
   pub none_hidden : OnOk result (now.faults ≡ before.faults)
@@ -30,3 +34,5 @@ pub record Called {T E : Type 0} (before now : Counts) (reads writes : ℕ) (res
   pub reads_rise : now.reads ≤ before.reads + reads
   pub writes_stay : before.writes ≤ now.writes
   pub writes_rise : now.writes ≤ before.writes + writes
+  pub others_stay : before.others ≤ now.others
+  pub others_rise : now.others ≤ before.others + others

@@ -25,7 +25,8 @@ pub trait Device {
     /// Whether the devices of this type tell their bytes: all of them do, or none.
     ghost tells: { Bool };
 
-    /// How many faults it met, and how many reads and writes it made.
+    /// How many faults it met, how many reads and writes it made, and how many calls of `size`, `lay_out` and
+    /// `settle`.
     ghost counts: { Self → Counts };
 
     /// What it has beside its bytes and counts, which no call changes.
@@ -42,7 +43,7 @@ pub trait Device {
         ensures value { IfOk result (HasSize (bytes self.old)) }
         ensures bytes_stay { bytes self.new ≡ bytes self.old }
         ensures kept { kept self.new ≡ kept self.old }
-        ensures counts { Called (counts self.old) (counts self.new) 0 0 result };
+        ensures counts { Called (counts self.old) (counts self.new) 0 0 1 result };
 
     /// Gives an empty device `size` zero bytes. After a fault it has from none to `size` bytes of any
     /// value.
@@ -50,7 +51,7 @@ pub trait Device {
         requires { IsEmpty (bytes self.old) }
         ensures laid { LaidOut result size (bytes self.old) (bytes self.new) }
         ensures kept { kept self.new ≡ kept self.old }
-        ensures counts { Called (counts self.old) (counts self.new) 0 0 result };
+        ensures counts { Called (counts self.old) (counts self.new) 0 0 1 result };
 
     /// Fills `into` with the bytes from `at` on. After a fault it may have any bytes.
     fn read(&mut self, at: u64, into: &mut [u8]) -> Result<(), DeviceFault>
@@ -59,7 +60,7 @@ pub trait Device {
         ensures given { OnOk result (Gives (bytes self.old) at into.new) }
         ensures bytes_stay { bytes self.new ≡ bytes self.old }
         ensures kept { kept self.new ≡ kept self.old }
-        ensures counts { Called (counts self.old) (counts self.new) 1 0 result };
+        ensures counts { Called (counts self.old) (counts self.new) 1 0 0 result };
 
     /// Puts `from` in the place of the bytes from `at` on. After a fault there may be any bytes in that
     /// range. All others stay.
@@ -68,14 +69,14 @@ pub trait Device {
         requires inside { HasRange (bytes self.old) at (length from.now) }
         ensures wrote { Wrote result at from.now (bytes self.old) (bytes self.new) }
         ensures kept { kept self.new ≡ kept self.old }
-        ensures counts { Called (counts self.old) (counts self.new) 0 1 result };
+        ensures counts { Called (counts self.old) (counts self.new) 0 1 0 result };
 
     /// Asks that all that was written be finished.
     fn settle(&mut self) -> Result<(), DeviceFault>
         ensures settled { settles self.old result self.new }
         ensures bytes_stay { bytes self.new ≡ bytes self.old }
         ensures kept { kept self.new ≡ kept self.old }
-        ensures counts { Called (counts self.old) (counts self.new) 0 0 result };
+        ensures counts { Called (counts self.old) (counts self.new) 0 0 1 result };
 
     /// How many reads it made.
     fn reads(&self) -> u64

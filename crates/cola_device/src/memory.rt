@@ -1,7 +1,8 @@
 //! A device in memory, whose calls fail where the caller wants them to.
-ghost use Rattle.std.specs.Prelude.{◌≡◌, ◌+◌, ◌||◌, ◌≤◌, [], true, Some, refl, not, length, replicate, is_err, IfOk, OnOk, OnErr};
+ghost use Rattle.std.specs.Prelude.{◌≡◌, ◌+◌, ◌*◌, ◌||◌, ◌≤◌, [], true, Some, refl, not, length, replicate, is_err, IfOk, OnOk, OnErr};
+ghost use Rattle.std.specs.Vec.{vec_capacity};
 ghost use Rattle.cola_device.specs.Bytes.{part};
-ghost use Rattle.cola_device.specs.Memory.{Settings, settings, unused, next_fails, layout_fails, after_call, after_layout, after_read, after_write, IsSettle};
+ghost use Rattle.cola_device.specs.Memory.{Settings, settings, unused, next_fails, layout_fails, after_call, after_other, after_layout, after_read, after_write, IsSettle};
 
 use crate::{Counts, Device, DeviceFault, MAX_TRANSFER};
 use std::alloc::{AllocError, Global};
@@ -22,7 +23,7 @@ pub struct MemoryDevice {
 }
 
 impl Model for MemoryDevice {
-    ghost use Rattle.std.specs.Prelude.{◌≤◌};
+    ghost use Rattle.std.specs.Prelude.{◌+◌, ◌*◌, ◌≤◌};
     ghost use Rattle.std.specs.Vec.{vec_capacity};
     ghost use Rattle.cola_device.specs.Memory.{Memory};
 
@@ -34,15 +35,29 @@ impl Model for MemoryDevice {
       calls = d.calls;
       failing = d.failing.items;
       counts = d.counts;
+      taken = vec_capacity d.bytes + 8 * vec_capacity d.failing;
     } };
 
     ghost invariant = { λ d. d.room ≤ vec_capacity d.bytes };
 }
 
+/// Fills an empty list with `size` bytes, for which it has room: no memory is taken.
+fn fill_up(bytes: &mut Vec<u8>, size: u64, byte: u8)
+    requires empty { length bytes.old.items ≡ 0 }
+    requires room { size ≤ vec_capacity bytes.old }
+    ensures filled { bytes.new.items ≡ replicate size byte }
+    ensures taken { vec_capacity bytes.new ≡ vec_capacity bytes.old }
+{
+    for place in 0..size {
+        // Of `insert` it is said that a list with room stays where it is, and of `push` it is not.
+        let _ = bytes.insert(place as usize, byte);
+    }
+}
+
 impl MemoryDevice {
-    /// An empty device, which has room for so many bytes.
+    /// An empty device, which has room for so many bytes. All memory is taken here.
     pub fn new(alloc: Global, room: u64, failing: Vec<u64>) -> Result<MemoryDevice, AllocError>
-        ensures { IfOk result (λ device. device ≡ unused [] room failing.items) }
+        ensures { IfOk result (λ device. device ≡ unused [] room failing.items (room + 8 * vec_capacity failing)) }
     {
         let bytes = Vec::with_capacity(alloc, room as usize)?;
         Ok(MemoryDevice {
@@ -56,7 +71,7 @@ impl MemoryDevice {
 
     /// A device that holds these bytes, and has room for no more.
     pub fn holding(bytes: Vec<u8>, failing: Vec<u64>) -> MemoryDevice
-        ensures { result ≡ unused bytes.items (length bytes.items) failing.items }
+        ensures { result ≡ unused bytes.items (length bytes.items) failing.items (vec_capacity bytes + 8 * vec_capacity failing) }
     {
         MemoryDevice {
             room: bytes.len(),
@@ -100,15 +115,6 @@ impl MemoryDevice {
         }
         Ok(())
     }
-
-    /// Fills it up to `size` bytes, for which there is room, so that no memory is taken.
-    fn fill_up(&mut self, size: u64, byte: u8)
-        requires empty { length self.old.bytes ≡ 0 }
-        requires room { size ≤ self.old.room }
-        ensures { self.new ≡ record self.old { bytes = replicate size byte } }
-    {
-        let _ = self.bytes.resize(size as usize, byte);
-    }
 }
 
 impl Device for MemoryDevice {
@@ -129,8 +135,9 @@ impl Device for MemoryDevice {
     fn size(&mut self) -> Result<u64, DeviceFault>
         ensures fails { is_err result ≡ next_fails self.old }
         ensures value { IfOk result (λ size. size ≡ length self.old.bytes) }
-        ensures after { self.new ≡ after_call (next_fails self.old) self.old }
+        ensures after { self.new ≡ after_other (next_fails self.old) self.old }
     {
+        self.counts.other();
         self.begin(true)?;
         Ok(self.bytes.len() as u64)
     }
@@ -141,14 +148,15 @@ impl Device for MemoryDevice {
         ensures fails { is_err result ≡ layout_fails size self.old }
         ensures after { self.new ≡ after_layout size self.old }
     {
+        self.counts.other();
         let room = self.room as u64;
         match self.begin(size <= room) {
             Ok(()) => {
-                self.fill_up(size, 0);
+                fill_up(&mut self.bytes, size, 0);
                 Ok(())
             }
             Err(fault) => {
-                self.fill_up(size.min(room), SPOILED);
+                fill_up(&mut self.bytes, size.min(room), SPOILED);
                 Err(fault)
             }
         }
@@ -202,6 +210,7 @@ impl Device for MemoryDevice {
         ensures is { IsSettle result self.old self.new }
     {
         // Bytes in memory are always settled.
+        self.counts.other();
         self.begin(true)
     }
 

@@ -8,9 +8,11 @@ ghost use Rattle.cola_image.specs.Standing.{FileStandsFor};
 ghost use Rattle.cola_store.specs.Store.{Holds};
 ghost use Rattle.cola_example.specs.Example.{first_of, Reads, Writes, IsNewWithPut};
 
+mod callers;
 #[cfg(test)]
 mod tests;
 
+pub use callers::found_in_store;
 use cola_cell::{Key, ReadFault, Value};
 use cola_device::Device;
 use cola_outside::Steps;

@@ -1,3 +1,4 @@
 pub mod Opening
 pub mod Handle
 pub mod Work
+pub mod Laws

@@ -1,54 +1,51 @@
-ghost use Rattle.std.specs.Prelude.{◌≡◌, Option, false, Some, None, refl, is_err, OnOk};
-ghost use Rattle.cola_device.specs.Counts.{count_fault, count_read, count_write};
-ghost use Rattle.cola_filedev.specs.Handle.{IsUnopened};
-ghost use Rattle.cola_filedev.specs.Opening.{Wanted, unused, Asked, IsSame, Done};
-ghost use Rattle.cola_filedev.specs.Work.{ReadFrom, WroteTo};
+ghost use Rattle.std.specs.Prelude.{◌≡◌, Option, false, Some, None, refl, is_err};
+ghost use Rattle.cola_device.specs.Counts.{count_fault, count_read, count_write, count_other};
+ghost use Rattle.cola_filedev.specs.Opening.{Wanted, unused, AskedFor, Asked};
+ghost use Rattle.cola_filedev.specs.Work.{InPieces, Taking, Laid};
 ghost use Rattle.cola_filedev.specs.declared.handle.Handle.TheVariants.{Unopened, Refused};
 
+use crate::access::{OpenedFile, Opener};
 use crate::handle::{self, Handle};
 use cola_device::{Counts, Device, DeviceFault};
 use std::marker::Model;
-use std::rt::Files;
+use std::mem;
 
-/// A device over a file. It tells no bytes.
+/// A device over the file at a path, which an opener opens. It tells no bytes.
 #[derive(Drop)]
-pub struct FileDevice<'a, R: Files> {
-    rt: &'a R,
+pub struct PathDevice<'a, O: Opener> {
     /// The path that the first call opens, and whether it makes the file.
     wanted: Option<(&'a str, bool)>,
-    handle: Handle<R::File>,
+    handle: Handle<O, O::File>,
     counts: Counts,
 }
 
-impl<'a, R: Files> Model for FileDevice<'a, R> {
+impl<'a, O: Opener> Model for PathDevice<'a, O> {
     ghost use Rattle.cola_filedev.specs.Opening.{Shown, wanted_of};
 
-    ghost Value = { Shown R.File };
+    ghost Value = { Shown O O.File };
 
     ghost view = { λ d. record { handle = d.handle; wanted = wanted_of d.wanted; counts = d.counts } };
 }
 
-impl<'a, R: Files> FileDevice<'a, R> {
+impl<'a, O: Opener> PathDevice<'a, O> {
     /// A device over the file at this path. Nothing is touched before the first call of `size`, `lay_out`,
     /// `read`, `write` or `settle`: that call opens the file for reading and writing, and makes it where
     /// it is not there and `make` is true.
-    pub fn new(rt: &'a R, path: &'a str, make: bool) -> FileDevice<'a, R>
-        ensures { result ≡ unused Unopened (Some (path.now, make)) }
+    pub fn new(opener: O, path: &'a str, make: bool) -> PathDevice<'a, O>
+        ensures { result ≡ unused (Unopened opener) (Some (path.now, make)) }
     {
-        FileDevice {
-            rt,
+        PathDevice {
             wanted: Some((path, make)),
-            handle: Handle::Unopened,
+            handle: Handle::Unopened(opener),
             counts: Counts::default(),
         }
     }
 
     /// A device with no file: each of those calls is a fault.
-    pub fn none(rt: &'a R) -> FileDevice<'a, R>
+    pub fn none(_opener: O) -> PathDevice<'a, O>
         ensures { result ≡ unused Refused None }
     {
-        FileDevice {
-            rt,
+        PathDevice {
             wanted: None,
             handle: Handle::Refused,
             counts: Counts::default(),
@@ -57,21 +54,18 @@ impl<'a, R: Files> FileDevice<'a, R> {
 
     /// Asks for the file where that was not done yet.
     fn ask(&mut self)
-        ensures asked { IsUnopened self.new.handle → ⊥ }
-        ensures same { IsSame self.old.handle self.new.handle }
+        ensures opening { AskedFor O.opened self.old.wanted self.old.handle self.new.handle }
         ensures wanted { self.new.wanted ≡ self.old.wanted }
         ensures counts { self.new.counts ≡ self.old.counts }
     {
-        if let Handle::Unopened = self.handle {
-            self.handle = match self.wanted {
-                Some((path, make)) => handle::open(self.rt, path, make),
-                None => Handle::Refused,
-            };
+        if let Handle::Unopened(_) = self.handle {
+            let unasked = mem::replace(&mut self.handle, Handle::Refused);
+            self.handle = handle::asked(unasked, self.wanted);
         }
     }
 }
 
-impl<'a, R: Files> Device for FileDevice<'a, R> {
+impl<'a, O: Opener> Device for PathDevice<'a, O> {
     ghost bytes = { λ _. None };
 
     ghost tells = { false };
@@ -82,19 +76,19 @@ impl<'a, R: Files> Device for FileDevice<'a, R> {
 
     ghost kept = { λ d. d.wanted };
 
-    ghost settles = { λ old result new. Asked old.handle new.handle result };
+    ghost settles = { λ old result new. Asked O.opened old.wanted O.File.synced old.handle result new.handle };
 
     ghost told = { λ _. refl };
 
     fn size(&mut self) -> Result<u64, DeviceFault>
-        ensures asked { Asked self.old.handle self.new.handle result }
-        ensures same { IsSame self.old.handle self.new.handle }
+        ensures asked { Asked O.opened self.old.wanted O.File.sized self.old.handle result self.new.handle }
         ensures wanted { self.new.wanted ≡ self.old.wanted }
-        ensures counted { self.new.counts ≡ count_fault (is_err result) self.old.counts }
+        ensures counted { self.new.counts ≡ count_other (count_fault (is_err result) self.old.counts) }
     {
+        self.counts.other();
         self.ask();
-        if let Handle::Open(file) = &self.handle {
-            if let Ok(size) = handle::size(file) {
+        if let Handle::Open(file) = &mut self.handle {
+            if let Ok(size) = file.size() {
                 return Ok(size);
             }
         }
@@ -102,13 +96,13 @@ impl<'a, R: Files> Device for FileDevice<'a, R> {
     }
 
     fn lay_out(&mut self, size: u64) -> Result<(), DeviceFault>
-        ensures asked { Asked self.old.handle self.new.handle result }
-        ensures same { IsSame self.old.handle self.new.handle }
+        ensures asked { Asked O.opened self.old.wanted (Laid O.File.cut size) self.old.handle result self.new.handle }
         ensures wanted { self.new.wanted ≡ self.old.wanted }
-        ensures counted { self.new.counts ≡ count_fault (is_err result) self.old.counts }
+        ensures counted { self.new.counts ≡ count_other (count_fault (is_err result) self.old.counts) }
     {
+        self.counts.other();
         self.ask();
-        if let Handle::Open(file) = &self.handle {
+        if let Handle::Open(file) = &mut self.handle {
             if handle::lay_out(file, size).is_ok() {
                 return Ok(());
             }
@@ -117,9 +111,8 @@ impl<'a, R: Files> Device for FileDevice<'a, R> {
     }
 
     fn read(&mut self, at: u64, into: &mut [u8]) -> Result<(), DeviceFault>
-        ensures asked { Asked self.old.handle self.new.handle result }
-        ensures given { OnOk result (Done self.old.handle self.new.handle
-            (λ old new. ReadFrom R.File.stream_position R.File.stream_bytes R.File.remaining at old new into.new)) }
+        ensures asked { Asked O.opened self.old.wanted (λ old answer new. InPieces O.File.gave old at into.old answer into.new new)
+            self.old.handle result self.new.handle }
         ensures wanted { self.new.wanted ≡ self.old.wanted }
         ensures counted { self.new.counts ≡ count_read (count_fault (is_err result) self.old.counts) }
     {
@@ -134,9 +127,8 @@ impl<'a, R: Files> Device for FileDevice<'a, R> {
     }
 
     fn write(&mut self, at: u64, from: &[u8]) -> Result<(), DeviceFault>
-        ensures asked { Asked self.old.handle self.new.handle result }
-        ensures put { OnOk result (Done self.old.handle self.new.handle
-            (λ old new. WroteTo R.File.stream_position R.File.stream_bytes R.File.contents at old new from.now)) }
+        ensures asked { Asked O.opened self.old.wanted (λ old answer new. InPieces (Taking O.File.took) old at from.now answer from.now new)
+            self.old.handle result self.new.handle }
         ensures wanted { self.new.wanted ≡ self.old.wanted }
         ensures counted { self.new.counts ≡ count_write (count_fault (is_err result) self.old.counts) }
     {
@@ -151,14 +143,14 @@ impl<'a, R: Files> Device for FileDevice<'a, R> {
     }
 
     fn settle(&mut self) -> Result<(), DeviceFault>
-        ensures asked { Asked self.old.handle self.new.handle result }
-        ensures same { IsSame self.old.handle self.new.handle }
+        ensures asked { Asked O.opened self.old.wanted O.File.synced self.old.handle result self.new.handle }
         ensures wanted { self.new.wanted ≡ self.old.wanted }
-        ensures counted { self.new.counts ≡ count_fault (is_err result) self.old.counts }
+        ensures counted { self.new.counts ≡ count_other (count_fault (is_err result) self.old.counts) }
     {
+        self.counts.other();
         self.ask();
-        if let Handle::Open(file) = &self.handle {
-            if handle::settle(file).is_ok() {
+        if let Handle::Open(file) = &mut self.handle {
+            if file.sync().is_ok() {
                 return Ok(());
             }
         }

@@ -1,19 +1,21 @@
 //! The file of a device, and the work on it.
-ghost use Rattle.std.specs.Prelude.{◌≡◌, true, OnOk};
-ghost use Rattle.std.specs.Fs.{new_options, with_read, with_write, with_create};
-ghost use Rattle.std.specs.Io.KnownBytes.{Keeps};
-ghost use Rattle.std.specs.Io.Seek.{MovesTo};
-ghost use Rattle.cola_filedev.specs.Handle.{IsUnopened};
-ghost use Rattle.cola_filedev.specs.Work.{ReadFrom, WroteTo};
+ghost use Rattle.std.specs.Prelude.{◌≡◌, ◌↔◌, true, IsTrue};
+ghost use Rattle.std.specs.IoError.{error_kind};
+ghost use Rattle.std.specs.declared.io.ErrorKind.TheVariants.{Interrupted};
+ghost use Rattle.cola_filedev.specs.Opening.{options, OpenedAs, AskedFor, wanted_of};
+ghost use Rattle.cola_filedev.specs.Work.{InPieces, Taking, Laid};
 
-use std::fs::{OpenFile, OpenOptions};
-use std::io::{self, Read, Seek, SeekFrom, Write};
-use std::rt::Files;
+use crate::access::{OpenedFile, Opener};
+use std::fs::OpenOptions;
+use std::io::{self, ErrorKind};
+
+/// How often an interrupted read or write is made again.
+const TRIES: u32 = 1000;
 
 #[derive(Drop)]
-pub(crate) enum Handle<F> {
+pub(crate) enum Handle<O, F> {
     /// It is opened when it is first needed.
-    Unopened,
+    Unopened(O),
     Open(F),
     /// It could not be opened, or there is none.
     Refused,
@@ -21,57 +23,97 @@ pub(crate) enum Handle<F> {
 
 /// The file is opened for reading and writing, what it holds stays, and it is made where it is not there if
 /// `make` is true.
-fn options(make: bool) -> OpenOptions
-    ensures { result ≡ with_create (with_write (with_read new_options true) true) make }
+fn options_of(make: bool) -> OpenOptions
+    ensures { result ≡ options make }
 {
     let mut options = OpenOptions::new();
     options.read(true).write(true).create(make);
     options
 }
 
-pub(crate) fn open<R: Files>(rt: &R, path: &str, make: bool) -> Handle<R::File>
-    ensures { IsUnopened result → ⊥ }
+fn open<O: Opener>(opener: O, path: &str, make: bool) -> Handle<O, O::File>
+    ensures { OpenedAs O.opened opener (path.now, make) result }
 {
-    match options(make).open(rt, path) {
+    match opener.open(path, &options_of(make)) {
         Ok(file) => Handle::Open(file),
         Err(_) => Handle::Refused,
     }
 }
 
-pub(crate) fn size<F: OpenFile>(file: &F) -> io::Result<u64> {
-    Ok(file.metadata()?.len())
+/// What a device has after it asked for its file: a path is opened where that was not done yet.
+pub(crate) fn asked<O: Opener>(
+    handle: Handle<O, O::File>,
+    wanted: Option<(&str, bool)>,
+) -> Handle<O, O::File>
+    ensures { AskedFor O.opened (wanted_of wanted.entry) handle result }
+{
+    match handle {
+        Handle::Unopened(opener) => match wanted {
+            Some((path, make)) => open(opener, path, make),
+            None => Handle::Refused,
+        },
+        asked => asked,
+    }
 }
 
 /// What it held is cut off first, so that all its bytes are zero.
-pub(crate) fn lay_out<F: OpenFile>(file: &F, size: u64) -> io::Result<()> {
-    file.set_len(0)?;
-    file.set_len(size)
+pub(crate) fn lay_out<F: OpenedFile>(file: &mut F, size: u64) -> io::Result<()>
+    ensures { Laid F.cut size file.old result file.new }
+{
+    file.set_size(0)?;
+    file.set_size(size)
 }
 
-fn go_to<F: Seek>(file: &mut F, at: u64) -> io::Result<()>
-    ensures moves { MovesTo (F.stream_position file.old) (F.stream_position file.new) at result }
-    ensures bytes { Keeps (F.stream_bytes file.old) (F.stream_bytes file.new) }
+fn is_interrupted(error: &io::Error) -> bool
+    ensures { IsTrue result ↔ (error_kind error.now ≡ Interrupted) }
 {
-    file.seek(SeekFrom::Start(at))?;
-    Ok(())
+    error.kind() == ErrorKind::Interrupted
 }
 
 /// All of `into` is filled: an end of file within it is a refusal.
-pub(crate) fn read<F: Read + Seek>(file: &mut F, at: u64, into: &mut [u8]) -> io::Result<()>
-    ensures { OnOk result (ReadFrom F.stream_position F.stream_bytes F.remaining at file.old file.new into.new) }
+pub(crate) fn read<F: OpenedFile>(file: &mut F, at: u64, into: &mut [u8]) -> io::Result<()>
+    ensures { InPieces F.gave file.old at into.old result into.new file.new }
 {
-    go_to(file, at)?;
-    file.read_exact(into)
+    if into.len() as u64 > u64::MAX - at {
+        return Err(io::Error::from(ErrorKind::InvalidInput));
+    }
+    let mut done = 0;
+    let mut tries = TRIES;
+    while done < into.len() {
+        match file.read_at(at + done as u64, &mut into[done..]) {
+            Ok(0) => return Err(io::Error::from(ErrorKind::UnexpectedEof)),
+            Ok(count) => done += count,
+            Err(error) => {
+                if tries == 0 || !is_interrupted(&error) {
+                    return Err(error);
+                }
+                tries -= 1;
+            }
+        }
+    }
+    Ok(())
 }
 
 /// All of `from` is taken: a write that takes none of it is a refusal.
-pub(crate) fn write<F: Write + Seek>(file: &mut F, at: u64, from: &[u8]) -> io::Result<()>
-    ensures { OnOk result (WroteTo F.stream_position F.stream_bytes F.contents at file.old file.new from.now) }
+pub(crate) fn write<F: OpenedFile>(file: &mut F, at: u64, from: &[u8]) -> io::Result<()>
+    ensures { InPieces (Taking F.took) file.old at from.now result from.now file.new }
 {
-    go_to(file, at)?;
-    file.write_all(from)
-}
-
-pub(crate) fn settle<F: OpenFile>(file: &F) -> io::Result<()> {
-    file.sync_all()
+    if from.len() as u64 > u64::MAX - at {
+        return Err(io::Error::from(ErrorKind::InvalidInput));
+    }
+    let mut done = 0;
+    let mut tries = TRIES;
+    while done < from.len() {
+        match file.write_at(at + done as u64, &from[done..]) {
+            Ok(0) => return Err(io::Error::from(ErrorKind::WriteZero)),
+            Ok(count) => done += count,
+            Err(error) => {
+                if tries == 0 || !is_interrupted(&error) {
+                    return Err(error);
+                }
+                tries -= 1;
+            }
+        }
+    }
+    Ok(())
 }

@@ -1,9 +1,14 @@
 //! A device over a file of the system. What the file holds is the system's word, so it tells no bytes.
 #![tactic(auto)]
 
+mod access;
 mod file;
 mod handle;
+pub mod laws;
+mod system;
 #[cfg(test)]
 mod tests;
 
-pub use file::FileDevice;
+pub use access::{OpenedFile, Opener};
+pub use file::PathDevice;
+pub use system::{FileDevice, SystemFile};

@@ -2,4 +2,3 @@ pub mod FrontLemmas
 pub mod Stored
 pub mod Image
 pub mod Writes
-pub mod Rooms

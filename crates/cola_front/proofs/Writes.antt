@@ -14,10 +14,10 @@ use Rattle.cola_front.specs.Front.{FrontCells, IsFront, InOrder, stored_all, blo
 use Rattle.cola_front.proofs.FrontLemmas.{stored_all_many, stored_all_append, back_dropped, back_taken}
 
 -- two calls, one behind the other
-pub called_two : {T E : Type 0} (value : Unit {0}) (result : Result T E) (before middle now : Counts) (reads writes more_reads more_writes : ℕ)
-    → Called {T = Unit {0}} {E = E} before middle reads writes (Ok value) → Called middle now more_reads more_writes result
-    → Called before now (reads + more_reads) (writes + more_writes) result
-called_two value (Ok done) before middle now reads writes more_reads more_writes a b =
+pub called_two : {T E : Type 0} (value : Unit {0}) (result : Result T E) (before middle now : Counts) (reads writes others more_reads more_writes more_others : ℕ)
+    → Called {T = Unit {0}} {E = E} before middle reads writes others (Ok value) → Called middle now more_reads more_writes more_others result
+    → Called before now (reads + more_reads) (writes + more_writes) (others + more_others) result
+called_two value (Ok done) before middle now reads writes others more_reads more_writes more_others a b =
     record {
       faults_stay = (let x = a.faults_stay in let y = b.faults_stay in omega (arith, x, y));
       cause = tt;
@@ -26,8 +26,10 @@ called_two value (Ok done) before middle now reads writes more_reads more_writes
       reads_rise = (let x = a.reads_rise in let y = b.reads_rise in omega (arith, x, y));
       writes_stay = (let x = a.writes_stay in let y = b.writes_stay in omega (arith, x, y));
       writes_rise = (let x = a.writes_rise in let y = b.writes_rise in omega (arith, x, y));
+      others_stay = (let x = a.others_stay in let y = b.others_stay in omega (arith, x, y));
+      others_rise = (let x = a.others_rise in let y = b.others_rise in omega (arith, x, y));
     }
-called_two value (Err fault) before middle now reads writes more_reads more_writes a b =
+called_two value (Err fault) before middle now reads writes others more_reads more_writes more_others a b =
     record {
       faults_stay = (let x = a.faults_stay in let y = b.faults_stay in omega (arith, x, y));
       cause = (let x = a.none_hidden in let y = b.cause in omega (arith, x, y));
@@ -36,12 +38,14 @@ called_two value (Err fault) before middle now reads writes more_reads more_writ
       reads_rise = (let x = a.reads_rise in let y = b.reads_rise in omega (arith, x, y));
       writes_stay = (let x = a.writes_stay in let y = b.writes_stay in omega (arith, x, y));
       writes_rise = (let x = a.writes_rise in let y = b.writes_rise in omega (arith, x, y));
+      others_stay = (let x = a.others_stay in let y = b.others_stay in omega (arith, x, y));
+      others_rise = (let x = a.others_rise in let y = b.others_rise in omega (arith, x, y));
     }
 
 -- a call that was allowed more
-pub called_fewer : {T E F : Type 0} (fault : E) (before now : Counts) (reads writes more_reads more_writes : ℕ)
-    → Called {T = T} before now reads writes (Err fault) → Called {T = F} before now (reads + more_reads) (writes + more_writes) (Err fault)
-called_fewer fault before now reads writes more_reads more_writes a =
+pub called_fewer : {T E F : Type 0} (fault : E) (before now : Counts) (reads writes others more_reads more_writes more_others : ℕ)
+    → Called {T = T} before now reads writes others (Err fault) → Called {T = F} before now (reads + more_reads) (writes + more_writes) (others + more_others) (Err fault)
+called_fewer fault before now reads writes others more_reads more_writes more_others a =
     record {
       faults_stay = a.faults_stay;
       cause = a.cause;
@@ -50,6 +54,8 @@ called_fewer fault before now reads writes more_reads more_writes a =
       reads_rise = (let x = a.reads_rise in omega (arith, x));
       writes_stay = a.writes_stay;
       writes_rise = (let x = a.writes_rise in omega (arith, x));
+      others_stay = a.others_stay;
+      others_rise = (let x = a.others_rise in omega (arith, x));
     }
 
 -- all places from the second block on

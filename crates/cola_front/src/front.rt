@@ -146,7 +146,7 @@ impl Front {
         ensures shape { SameShape self.old self.new }
         ensures bytes_stay { D.bytes device.new ≡ D.bytes device.old }
         ensures kept { D.kept device.new ≡ D.kept device.old }
-        ensures counts { Called (D.counts device.old) (D.counts device.new) 1 0 result }
+        ensures counts { Called (D.counts device.old) (D.counts device.new) 1 0 0 result }
     {
         let size = self.block_bytes();
         let at = self.format.width() * first;
@@ -169,7 +169,7 @@ impl Front {
         ensures shape { SameShape self.old self.new }
         ensures bytes_stay { D.bytes device.new ≡ D.bytes device.old }
         ensures kept { D.kept device.new ≡ D.kept device.old }
-        ensures counts { Called (D.counts device.old) (D.counts device.new) 2 0 result }
+        ensures counts { Called (D.counts device.old) (D.counts device.new) 2 0 0 result }
     {
         // It says that a block has the header's eight cells at least.
         let _ = self.block_bytes();
@@ -234,7 +234,7 @@ impl Front {
         ensures wrote { Wrote result 0 (image self.now header.now) (D.bytes device.old) (D.bytes device.new) }
         ensures in_order { Both (D.bytes device.old) (D.bytes device.new) (InOrder result self.now) }
         ensures kept { D.kept device.new ≡ D.kept device.old }
-        ensures counts { Called (D.counts device.old) (D.counts device.new) 0 2 result }
+        ensures counts { Called (D.counts device.old) (D.counts device.new) 0 2 0 result }
         ensures sound { IsFront self.now }
     {
         let size = self.block_bytes();

@@ -4,7 +4,5 @@
 pub mod block;
 mod front;
 pub mod laws;
-#[cfg(test)]
-mod tests;
 
 pub use front::Front;

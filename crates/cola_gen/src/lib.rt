@@ -6,8 +6,6 @@ mod calls;
 mod generating;
 mod keys;
 pub mod laws;
-#[cfg(test)]
-mod tests;
 mod verifying;
 
 pub use generating::generate;

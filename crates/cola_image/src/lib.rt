@@ -6,5 +6,3 @@
 
 pub mod laws;
 pub mod plain;
-#[cfg(test)]
-mod tests;

@@ -25,6 +25,3 @@ pub use sink_std::StdSink;
 pub use source::{Source, SourceFault};
 pub use source_memory::MemorySource;
 pub use source_std::StdSource;
-
-#[cfg(test)]
-mod tests;

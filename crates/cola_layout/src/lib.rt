@@ -20,6 +20,3 @@ pub use law::{
     spelling_is_one, versions_of_formats,
 };
 pub use marks::Marks;
-
-#[cfg(test)]
-mod tests;

@@ -10,8 +10,6 @@ mod aims;
 mod building;
 pub mod laws;
 mod level;
-#[cfg(test)]
-mod tests;
 
 pub use aims::{aim_of, top_aim};
 pub use level::Level;

@@ -7,8 +7,6 @@ mod command;
 mod parse;
 mod reply;
 mod rows;
-#[cfg(test)]
-mod tests;
 mod words;
 
 pub use answers::answer;

@@ -8,8 +8,6 @@
 
 pub mod laws;
 mod seeking;
-#[cfg(test)]
-mod tests;
 mod windowing;
 
 pub use seeking::{Seat, seek};

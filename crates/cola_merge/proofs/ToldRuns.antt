@@ -68,7 +68,3 @@ kept_place old new level run g (inr (inr d)) i l = g.others_stay run.level run.s
 pub grown_keeps : (old new : Held) (level : ℕ) (run : Run) (cs : List LawCell) → Grows old new level → (run.level ≢ level) ⊎ (run.slot ≢ (old.shadows level).slot) ⊎ (run.len ≤ (old.shadows level).len) →
     IsRun old run cs → IsRun new run cs
 grown_keeps old new level run cs g d h = run_stays old new run cs (kept_place old new level run g d) h
-
--- a run of another level
-pub beside_keeps : {old new : Held} {level : ℕ} {run : Run} {cs : List LawCell} → Grows old new level → run.level ≢ level → IsRun old run cs → IsRun new run cs
-beside_keeps {old} {new} {level} {run} {cs} g d h = grown_keeps old new level run cs g (inl d) h

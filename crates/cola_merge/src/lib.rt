@@ -10,8 +10,6 @@ mod heads;
 pub mod laws;
 mod merging;
 mod rules;
-#[cfg(test)]
-mod tests;
 
 pub use aims::{Aim, Feed, Progress};
 pub use merging::Merger;

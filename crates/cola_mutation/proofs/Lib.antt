@@ -18,4 +18,3 @@ pub mod Results
 pub mod Beginning
 pub mod Causes
 pub mod Reading
-pub mod Examples

@@ -3,4 +3,3 @@ pub mod Work
 pub mod Ends
 pub mod Standing
 pub mod Steps
-pub mod Examples

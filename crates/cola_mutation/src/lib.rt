@@ -5,8 +5,6 @@ mod ending;
 pub mod laws;
 pub mod maps;
 mod stepping;
-#[cfg(test)]
-mod tests;
 mod topping;
 mod working;
 

@@ -11,6 +11,3 @@ mod walking;
 
 pub use living::{live_at_key, live_from_places, live_of_entries};
 pub use walking::live_by_key;
-
-#[cfg(test)]
-mod tests;

@@ -1,4 +1,5 @@
 mod LineLemmas
+mod GrammarLemmas
 mod MapLemmas
 mod SessionLemmas
 mod BoundLemmas

@@ -1,6 +1,6 @@
 pub mod Lines
 pub mod Command
-pub mod Words
+pub mod Grammar
 pub mod Map
 pub mod Reply
 pub mod Session

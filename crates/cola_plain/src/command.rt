@@ -1,11 +1,14 @@
-//! The command of a line.
+//! The command of a line, by a table of grammars.
 
-ghost use Rattle.std.specs.Prelude.{◌≡◌, ◌≤◌, ◌<◌, ◌^◌, ℕ, Some, None, IfOk, if◌then◌else◌, option_copied, option_map};
+ghost use Rattle.std.specs.Prelude.{◌≡◌, ◌≤◌, ◌-◌, Some, None, IfOk, IfSome, map, option_map, if◌then◌else◌};
+ghost use Rattle.std.specs.Char.{is_ascii_digit};
+ghost use Rattle.std.specs.Int.{IsInRange};
+ghost use Rattle.std.specs.Option.{is_some};
 ghost use Rattle.cola_spec.specs.Map.{is_key, is_value};
-ghost use Rattle.cola_spec.specs.Command.{alone, command_of, del_of, get_of, is_number, number_of, put_if_of, put_of, range_of, scan_of, stamp_of, verb_of, when, words_command};
+ghost use Rattle.cola_spec.specs.Command.{command_of, is_number, number_of, verb_of};
 ghost use Rattle.cola_plain.specs.Lines.{texts};
-ghost use Rattle.cola_plain.specs.Words.{only_one, only_three, only_two};
-ghost use Rattle.cola_plain.specs.Command.{command_with, request_with, shape_of};
+ghost use Rattle.cola_plain.specs.Command.{request_with, shape_of};
+ghost use Rattle.cola_plain.specs.Grammar.{are_of, built, by_form, form_of, is_of, named};
 
 use crate::lines::words;
 use crate::shape::Shape;
@@ -26,6 +29,104 @@ pub enum Command<'a> {
     Reopen,
 }
 
+/// What a word after a verb may be: a key, a value, a stamp of at most 19 digits or a number of pairs of at
+/// most 10.
+#[derive(Clone, Copy, Debug, Drop)]
+enum Kind {
+    Key,
+    Value,
+    Stamp,
+    Pairs,
+}
+
+/// What a line's first word asks for.
+#[derive(Clone, Copy, Debug, Drop)]
+enum Verb {
+    Put,
+    PutIf,
+    Del,
+    Get,
+    Stamp,
+    Range,
+    Scan,
+    Count,
+    Close,
+    Reopen,
+}
+
+/// A verb with its name and the kinds of the words after it; where it is `stamped`, in a shape with stamps
+/// alone.
+#[derive(Clone, Copy, Debug, Drop)]
+struct Grammar {
+    name: &'static [u8],
+    verb: Verb,
+    stamped: bool,
+    kinds: &'static [Kind],
+}
+
+const GRAMMARS: [Grammar; 10] = [
+    Grammar {
+        name: b"put",
+        verb: Verb::Put,
+        stamped: false,
+        kinds: &[Kind::Key, Kind::Value],
+    },
+    Grammar {
+        name: b"putif",
+        verb: Verb::PutIf,
+        stamped: true,
+        kinds: &[Kind::Key, Kind::Stamp, Kind::Value],
+    },
+    Grammar {
+        name: b"del",
+        verb: Verb::Del,
+        stamped: false,
+        kinds: &[Kind::Key],
+    },
+    Grammar {
+        name: b"get",
+        verb: Verb::Get,
+        stamped: false,
+        kinds: &[Kind::Key],
+    },
+    Grammar {
+        name: b"stamp",
+        verb: Verb::Stamp,
+        stamped: true,
+        kinds: &[Kind::Key],
+    },
+    Grammar {
+        name: b"range",
+        verb: Verb::Range,
+        stamped: false,
+        kinds: &[Kind::Key, Kind::Key],
+    },
+    Grammar {
+        name: b"scan",
+        verb: Verb::Scan,
+        stamped: false,
+        kinds: &[Kind::Key, Kind::Pairs],
+    },
+    Grammar {
+        name: b"count",
+        verb: Verb::Count,
+        stamped: false,
+        kinds: &[],
+    },
+    Grammar {
+        name: b"close",
+        verb: Verb::Close,
+        stamped: false,
+        kinds: &[],
+    },
+    Grammar {
+        name: b"open",
+        verb: Verb::Reopen,
+        stamped: false,
+        kinds: &[],
+    },
+];
+
 impl Shape {
     /// Whether a map of the shape may have the key.
     pub fn is_key(&self, key: &[u8]) -> bool
@@ -42,171 +143,113 @@ impl Shape {
     }
 }
 
+/// The value of a decimal digit.
+fn digit_of(byte: u8) -> Option<u64>
+    ensures digit { IfSome result (λ digit. IsInRange 48 57 byte × (digit ≡ byte - 48)) }
+    ensures tested { is_ascii_digit byte ≡ is_some result }
+{
+    if byte.is_ascii_digit() {
+        Some(u64::from(byte - b'0'))
+    } else {
+        None
+    }
+}
+
 /// The number that a word of 1 to `most` decimal digits spells.
 fn number(word: &[u8], most: usize) -> Option<u64>
     requires { most ≤ 19 }
     ensures { result ≡ (if is_number most word.now then Some (number_of word.now) else None) }
 {
-    if word.is_empty() || word.len() > most {
+    if word.is_empty() || most < word.len() {
         return None;
     }
-    let mut value: u64 = 0;
-    for digit in word {
-        if !digit.is_ascii_digit() {
-            return None;
+    let mut value = 0;
+    for byte in word {
+        match digit_of(*byte) {
+            Some(digit) => value = value * 10 + digit,
+            None => return None,
         }
-        value = value * 10 + (*digit - b'0') as u64;
     }
     Some(value)
 }
 
-/// The command, where its test holds.
-fn when(holds: bool, command: Command) -> Option<Command>
-    ensures { request_with result ≡ when holds (command_with command.entry) }
+/// Whether a word is of a kind.
+fn is_of(shape: &Shape, kind: Kind, word: &[u8]) -> bool
+    ensures { result ≡ is_of (shape_of shape.now) kind word.now }
 {
-    if holds { Some(command) } else { None }
+    match kind {
+        Kind::Key => shape.is_key(word),
+        Kind::Value => shape.is_value(word),
+        Kind::Stamp => number(word, 19).is_some(),
+        Kind::Pairs => number(word, 10).is_some(),
+    }
 }
 
-/// The only word.
-fn one<'a>(words: &[&'a [u8]]) -> Option<&'a [u8]>
-    ensures { option_copied result ≡ only_one (texts words.now) }
+/// Whether words are of these kinds, one of each, in order.
+fn are_of(shape: &Shape, kinds: &[Kind], words: &[&[u8]]) -> bool
+    ensures { result ≡ are_of (shape_of shape.now) kinds.now (texts words.now) }
 {
-    match *words {
-        [word] => Some(word),
+    match kinds {
+        [] => words.is_empty(),
+        [kind, kinds @ ..] => match words {
+            [] => false,
+            [word, words @ ..] => is_of(shape, *kind, word) && are_of(shape, kinds, words),
+        },
+    }
+}
+
+/// The command of a verb and as many words as it takes.
+fn built<'a>(verb: Verb, words: &[&'a [u8]]) -> Option<Command<'a>>
+    ensures { request_with result ≡ built verb (texts words.now) }
+{
+    match (verb, words) {
+        (Verb::Put, &[key, value]) => Some(Command::Put(key, value)),
+        (Verb::PutIf, &[key, seen, value]) => Some(Command::PutIf(key, number(seen, 19)?, value)),
+        (Verb::Del, &[key]) => Some(Command::Del(key)),
+        (Verb::Get, &[key]) => Some(Command::Get(key)),
+        (Verb::Stamp, &[key]) => Some(Command::Stamp(key)),
+        (Verb::Range, &[low, high]) => Some(Command::Range(low, high)),
+        (Verb::Scan, &[low, most]) => Some(Command::Scan(low, number(most, 10)?)),
+        (Verb::Count, &[]) => Some(Command::Count),
+        (Verb::Close, &[]) => Some(Command::Close),
+        (Verb::Reopen, &[]) => Some(Command::Reopen),
         _ => None,
     }
 }
 
-/// The only two words.
-fn two<'a>(words: &[&'a [u8]]) -> Option<(&'a [u8], &'a [u8])>
-    ensures { option_map (λ both. (both.0.now, both.1.now)) result ≡ only_two (texts words.now) }
+/// The first grammar of a name.
+fn named<'a>(grammars: &'a [Grammar], name: &[u8]) -> Option<&'a Grammar>
+    ensures { option_map (λ grammar. form_of grammar.now) result ≡ named (map form_of grammars.now) name.now }
 {
-    match *words {
-        [first, second] => Some((first, second)),
-        _ => None,
-    }
-}
-
-/// The only three words.
-fn three<'a>(words: &[&'a [u8]]) -> Option<(&'a [u8], &'a [u8], &'a [u8])>
-    ensures { option_map (λ all. (all.0.now, all.1.now, all.2.now)) result ≡ only_three (texts words.now) }
-{
-    match *words {
-        [first, second, third] => Some((first, second, third)),
-        _ => None,
-    }
-}
-
-fn put<'a>(shape: &Shape, words: &[&'a [u8]]) -> Option<Command<'a>>
-    ensures { request_with result ≡ put_of (shape_of shape.now) (texts words.now) }
-{
-    let (key, value) = two(words)?;
-    when(
-        shape.is_key(key) & shape.is_value(value),
-        Command::Put(key, value),
-    )
-}
-
-fn put_if<'a>(shape: &Shape, words: &[&'a [u8]]) -> Option<Command<'a>>
-    ensures { request_with result ≡ put_if_of (shape_of shape.now) (texts words.now) }
-{
-    let (key, seen, value) = three(words)?;
-    let seen = number(seen, 19)?;
-    when(
-        shape.stamped & shape.is_key(key) & shape.is_value(value),
-        Command::PutIf(key, seen, value),
-    )
-}
-
-fn del<'a>(shape: &Shape, words: &[&'a [u8]]) -> Option<Command<'a>>
-    ensures { request_with result ≡ del_of (shape_of shape.now) (texts words.now) }
-{
-    let key = one(words)?;
-    when(shape.is_key(key), Command::Del(key))
-}
-
-fn get<'a>(shape: &Shape, words: &[&'a [u8]]) -> Option<Command<'a>>
-    ensures { request_with result ≡ get_of (shape_of shape.now) (texts words.now) }
-{
-    let key = one(words)?;
-    when(shape.is_key(key), Command::Get(key))
-}
-
-fn stamp<'a>(shape: &Shape, words: &[&'a [u8]]) -> Option<Command<'a>>
-    ensures { request_with result ≡ stamp_of (shape_of shape.now) (texts words.now) }
-{
-    let key = one(words)?;
-    when(shape.stamped & shape.is_key(key), Command::Stamp(key))
-}
-
-fn range<'a>(shape: &Shape, words: &[&'a [u8]]) -> Option<Command<'a>>
-    ensures { request_with result ≡ range_of (shape_of shape.now) (texts words.now) }
-{
-    let (low, high) = two(words)?;
-    when(
-        shape.is_key(low) & shape.is_key(high),
-        Command::Range(low, high),
-    )
-}
-
-fn scan<'a>(shape: &Shape, words: &[&'a [u8]]) -> Option<Command<'a>>
-    ensures { request_with result ≡ scan_of (shape_of shape.now) (texts words.now) }
-{
-    let (low, most) = two(words)?;
-    let most = number(most, 10)?;
-    when(shape.is_key(low), Command::Scan(low, most))
-}
-
-/// A verb with nothing after it.
-fn alone<'a>(words: &[&'a [u8]], command: Command<'a>) -> Option<Command<'a>>
-    ensures { request_with result ≡ alone (command_with command.entry) (texts words.now) }
-{
-    when(words.is_empty(), command)
-}
-
-/// The command of a verb and the words after it.
-fn verb<'a>(shape: &Shape, verb: &[u8], words: &[&'a [u8]]) -> Option<Command<'a>>
-    ensures { request_with result ≡ verb_of (shape_of shape.now) verb.now (texts words.now) }
-{
-    if verb == b"put".as_slice() {
-        return put(shape, words);
-    }
-    if verb == b"putif".as_slice() {
-        return put_if(shape, words);
-    }
-    if verb == b"del".as_slice() {
-        return del(shape, words);
-    }
-    if verb == b"get".as_slice() {
-        return get(shape, words);
-    }
-    if verb == b"stamp".as_slice() {
-        return stamp(shape, words);
-    }
-    if verb == b"range".as_slice() {
-        return range(shape, words);
-    }
-    if verb == b"scan".as_slice() {
-        return scan(shape, words);
-    }
-    if verb == b"count".as_slice() {
-        return alone(words, Command::Count);
-    }
-    if verb == b"close".as_slice() {
-        return alone(words, Command::Close);
-    }
-    if verb == b"open".as_slice() {
-        return alone(words, Command::Reopen);
-    }
-    None
-}
-
-fn words_command<'a>(shape: &Shape, words: &[&'a [u8]]) -> Option<Command<'a>>
-    ensures { request_with result ≡ words_command (shape_of shape.now) (texts words.now) }
-{
-    match *words {
-        [first, ref rest @ ..] => verb(shape, first, rest),
+    match grammars {
         [] => None,
+        [grammar, rest @ ..] => if name == grammar.name {
+            Some(grammar)
+        } else {
+            named(rest, name)
+        },
+    }
+}
+
+/// What a line asks by a grammar, with the words after its name.
+fn by_grammar<'a>(shape: &Shape, grammar: &Grammar, words: &[&'a [u8]]) -> Option<Command<'a>>
+    ensures { request_with result ≡ by_form (shape_of shape.now) (form_of grammar.now) (texts words.now) }
+{
+    let stamps = !grammar.stamped || shape.stamped;
+    if stamps && are_of(shape, grammar.kinds, words) {
+        built(grammar.verb, words)
+    } else {
+        None
+    }
+}
+
+/// What a line asks, by its first word and the others.
+fn asked<'a>(shape: &Shape, name: &[u8], words: &[&'a [u8]]) -> Option<Command<'a>>
+    ensures { request_with result ≡ verb_of (shape_of shape.now) name.now (texts words.now) }
+{
+    match named(&GRAMMARS, name) {
+        Some(grammar) => by_grammar(shape, grammar, words),
+        None => None,
     }
 }
 
@@ -223,5 +266,8 @@ pub fn parse<'a>(
         return Ok(None);
     }
     let words = words(alloc, text)?;
-    Ok(words_command(shape, &words))
+    match words.as_slice() {
+        [name, words @ ..] => Ok(asked(shape, name, words)),
+        [] => Ok(None),
+    }
 }

@@ -12,6 +12,4 @@ pub mod reply;
 pub mod script;
 pub mod session;
 pub mod shape;
-#[cfg(test)]
-mod tests;
 pub mod turn;

@@ -19,7 +19,7 @@ use Rattle.cola_device.specs.declared.counts.Counts.{Counts}
 use Rattle.cola_device.specs.Counts.{Called}
 use Rattle.cola_layout.proofs.Powers.{power-le}
 use Rattle.cola_front.specs.Front.{cell_bytes}
-use Rattle.cola_buffers.specs.Blocks.{Blocks, Stays, last_in}
+use Rattle.cola_cache.specs.Blocks.{Blocks, Stays, last_in}
 use Rattle.cola_run.specs.Cells.{block_cells, tail_number}
 use Rattle.cola_run.specs.Parts.{Finds, OneShadow, fills, TailPushed, MetFault, IsPushed}
 use Rattle.cola_run.specs.Turns.{HasReadCause, turned_last, Turns}
@@ -68,7 +68,7 @@ found-last block number (Some cell) = refl
 
 -- a read after its buffer was turned to the block
 pub turns-found : {D E : Type 0} (counts : D → Counts) (before now : Blocks D) (buffer block number : ℕ) (c : Option Cell) (result : Result Cell ReadFault) (value : Unit {0})
-    → Called {E = E} (counts before.cache.device) (counts now.cache.device) 1 0 (Ok value) → now.lasts ≡ set before.lasts buffer (Some block)
+    → Called {E = E} (counts before.cache.device) (counts now.cache.device) 1 0 0 (Ok value) → now.lasts ≡ set before.lasts buffer (Some block)
     → (last_in before.lasts buffer ≡ Some block → now ≡ before) → Stays before now → result ≡ found number c → Turns counts before now buffer block result
 turns-found counts before now buffer block number c result value called lasts same stays answer =
     subst (λ (r : Result Cell ReadFault). Turns counts before now buffer block r) (sym answer)
@@ -79,6 +79,7 @@ turns-found counts before now buffer block number c result value called lasts sa
       reads_stay = called.reads_stay;
       reads_rise = called.reads_rise;
       writes_is = (let low = called.writes_stay in let high = called.writes_rise in omega (arith, low, high));
+      others_are = (let low = called.others_stay in let high = called.others_rise in omega (arith, low, high));
       lasts_are = lasts ∙ ap (λ (x : Option ℕ). set before.lasts buffer x) (sym (found-last block number c));
       same = same;
       stays = stays;

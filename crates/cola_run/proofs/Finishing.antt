@@ -65,8 +65,8 @@ module _ {D K T : Type 0} (bytes : D → Option (List ℕ)) (counts : D → Coun
       sound-by bytes store now sound same front (finish-shape g store.front lower lower-now level result shape device finished) (finish-backed g store.front lower lower-now level result shape device finished sound.cells.backed)
       writing.stays.size writing.stays.many (lasts-many (not shadow.saved) (block_number g level shadow.slot shadow.len) store.buffers.lasts now.buffers.lasts writing.lasts_are)
 
-  pub finished-keeps : kept_of bytes kept now ≡ kept_of bytes kept store
-  finished-keeps = kept-by bytes kept store now same writing.stays.blocks writing.kept_is (by-test shadow.saved refl finished.device)
+  pub finished-keeps : kept_of bytes counts kept now ≡ kept_of bytes counts kept store
+  finished-keeps = kept-by bytes counts kept store now same writing.stays.blocks writing.kept_is (by-test shadow.saved refl finished.device) (let low = writing.called.others_stay in let high = writing.called.others_rise in omega (arith, low, high))
     where
       by-test : (t : Bool) → shadow.saved ≡ t → TailFinished t result g store.tails level shadow.slot shadow.len (bytes store.buffers.cache.device) (bytes now.buffers.cache.device)
           → option_map (beside g) (bytes now.buffers.cache.device) ≡ option_map (beside g) (bytes store.buffers.cache.device)

@@ -10,7 +10,6 @@ use Rattle.cola_cell.specs.declared.cell.Cell.{Cell}
 use Rattle.cola_cell.specs.declared.sink.Shadow.{Shadow}
 use Rattle.cola_cell.specs.Decoded.{decoded}
 use Rattle.cola_cell.specs.Format.{width}
-use Rattle.cola_cell.specs.Held.{Spots}
 use Rattle.cola_device.specs.declared.device.Device as device
 use Rattle.cola_device.specs.declared.device.DeviceFault.{DeviceFault}
 use Rattle.cola_device.specs.Settling.{IsSettled}
@@ -24,7 +23,7 @@ use Rattle.cola_layout.specs.declared.geometry.Geometry.{Geometry}
 use Rattle.cola_layout.specs.Geometry.{IsBlock}
 use Rattle.cola_run.specs.Cells.{Lower, block_bytes, spots_of, IsShape, IsBacked}
 use Rattle.cola_run.specs.Store.{Beside, beside}
-use Rattle.cola_run.specs.Saving.{IsFlushed, IsFrontLast, SameFront, SameLevels, SameBehind, SettlesTwice}
+use Rattle.cola_run.specs.Saving.{IsFlushed, AreLevelSpots, SameFront, SameLevels, SameBehind, SettlesTwice}
 use Rattle.cola_run.specs.Loading.{StayRead, SameCells, AreSavedBelow}
 use Rattle.cola_run.proofs.Heads.{heads-backed, heads-behind, heads-spots, head-long, level-spots, saved-spots}
 
@@ -143,19 +142,11 @@ front-waits g (Some b) (Some c) h e = ap (λ (o : Option Beside). front-of o) e
     front-of None = []
     front-of (Some x) = x.front
 
-pub front-stays : (g : Geometry) (spots : Spots) (x y : Option (List ℕ)) → Both x y (SameFront g) → Both x y (IsFrontLast g spots)
-front-stays g spots None None h = tt
-front-stays g spots None (Some c) h = absurd h
-front-stays g spots (Some b) None h = absurd h
-front-stays g spots (Some b) (Some c) h = inl h
-
 -- every cell of the levels on the device is in the file where each shadow is there
-pub levels-are-saved : (g : Geometry) (front : FrontCells) (shadows : List Shadow) (tails : List ℕ) (x y : Option (List ℕ)) → Both x y (SameBehind g) → IfSome y (IsBacked g shadows tails) → AreSavedBelow g shadows (g.bottom + 1)
-    → Both x y (IsFrontLast g (spots_of (record { geometry = g; front = front; lower = record { told = y; shadows = shadows; tails = tails } })))
-levels-are-saved g front shadows tails None None h backed saved = tt
-levels-are-saved g front shadows tails None (Some c) h backed saved = absurd h
-levels-are-saved g front shadows tails (Some b) None h backed saved = absurd h
-levels-are-saved g front shadows tails (Some b) (Some c) h backed saved = inr (level-spots g front (record { told = Some c; shadows = shadows; tails = tails }) c backed saved)
+pub levels-saved : (g : Geometry) (front : FrontCells) (shadows : List Shadow) (tails : List ℕ) (y : Option (List ℕ)) → IfSome y (IsBacked g shadows tails) → AreSavedBelow g shadows (g.bottom + 1)
+    → IfSome y (AreLevelSpots g (spots_of (record { geometry = g; front = front; lower = record { told = y; shadows = shadows; tails = tails } })))
+levels-saved g front shadows tails None backed saved = tt
+levels-saved g front shadows tails (Some c) backed saved = level-spots g front (record { told = Some c; shadows = shadows; tails = tails }) c backed saved
 
 pub same-two : (g : Geometry) (front : FrontCells) (a b c : Lower) → SameCells g front a b → SameCells g front b c → SameCells g front a c
 same-two g front a b c x y = record {
@@ -187,13 +178,6 @@ same-head g front shadows tails result at from x y fits within backed w = record
   shadows_many = refl;
   spots_stay = λ l s i apart. heads-spots g fits shadows tails result at from within front x y w backed l s i;
 }
-
--- and it stays there when the front is written, whole or not
-pub order-head : {T E : Type 0} (g : Geometry) (front : FrontCells) (shadows : List Shadow) (tails : List ℕ) (result : Result T E) (at : ℕ) (from : List ℕ) (o x y : Option (List ℕ)) → IsBlock g.block_exp g.bottom
-    → at + length from ≤ 2 * block_bytes g → IfSome x (IsBacked g shadows tails) → AreSavedBelow g shadows (g.bottom + 1) → Both o x (SameBehind g) → Wrote result at from x y
-    → Both o y (IsFrontLast g (spots_of (record { geometry = g; front = front; lower = record { told = y; shadows = shadows; tails = tails } })))
-order-head g front shadows tails result at from o x y fits within backed saved behind w =
-    levels-are-saved g front shadows tails o y (behind-two g o x y behind (heads-behind g fits shadows tails result at from within x y w backed)) (heads-backed g fits shadows tails result at from within x y w backed) saved
 
 -- the file after an accepted flush
 pub flushed-by : (T E : Type 0) (value : T) (g : Geometry) (front : FrontCells) (shadows : List Shadow) (tails header : List ℕ) (x y : Option (List ℕ)) → IsShape g front shadows tails → IsFront front → length header ≡ 512

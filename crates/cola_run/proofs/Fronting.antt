@@ -14,7 +14,7 @@ use Rattle.cola_device.specs.declared.counts.Counts.{Counts}
 use Rattle.cola_front.specs.Front.{FrontCells}
 use Rattle.cola_layout.specs.declared.geometry.Geometry.{Geometry}
 use Rattle.cola_layout.proofs.Powers.{power-le}
-use Rattle.cola_buffers.specs.Blocks.{Blocks}
+use Rattle.cola_cache.specs.Blocks.{Blocks}
 use Rattle.cola_run.specs.Cells.{Lower, block_bytes, file_blocks, device_levels, spots_of, IsShadow, IsShape, IsBacked}
 use Rattle.cola_run.specs.Store.{Store, IsStore, cells_of, held_of, spent_of, kept_of, beside}
 use Rattle.cola_run.specs.Parts.{OneShadow, fills}
@@ -39,9 +39,9 @@ module _ {D K : Type 0} (bytes : D → Option (List ℕ)) (counts : D → Counts
   told-same : bytes now.buffers.cache.device ≡ bytes store.buffers.cache.device
   told-same = ap (λ (b : Blocks D). bytes b.cache.device) buffers
 
-  pub same-keeps : kept_of bytes kept now ≡ kept_of bytes kept store
+  pub same-keeps : kept_of bytes counts kept now ≡ kept_of bytes counts kept store
   same-keeps =
-      kept-by bytes kept store now same (ap (λ (b : Blocks D). b.cache.blocks) buffers) (ap (λ (b : Blocks D). kept b.cache.device) buffers) (ap (λ (x : Option (List ℕ)). option_map (beside g) x) told-same)
+      kept-by bytes counts kept store now same (ap (λ (b : Blocks D). b.cache.blocks) buffers) (ap (λ (b : Blocks D). kept b.cache.device) buffers) (ap (λ (x : Option (List ℕ)). option_map (beside g) x) told-same) (ap (λ (b : Blocks D). (counts b.cache.device).others) buffers)
 
   pub same-around : StaysAround (held_of bytes store) (held_of bytes now) level
   same-around =

@@ -14,7 +14,7 @@ use Rattle.cola_cell.specs.Format.{width}
 use Rattle.cola_cell.specs.Places.{number_of, IsPlace}
 use Rattle.cola_device.specs.Bytes.{splice, WroteSome, Wrote}
 use Rattle.cola_device.proofs.BytesLemmas.{length-splice, part-splice_above, drop-splice_end}
-use Rattle.cola_front.specs.Front.{FrontCells, cell_bytes, IsLoaded}
+use Rattle.cola_front.specs.Front.{FrontCells, cell_at, cell_bytes, IsLoaded}
 use Rattle.cola_layout.specs.declared.geometry.Geometry.{Geometry}
 use Rattle.cola_layout.specs.Geometry.{IsBlock}
 use Rattle.cola_layout.proofs.Places.{device-behind, place-behind, front-below}
@@ -152,10 +152,11 @@ level-spots g front lower bytes backed saved l s i on p =
     ∙ backed.saved l on (saved l on low) i (tail-is (block_cells g) sh sh.slot i (record { slot_is = refl; block_is = q.block_is; within = q.within })))
     (λ d. refl)))
 
--- the cells of a store are those of its file where each shadow is on the device, and the front is as the file has it
-pub saved-spots : (g : Geometry) (front : FrontCells) (lower : Lower) (bytes : List ℕ) → IsShape g front lower.shadows lower.tails → IsBacked g lower.shadows lower.tails bytes → AreSavedBelow g lower.shadows (g.bottom + 1)
-    → IsLoaded bytes front → (l s i : ℕ) → IsPlace (g.bottom + 1) l s i → known_spot (record { geometry = g; front = front; lower = lower }) bytes l s i ≡ file_spots g.format bytes l s i
-saved-spots g front lower bytes shape backed saved loaded l s i p =
+-- a cell of a store is that of its file where each shadow is on the device, and the file has it if it is one of the front
+pub place-spots : (g : Geometry) (front : FrontCells) (lower : Lower) (bytes : List ℕ) → IsShape g front lower.shadows lower.tails → IsBacked g lower.shadows lower.tails bytes → AreSavedBelow g lower.shadows (g.bottom + 1)
+    → (l s i : ℕ) → IsPlace (g.bottom + 1) l s i → (number_of l s i < 2 * front.block → cell_at front (number_of l s i) ≡ decoded front.format (cell_bytes front.format bytes (number_of l s i)))
+    → known_spot (record { geometry = g; front = front; lower = lower }) bytes l s i ≡ file_spots g.format bytes l s i
+place-spots g front lower bytes shape backed saved l s i p there =
     elim (cases_lt (l + 2) g.block_exp) [
       | inl low ↦
           let slot = p.slot_in in
@@ -164,10 +165,16 @@ saved-spots g front lower bytes shape backed saved loaded l s i p =
           let block = shape.front_block in
           spot-there (record { geometry = g; front = front; lower = lower }) bytes l s i p
           ∙ spot-front (record { geometry = g; front = front; lower = lower }) bytes l s i low
-          ∙ ap (λ (c : Option Cell). spot_of c) (loaded (number_of l s i) (place-behind l s i) (omega (arith, below, twice, block)))
+          ∙ ap (λ (c : Option Cell). spot_of c) (there (omega (arith, below, twice, block)))
           ∙ ap (λ (f : Format). spot_of (decoded f (cell_bytes f bytes (number_of l s i)))) shape.format
       | inr high ↦ level-spots g front lower bytes backed saved l s i (on-device g l s i p high) p
     ]
+
+-- the cells of a store are those of its file where each shadow is on the device, and the front is as the file has it
+pub saved-spots : (g : Geometry) (front : FrontCells) (lower : Lower) (bytes : List ℕ) → IsShape g front lower.shadows lower.tails → IsBacked g lower.shadows lower.tails bytes → AreSavedBelow g lower.shadows (g.bottom + 1)
+    → IsLoaded bytes front → (l s i : ℕ) → IsPlace (g.bottom + 1) l s i → known_spot (record { geometry = g; front = front; lower = lower }) bytes l s i ≡ file_spots g.format bytes l s i
+saved-spots g front lower bytes shape backed saved loaded l s i p =
+    place-spots g front lower bytes shape backed saved l s i p (λ within. loaded (number_of l s i) (place-behind l s i) within)
 
 -- the file has the front's two blocks
 pub head-long : (g : Geometry) → IsBlock g.block_exp g.bottom → 2 * block_bytes g ≤ file_bytes g

@@ -12,7 +12,7 @@ use Rattle.cola_cell.specs.Spent.{Buffer, Search, By}
 use Rattle.cola_layout.specs.declared.geometry.Geometry.{Geometry}
 use Rattle.cola_layout.specs.Geometry.{IsBlock}
 use Rattle.cola_layout.proofs.Powers.{next_power, power-le}
-use Rattle.cola_buffers.specs.Blocks.{last_in, forgotten}
+use Rattle.cola_cache.specs.Blocks.{last_in, forgotten}
 use Rattle.cola_run.specs.Cells.{IsOnDevice, block_cells, block_number, device_levels}
 use Rattle.cola_run.specs.Store.{slot_block, as_block, last_block, last_of, buffer_number, reader_number}
 use Rattle.cola_run.specs.Turns.{buffer_for, buffer_index}

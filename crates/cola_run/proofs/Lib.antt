@@ -18,4 +18,5 @@ pub mod Fronts
 pub mod LoadLoop
 pub mod Heads
 pub mod Flushes
+pub mod Firsts
 pub mod News

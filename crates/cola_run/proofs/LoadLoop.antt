@@ -6,7 +6,7 @@ use Rattle.cola_device.specs.declared.counts.Counts.{Counts}
 use Rattle.cola_device.specs.declared.device.DeviceFault.{DeviceFault}
 use Rattle.cola_layout.specs.declared.geometry.Geometry.{Geometry}
 use Rattle.cola_layout.specs.declared.header.Header.{Header}
-use Rattle.cola_buffers.specs.Blocks.{Blocks}
+use Rattle.cola_cache.specs.Blocks.{Blocks}
 use Rattle.cola_run.specs.Saving.{header_shadow}
 use Rattle.cola_run.specs.Loading.{IsReading, IsWriting, StaySound, StayRead, AreSavedBelow}
 
@@ -25,4 +25,4 @@ pub record SavedBelow {D K : Type 0} (bytes : D → Option (List ℕ)) (counts :
   pub sound : StaySound geometry (record { told = bytes before.cache.device; shadows = shadows; tails = tails }) (record { told = bytes now.cache.device; shadows = shadows_now; tails = tails })
   pub stays : StayRead geometry (record { told = bytes before.cache.device; shadows = shadows; tails = tails }) (record { told = bytes now.cache.device; shadows = shadows_now; tails = tails })
   pub shadows_many : length shadows_now ≡ length shadows
-  pub writing : IsWriting {T = Unit {0}} {E = DeviceFault} counts kept before now level (Ok tt)
+  pub writing : IsWriting {T = Unit {0}} {E = DeviceFault} counts kept before now level 0 (Ok tt)

@@ -17,7 +17,7 @@ use Rattle.cola_front.specs.Front.{FrontCells, cell_bytes}
 use Rattle.cola_front.proofs.Writes.{called_two}
 use Rattle.cola_layout.specs.declared.geometry.Geometry.{Geometry}
 use Rattle.cola_layout.specs.Geometry.{IsBlock}
-use Rattle.cola_buffers.specs.Blocks.{Blocks, Stays}
+use Rattle.cola_cache.specs.Blocks.{Blocks, Stays}
 use Rattle.cola_run.specs.Cells.{IsOnDevice, Lower, block_cells, block_bytes, device_levels, block_number, tail_number, is_in_tail, IsShadow, IsShape, IsSaved, IsBacked}
 use Rattle.cola_run.specs.Store.{beside}
 use Rattle.cola_run.specs.Parts.{OneShadow, tail_of, TailFinished, IsFinished}
@@ -37,7 +37,7 @@ stays-two : {D : Type 0} (a b c : Blocks D) → Stays a b → Stays b c → Stay
 stays-two a b c x y = record { blocks = y.blocks ∙ x.blocks; size = y.size ∙ x.size; many = y.many ∙ x.many; made = y.made ∙ x.made }
 
 -- no call
-called-none : {T E : Type 0} (value : T) (counts : Counts) → Called {T = T} {E = E} counts counts 0 0 (Ok value)
+called-none : {T E : Type 0} (value : T) (counts : Counts) → Called {T = T} {E = E} counts counts 0 0 0 (Ok value)
 called-none value counts = record {
   faults_stay = omega arith;
   cause = tt;
@@ -46,6 +46,8 @@ called-none value counts = record {
   reads_rise = omega arith;
   writes_stay = omega arith;
   writes_rise = omega arith;
+  others_stay = omega arith;
+  others_rise = omega arith;
 }
 
 module _ {D K : Type 0} (bytes : D → Option (List ℕ)) (counts : D → Counts) (kept : D → K) where
@@ -61,7 +63,7 @@ module _ {D K : Type 0} (bytes : D → Option (List ℕ)) (counts : D → Counts
   pub reading-two : {E : Type 0} (result : Result (Unit {0}) E) (a b c : Blocks D) (first second : ℕ) → IsReading {T = Unit {0}} {E = E} bytes counts kept a b first (Ok tt) → IsReading bytes counts kept b c second result
       → IsReading bytes counts kept a c (first + second) result
   reading-two result a b c first second x y = record {
-    called = called_two tt result (counts a.cache.device) (counts b.cache.device) (counts c.cache.device) first 0 second 0 x.called y.called;
+    called = called_two tt result (counts a.cache.device) (counts b.cache.device) (counts c.cache.device) first 0 0 second 0 0 x.called y.called;
     bytes_stay = y.bytes_stay ∙ x.bytes_stay;
     kept_is = y.kept_is ∙ x.kept_is;
     many = y.many ∙ x.many;
@@ -78,6 +80,8 @@ module _ {D K : Type 0} (bytes : D → Option (List ℕ)) (counts : D → Counts
       reads_rise = (let r = x.called.reads_rise in omega (arith, r, h));
       writes_stay = x.called.writes_stay;
       writes_rise = x.called.writes_rise;
+      others_stay = x.called.others_stay;
+      others_rise = x.called.others_rise;
     };
     bytes_stay = x.bytes_stay;
     kept_is = x.kept_is;
@@ -86,19 +90,19 @@ module _ {D K : Type 0} (bytes : D → Option (List ℕ)) (counts : D → Counts
   }
 
 module _ {D K : Type 0} (counts : D → Counts) (kept : D → K) where
-  pub writing-none : {E : Type 0} (blocks : Blocks D) → IsWriting {T = Unit {0}} {E = E} counts kept blocks blocks 0 (Ok tt)
+  pub writing-none : {E : Type 0} (blocks : Blocks D) → IsWriting {T = Unit {0}} {E = E} counts kept blocks blocks 0 0 (Ok tt)
   writing-none blocks = record { called = called-none tt (counts blocks.cache.device); kept_is = refl; many = refl; stays = record { blocks = refl; size = refl; many = refl; made = refl } }
 
-  pub writing-two : {E : Type 0} (result : Result (Unit {0}) E) (a b c : Blocks D) (first second : ℕ) → IsWriting {T = Unit {0}} {E = E} counts kept a b first (Ok tt) → IsWriting counts kept b c second result
-      → IsWriting counts kept a c (first + second) result
+  pub writing-two : {E : Type 0} (result : Result (Unit {0}) E) (a b c : Blocks D) (first second : ℕ) → IsWriting {T = Unit {0}} {E = E} counts kept a b first 0 (Ok tt) → IsWriting counts kept b c second 0 result
+      → IsWriting counts kept a c (first + second) 0 result
   writing-two result a b c first second x y = record {
-    called = called_two tt result (counts a.cache.device) (counts b.cache.device) (counts c.cache.device) 0 first 0 second x.called y.called;
+    called = called_two tt result (counts a.cache.device) (counts b.cache.device) (counts c.cache.device) 0 first 0 0 second 0 x.called y.called;
     kept_is = y.kept_is ∙ x.kept_is;
     many = y.many ∙ x.many;
     stays = stays-two a b c x.stays y.stays;
   }
 
-  pub writing-most : {T E : Type 0} (result : Result T E) (a b : Blocks D) (few most : ℕ) → few ≤ most → IsWriting counts kept a b few result → IsWriting counts kept a b most result
+  pub writing-most : {T E : Type 0} (result : Result T E) (a b : Blocks D) (few most : ℕ) → few ≤ most → IsWriting counts kept a b few 0 result → IsWriting counts kept a b most 0 result
   writing-most result a b few most h x = record {
     called = record {
       faults_stay = x.called.faults_stay;
@@ -108,6 +112,8 @@ module _ {D K : Type 0} (counts : D → Counts) (kept : D → K) where
       reads_rise = x.called.reads_rise;
       writes_stay = x.called.writes_stay;
       writes_rise = (let r = x.called.writes_rise in omega (arith, r, h));
+      others_stay = x.called.others_stay;
+      others_rise = x.called.others_rise;
     };
     kept_is = x.kept_is;
     many = x.many;
@@ -288,7 +294,7 @@ zero-rest n = zero-mod n
 
 -- a call that writes one block, as one of so many
 pub writing-of : {D K T E F : Type 0} {wrote : Bool} {block : ℕ} {value : T} (counts : D → Counts) (kept : D → K) (before now : Blocks D) → Writing {T = T} {E = E} counts kept wrote before now block (Ok value)
-    → IsWriting {T = Unit {0}} {E = F} counts kept before now 1 (Ok tt)
+    → IsWriting {T = Unit {0}} {E = F} counts kept before now 1 0 (Ok tt)
 writing-of {wrote = wrote} {block = block} counts kept before now w = record {
   called = record {
     faults_stay = w.called.faults_stay;
@@ -298,6 +304,8 @@ writing-of {wrote = wrote} {block = block} counts kept before now w = record {
     reads_rise = w.called.reads_rise;
     writes_stay = w.called.writes_stay;
     writes_rise = w.called.writes_rise;
+    others_stay = w.called.others_stay;
+    others_rise = w.called.others_rise;
   };
   kept_is = w.kept_is;
   many = lasts-many wrote block before.lasts now.lasts w.lasts_are;

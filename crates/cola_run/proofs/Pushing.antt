@@ -65,8 +65,8 @@ module _ {D K T : Type 0} (bytes : D → Option (List ℕ)) (counts : D → Coun
       sound-by bytes store now sound same front (push-shape g store.front lower lower-now level cell result shape device room pushed) (push-backed g store.front lower lower-now level cell result shape device room pushed sound.cells.backed)
       writing.stays.size writing.stays.many (lasts-many (fills g shadow.len) (block_number g level shadow.slot shadow.len) store.buffers.lasts now.buffers.lasts writing.lasts_are)
 
-  pub pushed-keeps : kept_of bytes kept now ≡ kept_of bytes kept store
-  pushed-keeps = kept-by bytes kept store now same writing.stays.blocks writing.kept_is (by-test (fills g shadow.len) pushed.device)
+  pub pushed-keeps : kept_of bytes counts kept now ≡ kept_of bytes counts kept store
+  pushed-keeps = kept-by bytes counts kept store now same writing.stays.blocks writing.kept_is (by-test (fills g shadow.len) pushed.device) (let low = writing.called.others_stay in let high = writing.called.others_rise in omega (arith, low, high))
     where
       tails-now : length now.tails ≡ width g.format * (block_cells g * device_levels g)
       tails-now = (push-shape g store.front lower lower-now level cell result shape device room pushed).tails_many

@@ -19,7 +19,7 @@ use Rattle.cola_front.proofs.FrontLemmas.{spelled_back}
 use Rattle.cola_layout.specs.declared.geometry.Geometry.{Geometry}
 use Rattle.cola_layout.specs.Geometry.{IsBlock}
 use Rattle.cola_layout.proofs.Powers.{power-le}
-use Rattle.cola_buffers.specs.Blocks.{Blocks, last_in}
+use Rattle.cola_cache.specs.Blocks.{Blocks, last_in}
 use Rattle.cola_run.specs.Cells.{IsOnDevice, Cells, block_cells, block_number, tail_number, known_spot, told_spot, device_levels}
 use Rattle.cola_run.specs.Store.{Store, cells_of, held_of, spent_of, last_block, last_of}
 use Rattle.cola_run.specs.Parts.{Finds}

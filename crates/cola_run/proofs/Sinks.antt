@@ -18,7 +18,7 @@ use Rattle.cola_device.proofs.BytesLemmas.{part-splice_below, drop-splice_end}
 use Rattle.cola_front.specs.Front.{FrontCells}
 use Rattle.cola_layout.specs.declared.geometry.Geometry.{Geometry}
 use Rattle.cola_layout.specs.Geometry.{IsBlock}
-use Rattle.cola_buffers.specs.Blocks.{Blocks, Made, forgotten}
+use Rattle.cola_cache.specs.Blocks.{Blocks, Made, forgotten}
 use Rattle.cola_run.specs.Cells.{block_bytes, file_bytes, file_blocks, device_levels, block_number, IsShape, IsBacked}
 use Rattle.cola_run.specs.Store.{Store, IsStore, cells_of, held_of, spent_of, kept_of, Beside, beside, last_of}
 use Rattle.cola_run.specs.Parts.{WroteTail, tail_of, MetFault}
@@ -66,13 +66,15 @@ long-of g shadows tails None h = tt
 long-of g shadows tails (Some b) h = h.long
 
 -- what a store keeps, by its parts
-pub kept-by : {D K : Type 0} (bytes : D → Option (List ℕ)) (kept : D → K) (old new : Store D) → new.geometry ≡ old.geometry → new.buffers.cache.blocks ≡ old.buffers.cache.blocks → kept new.buffers.cache.device ≡ kept old.buffers.cache.device
-    → option_map (beside old.geometry) (bytes new.buffers.cache.device) ≡ option_map (beside old.geometry) (bytes old.buffers.cache.device) → kept_of bytes kept new ≡ kept_of bytes kept old
-kept-by bytes kept old new same blocks device around =
-    ap (λ (g : Geometry). record { geometry = g; cache = new.buffers.cache.blocks; device = kept new.buffers.cache.device; beside = option_map (beside g) (bytes new.buffers.cache.device) }) same
-    ∙ ap (λ (n : ℕ). record { geometry = old.geometry; cache = n; device = kept new.buffers.cache.device; beside = option_map (beside old.geometry) (bytes new.buffers.cache.device) }) blocks
-    ∙ ap (λ (k : _). record { geometry = old.geometry; cache = old.buffers.cache.blocks; device = k; beside = option_map (beside old.geometry) (bytes new.buffers.cache.device) }) device
-    ∙ ap (λ (b : Option Beside). record { geometry = old.geometry; cache = old.buffers.cache.blocks; device = kept old.buffers.cache.device; beside = b }) around
+pub kept-by : {D K : Type 0} (bytes : D → Option (List ℕ)) (counts : D → Counts) (kept : D → K) (old new : Store D) → new.geometry ≡ old.geometry → new.buffers.cache.blocks ≡ old.buffers.cache.blocks → kept new.buffers.cache.device ≡ kept old.buffers.cache.device
+    → option_map (beside old.geometry) (bytes new.buffers.cache.device) ≡ option_map (beside old.geometry) (bytes old.buffers.cache.device)
+    → (counts new.buffers.cache.device).others ≡ (counts old.buffers.cache.device).others → kept_of bytes counts kept new ≡ kept_of bytes counts kept old
+kept-by bytes counts kept old new same blocks device around others =
+    ap (λ (g : Geometry). record { geometry = g; cache = new.buffers.cache.blocks; device = kept new.buffers.cache.device; beside = option_map (beside g) (bytes new.buffers.cache.device); others = (counts new.buffers.cache.device).others }) same
+    ∙ ap (λ (n : ℕ). record { geometry = old.geometry; cache = n; device = kept new.buffers.cache.device; beside = option_map (beside old.geometry) (bytes new.buffers.cache.device); others = (counts new.buffers.cache.device).others }) blocks
+    ∙ ap (λ (k : _). record { geometry = old.geometry; cache = old.buffers.cache.blocks; device = k; beside = option_map (beside old.geometry) (bytes new.buffers.cache.device); others = (counts new.buffers.cache.device).others }) device
+    ∙ ap (λ (b : Option Beside). record { geometry = old.geometry; cache = old.buffers.cache.blocks; device = kept old.buffers.cache.device; beside = b; others = (counts new.buffers.cache.device).others }) around
+    ∙ ap (λ (n : ℕ). record { geometry = old.geometry; cache = old.buffers.cache.blocks; device = kept old.buffers.cache.device; beside = option_map (beside old.geometry) (bytes old.buffers.cache.device); others = n }) others
 
 -- what a call on the shadow of a level on the device spends
 module _ {D K T E : Type 0} (counts : D → Counts) (kept : D → K) (store now : Store D) (level slot len : ℕ) (wrote : Bool) (result : Result T E) (ticks : ℕ) (fits : IsBlock store.geometry.block_exp store.geometry.bottom)
@@ -137,11 +139,11 @@ abbrev pub HasCauseOf : {T : Type 0} → Result T PushFault → ℕ → ℕ → 
 HasCauseOf (Ok value) before now = Unit {0}
 HasCauseOf (Err fault) before now = Rose before now
 
-pub cause-of : {T : Type 0} (r : Result T PushFault) {before now : Counts} → Called before now 0 1 r → HasCauseOf r before.faults now.faults
+pub cause-of : {T : Type 0} (r : Result T PushFault) {before now : Counts} → Called before now 0 1 0 r → HasCauseOf r before.faults now.faults
 cause-of (Ok value) called = tt
 cause-of (Err fault) called = called.cause
 
-pub calm-of : {T : Type 0} (r : Result T PushFault) {before now : Counts} → MetFault r → Called before now 0 1 r → WriteCalm before.faults now.faults r
+pub calm-of : {T : Type 0} (r : Result T PushFault) {before now : Counts} → MetFault r → Called before now 0 1 0 r → WriteCalm before.faults now.faults r
 calm-of (Ok value) fault called = called.none_hidden
 calm-of (Err Device) fault called = tt
 calm-of (Err (Overfull l)) fault called = absurd fault

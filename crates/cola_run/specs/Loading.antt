@@ -10,7 +10,7 @@ use Rattle.cola_device.specs.Counts.{Called}
 use Rattle.cola_front.specs.Front.{FrontCells, cell_at}
 use Rattle.cola_layout.specs.declared.geometry.Geometry.{Geometry}
 use Rattle.cola_layout.specs.declared.header.Header.{Header}
-use Rattle.cola_buffers.specs.Blocks.{Blocks, Stays}
+use Rattle.cola_cache.specs.Blocks.{Blocks, Stays}
 use Rattle.cola_run.specs.Cells.{Lower, IsOnDevice, IsShape, IsBacked, spots_of}
 use Rattle.cola_run.specs.Store.{beside}
 use Rattle.cola_run.specs.Saving.{IsFrontRun, run_len, SameBehind}
@@ -45,17 +45,17 @@ pub record BadInFront (header : Header) (front : FrontCells) (number : ℕ) : Ty
 abbrev pub NoneBadInFront : Header → FrontCells → Type 0
 NoneBadInFront header front = (l s i : ℕ) → IsFrontRun header l s i → cell_at front (number_of l s i) ≢ None
 
--- reads of whole blocks, at most so many
+-- reads of whole blocks, at most so many, and no other call
 pub record IsReading {D K T E : Type 0} (bytes : D → Option (List ℕ)) (counts : D → Counts) (kept : D → K) (before now : Blocks D) (reads : ℕ) (result : Result T E) : Type 0 where
-  pub called : Called (counts before.cache.device) (counts now.cache.device) reads 0 result
+  pub called : Called (counts before.cache.device) (counts now.cache.device) reads 0 0 result
   pub bytes_stay : bytes now.cache.device ≡ bytes before.cache.device
   pub kept_is : kept now.cache.device ≡ kept before.cache.device
   pub many : length now.lasts ≡ length before.lasts
   pub stays : Stays before now
 
--- writes of whole blocks, at most so many
-pub record IsWriting {D K T E : Type 0} (counts : D → Counts) (kept : D → K) (before now : Blocks D) (writes : ℕ) (result : Result T E) : Type 0 where
-  pub called : Called (counts before.cache.device) (counts now.cache.device) 0 writes result
+-- writes of whole blocks, at most so many, and settles, at most so many
+pub record IsWriting {D K T E : Type 0} (counts : D → Counts) (kept : D → K) (before now : Blocks D) (writes settles : ℕ) (result : Result T E) : Type 0 where
+  pub called : Called (counts before.cache.device) (counts now.cache.device) 0 writes settles result
   pub kept_is : kept now.cache.device ≡ kept before.cache.device
   pub many : length now.lasts ≡ length before.lasts
   pub stays : Stays before now

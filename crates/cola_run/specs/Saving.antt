@@ -17,7 +17,7 @@ use Rattle.cola_image.specs.Cells.{file_spots}
 use Rattle.cola_layout.specs.declared.geometry.Geometry.{Geometry}
 use Rattle.cola_layout.specs.declared.header.Header.{Header}
 use Rattle.cola_layout.specs.Marks.{marks_of}
-use Rattle.cola_run.specs.Cells.{IsOnDevice, block_bytes, file_bytes}
+use Rattle.cola_run.specs.Cells.{IsOnDevice, block_bytes, block_cells, file_bytes}
 
 -- these spots are those of the file at every place
 abbrev pub AreFileSpots : Geometry → Spots → List ℕ → Type 0
@@ -57,13 +57,14 @@ LoadAnswers header told before now (Ok _) = IfSome told (λ bytes. AreFrontRunsS
 LoadAnswers header told before now (Err Device) = Rose before now
 LoadAnswers header told before now (Err (BadCell number)) = IfSome told (λ bytes. IsLowestBad header (file_spots header.geometry.format bytes) number)
 
--- what a load spends: at most so many reads of the device, and no write
+-- what a load spends: at most so many reads of the device, and no other call
 pub record LoadSpends (before now : Counts) (reads : ℕ) (result : Result (Unit {0}) ReadFault) : Type 0 where
   pub faults_stay : before.faults ≤ now.faults
   pub calm : ReadCalm before.faults now.faults result
   pub reads_stay : before.reads ≤ now.reads
   pub reads_rise : now.reads ≤ before.reads + reads
   pub writes_is : now.writes ≡ before.writes
+  pub others_are : now.others ≡ before.others
 
 -- the cells that a store holds after a load: those of the file, and each shadow as the header has it
 pub record IsLoaded (header : Header) (held : Held) (told : Option (List ℕ)) : Type 0 where
@@ -94,9 +95,27 @@ SameFront geometry before now = take (2 * block_bytes geometry) now ≡ take (2 
 abbrev pub SameLevels : Geometry → (before now : List ℕ) → Type 0
 SameLevels geometry before now = drop (2 * block_bytes geometry) now ≡ drop (2 * block_bytes geometry) before
 
--- the front comes last: the first two blocks of the file are as before, or every cell of the levels on the device is in it already
-abbrev pub IsFrontLast : Geometry → Spots → (before now : List ℕ) → Type 0
-IsFrontLast geometry spots before now = SameFront geometry before now ⊎ AreLevelSpots geometry spots now
+-- these spots are those of the file at every place behind block 0
+abbrev pub AreSpotsBehind : Geometry → Spots → List ℕ → Type 0
+AreSpotsBehind geometry spots bytes = (level slot index : ℕ) → IsPlace (geometry.bottom + 1) level slot index → block_cells geometry ≤ number_of level slot index → spots level slot index ≡ file_spots geometry.format bytes level slot index
+
+-- block 0 comes last: it is as before, or every cell behind it is in the file
+abbrev pub IsFirstLast : Geometry → Spots → (before now : List ℕ) → Type 0
+IsFirstLast geometry spots before now = (take (block_bytes geometry) now ≡ take (block_bytes geometry) before) ⊎ AreSpotsBehind geometry spots now
+
+-- the front waited for the levels: a device in between settled, with the front's two blocks as before and all behind them as
+-- now; every cell of the levels on the device is in the file; and block 0 came last
+pub record FrontWaited {D : Type 0} (d : device.Ghosts D) (geometry : Geometry) (spots : Spots) (before now : D) : Type 0 where
+  pub between : D
+  pub levels_settled : IsSettled d between
+  pub front_waits : Both (d.bytes before) (d.bytes between) (SameFront geometry)
+  pub levels_stay : Both (d.bytes between) (d.bytes now) (SameLevels geometry)
+  pub levels_are : IfSome (d.bytes now) (AreLevelSpots geometry spots)
+  pub first_waits : Both (d.bytes before) (d.bytes now) (IsFirstLast geometry spots)
+
+-- the front comes last: its two blocks are as before, or it waited
+abbrev pub IsFrontLast : {D : Type 0} (d : device.Ghosts D) → Geometry → Spots → (before now : D) → Type 0
+IsFrontLast d geometry spots before now = Both (d.bytes before) (d.bytes now) (SameFront geometry) ⊎ FrontWaited d geometry spots before now
 
 -- bytes of which none at or behind the end of a store's file changed
 pub record SameBehind (geometry : Geometry) (before now : List ℕ) : Type 0 where

@@ -9,7 +9,7 @@ use Rattle.cola_cell.specs.Held.{Held}
 use Rattle.cola_cell.specs.Places.{Block}
 use Rattle.cola_cell.specs.Shadows.{emptied}
 use Rattle.cola_cell.specs.Spent.{Buffer, Search, By, Spent}
-use Rattle.cola_buffers.specs.Blocks.{Blocks, last_in, new_blocks}
+use Rattle.cola_cache.specs.Blocks.{Blocks, last_in, new_blocks}
 use Rattle.cola_device.specs.declared.counts.Counts.{Counts}
 use Rattle.cola_front.specs.Front.{FrontCells, new_front}
 use Rattle.cola_layout.specs.declared.geometry.Geometry.{Geometry}
@@ -96,21 +96,23 @@ pub record Beside : Type 0 where
 abbrev pub beside : Geometry → List ℕ → Beside
 beside geometry bytes = record { size = length bytes; front = take (2 * block_bytes geometry) bytes; behind = drop (file_bytes geometry) bytes }
 
--- what a store has beside its cells and counts: its geometry, how many blocks its cache may keep, what its device keeps, and what that has beside the levels on it, where it tells its bytes
+-- what a store has beside its cells and counts: its geometry, how many blocks its cache may keep, what its device keeps, what that has beside the levels on it, where it tells its bytes, and how many calls it counted that neither read nor write
 pub record Kept (K : Type 0) : Type 0 where
   pub geometry : Geometry
   pub cache : ℕ
   pub device : K
   pub beside : Option Beside
+  pub others : ℕ
 
 -- what no call on the cells of a store changes
-abbrev pub kept_of : {D K : Type 0} → (D → Option (List ℕ)) → (D → K) → Store D → Kept K
-kept_of bytes kept store =
+abbrev pub kept_of : {D K : Type 0} → (D → Option (List ℕ)) → (D → Counts) → (D → K) → Store D → Kept K
+kept_of bytes counts kept store =
     record {
       geometry = store.geometry;
       cache = store.buffers.cache.blocks;
       device = kept store.buffers.cache.device;
       beside = option_map (beside store.geometry) (bytes store.buffers.cache.device);
+      others = (counts store.buffers.cache.device).others;
     }
 
 -- what a store may be: its cells, and the blocks of its file with a buffer for searches and three for each level on the device

@@ -9,7 +9,7 @@ use Rattle.cola_cell.specs.Spent.{Buffer, Search, By, ReadCalm}
 use Rattle.cola_device.specs.declared.counts.Counts.{Counts}
 use Rattle.cola_device.specs.Counts.{Called}
 use Rattle.cola_layout.specs.declared.geometry.Geometry.{Geometry}
-use Rattle.cola_buffers.specs.Blocks.{Blocks, Stays, last_in, forgotten}
+use Rattle.cola_cache.specs.Blocks.{Blocks, Stays, last_in, forgotten}
 use Rattle.cola_run.specs.Store.{buffer_number}
 
 -- the buffer of a reader at a level, or that of searches
@@ -34,7 +34,7 @@ turned_last block (Ok cell) = Some block
 turned_last block (Err Device) = None
 turned_last block (Err (BadCell bad)) = Some block
 
--- a read of a cell by way of a buffer: at most one read of the device, and none where the buffer held the block
+-- a read of a cell by way of a buffer: at most one read of the device and no other call, and none where the buffer held the block
 pub record Turns {D : Type 0} (counts : D → Counts) (before now : Blocks D) (buffer block : ℕ) (result : Result Cell ReadFault) : Type 0 where
   pub faults_stay : (counts before.cache.device).faults ≤ (counts now.cache.device).faults
   pub calm : ReadCalm (counts before.cache.device).faults (counts now.cache.device).faults result
@@ -42,13 +42,14 @@ pub record Turns {D : Type 0} (counts : D → Counts) (before now : Blocks D) (b
   pub reads_stay : (counts before.cache.device).reads ≤ (counts now.cache.device).reads
   pub reads_rise : (counts now.cache.device).reads ≤ (counts before.cache.device).reads + 1
   pub writes_is : (counts now.cache.device).writes ≡ (counts before.cache.device).writes
+  pub others_are : (counts now.cache.device).others ≡ (counts before.cache.device).others
   pub lasts_are : now.lasts ≡ slice_set before.lasts buffer (turned_last block result)
   pub same : last_in before.lasts buffer ≡ Some block → now ≡ before
   pub stays : Stays before now
 
--- a call that writes this block, where it writes at all: at most one write of the device, after which no buffer holds the block
+-- a call that writes this block, where it writes at all: at most one write of the device and no other call, after which no buffer holds the block
 pub record Writing {D K T E : Type 0} (counts : D → Counts) (kept : D → K) (wrote : Bool) (before now : Blocks D) (block : ℕ) (result : Result T E) : Type 0 where
-  pub called : Called (counts before.cache.device) (counts now.cache.device) 0 1 result
+  pub called : Called (counts before.cache.device) (counts now.cache.device) 0 1 0 result
   pub kept_is : kept now.cache.device ≡ kept before.cache.device
   pub lasts_are : now.lasts ≡ (if wrote then map (forgotten block) before.lasts else before.lasts)
   pub none : wrote ≡ false → now ≡ before

@@ -3,12 +3,12 @@ ghost use Rattle.std.specs.Prelude.{◌≡◌, ◌+◌, ◌*◌, ◌/◌, ◌%�
 ghost use Rattle.cola_cell.specs.Flat.{shadow_at, found};
 ghost use Rattle.cola_cell.specs.Format.{width, CellFits};
 ghost use Rattle.cola_cell.specs.Places.{slot_size, number_of, IsPlace};
-ghost use Rattle.cola_buffers.specs.Blocks.{last_in};
+ghost use Rattle.cola_cache.specs.Blocks.{last_in};
 ghost use Rattle.cola_run.specs.Cells.{IsOnDevice, block_cells, block_bytes, file_blocks, device_levels, tail_number, block_number, is_in_tail};
 ghost use Rattle.cola_run.specs.Parts.{Finds, OneShadow, WroteTail, MetFault, IsPushed, IsFinished, fills};
 ghost use Rattle.cola_run.specs.Turns.{Turns, Writing};
 
-use cola_buffers::Buffers;
+use cola_cache::Buffers;
 use cola_cell::{Cell, Item, PushFault, ReadFault, Shadow};
 use cola_device::Device;
 use cola_front::Front;

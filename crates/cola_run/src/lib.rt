@@ -5,8 +5,6 @@ mod device_cells;
 pub mod laws;
 mod run_store;
 mod saving;
-#[cfg(test)]
-mod tests;
 mod traits;
 
 pub use run_store::RunStore;

@@ -4,13 +4,13 @@ ghost use Rattle.cola_cell.specs.Flat.{shadow_at};
 ghost use Rattle.cola_cell.specs.Format.{width};
 ghost use Rattle.cola_cell.specs.Shadows.{emptied};
 ghost use Rattle.cola_device.specs.Bytes.{HasRange};
-ghost use Rattle.cola_buffers.specs.Blocks.{AreFew};
+ghost use Rattle.cola_cache.specs.Blocks.{AreFew};
 ghost use Rattle.cola_front.specs.Front.{new_front};
 ghost use Rattle.cola_run.specs.Cells.{block_cells, block_bytes, file_bytes, file_blocks, device_levels};
 ghost use Rattle.cola_run.specs.Store.{Store, IsStore, new_store};
 
 use crate::device_cells::cells_of_block;
-use cola_buffers::Buffers;
+use cola_cache::Buffers;
 use cola_cell::{Format, Shadow};
 use cola_device::Device;
 use cola_front::Front;

@@ -8,8 +8,8 @@ ghost use Rattle.cola_cell.specs.Shadows.{emptied};
 ghost use Rattle.cola_device.specs.Bytes.{splice, Wrote};
 ghost use Rattle.cola_device.specs.Counts.{Called};
 ghost use Rattle.cola_device.specs.Settling.{IsSettled};
-ghost use Rattle.cola_buffers.specs.Blocks.{Stays};
-ghost use Rattle.cola_front.specs.Front.{FrontCells, IsFront, SameShape, IsLoaded as IsFrontLoaded, block_size, cell_at, image};
+ghost use Rattle.cola_cache.specs.Blocks.{Stays};
+ghost use Rattle.cola_front.specs.Front.{FrontCells, IsFront, InOrder, SameShape, IsLoaded as IsFrontLoaded, block_size, cell_at, image};
 ghost use Rattle.cola_clock.specs.Clock.{visible_slot};
 ghost use Rattle.cola_layout.specs.Marks.{marks_of};
 ghost use Rattle.cola_layout.specs.declared.header.Header.{Header as AnyHeader};
@@ -21,7 +21,7 @@ ghost use Rattle.cola_run.specs.Loading.{BadInRun, BadInLevel, BadInFront, NoneB
 
 use crate::device_cells::{begin_of_tail, block_at, cells_of_block, finish_on_device, set_shadow};
 use crate::run_store::RunStore;
-use cola_buffers::Buffers;
+use cola_cache::Buffers;
 use cola_cell::{Item, ReadFault, Shadow};
 use cola_clock::visible_slot;
 use cola_device::{Device, DeviceFault, MAX_TRANSFER};
@@ -259,7 +259,7 @@ fn save_tails<D: Device>(
         (record { told = D.bytes buffers.new.cache.device; shadows = shadows.new; tails = tails.now }) }
     ensures stays { StayRead geometry.now (record { told = D.bytes buffers.old.cache.device; shadows = shadows.old; tails = tails.now })
         (record { told = D.bytes buffers.new.cache.device; shadows = shadows.new; tails = tails.now }) }
-    ensures writing { IsWriting D.counts D.kept buffers.old buffers.new (geometry.now.bottom + 1) result }
+    ensures writing { IsWriting D.counts D.kept buffers.old buffers.new (geometry.now.bottom + 1) 0 result }
 {
     for level in geometry.front_levels()..geometry.levels() {
         match finish_on_device(buffers, geometry, shadows, tails, level) {
@@ -279,8 +279,9 @@ fn save_front<D: Device>(
     requires many { 1 < buffers.old.many }
     requires size { buffers.old.cache.size ≡ block_size front.now }
     ensures wrote { Wrote result 0 (image front.now header.now) (D.bytes buffers.old.cache.device) (D.bytes buffers.new.cache.device) }
+    ensures in_order { Both (D.bytes buffers.old.cache.device) (D.bytes buffers.new.cache.device) (InOrder result front.now) }
     ensures sound { IsFront front.now }
-    ensures writing { IsWriting D.counts D.kept buffers.old buffers.new 2 result }
+    ensures writing { IsWriting D.counts D.kept buffers.old buffers.new 2 0 result }
 {
     let size = buffers.block_size();
     let mut room = [0u8; MAX_TRANSFER];
@@ -291,7 +292,7 @@ fn save_front<D: Device>(
             front.put_first(header, block);
             buffers.write_block(0, block)
         }
-        Err(fault) => Err(fault),
+        Err(refusal) => Err(refusal),
     }
 }
 
@@ -351,10 +352,10 @@ fn flush_parts<D: Device>(
     ensures cells { AreCells (record { geometry = geometry.now; front = front.now; lower = record { told = D.bytes buffers.new.cache.device; shadows = shadows.new; tails = tails.now } }) }
     ensures reads { SameCells geometry.now front.now (record { told = D.bytes buffers.old.cache.device; shadows = shadows.old; tails = tails.now })
         (record { told = D.bytes buffers.new.cache.device; shadows = shadows.new; tails = tails.now }) }
-    ensures order { Both (D.bytes buffers.old.cache.device) (D.bytes buffers.new.cache.device) (IsFrontLast geometry.now
-        (spots_of (record { geometry = geometry.now; front = front.now; lower = record { told = D.bytes buffers.new.cache.device; shadows = shadows.new; tails = tails.now } }))) }
+    ensures order { IsFrontLast D.Device geometry.now
+        (spots_of (record { geometry = geometry.now; front = front.now; lower = record { told = D.bytes buffers.new.cache.device; shadows = shadows.new; tails = tails.now } })) buffers.old.cache.device buffers.new.cache.device }
     ensures settles { OnOk result (SettlesTwice D.Device geometry.now buffers.old.cache.device buffers.new.cache.device) }
-    ensures writing { IsWriting D.counts D.kept buffers.old buffers.new (geometry.now.bottom + 3) result }
+    ensures writing { IsWriting D.counts D.kept buffers.old buffers.new (geometry.now.bottom + 3) 2 result }
 {
     match save_tails(buffers, geometry, shadows, tails) {
         Ok(()) => match buffers.settle() {
@@ -362,7 +363,7 @@ fn flush_parts<D: Device>(
                 Ok(()) => buffers.settle(),
                 Err(fault) => Err(fault),
             },
-            Err(fault) => Err(fault),
+            Err(unsettled) => Err(unsettled),
         },
         Err(fault) => Err(fault),
     }
@@ -378,7 +379,7 @@ impl<D: Device> RunStore<D> {
         ensures loaded { OnOk result (IsLoaded header.now (held_of D.bytes self.new) (D.bytes self.old.buffers.cache.device)) }
         ensures answer { LoadAnswers header.now (D.bytes self.old.buffers.cache.device) (D.counts self.old.buffers.cache.device).faults (D.counts self.new.buffers.cache.device).faults result }
         ensures bytes_stay { D.bytes self.new.buffers.cache.device ≡ D.bytes self.old.buffers.cache.device }
-        ensures kept { kept_of D.bytes D.kept self.new ≡ kept_of D.bytes D.kept self.old }
+        ensures kept { kept_of D.bytes D.counts D.kept self.new ≡ kept_of D.bytes D.counts D.kept self.old }
         ensures fixed { (held_of D.bytes self.new).fixed ≡ (held_of D.bytes self.old).fixed }
         ensures ticked { self.new.ticked ≡ self.old.ticked }
         ensures spends { LoadSpends (D.counts self.old.buffers.cache.device) (D.counts self.new.buffers.cache.device) (self.old.geometry.bottom + 3) result }
@@ -404,7 +405,7 @@ impl<D: Device> RunStore<D> {
         ensures cache { self.new.buffers.cache.blocks ≡ self.old.buffers.cache.blocks }
         ensures kept { D.kept self.new.buffers.cache.device ≡ D.kept self.old.buffers.cache.device }
         ensures ticked { self.new.ticked ≡ self.old.ticked }
-        ensures counts { Called (D.counts self.old.buffers.cache.device) (D.counts self.new.buffers.cache.device) 0 1 result }
+        ensures counts { Called (D.counts self.old.buffers.cache.device) (D.counts self.new.buffers.cache.device) 0 1 1 result }
     {
         let _ = &self.geometry;
         match self.buffers.write_byte(14, 1) {
@@ -414,20 +415,21 @@ impl<D: Device> RunStore<D> {
     }
 
     /// Makes the file that of the store, with this header: writes every tail that is not on the device yet, settles, writes
-    /// the two blocks of the front, of which the first begins with the header, and settles. After an error the store reads as before, the
-    /// first two blocks of the file are as before or every cell of the levels on the device is in it already, and the
-    /// call may be repeated.
+    /// the two blocks of the front, of which the first begins with the header, and settles. After an error the store reads
+    /// as before, and the call may be repeated. The first two blocks of the file are as before then, or the levels on the
+    /// device were settled with every cell before any of the two was written, and block 0 is as before or the file has
+    /// every cell behind it.
     pub fn flush(&mut self, header: &[u8; 512]) -> Result<(), DeviceFault>
         ensures flushed { OnOk result (IfSome (D.bytes self.new.buffers.cache.device) (IsFlushed self.old.geometry header.now (held_of D.bytes self.new).spots)) }
         ensures reads { SameReads (held_of D.bytes self.old) (held_of D.bytes self.new) }
-        ensures order { Both (D.bytes self.old.buffers.cache.device) (D.bytes self.new.buffers.cache.device) (IsFrontLast self.old.geometry (held_of D.bytes self.new).spots) }
+        ensures order { IsFrontLast D.Device self.old.geometry (held_of D.bytes self.new).spots self.old.buffers.cache.device self.new.buffers.cache.device }
         ensures settles { OnOk result (SettlesTwice D.Device self.old.geometry self.old.buffers.cache.device self.new.buffers.cache.device) }
         ensures behind { Both (D.bytes self.old.buffers.cache.device) (D.bytes self.new.buffers.cache.device) (SameBehind self.old.geometry) }
         ensures geometry { self.new.geometry ≡ self.old.geometry }
         ensures cache { self.new.buffers.cache.blocks ≡ self.old.buffers.cache.blocks }
         ensures kept { D.kept self.new.buffers.cache.device ≡ D.kept self.old.buffers.cache.device }
         ensures ticked { self.new.ticked ≡ self.old.ticked }
-        ensures counts { Called (D.counts self.old.buffers.cache.device) (D.counts self.new.buffers.cache.device) 0 (self.old.geometry.bottom + 3) result }
+        ensures counts { Called (D.counts self.old.buffers.cache.device) (D.counts self.new.buffers.cache.device) 0 (self.old.geometry.bottom + 3) 2 result }
     {
         flush_parts(
             &mut self.buffers,

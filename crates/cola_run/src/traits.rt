@@ -86,7 +86,7 @@ impl<D: Device> RunStore<D> {
     ) -> Result<Cell, ReadFault>
         requires { IsPlace (self.old.geometry.bottom + 1) level slot index }
         ensures cells_stay { held_of D.bytes self.new ≡ held_of D.bytes self.old }
-        ensures kept { kept_of D.bytes D.kept self.new ≡ kept_of D.bytes D.kept self.old }
+        ensures kept { kept_of D.bytes D.counts D.kept self.new ≡ kept_of D.bytes D.counts D.kept self.old }
         ensures one_tick { steps.new ≡ steps.old + 1 }
         ensures reads { Reads (held_of D.bytes self.old) (spent_of D.counts self.old) (spent_of D.counts self.new) (buffer_for reader level) level slot index result }
     {
@@ -118,7 +118,7 @@ impl<D: Device> CellSource for RunStore<D> {
 
     ghost Kept = { Kept D.Kept };
 
-    ghost kept = { kept_of D.bytes D.kept };
+    ghost kept = { kept_of D.bytes D.counts D.kept };
 
     fn read<L: Ledger>(
         &mut self,

@@ -24,6 +24,3 @@ pub use searching::{find_answer, place_in_window, seat_of_key, stop_at_place};
 pub use weaving::{
     bottom_weave, merge_answer, weave_at_key, weave_counts, weave_is_formed, weave_size,
 };
-
-#[cfg(test)]
-mod tests;

@@ -7,6 +7,3 @@
 mod finding;
 
 pub use finding::find;
-
-#[cfg(test)]
-mod tests;

@@ -116,7 +116,7 @@ whole-file None store sound = tt
 whole-file (Some bytes) store sound = sound.cells.backed.long
 
 pub closing-spends : {D : Type 0} (d : device.Ghosts D) (header : Header) (before now : Store D) (result : Result (Unit {0}) DeviceFault) → header.geometry ≡ before.geometry
-    → Called (d.counts before.buffers.cache.device) (d.counts now.buffers.cache.device) 0 (before.geometry.bottom + 3) result → Spends (d.counts before.buffers.cache.device) (d.counts now.buffers.cache.device) 0 (closing_writes header)
+    → Called (d.counts before.buffers.cache.device) (d.counts now.buffers.cache.device) 0 (before.geometry.bottom + 3) 2 result → Spends (d.counts before.buffers.cache.device) (d.counts now.buffers.cache.device) 0 (closing_writes header) 2
 closing-spends d header before now result same called =
     let e = ap (λ (g : Geometry). g.bottom + 3) same in
     record {
@@ -125,4 +125,6 @@ closing-spends d header before now result same called =
       reads_rise = called.reads_rise;
       writes_stay = called.writes_stay;
       writes_rise = omega (arith, e, called.writes_rise);
+      others_stay = called.others_stay;
+      others_rise = called.others_rise;
     }

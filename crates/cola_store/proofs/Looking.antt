@@ -21,7 +21,7 @@ use Rattle.cola_store.specs.Calls.{stamped_found, value_found, stamp_found, Same
 use Rattle.cola_store.specs.Walks.{Stands, Ahead}
 use Rattle.cola_store.proofs.Storing.{still-tells, terms_at}
 
-module _ {D K : Type 0} (bytes : D → Option (List ℕ)) (counts : D → Counts) (kept : D → K) (old new : Stored D) (same : Same bytes counts old new) (kept_is : kept_of bytes kept new ≡ kept_of bytes kept old) where
+module _ {D K : Type 0} (bytes : D → Option (List ℕ)) (counts : D → Counts) (kept : D → K) (old new : Stored D) (same : Same bytes counts old new) (kept_is : kept_of bytes counts kept new ≡ kept_of bytes counts kept old) where
   runs-same : runs_of new ≡ runs_of old
   runs-same = ap (λ (ls : List Level). visible_runs new.chain.clock 0 ls) same.levels_are ∙ ap (λ (t : ℕ). visible_runs t 0 old.chain.levels) same.clock_is
 

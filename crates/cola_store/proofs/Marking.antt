@@ -33,7 +33,7 @@ module _ {D : Type 0} (d : device.Ghosts D) (header : Header) (before mid now : 
   reads-are same = ap (λ (g : Geometry). g.bottom + 3) same
 
   pub load-spends : (result : Result (Unit {0}) ReadFault) → header.geometry ≡ before.geometry → LoadSpends (d.counts before.buffers.cache.device) (d.counts mid.buffers.cache.device) (before.geometry.bottom + 3) result
-      → Spends (d.counts before.buffers.cache.device) (d.counts mid.buffers.cache.device) (header.geometry.bottom + 3) 0
+      → Spends (d.counts before.buffers.cache.device) (d.counts mid.buffers.cache.device) (header.geometry.bottom + 3) 0 0
   load-spends result same spends =
       let e = reads-are same in
       record {
@@ -42,11 +42,13 @@ module _ {D : Type 0} (d : device.Ghosts D) (header : Header) (before mid now : 
         reads_rise = omega (arith, e, spends.reads_rise);
         writes_stay = omega (arith, spends.writes_is);
         writes_rise = omega (arith, spends.writes_is);
+        others_stay = omega (arith, spends.others_are);
+        others_rise = omega (arith, spends.others_are);
       }
 
   pub both-spend : (result : Result (Unit {0}) ReadFault) (marking : Result (Unit {0}) DeviceFault) → header.geometry ≡ before.geometry → LoadSpends (d.counts before.buffers.cache.device) (d.counts mid.buffers.cache.device) (before.geometry.bottom + 3) result
-      → Called (d.counts mid.buffers.cache.device) (d.counts now.buffers.cache.device) 0 1 marking
-      → Spends (d.counts before.buffers.cache.device) (d.counts now.buffers.cache.device) (header.geometry.bottom + 3) 1
+      → Called (d.counts mid.buffers.cache.device) (d.counts now.buffers.cache.device) 0 1 1 marking
+      → Spends (d.counts before.buffers.cache.device) (d.counts now.buffers.cache.device) (header.geometry.bottom + 3) 1 1
   both-spend result marking same spends called =
       let e = reads-are same in
       record {
@@ -55,6 +57,8 @@ module _ {D : Type 0} (d : device.Ghosts D) (header : Header) (before mid now : 
         reads_rise = omega (arith, e, spends.reads_rise, called.reads_rise);
         writes_stay = omega (arith, spends.writes_is, called.writes_stay);
         writes_rise = omega (arith, spends.writes_is, called.writes_rise);
+        others_stay = omega (arith, spends.others_are, called.others_stay);
+        others_rise = omega (arith, spends.others_are, called.others_rise);
       }
 
   pub marked-spots : IfSome (d.bytes before.buffers.cache.device) (AreFileSpots header.geometry (held_of d.bytes mid).spots)
@@ -76,7 +80,7 @@ stand : (header : Header) (held : Held) (told : Option (List ℕ)) → IfSome to
 stand header held None was spots shadows = tt
 stand header held (Some bytes) was spots shadows = λ m file. stands header held bytes m was.has.spelled spots shadows file
 
-module _ {D : Type 0} (d : device.Ghosts D) (cache : ℕ) (before first : D) (header : Header) (found : IsRefused d before (WasClosed header) 1 first) where
+module _ {D : Type 0} (d : device.Ghosts D) (cache : ℕ) (before first : D) (header : Header) (found : IsRefused d before (WasClosed header) 1 1 first) where
   pub opens : (store : Store D) → header.closed ≡ true → IsMarked d header (new_store first (d.counts first) header.geometry cache) store → IsOpened d before cache store header
   opens store closed m =
       let told : Option (List ℕ) = d.bytes before in
@@ -100,17 +104,21 @@ module _ {D : Type 0} (d : device.Ghosts D) (cache : ℕ) (before first : D) (he
           reads_rise = omega (arith, found.spends.reads_rise, m.spends.reads_rise);
           writes_stay = omega (arith, found.spends.writes_stay, m.spends.writes_stay);
           writes_rise = omega (arith, found.spends.writes_rise, m.spends.writes_rise);
+          others_stay = omega (arith, found.spends.others_stay, m.spends.others_stay);
+          others_rise = omega (arith, found.spends.others_rise, m.spends.others_rise);
         };
         no_fault = m.no_fault ∙ found.no_fault;
       }
 
-  more : (now : D) (writes : ℕ) → Spends (d.counts first) (d.counts now) (header.geometry.bottom + 3) writes → Spends (d.counts before) (d.counts now) (header.geometry.bottom + 4) writes
-  more now writes spends = record {
+  more : (now : D) (writes others : ℕ) → Spends (d.counts first) (d.counts now) (header.geometry.bottom + 3) writes others → Spends (d.counts before) (d.counts now) (header.geometry.bottom + 4) writes (1 + others)
+  more now writes others spends = record {
     faults_stay = omega (arith, found.spends.faults_stay, spends.faults_stay);
     reads_stay = omega (arith, found.spends.reads_stay, spends.reads_stay);
     reads_rise = omega (arith, found.spends.reads_rise, spends.reads_rise);
     writes_stay = omega (arith, found.spends.writes_stay, spends.writes_stay);
     writes_rise = omega (arith, found.spends.writes_rise, spends.writes_rise);
+    others_stay = omega (arith, found.spends.others_stay, spends.others_stay);
+    others_rise = omega (arith, found.spends.others_rise, spends.others_rise);
   }
 
   pub refuses : (store : Store D) (fault : OpenFault) → LoadsAndMarks d header (new_store first (d.counts first) header.geometry cache) store (Err fault) → Opens d before cache (Err (store.buffers.cache.device, fault))
@@ -120,7 +128,7 @@ module _ {D : Type 0} (d : device.Ghosts D) (cache : ℕ) (before first : D) (he
   refuses store OutOfMemory is = absurd is
   refuses store Device (rose, inl reading) = record {
     cause = subst (λ (n : ℕ). Rose n (d.counts store.buffers.cache.device).faults) found.no_fault rose;
-    at = inr (inl (record { header = header; was = found.why_is; bytes_stay = reading.bytes_stay ∙ found.bytes_stay; spends = more store.buffers.cache.device 0 reading.spends }));
+    at = inr (inl (record { header = header; was = found.why_is; bytes_stay = reading.bytes_stay ∙ found.bytes_stay; spends = more store.buffers.cache.device 0 0 reading.spends }));
   }
   refuses store Device (rose, inr marking) = record {
     cause = subst (λ (n : ℕ). Rose n (d.counts store.buffers.cache.device).faults) found.no_fault rose;
@@ -128,7 +136,7 @@ module _ {D : Type 0} (d : device.Ghosts D) (cache : ℕ) (before first : D) (he
       header = header;
       was = ready header (d.bytes before) found.why_is (subst (λ (t : Option (List ℕ)). IfSome t (λ bytes. AreFrontRunsSpelled header (file_spots header.geometry.format bytes))) found.bytes_stay marking.spelled);
       left = subst (λ (t : Option (List ℕ)). Both t (d.bytes store.buffers.cache.device) (λ old new. (state : ℕ) × (new ≡ with_state state old))) found.bytes_stay marking.left;
-      spends = more store.buffers.cache.device 1 marking.spends;
+      spends = more store.buffers.cache.device 1 1 marking.spends;
     }));
   }
   refuses store (BadCell number) is = (
@@ -136,7 +144,7 @@ module _ {D : Type 0} (d : device.Ghosts D) (cache : ℕ) (before first : D) (he
     record {
       why_is = bad header number (d.bytes before) found.why_is (subst (λ (t : Option (List ℕ)). IfSome t (λ bytes. IsLowestBad header (file_spots header.geometry.format bytes) number)) found.bytes_stay is.why_is);
       bytes_stay = is.bytes_stay ∙ found.bytes_stay;
-      spends = more store.buffers.cache.device 0 is.spends;
+      spends = more store.buffers.cache.device 0 0 is.spends;
       no_fault = is.no_fault ∙ found.no_fault;
     },
   )
@@ -159,7 +167,7 @@ some-header header None was = tt
 some-header header (Some bytes) was = (header, was)
 
 -- where memory is wanting
-pub no-memory : {D : Type 0} (d : device.Ghosts D) (before now left : D) (header : Header) → left ≡ now → IsRefused d before (WasClosed header) 1 now → IsRefused d before (λ bytes. (other : Header) × WasClosed other bytes) 1 left
+pub no-memory : {D : Type 0} (d : device.Ghosts D) (before now left : D) (header : Header) → left ≡ now → IsRefused d before (WasClosed header) 1 1 now → IsRefused d before (λ bytes. (other : Header) × WasClosed other bytes) 1 1 left
 no-memory {D} d before now left header same found =
-    subst (λ (x : D). IsRefused d before (λ bytes. (other : Header) × WasClosed other bytes) 1 x) (sym same)
+    subst (λ (x : D). IsRefused d before (λ bytes. (other : Header) × WasClosed other bytes) 1 1 x) (sym same)
     (record { why_is = some-header header (d.bytes before) found.why_is; bytes_stay = found.bytes_stay; spends = found.spends; no_fault = found.no_fault })

@@ -65,7 +65,7 @@ module _ {D K : Type 0} (bytes : D → Option (List ℕ)) (counts : D → Counts
   abbrev pub searched_store : Stored D → Contents D → Stored D
   searched_store store now = record { chain = now; count = store.count; last = store.last; account = with_search store.account }
 
-  pub same : (store : Stored D) (now : Contents D) → chain.held_of bytes now ≡ held_of bytes store → chain.kept_of bytes kept now ≡ chain.kept_of bytes kept store.chain → Same bytes counts store (searched_store store now)
+  pub same : (store : Stored D) (now : Contents D) → chain.held_of bytes now ≡ held_of bytes store → chain.kept_of bytes counts kept now ≡ chain.kept_of bytes counts kept store.chain → Same bytes counts store (searched_store store now)
   same store now held_is kept_is = record {
     held_is = held_is;
     geometry_is = ap (λ (k : chain.Kept K). k.store.geometry) kept_is;
@@ -82,7 +82,7 @@ module _ {D K : Type 0} (bytes : D → Option (List ℕ)) (counts : D → Counts
   many-runs store runs is runs_are = ap (λ (rs : List Run). length rs) runs_are ∙ length-visible store.chain.clock 0 store.chain.levels ∙ is.many
 
   pub searched : (store : Stored D) (now : Contents D) (runs : List Run) (key : List ℕ) (result : Result (Option Item) ReadFault) (before after : ℕ) → IsStored bytes counts store → runs ≡ runs_of store →
-      chain.held_of bytes now ≡ held_of bytes store → chain.kept_of bytes kept now ≡ chain.kept_of bytes kept store.chain →
+      chain.held_of bytes now ≡ held_of bytes store → chain.kept_of bytes counts kept now ≡ chain.kept_of bytes counts kept store.chain →
       Answers (found_in_runs (held_of bytes store) key 0 runs) (option_map as_item) result →
       IfErr result (FindCause (held_of bytes store) runs (spent_of counts store).faults (chain.spent_of counts now).faults) →
       Costs (spent_of counts store) (chain.spent_of counts now) before after (8 * length runs) (2 * length runs) →
@@ -109,7 +109,7 @@ module _ {D K : Type 0} (bytes : D → Option (List ℕ)) (counts : D → Counts
       }
 
   -- what was written since the opening, after a search
-  written-stays : (store : Stored D) (now : Contents D) (account : Account) → account.opened ≡ store.account.opened → account.calm ≡ store.account.calm → chain.kept_of bytes kept now ≡ chain.kept_of bytes kept store.chain →
+  written-stays : (store : Stored D) (now : Contents D) (account : Account) → account.opened ≡ store.account.opened → account.calm ≡ store.account.calm → chain.kept_of bytes counts kept now ≡ chain.kept_of bytes counts kept store.chain →
       (chain.spent_of counts now).written ≡ (spent_of counts store).written → HasWritten counts store → HasWritten counts (record { chain = now; count = store.count; last = store.last; account = account })
   written-stays store now account opened_is calm_is kept_is written_is is = λ calm few.
       let writes : now.writes ≡ store.chain.writes = ap (λ (k : chain.Kept K). k.writes) kept_is in
@@ -129,7 +129,7 @@ module _ {D K : Type 0} (bytes : D → Option (List ℕ)) (counts : D → Counts
 
   -- a store whose chain was only read by way of the block of searches, with another number of searches
   pub read-is : (store : Stored D) (now : Contents D) (account : Account) → account.opened ≡ store.account.opened → account.calm ≡ store.account.calm → account.steps ≡ store.account.steps →
-      IsStored bytes counts store → chain.held_of bytes now ≡ held_of bytes store → chain.kept_of bytes kept now ≡ chain.kept_of bytes kept store.chain →
+      IsStored bytes counts store → chain.held_of bytes now ≡ held_of bytes store → chain.kept_of bytes counts kept now ≡ chain.kept_of bytes counts kept store.chain →
       (chain.spent_of counts now).written ≡ (spent_of counts store).written →
       ((buffer : Buffer) → buffer ≢ Search → (chain.spent_of counts now).lasts buffer ≡ (spent_of counts store).lasts buffer) →
       IsStored bytes counts (record { chain = now; count = store.count; last = store.last; account = account })
@@ -188,7 +188,7 @@ abbrev pub terms_at : Geometry → Terms
 terms_at geometry = record { format = geometry.format; limit = geometry.keys; depth = geometry.bottom + 1 }
 
 module _ {D K : Type 0} (bytes : D → Option (List ℕ)) (counts : D → Counts) (kept : D → K) (store : Stored D) (now : Contents D)
-    (is : IsStored bytes counts store) (kept_is : run.kept_of bytes kept now.store ≡ run.kept_of bytes kept store.chain.store) where
+    (is : IsStored bytes counts store) (kept_is : run.kept_of bytes counts kept now.store ≡ run.kept_of bytes counts kept store.chain.store) where
   geometry_is : now.store.geometry ≡ geometry_of store
   geometry_is = ap (λ (k : run.Kept K). k.geometry) kept_is
 

@@ -221,7 +221,7 @@ pairs-live m low high lists values =
 -- What a store is after a call on a walk
 
 module _ {D K : Type 0} (bytes : D → Option (List ℕ)) (counts : D → Counts) (kept : D → K) (store : Stored D) (now : Contents D)
-    (held_is : chain.held_of bytes now ≡ held_of bytes store) (kept_is : chain.kept_of bytes kept now ≡ chain.kept_of bytes kept store.chain) where
+    (held_is : chain.held_of bytes now ≡ held_of bytes store) (kept_is : chain.kept_of bytes counts kept now ≡ chain.kept_of bytes counts kept store.chain) where
   abbrev pub read_store : Stored D
   read_store = record { chain = now; count = store.count; last = store.last; account = store.account }
 

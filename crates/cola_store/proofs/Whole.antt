@@ -49,8 +49,8 @@ each-map : (told : Option (List ℕ)) (P : Map → Type 0) (Q : List ℕ → Map
 each-map None P Q h = tt
 each-map (Some bytes) P Q h = h
 
--- the three counts of a device
-pub counted : (counts : Counts) (faults reads writes : ℕ) → faults ≡ counts.faults → reads ≡ counts.reads → writes ≡ counts.writes → ◌≡◌ {A = Counts} (record { faults = faults; reads = reads; writes = writes }) counts
+-- the counts of a device that are kept at an opening
+pub counted : (counts : Counts) (faults reads writes : ℕ) → faults ≡ counts.faults → reads ≡ counts.reads → writes ≡ counts.writes → ◌≡◌ {A = Counts} (record { faults = faults; reads = reads; writes = writes; others = 0 }) (record counts { others = 0 })
 counted counts faults reads writes f r w = rw (f, r, w) refl
 
 module _ {D : Type 0} (d : device.Ghosts D) where
@@ -62,7 +62,7 @@ module _ {D : Type 0} (d : device.Ghosts D) where
 
   module _ (before : D) (cache : ℕ) (header : Header) (chain : Contents D) (opened : IsOpened d before cache chain.store header) (clock : chain.clock ≡ header.clock) (marks : all_marks_of chain.levels ≡ all_numbers header.levels.items) where
     abbrev opened_store : Stored D
-    opened_store = record { chain = chain; count = header.count; last = header.last; account = new_account (d.counts before) }
+    opened_store = record { chain = chain; count = header.count; last = header.last; account = new_account (record (d.counts before) { others = 0 }) }
 
     held-by : (m : Map) → is_some (d.bytes chain.store.buffers.cache.device) ≡ true → StoreStandsFor header (run.held_of d.bytes chain.store) m → Holds d.bytes opened_store m
     held-by m tells stand =

@@ -37,17 +37,18 @@ module _ {D : Type 0} (d : device.Ghosts D) (header : Header) (before : Store D)
     pub file : IfSome (d.bytes now) (IsFileOf header (held_of d.bytes before))
     pub behind : Both (d.bytes before.buffers.cache.device) (d.bytes now) (SameBehind header.geometry)
     pub settles : SettlesTwice d header.geometry before.buffers.cache.device now
-    pub spends : Spends (d.counts before.buffers.cache.device) (d.counts now) 0 (closing_writes header)
+    pub spends : Spends (d.counts before.buffers.cache.device) (d.counts now) 0 (closing_writes header) 2
     pub no_fault : (d.counts now).faults ≡ (d.counts before.buffers.cache.device).faults
 
   -- the device failed, and all that is owed to the file still is: the cells that are read, and the header; the first two
-  -- blocks of the file are as before, or it has every other cell already
+  -- blocks of the file are as before, or the device had settled with every other cell before the first of them was written,
+  -- and block 0 is as before or every cell behind it is in the file
   pub record StillOwes (now : Store D) (kept_header : Header) : Type 0 where
     pub cause : Rose (d.counts before.buffers.cache.device).faults (d.counts now.buffers.cache.device).faults
     pub header_is : kept_header ≡ header
     pub reads : SameReads (held_of d.bytes before) (held_of d.bytes now)
     pub geometry : now.geometry ≡ before.geometry
-    pub order : Both (d.bytes before.buffers.cache.device) (d.bytes now.buffers.cache.device) (IsFrontLast header.geometry (held_of d.bytes now).spots)
+    pub order : IsFrontLast d header.geometry (held_of d.bytes now).spots before.buffers.cache.device now.buffers.cache.device
     pub behind : Both (d.bytes before.buffers.cache.device) (d.bytes now.buffers.cache.device) (SameBehind header.geometry)
-    pub spends : Spends (d.counts before.buffers.cache.device) (d.counts now.buffers.cache.device) 0 (closing_writes header)
+    pub spends : Spends (d.counts before.buffers.cache.device) (d.counts now.buffers.cache.device) 0 (closing_writes header) 2
     pub stands : (m : Map) → StoreStandsFor header (held_of d.bytes before) m → StoreStandsFor header (held_of d.bytes now) m

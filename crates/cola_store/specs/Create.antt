@@ -53,12 +53,14 @@ pub record PartlyMade (size : ℕ) (before now : List ℕ) : Type 0 where
   pub others_stay : 0 < length before → now ≡ before
   pub at_most : length before ≡ 0 → length now ≤ size
 
--- what making a file does to the counts at most: no read and one write, and no count falls
+-- what making a file does to the counts at most: no read, one write and three other calls, and no count falls
 pub record CountsOneWrite (before now : Counts) : Type 0 where
   pub faults_stay : before.faults ≤ now.faults
   pub reads_stay : now.reads ≡ before.reads
   pub writes_stay : before.writes ≤ now.writes
   pub writes_rise : now.writes ≤ before.writes + 1
+  pub others_stay : before.others ≤ now.others
+  pub others_rise : now.others ≤ before.others + 3
 
 module _ {D : Type 0} (d : device.Ghosts D) (format : Format) (keys block_exp : ℕ) (before now : D) where
   -- the device was empty and has a new file, where it tells its bytes, settled with it, and met no fault
@@ -70,13 +72,14 @@ module _ {D : Type 0} (d : device.Ghosts D) (format : Format) (keys block_exp : 
     pub settled : IsSettled d now
     pub no_fault : (d.counts now).faults ≡ (d.counts before).faults
 
-  -- the device had bytes, where it tells them: they stay, and so do the counts
+  -- the device had bytes, where it tells them: they stay, and it met no fault and wrote nothing
   pub record WasNotEmpty : Type 0 where
     pub bottom : ℕ
     pub suits : Suits keys block_exp bottom
     pub some : IfSome (d.bytes before) (λ bytes. 0 < length bytes)
     pub bytes_stay : d.bytes now ≡ d.bytes before
-    pub counts_stay : d.counts now ≡ d.counts before
+    pub no_fault : (d.counts now).faults ≡ (d.counts before).faults
+    pub writes_stay : (d.counts now).writes ≡ (d.counts before).writes
 
   -- the device met a fault, and may have any part of a file where it was empty
   pub record DeviceFailed : Type 0 where

@@ -47,13 +47,15 @@ pub record HasBadCell (header : Header) (number : ℕ) (bytes : List ℕ) : Type
   pub was : WasClosed header bytes
   pub bad : IsLowestBad header (file_spots header.geometry.format bytes) number
 
--- what the counts of a device rise by: so many reads and writes at most, and no count falls
-pub record Spends (before now : Counts) (reads writes : ℕ) : Type 0 where
+-- what the counts of a device rise by: so many reads, writes and other calls at most, and no count falls
+pub record Spends (before now : Counts) (reads writes others : ℕ) : Type 0 where
   pub faults_stay : before.faults ≤ now.faults
   pub reads_stay : before.reads ≤ now.reads
   pub reads_rise : now.reads ≤ before.reads + reads
   pub writes_stay : before.writes ≤ now.writes
   pub writes_rise : now.writes ≤ before.writes + writes
+  pub others_stay : before.others ≤ now.others
+  pub others_rise : now.others ≤ before.others + others
 
 -- how many reads an opening makes at most by a header: three, and one for each level
 abbrev pub opening_reads : Header → ℕ
@@ -61,30 +63,30 @@ opening_reads header = header.geometry.bottom + 4
 
 module _ {D : Type 0} (d : device.Ghosts D) (before : D) where
   -- a refusal for this reason, where bytes are told: the device met no fault and keeps its bytes
-  pub record IsRefused (why : List ℕ → Type 0) (reads : ℕ) (now : D) : Type 0 where
+  pub record IsRefused (why : List ℕ → Type 0) (reads others : ℕ) (now : D) : Type 0 where
     pub why_is : IfSome (d.bytes before) why
     pub bytes_stay : d.bytes now ≡ d.bytes before
-    pub spends : Spends (d.counts before) (d.counts now) reads 0
+    pub spends : Spends (d.counts before) (d.counts now) reads 0 others
     pub no_fault : (d.counts now).faults ≡ (d.counts before).faults
 
   -- the device failed before the header was read: it keeps its bytes
   pub record FailedAtHeader (now : D) : Type 0 where
     pub bytes_stay : d.bytes now ≡ d.bytes before
-    pub spends : Spends (d.counts before) (d.counts now) 1 0
+    pub spends : Spends (d.counts before) (d.counts now) 1 0 1
 
   -- it failed while the cells were loaded: it keeps its bytes
   pub record FailedAtCells (now : D) : Type 0 where
     pub header : Header
     pub was : IfSome (d.bytes before) (WasClosed header)
     pub bytes_stay : d.bytes now ≡ d.bytes before
-    pub spends : Spends (d.counts before) (d.counts now) (opening_reads header) 0
+    pub spends : Spends (d.counts before) (d.counts now) (opening_reads header) 0 1
 
   -- it failed while the store was marked as in use: it has any state byte, and keeps all others
   pub record FailedAtMark (now : D) : Type 0 where
     pub header : Header
     pub was : IfSome (d.bytes before) (IsReady header)
     pub left : Both (d.bytes before) (d.bytes now) (λ old new. (state : ℕ) × (new ≡ with_state state old))
-    pub spends : Spends (d.counts before) (d.counts now) (opening_reads header) 1
+    pub spends : Spends (d.counts before) (d.counts now) (opening_reads header) 1 2
 
   -- the device failed
   pub record DeviceFailed (now : D) : Type 0 where
@@ -104,18 +106,18 @@ module _ {D : Type 0} (d : device.Ghosts D) (before : D) where
     pub blocks : store.buffers.cache.blocks ≡ cache
     pub made : IsMadeAfter (d.counts before) (held_of d.bytes store)
     pub no_ticks : store.ticked ≡ 0
-    pub spends : Spends (d.counts before) (d.counts store.buffers.cache.device) (opening_reads header) 1
+    pub spends : Spends (d.counts before) (d.counts store.buffers.cache.device) (opening_reads header) 1 2
     pub no_fault : (d.counts store.buffers.cache.device).faults ≡ (d.counts before).faults
 
   -- what an opening answered, with its cause, and what it left
   abbrev pub Opens : ℕ → Result (Store D × Header) (D × OpenFault) → Type 0
   Opens cache (Ok (store, header)) = IsOpened cache store header
-  Opens cache (Err (now, NotStore)) = IsRefused IsNoStore 1 now
-  Opens cache (Err (now, NotClosed)) = IsRefused IsInUse 1 now
-  Opens cache (Err (now, Small)) = IsRefused IsSmall 1 now
+  Opens cache (Err (now, NotStore)) = IsRefused IsNoStore 1 1 now
+  Opens cache (Err (now, NotClosed)) = IsRefused IsInUse 1 1 now
+  Opens cache (Err (now, Small)) = IsRefused IsSmall 1 1 now
   Opens cache (Err (now, Device)) = DeviceFailed now
-  Opens cache (Err (now, OutOfMemory)) = IsRefused (λ bytes. (header : Header) × WasClosed header bytes) 1 now
-  Opens cache (Err (now, BadCell number)) = (header : Header) × IsRefused (HasBadCell header number) (opening_reads header) now
+  Opens cache (Err (now, OutOfMemory)) = IsRefused (λ bytes. (header : Header) × WasClosed header bytes) 1 1 now
+  Opens cache (Err (now, BadCell number)) = (header : Header) × IsRefused (HasBadCell header number) (opening_reads header) 1 now
 
 -- the device after an opening
 abbrev pub device_after : {D : Type 0} → Result (Store D × Header) (D × OpenFault) → D
@@ -135,10 +137,10 @@ FirstBytesSay size bytes (Err (BadCell number)) = ⊥
 module _ {D : Type 0} (d : device.Ghosts D) (before now : D) where
   -- what reading the header answered
   abbrev pub FindsHeader : Result Header OpenFault → Type 0
-  FindsHeader (Ok header) = IsRefused d before (WasClosed header) 1 now × (header.closed ≡ true)
-  FindsHeader (Err NotStore) = IsRefused d before IsNoStore 1 now
-  FindsHeader (Err NotClosed) = IsRefused d before IsInUse 1 now
-  FindsHeader (Err Small) = IsRefused d before IsSmall 1 now
+  FindsHeader (Ok header) = IsRefused d before (WasClosed header) 1 1 now × (header.closed ≡ true)
+  FindsHeader (Err NotStore) = IsRefused d before IsNoStore 1 1 now
+  FindsHeader (Err NotClosed) = IsRefused d before IsInUse 1 1 now
+  FindsHeader (Err Small) = IsRefused d before IsSmall 1 1 now
   FindsHeader (Err Device) = Rose (d.counts before).faults (d.counts now).faults × FailedAtHeader d before now
   FindsHeader (Err OutOfMemory) = ⊥
   FindsHeader (Err (BadCell number)) = ⊥
@@ -155,19 +157,19 @@ module _ {D : Type 0} (d : device.Ghosts D) (header : Header) (before now : Stor
     pub blocks : now.buffers.cache.blocks ≡ before.buffers.cache.blocks
     pub made : (held_of d.bytes now).fixed ≡ (held_of d.bytes before).fixed
     pub ticks : now.ticked ≡ before.ticked
-    pub spends : Spends (d.counts before.buffers.cache.device) (d.counts now.buffers.cache.device) (header.geometry.bottom + 3) 1
+    pub spends : Spends (d.counts before.buffers.cache.device) (d.counts now.buffers.cache.device) (header.geometry.bottom + 3) 1 1
     pub no_fault : (d.counts now.buffers.cache.device).faults ≡ (d.counts before.buffers.cache.device).faults
 
   -- the device failed in one of the reads, and keeps its bytes
   pub record FailedReading : Type 0 where
     pub bytes_stay : d.bytes now.buffers.cache.device ≡ d.bytes before.buffers.cache.device
-    pub spends : Spends (d.counts before.buffers.cache.device) (d.counts now.buffers.cache.device) (header.geometry.bottom + 3) 0
+    pub spends : Spends (d.counts before.buffers.cache.device) (d.counts now.buffers.cache.device) (header.geometry.bottom + 3) 0 0
 
   -- the device failed in the write of the state byte, or as it settled
   pub record FailedMarking : Type 0 where
     pub spelled : IfSome (d.bytes before.buffers.cache.device) (λ bytes. AreFrontRunsSpelled header (file_spots header.geometry.format bytes))
     pub left : Both (d.bytes before.buffers.cache.device) (d.bytes now.buffers.cache.device) (λ old new. (state : ℕ) × (new ≡ with_state state old))
-    pub spends : Spends (d.counts before.buffers.cache.device) (d.counts now.buffers.cache.device) (header.geometry.bottom + 3) 1
+    pub spends : Spends (d.counts before.buffers.cache.device) (d.counts now.buffers.cache.device) (header.geometry.bottom + 3) 1 1
 
   -- what loading and marking answered
   abbrev pub LoadsAndMarks : Result (Unit {0}) OpenFault → Type 0
@@ -178,4 +180,4 @@ module _ {D : Type 0} (d : device.Ghosts D) (header : Header) (before now : Stor
   LoadsAndMarks (Err Device) = Rose (d.counts before.buffers.cache.device).faults (d.counts now.buffers.cache.device).faults × (FailedReading ⊎ FailedMarking)
   LoadsAndMarks (Err OutOfMemory) = ⊥
   LoadsAndMarks (Err (BadCell number)) =
-      IsRefused d before.buffers.cache.device (λ bytes. IsLowestBad header (file_spots header.geometry.format bytes) number) (header.geometry.bottom + 3) now.buffers.cache.device
+      IsRefused d before.buffers.cache.device (λ bytes. IsLowestBad header (file_spots header.geometry.format bytes) number) (header.geometry.bottom + 3) 0 now.buffers.cache.device

@@ -31,13 +31,13 @@ module _ {D : Type 0} (d : device.Ghosts D) where
   abbrev pub Owes : Closing D d → Map → Type 0
   Owes closing m = StoreStandsFor closing.header (run.held_of d.bytes closing.runs) m
 
-  -- the store is open: its cells are those of the file, it has what the header says, nothing is counted yet, and where the file stood for a map, the store holds it
+  -- the store is open: its cells are those of the file, it has what the header says, nothing is counted yet but what the device had read, written and refused, and where the file stood for a map, the store holds it
   pub record IsStoreOpened (before : D) (cache : ℕ) (store : Stored D) : Type 0 where
     pub header : Header
     pub opened : IsOpened d before cache store.chain.store header
     pub header_is : IsHeaderOf store header
     pub numbers : (store.chain.accepted ≡ 0) × (store.chain.reads ≡ 0) × (store.chain.writes ≡ 0)
-    pub account_is : store.account ≡ new_account (d.counts before)
+    pub account_is : store.account ≡ new_account (record (d.counts before) { others = 0 })
     pub holds : IfSome (d.bytes before) (λ bytes. (m : Map) → FileStandsFor bytes m → Holds d.bytes store m)
     pub reads : HasRead d.counts store
 

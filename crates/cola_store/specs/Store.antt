@@ -37,9 +37,9 @@ held_of bytes store = chain.held_of bytes store.chain
 abbrev pub spent_of : {D : Type 0} → (D → Counts) → Stored D → Spent
 spent_of counts store = chain.spent_of counts store.chain
 
--- what no call on it changes beside its cells and counts: its geometry, its cache, what the device keeps, and its size and the bytes outside the levels on it
-abbrev pub kept_of : {D K : Type 0} → (D → Option (List ℕ)) → (D → K) → Stored D → run.Kept K
-kept_of bytes kept store = run.kept_of bytes kept store.chain.store
+-- what no call on it changes beside its cells and counts: its geometry, its cache, what the device keeps, its size and the bytes outside the levels on it, and how many calls it counted that neither read nor write
+abbrev pub kept_of : {D K : Type 0} → (D → Option (List ℕ)) → (D → Counts) → (D → K) → Stored D → run.Kept K
+kept_of bytes counts kept store = run.kept_of bytes counts kept store.chain.store
 
 -- its geometry
 abbrev pub geometry_of : {D : Type 0} → Stored D → Geometry

@@ -11,7 +11,7 @@ pub struct Account {
     pub searches: u64,
     /// The steps that were accepted, up to the last value of `u64`.
     pub steps: u64,
-    /// The counts of the device at the opening.
+    /// The counts of the device at the opening, but for the calls that neither read nor write.
     pub opened: Counts,
     /// Whether no step was refused.
     pub calm: bool,

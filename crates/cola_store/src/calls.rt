@@ -67,7 +67,7 @@ impl<D: Device> Store<D> {
         ensures call { Call (terms_of self.old) (terms_of self.new) (spent_of D.counts self.old).faults (spent_of D.counts self.new).faults steps.old steps.new (get_bound (terms_of self.old).depth) }
         ensures counted { IfOk result (λ answer. steps.new ≡ steps.old + answer.1) }
         ensures faults { ReadFaults result (spent_of D.counts self.old).faults (spent_of D.counts self.new).faults }
-        ensures kept { kept_of D.bytes D.kept self.new ≡ kept_of D.bytes D.kept self.old }
+        ensures kept { kept_of D.bytes D.counts D.kept self.new ≡ kept_of D.bytes D.counts D.kept self.old }
         ensures walks { KeepsWalks (Stands D.bytes self.old) (Stands D.bytes self.new) (Ahead D.bytes self.old) (Ahead D.bytes self.new) }
     {
         let before = self.ticked();
@@ -88,7 +88,7 @@ impl<D: Device> Store<D> {
         ensures call { Call (terms_of self.old) (terms_of self.new) (spent_of D.counts self.old).faults (spent_of D.counts self.new).faults steps.old steps.new (get_bound (terms_of self.old).depth) }
         ensures counted { IfOk result (λ answer. steps.new ≡ steps.old + answer.1) }
         ensures faults { ReadFaults result (spent_of D.counts self.old).faults (spent_of D.counts self.new).faults }
-        ensures kept { kept_of D.bytes D.kept self.new ≡ kept_of D.bytes D.kept self.old }
+        ensures kept { kept_of D.bytes D.counts D.kept self.new ≡ kept_of D.bytes D.counts D.kept self.old }
         ensures walks { KeepsWalks (Stands D.bytes self.old) (Stands D.bytes self.new) (Ahead D.bytes self.old) (Ahead D.bytes self.new) }
     {
         let before = self.ticked();

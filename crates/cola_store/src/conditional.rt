@@ -51,7 +51,7 @@ impl<D: Device> Store<D> {
         ensures ticks { TicksWithin (spent_of D.counts self.old) (spent_of D.counts self.new) steps.old steps.new (step_ticks (levels_of self.old)) }
         ensures transfers { (spent_of D.counts self.new).turned + (spent_of D.counts self.new).written
             ≤ (spent_of D.counts self.old).turned + (spent_of D.counts self.old).written + (9 + 60 * (levels_of self.old / 2)) }
-        ensures kept { kept_of D.bytes D.kept self.new ≡ kept_of D.bytes D.kept self.old }
+        ensures kept { kept_of D.bytes D.counts D.kept self.new ≡ kept_of D.bytes D.counts D.kept self.old }
         ensures walks { UnlessPut (KeepsWalks (Stands D.bytes self.old) (Stands D.bytes self.new) (Ahead D.bytes self.old) (Ahead D.bytes self.new)) (with_ticks result) }
     {
         let stamp = stamp_or_zero(found);
@@ -79,7 +79,7 @@ impl<D: Device> Store<D> {
         ensures answer { (m : Map) → Holds D.bytes self.old m → PutIfAnswers (shape (terms_of self.old)) m key.now seen value.now (Holds D.bytes self.new) (with_ticks result) }
         ensures faults { PutFaults result (spent_of D.counts self.old).faults (spent_of D.counts self.new).faults }
         ensures ticks { TicksWithin (spent_of D.counts self.old) (spent_of D.counts self.new) steps.old steps.new (put_bound (levels_of self.old)) }
-        ensures kept { kept_of D.bytes D.kept self.new ≡ kept_of D.bytes D.kept self.old }
+        ensures kept { kept_of D.bytes D.counts D.kept self.new ≡ kept_of D.bytes D.counts D.kept self.old }
         ensures walks { UnlessPut (KeepsWalks (Stands D.bytes self.old) (Stands D.bytes self.new) (Ahead D.bytes self.old) (Ahead D.bytes self.new)) (with_ticks result) }
     {
         match self.search(key, steps) {
@@ -104,7 +104,7 @@ impl<D: Device> Store<D> {
         ensures call { Call (terms_of self.old) (terms_of self.new) (spent_of D.counts self.old).faults (spent_of D.counts self.new).faults steps.old steps.new (put_bound (terms_of self.old).depth) }
         ensures counted { IfOk result (λ answer. steps.new ≡ steps.old + answer.1) }
         ensures faults { PutFaults result (spent_of D.counts self.old).faults (spent_of D.counts self.new).faults }
-        ensures kept { kept_of D.bytes D.kept self.new ≡ kept_of D.bytes D.kept self.old }
+        ensures kept { kept_of D.bytes D.counts D.kept self.new ≡ kept_of D.bytes D.counts D.kept self.old }
         ensures walks { UnlessPut (KeepsWalks (Stands D.bytes self.old) (Stands D.bytes self.new) (Ahead D.bytes self.old) (Ahead D.bytes self.new)) result }
     {
         let before = self.ticked();

@@ -61,7 +61,7 @@ impl<D: Device> Store<D> {
         ensures ticks { TicksWithin (spent_of D.counts self.old) (spent_of D.counts self.new) steps.old steps.new (step_ticks (levels_of self.old)) }
         ensures transfers { (spent_of D.counts self.new).turned + (spent_of D.counts self.new).written
             ≤ (spent_of D.counts self.old).turned + (spent_of D.counts self.old).written + (9 + 60 * (levels_of self.old / 2)) }
-        ensures kept { kept_of D.bytes D.kept self.new ≡ kept_of D.bytes D.kept self.old }
+        ensures kept { kept_of D.bytes D.counts D.kept self.new ≡ kept_of D.bytes D.counts D.kept self.old }
         ensures walks { OnErr result (KeepsWalks (Stands D.bytes self.old) (Stands D.bytes self.new) (Ahead D.bytes self.old) (Ahead D.bytes self.new)) }
     {
         let after = self.keys_now().saturating_sub(1);
@@ -85,7 +85,7 @@ impl<D: Device> Store<D> {
         ensures ticks { TicksWithin (spent_of D.counts self.old) (spent_of D.counts self.new) steps.old steps.new (step_ticks (levels_of self.old)) }
         ensures transfers { (spent_of D.counts self.new).turned + (spent_of D.counts self.new).written
             ≤ (spent_of D.counts self.old).turned + (spent_of D.counts self.old).written + (9 + 60 * (levels_of self.old / 2)) }
-        ensures kept { kept_of D.bytes D.kept self.new ≡ kept_of D.bytes D.kept self.old }
+        ensures kept { kept_of D.bytes D.counts D.kept self.new ≡ kept_of D.bytes D.counts D.kept self.old }
         ensures walks { UnlessDeleted (KeepsWalks (Stands D.bytes self.old) (Stands D.bytes self.new) (Ahead D.bytes self.old) (Ahead D.bytes self.new)) (with_ticks result) }
     {
         match self.held_value(key, found) {
@@ -105,7 +105,7 @@ impl<D: Device> Store<D> {
         ensures answer { (m : Map) → Holds D.bytes self.old m → DeleteAnswers m key.now (Holds D.bytes self.new) (with_ticks result) }
         ensures faults { StepFaults result (spent_of D.counts self.old).faults (spent_of D.counts self.new).faults }
         ensures ticks { TicksWithin (spent_of D.counts self.old) (spent_of D.counts self.new) steps.old steps.new (put_bound (levels_of self.old)) }
-        ensures kept { kept_of D.bytes D.kept self.new ≡ kept_of D.bytes D.kept self.old }
+        ensures kept { kept_of D.bytes D.counts D.kept self.new ≡ kept_of D.bytes D.counts D.kept self.old }
         ensures walks { UnlessDeleted (KeepsWalks (Stands D.bytes self.old) (Stands D.bytes self.new) (Ahead D.bytes self.old) (Ahead D.bytes self.new)) (with_ticks result) }
     {
         match self.search(key, steps) {
@@ -127,7 +127,7 @@ impl<D: Device> Store<D> {
         ensures call { Call (terms_of self.old) (terms_of self.new) (spent_of D.counts self.old).faults (spent_of D.counts self.new).faults steps.old steps.new (put_bound (terms_of self.old).depth) }
         ensures counted { IfOk result (λ answer. steps.new ≡ steps.old + answer.1) }
         ensures faults { StepFaults result (spent_of D.counts self.old).faults (spent_of D.counts self.new).faults }
-        ensures kept { kept_of D.bytes D.kept self.new ≡ kept_of D.bytes D.kept self.old }
+        ensures kept { kept_of D.bytes D.counts D.kept self.new ≡ kept_of D.bytes D.counts D.kept self.old }
         ensures walks { UnlessDeleted (KeepsWalks (Stands D.bytes self.old) (Stands D.bytes self.new) (Ahead D.bytes self.old) (Ahead D.bytes self.new)) result }
     {
         let before = self.ticked();

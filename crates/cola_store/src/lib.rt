@@ -10,21 +10,13 @@ mod fault;
 pub mod laws;
 mod new_file;
 mod opening;
-#[cfg(test)]
-mod opening_tests;
 mod puts;
 mod session;
 pub mod session_laws;
 mod store;
-#[cfg(test)]
-mod store_tests;
 mod table;
-#[cfg(test)]
-mod tests;
 mod transfers;
 pub mod walk_laws;
-#[cfg(test)]
-mod walk_tests;
 mod walks;
 
 pub use account::Account;

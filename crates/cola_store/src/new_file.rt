@@ -39,7 +39,7 @@ fn fill<D: Device>(device: &mut D, size: u64, header: &[u8; 512]) -> Result<(), 
     ensures settled { OnOk result (IsSettled D.Device device.new) }
     ensures left { Both (D.bytes device.old) (D.bytes device.new) (λ _ bytes. length bytes ≤ size) }
     ensures kept { D.kept device.new ≡ D.kept device.old }
-    ensures counts { Called (D.counts device.old) (D.counts device.new) 0 1 result }
+    ensures counts { Called (D.counts device.old) (D.counts device.new) 0 1 2 result }
 {
     device.lay_out(size)?;
     device.write(0, header)?;

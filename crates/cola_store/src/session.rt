@@ -47,6 +47,7 @@ impl<D: Device> Store<D> {
             faults: device.faults(),
             reads: device.reads(),
             writes: device.writes(),
+            others: 0,
         };
         match open_runs(alloc, device, cache) {
             Ok((runs, header)) => {

@@ -155,7 +155,7 @@ impl<D: Device> Store<D> {
         ensures right { (m : Map) → Holds D.bytes self.old m → FindsIn m key.now result }
         ensures faults { ReadFaults result (spent_of D.counts self.old).faults (spent_of D.counts self.new).faults }
         ensures ticks { TicksWithin (spent_of D.counts self.old) (spent_of D.counts self.new) steps.old steps.new (get_bound (levels_of self.old)) }
-        ensures kept { kept_of D.bytes D.kept self.new ≡ kept_of D.bytes D.kept self.old }
+        ensures kept { kept_of D.bytes D.counts D.kept self.new ≡ kept_of D.bytes D.counts D.kept self.old }
     {
         self.account.searches = one_more(self.account.searches);
         let runs = self.chain.visible();
@@ -184,7 +184,7 @@ impl<D: Device> Store<D> {
         ensures ticks { TicksWithin (spent_of D.counts self.old) (spent_of D.counts self.new) steps.old steps.new (step_ticks (levels_of self.old)) }
         ensures transfers { (spent_of D.counts self.new).turned + (spent_of D.counts self.new).written
             ≤ (spent_of D.counts self.old).turned + (spent_of D.counts self.old).written + (9 + 60 * (levels_of self.old / 2)) }
-        ensures kept { kept_of D.bytes D.kept self.new ≡ kept_of D.bytes D.kept self.old }
+        ensures kept { kept_of D.bytes D.counts D.kept self.new ≡ kept_of D.bytes D.counts D.kept self.old }
         ensures walks { OnErr result (KeepsWalks (Stands D.bytes self.old) (Stands D.bytes self.new) (Ahead D.bytes self.old) (Ahead D.bytes self.new)) }
     {
         match self.chain.step(key, item, steps) {

@@ -17,7 +17,7 @@ impl<D: Device> Table for Store<D> {
 
     ghost Kept = { Kept D.Kept };
 
-    ghost kept = { kept_of D.bytes D.kept };
+    ghost kept = { kept_of D.bytes D.counts D.kept };
 
     ghost terms = { terms_of };
 

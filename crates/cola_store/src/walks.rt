@@ -32,7 +32,7 @@ impl<D: Device> Store<D> {
         ensures call { Call (terms_of self.old) (terms_of self.new) (spent_of D.counts self.old).faults (spent_of D.counts self.new).faults steps.old steps.new (range_bound (terms_of self.old).depth) }
         ensures left { IfOk result (λ walk. steps.new + left_of walk ≤ steps.old + range_bound (terms_of self.old).depth) }
         ensures faults { ReadFaults result (spent_of D.counts self.old).faults (spent_of D.counts self.new).faults }
-        ensures kept { kept_of D.bytes D.kept self.new ≡ kept_of D.bytes D.kept self.old }
+        ensures kept { kept_of D.bytes D.counts D.kept self.new ≡ kept_of D.bytes D.counts D.kept self.old }
         ensures walks { KeepsWalks (Stands D.bytes self.old) (Stands D.bytes self.new) (Ahead D.bytes self.old) (Ahead D.bytes self.new) }
     {
         let runs = self.chain.visible();
@@ -57,7 +57,7 @@ impl<D: Device> Store<D> {
         ensures refused { OnErr result (walk.new ≡ walk.old) }
         ensures fewer { IfOk result (λ answer. OnSome answer (cells_ahead walk.new < cells_ahead walk.old)) }
         ensures faults { ReadFaults result (spent_of D.counts self.old).faults (spent_of D.counts self.new).faults }
-        ensures kept { kept_of D.bytes D.kept self.new ≡ kept_of D.bytes D.kept self.old }
+        ensures kept { kept_of D.bytes D.counts D.kept self.new ≡ kept_of D.bytes D.counts D.kept self.old }
         ensures walks { KeepsWalks (Stands D.bytes self.old) (Stands D.bytes self.new) (Ahead D.bytes self.old) (Ahead D.bytes self.new) }
     {
         walk.next(&mut self.chain, steps)

@@ -6,8 +6,6 @@ mod entry;
 mod flat;
 mod law;
 mod table;
-#[cfg(test)]
-mod tests;
 
 use cola_cell::Value;
 pub use flat::{FlatTable, FlatWalk};

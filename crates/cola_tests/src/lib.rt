@@ -1,25 +1,38 @@
-//! Sessions as a whole: worked lines with their replies, faults in mid-stream, files that were changed and files that were
-//! copied, and many made lines that the plain slow session answers alike.
+//! Small tests of what no clause says and no session shows: values and edges as worked out by hand, a table to a loop, and
+//! each generic function once at a concrete type, through its bound.
 #![tactic(auto)]
 
 #[cfg(test)]
-mod allowed;
+mod blocks;
 #[cfg(test)]
-mod bytes;
-mod callers;
+mod cell;
 #[cfg(test)]
-mod files;
+mod clock;
 #[cfg(test)]
-mod hostile;
-mod lines;
+mod generated;
 #[cfg(test)]
-mod stored;
+mod image;
 #[cfg(test)]
-mod talk;
+mod io;
 #[cfg(test)]
-mod tests;
+mod layout;
 #[cfg(test)]
-mod upgrades;
-
-pub use callers::found_in_store;
-pub use lines::made_lines;
+mod line;
+#[cfg(test)]
+mod made;
+#[cfg(test)]
+mod objects;
+#[cfg(test)]
+mod pairs;
+#[cfg(test)]
+mod plain;
+#[cfg(test)]
+mod refusing;
+#[cfg(test)]
+mod runs;
+#[cfg(test)]
+mod stores;
+#[cfg(test)]
+mod table;
+#[cfg(test)]
+mod words;

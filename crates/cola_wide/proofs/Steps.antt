@@ -35,7 +35,7 @@ writes-then a b c q r total within x y = record {
   writes_rise = omega (arith, within, x.writes_rise, y.writes_rise);
 }
 
-pub called-reads : {T E : Type 0} (result : Result T E) (a b : Counts) (n total : ℕ) → n ≤ total → Called a b n 0 result → CountsReads a b total
+pub called-reads : {T E : Type 0} {others : ℕ} (result : Result T E) (a b : Counts) (n total : ℕ) → n ≤ total → Called a b n 0 others result → CountsReads a b total
 called-reads result a b n total within called = record {
   faults_stay = called.faults_stay;
   reads_stay = called.reads_stay;
@@ -43,7 +43,7 @@ called-reads result a b n total within called = record {
   writes_is = omega (arith, called.writes_stay, called.writes_rise);
 }
 
-pub called-writes : {T E : Type 0} (result : Result T E) (a b : Counts) (n total : ℕ) → n ≤ total → Called a b 0 n result → CountsWrites a b total
+pub called-writes : {T E : Type 0} {others : ℕ} (result : Result T E) (a b : Counts) (n total : ℕ) → n ≤ total → Called a b 0 n others result → CountsWrites a b total
 called-writes result a b n total within called = record {
   faults_stay = called.faults_stay;
   reads_is = omega (arith, called.reads_stay, called.reads_rise);
@@ -267,7 +267,7 @@ module _ {D E : Type 0} (d : device.Ghosts D) (e : device.Ghosts E) (header : Fi
       no_fault = loaded.no_fault;
     }
 
-    first-written : (result : Result (Unit {0}) UpgradeFault) → Wrote result 0 (splice wide 0 head) (e.bytes to) (e.bytes last) → OnOk result (IsSettled e last) → Called (e.counts to) (e.counts last) 0 1 result → IfErr result (λ fault. fault ≡ Device) →
+    first-written : (result : Result (Unit {0}) UpgradeFault) → Wrote result 0 (splice wide 0 head) (e.bytes to) (e.bytes last) → OnOk result (IsSettled e last) → Called (e.counts to) (e.counts last) 0 1 1 result → IfErr result (λ fault. fault ≡ Device) →
         CopiesAll d e header from now to last head 1 1 result
     first-written (Ok value) wrote settled called fault = record {
       source = all-spelled;
@@ -292,6 +292,6 @@ module _ {D E : Type 0} (d : device.Ghosts D) (e : device.Ghosts E) (header : Fi
     })
     first-written (Err (BadCell number)) wrote settled called fault = cc
 
-    pub first-copied : (left : List ℕ) (result : Result (Unit {0}) UpgradeFault) → left ≡ splice wide 0 head → Wrote result 0 left (e.bytes to) (e.bytes last) → OnOk result (IsSettled e last) → Called (e.counts to) (e.counts last) 0 1 result → IfErr result (λ fault. fault ≡ Device) →
+    pub first-copied : (left : List ℕ) (result : Result (Unit {0}) UpgradeFault) → left ≡ splice wide 0 head → Wrote result 0 left (e.bytes to) (e.bytes last) → OnOk result (IsSettled e last) → Called (e.counts to) (e.counts last) 0 1 1 result → IfErr result (λ fault. fault ≡ Device) →
         CopiesAll d e header from now to last head 1 1 result
     first-copied left result is wrote settled called fault = first-written result (subst (λ (xs : List ℕ). Wrote result 0 xs (e.bytes to) (e.bytes last)) is wrote) settled called fault

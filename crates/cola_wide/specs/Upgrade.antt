@@ -192,11 +192,12 @@ module _ {E : Type 0} (e : device.Ghosts E) (size : ℕ) (before now : E) where
     pub counts : CountsWrites (e.counts before) (e.counts now) 0
     pub no_fault : (e.counts now).faults ≡ (e.counts before).faults
 
-  -- the device had bytes; they stay, and so do the counts
+  -- the device had bytes; they stay, and it met no fault, and read and wrote nothing
   pub record HadBytes : Type 0 where
     pub some : IfSome (e.bytes before) (λ bytes. 0 < length bytes)
     pub bytes_stay : e.bytes now ≡ e.bytes before
-    pub counts_stay : e.counts now ≡ e.counts before
+    pub counts : CountsWrites (e.counts before) (e.counts now) 0
+    pub no_fault : (e.counts now).faults ≡ (e.counts before).faults
 
   -- the device failed: as its size was asked, and its bytes stay; or as it was laid out, and it has at most so many bytes
   pub record FailedLayingOut : Type 0 where

@@ -133,7 +133,7 @@ fn write_first<E: Device>(to: &mut E, wide: &[u8]) -> Result<(), UpgradeFault>
     ensures wrote { Wrote result 0 wide.now (E.bytes to.old) (E.bytes to.new) }
     ensures settled { OnOk result (IsSettled E.Device to.new) }
     ensures fault { IfErr result (λ fault. fault ≡ UpgradeFault.Device) }
-    ensures counts { Called (E.counts to.old) (E.counts to.new) 0 1 result }
+    ensures counts { Called (E.counts to.old) (E.counts to.new) 0 1 1 result }
     ensures kept { E.kept to.new ≡ E.kept to.old }
 {
     match to.write(0, wide) {

@@ -6,8 +6,6 @@ mod copying;
 mod fault;
 mod head;
 mod laying;
-#[cfg(test)]
-mod tests;
 mod upgrading;
 
 pub use fault::UpgradeFault;

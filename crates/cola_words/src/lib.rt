@@ -7,8 +7,6 @@ mod mode;
 mod modes;
 mod options;
 mod sizes;
-#[cfg(test)]
-mod tests;
 mod words;
 
 pub use law::{blocks_suit_levels, options_in_any_order};

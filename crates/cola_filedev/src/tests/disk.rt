@@ -1,10 +1,12 @@
 //! A file system in memory with one small file, which writes down what is asked of it.
-use std::alloc::{AllocError, Allocator, Global};
+ghost use Rattle.std.specs.Prelude.{⊤};
+
+use crate::{OpenedFile, Opener};
+use std::alloc::{AllocError, Global};
 use std::cell::{Cell, RefCell};
 use std::fmt::{Display, Write as _};
-use std::fs::{Metadata, OpenFile, OpenOptions};
-use std::io::{self, ErrorKind, Read, Seek, SeekFrom, Write};
-use std::rt::Files;
+use std::fs::OpenOptions;
+use std::io::{self, ErrorKind};
 
 /// What the file system is like, and what was asked of it so far.
 #[derive(Drop)]
@@ -15,6 +17,8 @@ pub struct Disk {
     at_once: usize,
     /// The call that is refused.
     refused: &'static str,
+    /// Whether the next read or write is interrupted.
+    interrupts: Cell<bool>,
     calls: RefCell<String>,
 }
 
@@ -30,8 +34,14 @@ impl Disk {
             is_there: Cell::new(true),
             at_once,
             refused,
+            interrupts: Cell::new(false),
             calls: RefCell::new(String::new(alloc)),
         })
+    }
+
+    /// Interrupts the next read or write.
+    pub fn interrupt(&self) {
+        self.interrupts.set(true);
     }
 
     /// There is no file.
@@ -61,12 +71,26 @@ impl Disk {
     }
 
     /// Writes a call down, and refuses it where it is the one to be refused.
-    fn note<T: Display + Drop>(&self, call: &str, detail: T) -> io::Result<()> {
+    fn note<T: Display + Drop, U: Display + Drop>(
+        &self,
+        call: &str,
+        first: T,
+        second: U,
+    ) -> io::Result<()> {
         if let Ok(mut calls) = self.calls.try_borrow_mut() {
-            let _ = write!(calls, "{call} {detail}; ");
+            let _ = write!(calls, "{call} {first} {second}; ");
         }
         if call == self.refused {
             return Err(io::Error::from(ErrorKind::Other));
+        }
+        Ok(())
+    }
+
+    /// Writes a read or a write down, and interrupts it where that is due.
+    fn note_at(&self, call: &str, at: u64, count: usize) -> io::Result<()> {
+        self.note(call, at, count)?;
+        if self.interrupts.replace(false) {
+            return Err(io::Error::from(ErrorKind::Interrupted));
         }
         Ok(())
     }
@@ -82,75 +106,59 @@ pub struct Folder<'d> {
 #[derive(Drop)]
 pub struct Opened<'d> {
     disk: &'d Disk,
-    place: usize,
 }
 
-impl<'d> Read for Opened<'d> {
-    fn read(&mut self, buf: &mut [u8]) -> io::Result<usize> {
-        self.disk.note("read", buf.len())?;
-        let mut count = 0;
-        if let Ok(bytes) = self.disk.bytes.try_borrow() {
-            let place = self.place.min(bytes.len());
-            count = buf.len().min(self.disk.at_once).min(bytes.len() - place);
-            buf[..count].copy_from_slice(&bytes[place..place + count]);
-        }
-        self.place = self.place.saturating_add(count);
-        Ok(count)
-    }
-}
+impl<'d> OpenedFile for Opened<'d> {
+    ghost sized = { λ _ _ _. ⊤ };
 
-impl<'d> Write for Opened<'d> {
-    fn write(&mut self, buf: &[u8]) -> io::Result<usize> {
-        self.disk.note("write", buf.len())?;
-        let mut count = 0;
-        if let Ok(mut bytes) = self.disk.bytes.try_borrow_mut() {
-            let place = self.place.min(bytes.len());
-            count = buf.len().min(self.disk.at_once).min(bytes.len() - place);
-            bytes[place..place + count].copy_from_slice(&buf[..count]);
-        }
-        self.place = self.place.saturating_add(count);
-        Ok(count)
-    }
+    ghost cut = { λ _ _ _ _. ⊤ };
 
-    fn flush(&mut self) -> io::Result<()> {
-        self.disk.note("flush", "")
-    }
-}
+    ghost synced = { λ _ _ _. ⊤ };
 
-impl<'d> Seek for Opened<'d> {
-    fn seek(&mut self, to: SeekFrom) -> io::Result<u64> {
-        let SeekFrom::Start(place) = to else {
-            return self.disk.note("seek", "elsewhere").map(|_| 0);
-        };
-        self.disk.note("seek", place)?;
-        self.place = place as usize;
-        Ok(place)
-    }
-}
+    ghost gave = { λ _ _ _ _ _ _. ⊤ };
 
-impl<'d> OpenFile for Opened<'d> {
-    fn metadata(&self) -> io::Result<Metadata> {
-        self.disk.note("metadata", "")?;
+    ghost took = { λ _ _ _ _ _. ⊤ };
+
+    fn size(&mut self) -> io::Result<u64> {
+        self.disk.note("size", "", "")?;
         match self.disk.bytes.try_borrow() {
-            Ok(bytes) => Ok(Metadata::of_file(bytes.len() as u64)),
+            Ok(bytes) => Ok(bytes.len() as u64),
             Err(_) => Err(io::Error::from(ErrorKind::Other)),
         }
     }
 
-    fn set_len(&self, size: u64) -> io::Result<()> {
-        self.disk.note("length", size)?;
+    fn set_size(&mut self, size: u64) -> io::Result<()> {
+        self.disk.note("cut", size, "")?;
         if let Ok(mut bytes) = self.disk.bytes.try_borrow_mut() {
             bytes.resize(size as usize, 0)?;
         }
         Ok(())
     }
 
-    fn sync_all(&self) -> io::Result<()> {
-        self.disk.note("sync", "all")
+    fn sync(&mut self) -> io::Result<()> {
+        self.disk.note("sync", "", "")
     }
 
-    fn sync_data(&self) -> io::Result<()> {
-        self.disk.note("sync", "data")
+    fn read_at(&mut self, at: u64, into: &mut [u8]) -> io::Result<usize> {
+        self.disk.note_at("read", at, into.len())?;
+        let mut count = 0;
+        if let Ok(bytes) = self.disk.bytes.try_borrow() {
+            let place = (at as usize).min(bytes.len());
+            count = into.len().min(self.disk.at_once).min(bytes.len() - place);
+            into[..count].copy_from_slice(&bytes[place..place + count]);
+        }
+        Ok(count)
+    }
+
+    fn write_at(&mut self, at: u64, from: &[u8]) -> io::Result<usize> {
+        self.disk.note_at("write", at, from.len())?;
+        let mut count = 0;
+        if let Ok(mut bytes) = self.disk.bytes.try_borrow_mut() {
+            let place = (at as usize).min(bytes.len());
+            count = from.len().min(self.disk.at_once).min(bytes.len() - place);
+            bytes[place..place + count].copy_from_slice(&from[..count]);
+        }
+        Ok(count)
     }
 }
 
@@ -158,13 +166,13 @@ fn flag(is_set: bool, letter: &'static str) -> &'static str {
     if is_set { letter } else { "" }
 }
 
-impl<'d> Files for Folder<'d> {
+impl<'d> Opener for Folder<'d> {
     type File = Opened<'d>;
 
-    type Dir = io::Empty;
+    ghost opened = { λ _ _ _ _. ⊤ };
 
     /// The options are written down as letters: read, write, append, truncate, create, new.
-    fn open_file(&self, how: &OpenOptions, path: &str) -> io::Result<Opened<'d>> {
+    fn open(self, path: &str, how: &OpenOptions) -> io::Result<Opened<'d>> {
         let disk = self.disk;
         if let Ok(mut calls) = disk.calls.try_borrow_mut() {
             let access = (
@@ -183,47 +191,11 @@ impl<'d> Files for Folder<'d> {
                 access.0, access.1, access.2, making.0, making.1, making.2
             );
         }
-        disk.note("open", path)?;
+        disk.note("open", path, "")?;
         if !disk.is_there() && !how.asks_create() {
             return Err(io::Error::from(ErrorKind::NotFound));
         }
         disk.is_there.set(true);
-        Ok(Opened { disk, place: 0 })
-    }
-
-    fn open_dir(&self, _path: &str) -> io::Result<io::Empty> {
-        Err(io::Error::from(ErrorKind::Unsupported))
-    }
-
-    fn metadata(&self, _path: &str) -> io::Result<Metadata> {
-        Err(io::Error::from(ErrorKind::Unsupported))
-    }
-
-    fn symlink_metadata(&self, _path: &str) -> io::Result<Metadata> {
-        Err(io::Error::from(ErrorKind::Unsupported))
-    }
-
-    fn copy(&self, _from: &str, _to: &str) -> io::Result<u64> {
-        Err(io::Error::from(ErrorKind::Unsupported))
-    }
-
-    fn rename(&self, _from: &str, _to: &str) -> io::Result<()> {
-        Err(io::Error::from(ErrorKind::Unsupported))
-    }
-
-    fn remove_file(&self, _path: &str) -> io::Result<()> {
-        Err(io::Error::from(ErrorKind::Unsupported))
-    }
-
-    fn create_dir(&self, _path: &str) -> io::Result<()> {
-        Err(io::Error::from(ErrorKind::Unsupported))
-    }
-
-    fn remove_dir(&self, _path: &str) -> io::Result<()> {
-        Err(io::Error::from(ErrorKind::Unsupported))
-    }
-
-    fn remove_dir_all<B: Allocator>(&self, _alloc: B, _path: &str) -> io::Result<()> {
-        Err(io::Error::from(ErrorKind::Unsupported))
+        Ok(Opened { disk })
     }
 }

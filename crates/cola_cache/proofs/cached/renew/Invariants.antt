@@ -9,5 +9,5 @@ abbrev pub invariant-loop-step : goal.invariant-loop-step
 invariant-loop-step l = record {
   room : length l.copies ≡ length l.initial.copies;
   agree : (told now : Option (List ℕ)) → IsWritten l.at l.from told now → HasRange told l.at (length l.from) → Agree told l.order l.initial.copies l.size
-      → (buffer block : ℕ) → Holds l.order buffer block → IsRenewed told now (l.at / l.size) (l.at / l.size + l.step) l.size block (part l.copies (buffer * l.size) l.size);
+      → (frame block : ℕ) → Holds l.order frame block → IsRenewed told now (l.at / l.size) (l.at / l.size + l.step) l.size block (part l.copies (frame * l.size) l.size);
 }

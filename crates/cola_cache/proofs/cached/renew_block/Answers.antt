@@ -7,40 +7,40 @@ use Rattle.cola_cache.proofs.CacheLemmas.{apart, part-apart, renewed, slice-is, 
 use Rattle.cola_cache.proofs.cached.renew_block.Goals as goal
 
 pub returns-in-Some-clause-here : goal.returns-in-Some-clause-here
-returns-in-Some-clause-here c = λ told now buffer written inside holds given.
+returns-in-Some-clause-here c = λ told now frame written inside holds given.
     let into : ℕ = c.piece-into.result.0 in
     let gone : ℕ = c.piece-into.result.1 in
     let count : ℕ = c.piece-into.result.2 in
     let start : ℕ = (c.args.at / c.args.size + c.args.step) * c.args.size in
-    let this : buffer ≡ c.in-Some.buffer = c.in-Some.ensures.one buffer holds in
-    let below : c.in-Some.buffer < length c.args.order.now = c.in-Some.ensures.some.1 in
-    let end = apart c.in-Some.buffer (length c.args.order.now) c.args.size below in
-    let room : c.in-Some.buffer * c.args.size + c.args.size ≤ length c.args.copies.now = omega (arith, end, c.requires.room) in
-    let made : c.copy_in.new.copies ≡ splice c.args.copies.now (c.in-Some.buffer * c.args.size + into) (part c.args.from.now gone count) =
-    c.copy_in.ensures ∙ ap (splice c.args.copies.now (c.in-Some.buffer * c.args.size + into)) (slice-is c.args.from.now gone count) in
-    let found : Gives told start (part c.args.copies.now (c.in-Some.buffer * c.args.size) c.args.size) =
+    let this : frame ≡ c.in-Some.frame = c.in-Some.ensures.one frame holds in
+    let below : c.in-Some.frame < length c.args.order.now = c.in-Some.ensures.some.1 in
+    let end = apart c.in-Some.frame (length c.args.order.now) c.args.size below in
+    let room : c.in-Some.frame * c.args.size + c.args.size ≤ length c.args.copies.now = omega (arith, end, c.requires.room) in
+    let made : c.copy_in.new.copies ≡ splice c.args.copies.now (c.in-Some.frame * c.args.size + into) (part c.args.from.now gone count) =
+    c.copy_in.ensures ∙ ap (splice c.args.copies.now (c.in-Some.frame * c.args.size + into)) (slice-is c.args.from.now gone count) in
+    let found : Gives told start (part c.args.copies.now (c.in-Some.frame * c.args.size) c.args.size) =
     subst (λ (number : ℕ). Gives told start (part c.args.copies.now (number * c.args.size) c.args.size)) this given in
     subst (λ (number : ℕ). Gives now start (part c.copy_in.new.copies (number * c.args.size) c.args.size)) (sym this)
-    (subst (λ (bytes : List ℕ). Gives now start (part bytes (c.in-Some.buffer * c.args.size) c.args.size)) (sym made)
-    (renewed told now c.args.from.now c.args.copies.now c.args.at start c.args.size (c.in-Some.buffer * c.args.size) into gone count written inside room (omega (arith, c.requires.size))
+    (subst (λ (bytes : List ℕ). Gives now start (part bytes (c.in-Some.frame * c.args.size) c.args.size)) (sym made)
+    (renewed told now c.args.from.now c.args.copies.now c.args.at start c.args.size (c.in-Some.frame * c.args.size) into gone count written inside room (omega (arith, c.requires.size))
     (begins-at c.args.at c.args.size c.args.step into gone c.piece-into.ensures.place) c.piece-into.ensures.fits c.piece-into.ensures.enough c.piece-into.ensures.head c.piece-into.ensures.tail found))
 
 pub returns-in-Some-clause-others : goal.returns-in-Some-clause-others
-returns-in-Some-clause-others c = λ buffer block holds differ.
+returns-in-Some-clause-others c = λ frame block holds differ.
     let into : ℕ = c.piece-into.result.0 in
     let gone : ℕ = c.piece-into.result.1 in
     let count : ℕ = c.piece-into.result.2 in
-    let below : c.in-Some.buffer < length c.args.order.now = c.in-Some.ensures.some.1 in
-    let end = apart c.in-Some.buffer (length c.args.order.now) c.args.size below in
-    let room : c.in-Some.buffer * c.args.size + c.args.size ≤ length c.args.copies.now = omega (arith, end, c.requires.room) in
-    let made : c.copy_in.new.copies ≡ splice c.args.copies.now (c.in-Some.buffer * c.args.size + into) (part c.args.from.now gone count) =
-    c.copy_in.ensures ∙ ap (splice c.args.copies.now (c.in-Some.buffer * c.args.size + into)) (slice-is c.args.from.now gone count) in
-    let other : buffer ≢ c.in-Some.buffer = λ same. differ (holds-one c.in-Some.buffer block (c.args.at / c.args.size + c.args.step) c.args.order.now (subst (λ (number : ℕ). Holds c.args.order.now number block) same holds) c.in-Some.ensures.some.0) in
+    let below : c.in-Some.frame < length c.args.order.now = c.in-Some.ensures.some.1 in
+    let end = apart c.in-Some.frame (length c.args.order.now) c.args.size below in
+    let room : c.in-Some.frame * c.args.size + c.args.size ≤ length c.args.copies.now = omega (arith, end, c.requires.room) in
+    let made : c.copy_in.new.copies ≡ splice c.args.copies.now (c.in-Some.frame * c.args.size + into) (part c.args.from.now gone count) =
+    c.copy_in.ensures ∙ ap (splice c.args.copies.now (c.in-Some.frame * c.args.size + into)) (slice-is c.args.from.now gone count) in
+    let other : frame ≢ c.in-Some.frame = λ same. differ (holds-one c.in-Some.frame block (c.args.at / c.args.size + c.args.step) c.args.order.now (subst (λ (number : ℕ). Holds c.args.order.now number block) same holds) c.in-Some.ensures.some.0) in
     let long : length (part c.args.from.now gone count) ≡ count = length-part c.args.from.now gone count c.piece-into.ensures.enough in
     let fits : into + length (part c.args.from.now gone count) ≤ c.args.size = omega (arith, long, c.piece-into.ensures.fits) in
-    ap (λ (bytes : List ℕ). part bytes (buffer * c.args.size) c.args.size) made
-    ∙ part-apart c.args.copies.now (part c.args.from.now gone count) c.in-Some.buffer buffer c.args.size into other fits room
+    ap (λ (bytes : List ℕ). part bytes (frame * c.args.size) c.args.size) made
+    ∙ part-apart c.args.copies.now (part c.args.from.now gone count) c.in-Some.frame frame c.args.size into other fits room
 
 pub returns-in-None-clause-here : goal.returns-in-None-clause-here
-returns-in-None-clause-here c = λ told now buffer written inside holds given.
-    absurd (holds-absent (c.args.at / c.args.size + c.args.step) buffer c.args.order.now (c.in-None.ensures.none refl) holds)
+returns-in-None-clause-here c = λ told now frame written inside holds given.
+    absurd (holds-absent (c.args.at / c.args.size + c.args.step) frame c.args.order.now (c.in-None.ensures.none refl) holds)

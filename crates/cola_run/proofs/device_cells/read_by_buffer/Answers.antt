@@ -5,7 +5,7 @@ use Rattle.cola_cell.specs.Flat.{found}
 use Rattle.cola_cell.specs.Places.{number_of}
 use Rattle.cola_cell.specs.Decoded.{decoded}
 use Rattle.cola_front.specs.Front.{cell_bytes}
-use Rattle.cola_buffers.specs.Blocks.{last_in}
+use Rattle.cola_cache.specs.Blocks.{last_in}
 use Rattle.cola_device.specs.Bytes.{Gives}
 use Rattle.cola_run.specs.Cells.{block_cells, block_number, block_bytes}
 use Rattle.cola_run.specs.Turns.{Turns}

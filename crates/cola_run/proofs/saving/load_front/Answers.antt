@@ -8,7 +8,7 @@ use Rattle.cola_cell.specs.Decoded.{decoded}
 use Rattle.cola_device.specs.Bytes.{Gives}
 use Rattle.cola_front.specs.Front.{block_size, cell_at, cell_bytes}
 use Rattle.cola_front.proofs.Stored.{loaded_told, both_loaded}
-use Rattle.cola_buffers.specs.Blocks.{last_in}
+use Rattle.cola_cache.specs.Blocks.{last_in}
 use Rattle.cola_run.proofs.saving.load_front.Goals as goal
 
 -- where the second block begins

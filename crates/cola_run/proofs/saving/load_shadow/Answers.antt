@@ -6,7 +6,7 @@ use Rattle.cola_cell.specs.Places.{slot_size}
 use Rattle.cola_cell.specs.Shadows.{emptied}
 use Rattle.cola_device.specs.Bytes.{splice, Gives}
 use Rattle.cola_layout.proofs.Places.{slot-blocks}
-use Rattle.cola_buffers.specs.Blocks.{last_in}
+use Rattle.cola_cache.specs.Blocks.{last_in}
 use Rattle.cola_run.specs.Cells.{IsOnDevice, block_cells, block_bytes, block_number}
 use Rattle.cola_run.specs.Parts.{OneShadow}
 use Rattle.cola_run.proofs.Calls.{one-again}

@@ -38,6 +38,37 @@ returns-in-Err-clause-wrote g c =
     let inside : HasRange (told c.args.buffers.now.cache.device) 0 (2 * block_size f) =
     subst (λ (n : ℕ). HasRange (told c.args.buffers.now.cache.device) 0 (2 * n)) size (two-of (told c.args.buffers.now.cache.device) c.args.buffers.now.many c.args.buffers.now.cache.size c.requires.many c.block_size-size.ensures.sound.inside) in
     let both =
-    store_refused f sound c.args.header.now (omega (arith, c.told-header)) DeviceFault c.in-Err.fault (1 * c.args.buffers.now.cache.size) c.put_second.new.block (told c.args.buffers.now.cache.device) (told c.write_block.new.self.cache.device)
+    store_refused f sound c.args.header.now (omega (arith, c.told-header)) DeviceFault c.in-Err.refusal (1 * c.args.buffers.now.cache.size) c.put_second.new.block (told c.args.buffers.now.cache.device) (told c.write_block.new.self.cache.device)
     one c.put_second.ensures.put inside c.in-Err.ensures.wrote in
     both.0
+
+pub returns-in-Ok-clause-in_order : goal.returns-in-Ok-clause-in_order
+returns-in-Ok-clause-in_order g c =
+    let f = c.args.front.now in
+    let told = g.D.Device.bytes in
+    let sound = c.put_second.ensures.sound in
+    let size : c.args.buffers.now.cache.size ≡ block_size f = c.requires.size in
+    let now : c.write_block.new.self.cache.size ≡ block_size f = c.write_block.ensures.stays.size ∙ size in
+    let one : 1 * c.args.buffers.now.cache.size ≡ block_size f = omega (arith, size) in
+    let none : 0 * c.write_block.new.self.cache.size ≡ 0 = omega arith in
+    let inside : HasRange (told c.args.buffers.now.cache.device) 0 (2 * block_size f) =
+    subst (λ (n : ℕ). HasRange (told c.args.buffers.now.cache.device) 0 (2 * n)) size (two-of (told c.args.buffers.now.cache.device) c.args.buffers.now.many c.args.buffers.now.cache.size c.requires.many c.block_size-size.ensures.sound.inside) in
+    let both =
+    store_tried f sound c.args.header.now (omega (arith, c.told-header)) DeviceFault c.in-Ok.field-0 c.write_block-in-Ok.result (1 * c.args.buffers.now.cache.size) c.put_second.new.block c.put_first.new.block
+    (told c.args.buffers.now.cache.device) (told c.write_block.new.self.cache.device) (told c.write_block-in-Ok.new.self.cache.device) one c.put_second.ensures.put c.put_first.ensures.put inside c.in-Ok.ensures.wrote
+    (subst (λ (n : ℕ). Wrote c.write_block-in-Ok.result n c.put_first.new.block (told c.write_block.new.self.cache.device) (told c.write_block-in-Ok.new.self.cache.device)) none c.write_block-in-Ok.ensures.wrote) in
+    both.1
+
+pub returns-in-Err-clause-in_order : goal.returns-in-Err-clause-in_order
+returns-in-Err-clause-in_order g c =
+    let f = c.args.front.now in
+    let told = g.D.Device.bytes in
+    let sound = c.put_second.ensures.sound in
+    let size : c.args.buffers.now.cache.size ≡ block_size f = c.requires.size in
+    let one : 1 * c.args.buffers.now.cache.size ≡ block_size f = omega (arith, size) in
+    let inside : HasRange (told c.args.buffers.now.cache.device) 0 (2 * block_size f) =
+    subst (λ (n : ℕ). HasRange (told c.args.buffers.now.cache.device) 0 (2 * n)) size (two-of (told c.args.buffers.now.cache.device) c.args.buffers.now.many c.args.buffers.now.cache.size c.requires.many c.block_size-size.ensures.sound.inside) in
+    let both =
+    store_refused f sound c.args.header.now (omega (arith, c.told-header)) DeviceFault c.in-Err.refusal (1 * c.args.buffers.now.cache.size) c.put_second.new.block (told c.args.buffers.now.cache.device) (told c.write_block.new.self.cache.device)
+    one c.put_second.ensures.put inside c.in-Err.ensures.wrote in
+    both.1

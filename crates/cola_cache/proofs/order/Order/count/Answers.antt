@@ -4,13 +4,13 @@ use Rattle.cola_cache.proofs.OrderLemmas.{below-lookup, none-held, length-blocks
 use Rattle.cola_cache.proofs.order.Order.count.Goals as goal
 
 pub returns-clause-below : goal.returns-clause-below
-returns-clause-below c = λ buffer block holds.
-    let entries : Holds c.self.inside.slots.entries buffer block = rw c.self.view_is holds in
-    let below : buffer < c.self.inside.count = below-lookup buffer c.self.inside.count (Some block) c.self.inside.slots.entries c.self.invariant.1 entries in
+returns-clause-below c = λ frame block holds.
+    let entries : Holds c.self.inside.slots.entries frame block = rw c.self.view_is holds in
+    let below : frame < c.self.inside.count = below-lookup frame c.self.inside.count (Some block) c.self.inside.slots.entries c.self.invariant.1 entries in
     rw (← c.self.view_is) (omega (arith, below, c.self.invariant.2))
 
 pub returns-clause-none : goal.returns-clause-none
-returns-clause-none c = λ none. rw (← c.self.view_is) (none-held c.self.inside.slots.entries c.self.invariant.0 (λ buffer block holds. none buffer block (rw (← c.self.view_is) holds)))
+returns-clause-none c = λ none. rw (← c.self.view_is) (none-held c.self.inside.slots.entries c.self.invariant.0 (λ frame block holds. none frame block (rw (← c.self.view_is) holds)))
 
 pub returns-clause-few : goal.returns-clause-few
 returns-clause-few c = length-blocks c.args.self.now

@@ -11,7 +11,7 @@ invariant_of-self g c =
     let s = c.self.inside in
     let old : Contents g.row.D.Denot = record { store = s.runs; levels = s.levels.items; clock = s.clock; accepted = s.accepted; reads = s.reads; writes = s.writes; counted = s.counted } in
     let new : Contents g.row.D.Denot = record { store = c.read.new.self; levels = s.levels.items; clock = s.clock; accepted = s.accepted; reads = s.reads; writes = s.writes; counted = s.counted } in
-    let kept : kept_of g.D.Device.bytes g.D.Device.kept new ≡ kept_of g.D.Device.bytes g.D.Device.kept old =
+    let kept : kept_of g.D.Device.bytes g.D.Device.counts g.D.Device.kept new ≡ kept_of g.D.Device.bytes g.D.Device.counts g.D.Device.kept old =
     ap (λ (k : run.Kept g.D.Device.Kept). record { store = k; levels = s.levels.items; clock = s.clock; accepted = s.accepted; reads = s.reads; writes = s.writes }) c.read.ensures.kept in
     record {
       stands = subst (λ (h : Held). IsChain h s.clock s.levels.items) (sym c.read.ensures.cells_stay) c.self.invariant.stands;

@@ -5,7 +5,7 @@ use Rattle.cola_run.specs.Saving.{SameReads}
 use Rattle.cola_run.specs.Loading.{SameCells}
 use Rattle.std.proofs.lemmas.List.{with_items_is}
 use Rattle.std.specs.Vec.{with_items}
-use Rattle.cola_buffers.specs.Blocks.{Made}
+use Rattle.cola_cache.specs.Blocks.{Made}
 use Rattle.cola_run.proofs.run_store.RunStore.flush.Goals as goal
 
 pub returns-clause-reads : goal.returns-clause-reads

@@ -3,7 +3,7 @@ use Rattle.std.specs.Prelude.{IfSome}
 use Rattle.cola_run.specs.Cells.{block_bytes, spots_of, IsBacked}
 use Rattle.cola_run.specs.Store.{Store, cells_of}
 use Rattle.std.proofs.lemmas.List.{length-map}
-use Rattle.cola_buffers.specs.Blocks.{forgotten}
+use Rattle.cola_cache.specs.Blocks.{forgotten}
 use Rattle.cola_device.proofs.SettlingLemmas.{settled-by}
 use Rattle.cola_run.proofs.Heads.{heads-backed, heads-spots, block-least}
 use Rattle.cola_run.proofs.run_store.RunStore.mark_in_use.Goals as goal

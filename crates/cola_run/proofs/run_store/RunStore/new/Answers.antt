@@ -7,7 +7,7 @@ use Rattle.cola_layout.specs.declared.geometry.Geometry.{Geometry}
 use Rattle.cola_run.specs.Cells.{block_cells, block_bytes, file_blocks, device_levels}
 use Rattle.cola_run.specs.Store.{Store, IsStore}
 use Rattle.cola_cell.specs.Shadows.{emptied}
-use Rattle.cola_buffers.specs.Blocks.{Blocks, new_blocks}
+use Rattle.cola_cache.specs.Blocks.{Blocks, new_blocks}
 use Rattle.cola_device.specs.declared.counts.Counts.{Counts}
 use Rattle.cola_front.specs.Front.{new_front}
 use Rattle.cola_run.specs.Store.{new_store}

@@ -104,7 +104,7 @@ returns-clause-kept g c =
     c.finish_on_device.ensures.finished)) in
     let writing = subst (λ (xs : List Shadow). Writing g.D.Device.counts g.D.Device.kept (not (shadow_at xs c.args.level).saved) i.buffers c.finish_on_device.new.buffers (block_number i.geometry c.args.level (shadow_at xs c.args.level).slot (shadow_at xs c.args.level).len) c.finish_on_device.result)
     c.deref_mut-2.ensures.value c.finish_on_device.ensures.writing in
-    finished-keeps g.D.Device.bytes g.D.Device.counts g.D.Device.kept view now c.args.level c.finish_on_device.result c.self.invariant device refl refl finished writing (omega arith) ∙ ap (λ (s : Store _). kept_of g.D.Device.bytes g.D.Device.kept s) c.self.view_is
+    finished-keeps g.D.Device.bytes g.D.Device.counts g.D.Device.kept view now c.args.level c.finish_on_device.result c.self.invariant device refl refl finished writing (omega arith) ∙ ap (λ (s : Store _). kept_of g.D.Device.bytes g.D.Device.counts g.D.Device.kept s) c.self.view_is
 
 pub returns-clause-finishes : goal.returns-clause-finishes
 returns-clause-finishes g c =

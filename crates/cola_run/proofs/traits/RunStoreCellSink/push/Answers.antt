@@ -142,7 +142,7 @@ returns-clause-kept g c =
     c.push_on_device.ensures.pushed))) in
     let writing = subst (λ (xs : List Shadow). Writing g.D.Device.counts g.D.Device.kept (fills i.geometry (shadow_at xs c.args.level).len) i.buffers c.push_on_device.new.buffers (block_number i.geometry c.args.level (shadow_at xs c.args.level).slot (shadow_at xs c.args.level).len) c.push_on_device.result)
     c.deref_mut-2.ensures.value c.push_on_device.ensures.writing in
-    pushed-keeps g.D.Device.bytes g.D.Device.counts g.D.Device.kept view now c.args.level c.args.cell.now c.push_on_device.result c.self.invariant device room refl refl pushed writing (ticked-by i.ticked c.push_on_device.result pushed.fault) ∙ ap (λ (s : Store _). kept_of g.D.Device.bytes g.D.Device.kept s) c.self.view_is
+    pushed-keeps g.D.Device.bytes g.D.Device.counts g.D.Device.kept view now c.args.level c.args.cell.now c.push_on_device.result c.self.invariant device room refl refl pushed writing (ticked-by i.ticked c.push_on_device.result pushed.fault) ∙ ap (λ (s : Store _). kept_of g.D.Device.bytes g.D.Device.counts g.D.Device.kept s) c.self.view_is
 
 pub returns-clause-pushes : goal.returns-clause-pushes
 returns-clause-pushes g c =

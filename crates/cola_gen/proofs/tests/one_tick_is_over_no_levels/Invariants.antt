@@ -1,5 +1,0 @@
--- The ledger of the steps is the one that the blank opens.
-use Rattle.cola_gen.proofs.tests.one_tick_is_over_no_levels.Given as goal
-
-abbrev pub ghosts-run_alone : goal.ghosts-run_alone
-ghosts-run_alone g a = record { name = a.blank.name; parts = a.blank.parts }

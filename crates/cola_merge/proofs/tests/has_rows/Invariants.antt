@@ -1,5 +1,0 @@
-use Rattle.std.proofs.Common.{◌≡◌}
-use Rattle.cola_merge.proofs.tests.has_rows.Given as goal
-
-abbrev pub invariant-loop-i : goal.invariant-loop-i
-invariant-loop-i g l = (g.W.CellSource.held l.work).fixed ≡ (g.W.CellSource.held l.fn.work).fixed

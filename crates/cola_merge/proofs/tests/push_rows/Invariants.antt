@@ -1,5 +1,0 @@
-use Rattle.std.proofs.Common.{◌≡◌}
-use Rattle.cola_merge.proofs.tests.push_rows.Given as goal
-
-abbrev pub invariant-loop-row : goal.invariant-loop-row
-invariant-loop-row g l = ((g.W.CellSource.held l.work).fixed ≡ (g.W.CellSource.held l.fn.work).fixed) × (l.slot ≡ ((g.W.CellSource.held l.work).shadows l.level).slot)

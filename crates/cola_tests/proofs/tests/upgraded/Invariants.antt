@@ -1,4 +1,0 @@
-use Rattle.cola_tests.proofs.tests.upgraded.Given as goal
-
-abbrev pub ghosts-run_on : goal.ghosts-run_on
-ghosts-run_on g a = record { name = a.blank.name; parts = a.blank.parts }

@@ -1,0 +1,216 @@
+//! Lines in any pieces, faults in mid-stream, sinks with little room, and how often std is called.
+ghost use Rattle.std.specs.Prelude.{None};
+
+use arrayvec::ArrayVec;
+use cola_io::{
+    LineReader, MemorySink, MemorySource, Next, Sink, SinkFault, Source, SourceFault, StdSink,
+    StdSource, put_all,
+};
+use std::alloc::{AllocError, Global};
+use std::io::{self, Read, Write};
+use std::process::Abort;
+use std::test::Fail;
+
+/// Gives one byte at a time.
+#[derive(Drop)]
+struct Bytewise {
+    bytes: Vec<u8>,
+    at: usize,
+}
+
+impl Source for Bytewise {
+    ghost left = { λ _. None };
+
+    ghost faults = { λ _. 0 };
+
+    ghost reads = { λ _ _ _ _. Unit {0} };
+
+    fn read(&mut self, into: &mut [u8]) -> Result<usize, SourceFault> {
+        if self.at >= self.bytes.len() {
+            return Ok(0);
+        }
+        into[0] = self.bytes[self.at];
+        self.at += 1;
+        Ok(1)
+    }
+}
+
+/// Takes one byte at a time.
+#[derive(Drop)]
+struct Slow {
+    sink: MemorySink,
+}
+
+impl Sink for Slow {
+    ghost written = { λ s. ⟦<MemorySink as Sink>⟧.written s.sink };
+
+    ghost faults = { λ s. ⟦<MemorySink as Sink>⟧.faults s.sink };
+
+    fn write(&mut self, from: &[u8]) -> Result<usize, SinkFault> {
+        self.sink.write(&from[..1])
+    }
+}
+
+/// A reader and a writer whose first call is interrupted, whose second one moves no byte, and whose
+/// third one moves one.
+#[derive(Drop)]
+struct Slowly {
+    calls: u64,
+}
+
+impl Slowly {
+    fn next(&mut self) -> io::Result<usize> {
+        self.calls = self.calls.saturating_add(1);
+        match self.calls {
+            1 => Err(io::Error::from(io::ErrorKind::Interrupted)),
+            2 => Ok(0),
+            _ => Ok(1),
+        }
+    }
+}
+
+impl Read for Slowly {
+    fn read(&mut self, into: &mut [u8]) -> io::Result<usize> {
+        Ok(self.next()?.min(into.len()))
+    }
+}
+
+impl Write for Slowly {
+    fn write(&mut self, from: &[u8]) -> io::Result<usize> {
+        Ok(self.next()?.min(from.len()))
+    }
+
+    fn flush(&mut self) -> io::Result<()> {
+        Ok(())
+    }
+}
+
+/// The answers of a reader, a line each, up to the end or the budget.
+fn answers<S: Source>(source: &mut S, limit: u64, alloc: Global) -> Result<Vec<u8>, AllocError> {
+    let mut reader = LineReader::new(limit);
+    let mut out = Vec::new(alloc);
+    for _ in 0..20 {
+        match reader.next_line(source) {
+            Next::Line => {
+                out.extend_from_slice(reader.text())?;
+                out.push(b'\n')?;
+            }
+            Next::TooLong => out.extend_from_slice(b"<long>\n")?,
+            Next::Fault => out.extend_from_slice(b"<fault>\n")?,
+            Next::End => {
+                out.extend_from_slice(b"<end>")?;
+                return Ok(out);
+            }
+            Next::Budget => {
+                out.extend_from_slice(b"<budget>")?;
+                return Ok(out);
+            }
+        }
+    }
+    Ok(out)
+}
+
+// The bytes are answered so from memory at once, byte by byte, and from a reader of std.
+fn is_answered(
+    rt: &impl Abort,
+    alloc: Global,
+    input: &[u8],
+    limit: u64,
+    want: &[u8],
+) -> Result<(), Fail> {
+    let mut whole = MemorySource {
+        bytes: input.to_vec(alloc)?,
+        at: 0,
+        calls: 0,
+        failing: Vec::new(alloc),
+    };
+    assert_eq!(rt; answers(&mut whole, limit, alloc)?.as_slice(), want);
+    let mut pieces = Bytewise {
+        bytes: input.to_vec(alloc)?,
+        at: 0,
+    };
+    assert_eq!(rt; answers(&mut pieces, limit, alloc)?.as_slice(), want);
+    let mut reader = StdSource::new(input);
+    assert_eq!(rt; answers(&mut reader, limit, alloc)?.as_slice(), want);
+    Ok(())
+}
+
+// Bytes, how many may be taken, and the answers.
+const LINES: [(&[u8], u64, &[u8]); 6] = [
+    (b"put a 1\nget a\n", 8, b"put a 1\n<budget>"),
+    (b"put a 1\nget a\n", 14, b"put a 1\nget a\n<budget>"),
+    (b"put a 1\nget a\n", 15, b"put a 1\nget a\n<end>"),
+    (b"", 1, b"<end>"),
+    (b"", 0, b"<budget>"),
+    (b"a\r\n\r\n\nb\r\r\nc\r", 100, b"a\n\n\nb\r\nc\n<end>"),
+];
+
+// Lines of 160 and of 161 bytes among them.
+#[test]
+fn lines_in_any_pieces(rt: HostRuntime) -> Result<(), Fail> {
+    let alloc = rt.alloc();
+    for (input, limit, want) in LINES {
+        is_answered(&rt, alloc, input, limit, want)?;
+    }
+    let mut input = vec![in alloc; b'x'; 160]?;
+    let mut want = input.clone()?;
+    input.push(b'\n')?;
+    for _ in 0..161 {
+        input.push(b'y')?;
+    }
+    input.extend_from_slice(b"\nget a\n")?;
+    want.extend_from_slice(b"\n<long>\nget a\n<end>")?;
+    is_answered(&rt, alloc, input.as_slice(), 1000, want.as_slice())
+}
+
+#[test]
+fn fault_in_mid_stream(rt: HostRuntime) -> Result<(), Fail> {
+    let alloc = rt.alloc();
+    let mut source = MemorySource {
+        bytes: b"put a 1\nget".to_vec(alloc)?,
+        at: 0,
+        calls: 0,
+        failing: vec![in alloc; 2u64]?,
+    };
+    assert_eq!(rt;
+        answers(&mut source, 100, alloc)?.as_slice(),
+        b"put a 1\n<fault>\nget\n<end>".as_slice()
+    );
+    assert_eq!(rt; source.calls, 3);
+    Ok(())
+}
+
+#[test]
+fn sinks_with_room(rt: HostRuntime) -> Result<(), Fail> {
+    let alloc = rt.alloc();
+    let mut sink = MemorySink::new(alloc, 4, Vec::new(alloc))?;
+    assert_eq!(rt; put_all(&mut sink, b"abc"), Ok(()));
+    assert_eq!(rt; put_all(&mut sink, b"def"), Err(SinkFault));
+    assert_eq!(rt; sink.bytes(), b"abcd".as_slice());
+    let mut slow = Slow {
+        sink: MemorySink::new(alloc, 9, vec![in alloc; 3u64]?)?,
+    };
+    assert_eq!(rt; put_all(&mut slow, b"abc"), Err(SinkFault));
+    assert_eq!(rt; put_all(&mut slow, b"def"), Ok(()));
+    assert_eq!(rt; slow.sink.bytes(), b"abdef".as_slice());
+    let held: ArrayVec<u8, 2> = ArrayVec::new();
+    let mut real = StdSink::new(held);
+    assert_eq!(rt; put_all(&mut real, b"ab"), Ok(()));
+    assert_eq!(rt; put_all(&mut real, b"c"), Err(SinkFault));
+    Ok(())
+}
+
+// No clause can say how often the reader or the writer of std is called.
+#[test]
+fn one_call_of_std_for_each(rt: HostRuntime) -> Result<(), Fail> {
+    let mut source = StdSource::new(Slowly { calls: 0 });
+    let mut sink = StdSink::new(Slowly { calls: 0 });
+    let mut into = [0; 8];
+    assert_eq!(rt; source.read(&mut into), Err(SourceFault));
+    assert_eq!(rt; sink.write(b"abc"), Err(SinkFault));
+    assert_eq!(rt; source.read(&mut into), Ok(0));
+    assert_eq!(rt; sink.write(b"abc"), Err(SinkFault));
+    assert_eq!(rt; source.read(&mut into), Ok(1));
+    assert_eq!(rt; sink.write(b"abc"), Ok(1));
+    Ok(())
+}
