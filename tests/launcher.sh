@@ -110,7 +110,7 @@ mkdir "$room/elsewhere"
 cd "$room/elsewhere" || exit 1
 run "$copy/cola" 0 'two words' '' '*' $'a\nb' -- "\$x" <<<'some input'
 check 'the first use builds' builds 1
-if [ "$(getconf _NPROCESSORS_ONLN)" -gt 1 ] && [ "$(awk '/^MemAvailable:/ { print int($2 / 4000000) }' /proc/meminfo)" -gt 0 ]; then
+if [ "$(nproc 2>/dev/null || getconf _NPROCESSORS_ONLN)" -gt 1 ] && [ "$(awk '/^MemAvailable:/ { print int($2 / 4000000) }' /proc/meminfo)" -gt 0 ]; then
     check 'what the first use stands on is proved side by side, once' \
         test "$(cat "$BUILDS.beside")" = 'beside low low:;beside: low;'
     check 'what was built side by side is in its place' test "$(cat "$copy/crates/low/out/rlib/stamp")" = built
