@@ -1,5 +1,5 @@
 -- Blocks that are held, copies that agree and reads that are few, through reads and writes.
-use Rattle.std.proofs.Common.{◌≡◌, ◌≢◌, ⊎_elim, ℕ, zero, suc, ◌+◌, ◌-◌, ◌*◌, ◌/◌, ◌%◌, ◌^◌, ◌≤◌, ◌<◌, ◌==◌, true, false, cond, if◌then◌else◌, List, [], ◌∷◌, length, take, drop, set, map, Option, Some, None, Result, Ok, Err, refl, sym, ◌∙◌, ap, subst, arith}
+use Rattle.std.proofs.Common.{◌≡◌, ◌≢◌, ⊎_elim, ℕ, zero, suc, ◌+◌, ◌-◌, ◌*◌, ◌/◌, ◌%◌, ◌^◌, ◌≤◌, ◌<◌, ◌==◌, false, cond, if◌then◌else◌, List, [], ◌∷◌, length, take, drop, set, map, Option, Some, None, Result, Ok, Err, refl, sym, ◌∙◌, ap, subst, arith}
 use Rattle.std.specs.Prelude.{OnOk, OnErr}
 use Rattle.std.proofs.Math.Nat.{div-eq_of_lt}
 use Rattle.std.proofs.lemmas.Nat.{div-mul-add, div-add-mod'}
@@ -11,10 +11,10 @@ use Rattle.cola_device.specs.declared.counts.Counts.{Counts}
 use Rattle.cola_device.specs.Bytes.{part, HasRange, Gives, Wrote}
 use Rattle.cola_device.specs.Counts.{Called}
 use Rattle.cola_device.proofs.BytesLemmas.{length-splice, length-part}
-use Rattle.cola_device.proofs.ToldLemmas.{HasRange-Wrote, Gives-Wrote_below, Gives-Wrote_above}
+use Rattle.cola_device.proofs.ToldLemmas.{Gives-Wrote_below, Gives-Wrote_above}
 use Rattle.cola_cache.specs.Order.{IsAbsent, is_within, outside, without}
 use Rattle.cola_cache.specs.Cache.{Cache, used, untouched, blocks_touched}
-use Rattle.cola_cache.proofs.OrderLemmas.{absent-without, without-absent, absent-outside, absent-back}
+use Rattle.cola_cache.proofs.OrderLemmas.{absent-without, without-absent, absent-outside, absent-back, by-test}
 use Rattle.cola_cache.proofs.CacheLemmas.{apart, agree-put, slice-is, length-take_le}
 use borrow.Rule.Slice.PartMut.{put_mid}
 use Rattle.cola_cache.specs.Blocks.{Made, last_in, forgotten, AreBlocks, HeldWritten, Since, IsSound, IsOwn, AreCopies, AreShared}
@@ -22,10 +22,7 @@ use Rattle.cola_cache.specs.Blocks.{Made, last_in, forgotten, AreBlocks, HeldWri
 -- blocks without some are blocks
 pub outside-blocks : (first end many : ℕ) (held : List ℕ) → AreBlocks many held → AreBlocks many (outside first end held)
 outside-blocks first end many [] are = tt
-outside-blocks first end many (block ∷ blocks) are = elim (is_within first end block) as (λ test. AreBlocks many (cond test (outside first end blocks) (block ∷ outside first end blocks))) [
-  | true ↦ outside-blocks first end many blocks are.1.1
-  | false ↦ (are.0, (absent-outside block first end blocks are.1.0, outside-blocks first end many blocks are.1.1))
-]
+outside-blocks first end many (block ∷ blocks) are = by-test (λ test. AreBlocks many (cond test (outside first end blocks) (block ∷ outside first end blocks))) (is_within first end block) (λ _. outside-blocks first end many blocks are.1.1) (λ _. (are.0, (absent-outside block first end blocks are.1.0, outside-blocks first end many blocks are.1.1)))
 
 absent-take : (count block : ℕ) (held : List ℕ) → IsAbsent block held → IsAbsent block (take count held)
 absent-take zero block held absent = tt
@@ -45,17 +42,13 @@ used-blocks blocks block many held less are =
 -- one block fewer
 fewer : (last : ℕ) (held : List ℕ) → AreBlocks (suc last) held → AreBlocks last (without last held) × (length held ≤ length (without last held) + 1)
 fewer last [] are = (tt, omega arith)
-fewer last (block ∷ blocks) are = (elim (is_within last (last + 1) block) as (λ test. is_within last (last + 1) block ≡ test → AreBlocks last (cond test (without last blocks) (block ∷ without last blocks)) × (length (block ∷ blocks) ≤ length (cond test (without last blocks) (block ∷ without last blocks)) + 1)) [
-  | true ↦ λ is.
-      let same : block ≡ last = grind (arith, nat_tests) in
-      let none : without last blocks ≡ blocks = without-absent last blocks (subst (λ b. IsAbsent b blocks) same are.1.0) in
-      let as_many : length (without last blocks) ≡ length blocks = ap (λ (bs : List ℕ). length bs) none in
-      ((fewer last blocks are.1.1).0, omega (arith, as_many))
-  | false ↦ λ is.
-      let below : block < last = grind (arith, nat_tests, are.0) in
-      let rest = fewer last blocks are.1.1 in
-      ((below, (absent-outside block last (last + 1) blocks are.1.0, rest.0)), omega (arith, rest.1))
-]) refl
+fewer last (block ∷ blocks) are = by-test (λ test. AreBlocks last (cond test (without last blocks) (block ∷ without last blocks)) × (length (block ∷ blocks) ≤ length (cond test (without last blocks) (block ∷ without last blocks)) + 1)) (is_within last (last + 1) block)
+    (λ is.
+    let same : block ≡ last = grind (arith, nat_tests) in
+    let none = ap (λ (bs : List ℕ). length bs) (without-absent last blocks (subst (λ b. IsAbsent b blocks) same are.1.0)) in ((fewer last blocks are.1.1).0, omega (arith, none)))
+    (λ is.
+    let below : block < last = grind (arith, nat_tests, are.0) in
+    let rest = fewer last blocks are.1.1 in ((below, (absent-outside block last (last + 1) blocks are.1.0, rest.0)), omega (arith, rest.1)))
 
 -- there are no more blocks than the file has
 pub few-blocks : (many : ℕ) (held : List ℕ) → AreBlocks many held → length held ≤ many
@@ -111,10 +104,6 @@ since-touched many blocks block held now made counts is as_many less since = rec
   faults_stay = since.faults_stay;
   few = λ room none last. let old = since.few room none last in omega (arith, old, as_many);
 }
-
--- a block of the file ends within it
-block-ends : (block many size : ℕ) → block < many → block * size + size ≤ many * size
-block-ends block many size less = apart block many size less
 
 -- the copies after bytes were put into that of one buffer
 pub copies-put : (told now : Option (List ℕ)) (copies new : List ℕ) (lasts lasts_now shares shares_now : List (Option ℕ)) (buffer size : ℕ) → now ≡ told → buffer < length lasts → length lasts_now ≡ length lasts → length shares_now ≡ length shares →
@@ -181,10 +170,7 @@ map_forgotten block (last ∷ lasts) (suc buffer) = map_forgotten block lasts bu
 
 forgotten-by : (written block : ℕ) (last : Option ℕ) → forgotten written last ≡ Some block → (block ≢ written) × (last ≡ Some block)
 forgotten-by written block None is = cc
-forgotten-by written block (Some other) is = (elim (other == written) as (λ test. (other == written) ≡ test → (if test then None else Some other) ≡ Some block → (block ≢ written) × (Some other ≡ Some block)) [
-  | true ↦ λ yes same. cc
-  | false ↦ λ no same. let value : other ≡ block = cc in (subst (λ b. b ≢ written) value (eqb-false other written no), same)
-]) refl is
+forgotten-by written block (Some other) is = by-test (λ test. (if test then None else Some other) ≡ Some block → (block ≢ written) × (Some other ≡ Some block)) (other == written) (λ yes same. cc) (λ no same. let value : other ≡ block = cc in (subst (λ b. b ≢ written) value (eqb-false other written no), same)) is
 
 -- a block that is still held after a write is another one, and was held before
 pub held-still : (written : ℕ) (lasts : List (Option ℕ)) (buffer block : ℕ) → last_in (map (forgotten written) lasts) buffer ≡ Some block → (block ≢ written) × (last_in lasts buffer ≡ Some block)
@@ -218,7 +204,7 @@ shared-written (Err fault) written before now lasts shares held are buffer block
 -- what was written lies within the file, where the device tells
 pub write-inside : (told : Option (List ℕ)) (block many size at count : ℕ) → block < many → HasRange told 0 (many * size) → block * size ≤ at → at + count ≤ block * size + size → HasRange told at count
 write-inside None block many size at count less inside begins ends = tt
-write-inside (Some bytes) block many size at count less inside begins ends = omega (arith, block-ends block many size less, inside, begins, ends)
+write-inside (Some bytes) block many size at count less inside begins ends = omega (arith, apart block many size less, inside, begins, ends)
 
 lasts-set : (lasts : List (Option ℕ)) (buffer many : ℕ) (new : Option ℕ) → buffer < length lasts → ((block : ℕ) → new ≡ Some block → block < many) → ((other last : ℕ) → last_in lasts other ≡ Some last → last < many) → (other last : ℕ) → last_in (set lasts buffer new) other ≡ Some last → last < many
 lasts-set lasts buffer many new within here are other last is = ⊎_elim
@@ -253,10 +239,6 @@ pub held-written : {T E : Type 0} (result : Result T E) (many size at count : �
 held-written (Ok value) many size at count held now ok err are = subst (λ bs. AreBlocks many bs) (sym ok) are
 held-written (Err fault) many size at count held now ok err are =
     subst (λ bs. AreBlocks many bs) (sym err) (outside-blocks (at / size) (at / size + blocks_touched size at count) many held are)
-
--- the file is as long after a write, where the device tells
-pub file-written : {T E : Type 0} (result : Result T E) (told now : Option (List ℕ)) (at whole : ℕ) (from : List ℕ) → Wrote result at from told now → HasRange told at (length from) → HasRange told 0 whole → HasRange now 0 whole
-file-written result told now at whole from wrote inside file = HasRange-Wrote result at from told now 0 whole wrote inside file
 
 -- a range inside one block touches that block alone
 touches-one : (size block at count : ℕ) (held : List ℕ) → 0 < count → block * size ≤ at → at + count ≤ block * size + size → untouched size at count held ≡ without block held

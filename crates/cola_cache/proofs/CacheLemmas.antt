@@ -1,5 +1,5 @@
 -- Frames keep the bytes of the device through reads and writes.
-use Rattle.std.proofs.Common.{⊎_elim, take_at, ◌^◌, ◌≡◌, ℕ, ◌+◌, ◌-◌, ◌*◌, ◌/◌, ◌%◌, ◌<◌, ◌≤◌, ◌≢◌, true, false, ◌==◌, List, [], ◌∷◌, ◌++◌, length, take, drop, Option, Some, None, Result, Ok, Err, refl, sym, ◌∙◌, ap, subst, arith, length-take, length-drop, take-append-drop, get_or}
+use Rattle.std.proofs.Common.{⊎_elim, ◌^◌, ◌≡◌, ℕ, ◌+◌, ◌-◌, ◌*◌, ◌/◌, ◌%◌, ◌<◌, ◌≤◌, ◌≢◌, true, false, ◌==◌, List, [], ◌∷◌, length, take, drop, Option, Some, None, Result, Ok, Err, refl, sym, ◌∙◌, ap, subst, arith, length-take, length-drop, take-append-drop, get_or}
 use Rattle.std.specs.Prelude.{⊤, OnOk}
 use Rattle.std.proofs.lemmas.Bool.{cases_eq, cases_lt, cases_order}
 use Rattle.std.proofs.lemmas.List.{ext_get_or, get_or-take, get_or-drop}
@@ -10,6 +10,7 @@ use Rattle.cola_device.specs.Bytes.{part, splice, HasRange, Gives, Wrote}
 use Rattle.cola_device.proofs.BytesLemmas.{length-part, length-splice, get_or-splice_at, get_or-splice_below, get_or-splice_above, part-splice, part-splice_below, part-splice_above}
 use Rattle.cola_device.proofs.ToldLemmas.{Gives-Wrote_below, Gives-Wrote_above}
 use Rattle.cola_cache.specs.Order.{Frames, Holds, is_within}
+use Rattle.cola_cache.proofs.OrderLemmas.{by-test}
 use Rattle.cola_cache.specs.Cache.{Agree, IsBlock, IsWritten, blocks_touched}
 
 -- frames lie apart, and so do blocks
@@ -156,11 +157,11 @@ renewed (Some told) (Some now) new copies at start size spot into gone count wri
     let size_is : length (part (splice copies (spot + into) (part new gone count)) spot size) ≡ size = length-part (splice copies (spot + into) (part new gone count)) spot size (omega arith) in
     result ∙ sym (ap (part now start) size_is)
 
--- a place is one block's
-pub same-block : (size first second : ℕ) → 0 < size → first * size ≡ second * size → first ≡ second
-same-block size first second some same = ⊎_elim (λ is. is) (λ differ. ⊎_elim
-    (λ (less : first < second). absurd (omega (arith, apart first second size less)))
-    (λ (less : second < first). absurd (omega (arith, apart second first size less))) differ) (cases_order first second)
+-- a range is one block alone
+pub one-block : (size at count first second : ℕ) → 0 < size → IsBlock size at count first → IsBlock size at count second → first ≡ second
+one-block size at count first second some one other = ⊎_elim (λ is. is) (λ differ. ⊎_elim
+    (λ (less : first < second). absurd (omega (arith, apart first second size less, one.0, other.0)))
+    (λ (less : second < first). absurd (omega (arith, apart second first size less, one.0, other.0))) differ) (cases_order first second)
 
 -- what is carried out was written
 pub written-ok : {T E : Type 0} (result : Result T E) (told now : Option (List ℕ)) (at : ℕ) (new : List ℕ) → Wrote result at new told now → OnOk result (IsWritten at new told now)
@@ -176,11 +177,8 @@ wrote-is None (Some now) at new written = absurd written
 wrote-is (Some told) None at new written = absurd written
 wrote-is (Some told) (Some now) at new written = record { left = new; as_many = refl; others_stay = written; exact = refl }
 
-within-low : (first end block : ℕ) → is_within first end block ≡ true → first ≤ block
-within-low first end block is = grind (arith, nat_tests)
-
-within-high : (first end block : ℕ) → is_within first end block ≡ true → block < end
-within-high first end block is = grind (arith, nat_tests)
+within-is : (first end block : ℕ) → is_within first end block ≡ true → (first ≤ block) × (block < end)
+within-is first end block is = (grind (arith, nat_tests), grind (arith, nat_tests))
 
 within-not : (first end block : ℕ) → is_within first end block ≡ false → block < end → block < first
 within-not first end block is less = grind (arith, nat_tests)
@@ -203,14 +201,10 @@ renewed-more told now before after first step size block was here others = ⊎_e
 
 -- once all that the range touches are renewed, each frame has what the device has
 pub renewed-all : (told now : Option (List ℕ)) (new copies : List ℕ) (size at end frame block : ℕ) → 0 < size → end ≡ at / size + blocks_touched size at (length new) → IsWritten at new told now → HasRange told at (length new) → IsRenewed told now (at / size) end size block (part copies (frame * size) size) → Gives now (block * size) (part copies (frame * size) size)
-renewed-all told now new copies size at end frame block some last written inside was = (elim (is_within (at / size) end block) as (λ test. is_within (at / size) end block ≡ test → Gives now (block * size) (part copies (frame * size) size)) [
-  | true ↦ λ is. was.0 (within-low (at / size) end block is) (within-high (at / size) end block is)
-  | false ↦ λ is. gives-outside {T = ⊤} {E = ⊤} (Ok tt) told now new size at block (part copies (frame * size) size) some (wrote-is told now at new written) inside (length-take_le size (drop (frame * size) copies))
-      (subst (λ e. is_within (at / size) e block ≡ false) last is) (was.1 (within-not (at / size) end block is))
-]) refl
-
-pub one-block : (size at count first second : ℕ) → 0 < size → IsBlock size at count first → IsBlock size at count second → first ≡ second
-one-block size at count first second some one other = same-block size first second some (sym one.0 ∙ other.0)
+renewed-all told now new copies size at end frame block some last written inside was = by-test (λ _. Gives now (block * size) (part copies (frame * size) size)) (is_within (at / size) end block)
+    (λ is. let within = within-is (at / size) end block is in was.0 within.0 within.1)
+    (λ is. gives-outside {T = ⊤} {E = ⊤} (Ok tt) told now new size at block (part copies (frame * size) size) some (wrote-is told now at new written) inside (length-take_le size (drop (frame * size) copies))
+    (subst (λ e. is_within (at / size) e block ≡ false) last is) (was.1 (within-not (at / size) end block is)))
 
 -- what a slice from a place on gives
 pub slice-is : (bytes : List ℕ) (at count : ℕ) → take (at + count - at) (drop at bytes) ≡ part bytes at count
@@ -221,7 +215,3 @@ pub begins-at : (at size step into gone : ℕ) → at % size + gone ≡ step * s
 begins-at at size step into gone place =
     let whole : (at / size + step) * size ≡ at / size * size + step * size = grind arith in
     omega (arith, div-add-mod' at size, whole)
-
--- as many items in the place of all
-pub whole-put : {A : Type 0} (len : ℕ) (new old : List A) → len ≡ length old → length new ≡ length old → take len (new ++ drop (length new) old) ≡ new
-whole-put len new old is same = take_at new (drop (length new) old) len (same ∙ sym is)

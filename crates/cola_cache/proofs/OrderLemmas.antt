@@ -1,6 +1,6 @@
 -- What moves and replacements do to frames in the order of their last use.
 use Rattle.std.proofs.Common.{⊎_elim, ◌≡◌, ℕ, zero, suc, ◌+◌, ◌-◌, ◌<◌, ◌≤◌, ◌≢◌, Bool, true, false, cond, nat_eq, List, [], ◌∷◌, ◌++◌, length, take, Option, Some, None, Result, Ok, Err, refl, sym, ◌∙◌, ap, subst, arith, add-one, take_all}
-use Rattle.std.specs.Prelude.{slice_get, IsSome, IfSome, is_some, IsOk, OnOk, option_map}
+use Rattle.std.specs.Prelude.{slice_get, IsSome, IfSome, IsOk, OnOk, option_map}
 use Rattle.std.specs.Map.{lookup, lookup_entry, remove_entry}
 use Rattle.std.proofs.lemmas.Bool.{cases_eq}
 use Rattle.std.proofs.lemmas.Bool.Decides.{nat_tests}
@@ -8,34 +8,27 @@ use Rattle.lru.specs.LruCache.{LruCache, last_entry, put_entries, demoted, lru_c
 use Rattle.cola_cache.specs.Cache.{used}
 use Rattle.cola_cache.specs.Order.{Frames, with_block, blocks_of, Holds, is_within, outside, without, IsAbsent, IsFree, Precedes, IsOrder, AreBelow, unheld}
 
+-- what holds where a test is true, and where it is false
+pub by-test : (P : Bool → Type 0) (test : Bool) → (test ≡ true → P true) → (test ≡ false → P false) → P test
+by-test P true here there = here refl
+by-test P false here there = there refl
+
 -- the other entries
 abbrev pub others : ℕ → Frames → Frames
 others frame = remove_entry (nat_eq frame)
 
 pub free-others : (frame other : ℕ) (entries : Frames) → IsFree other entries → IsFree other (others frame entries)
 free-others frame other [] free = tt
-free-others frame other (entry ∷ entries) free = elim (nat_eq frame entry.0) as (λ test. IsFree other (cond test entries (entry ∷ others frame entries))) [
-  | true ↦ free.1
-  | false ↦ (free.0, free-others frame other entries free.1)
-]
+free-others frame other (entry ∷ entries) free = by-test (λ test. IsFree other (cond test entries (entry ∷ others frame entries))) (nat_eq frame entry.0) (λ _. free.1) (λ _. (free.0, free-others frame other entries free.1))
 
 pub absent-others : (frame block : ℕ) (entries : Frames) → IsAbsent block (blocks_of entries) → IsAbsent block (blocks_of (others frame entries))
 absent-others frame block [] absent = tt
-absent-others frame block ((number, None) ∷ entries) absent = elim (nat_eq frame number) as (λ test. IsAbsent block (blocks_of (cond test entries ((number, None) ∷ others frame entries)))) [
-  | true ↦ absent
-  | false ↦ absent-others frame block entries absent
-]
-absent-others frame block ((number, Some other) ∷ entries) absent = elim (nat_eq frame number) as (λ test. IsAbsent block (blocks_of (cond test entries ((number, Some other) ∷ others frame entries)))) [
-  | true ↦ absent.1
-  | false ↦ (absent.0, absent-others frame block entries absent.1)
-]
+absent-others frame block ((number, None) ∷ entries) absent = by-test (λ test. IsAbsent block (blocks_of (cond test entries ((number, None) ∷ others frame entries)))) (nat_eq frame number) (λ _. absent) (λ _. absent-others frame block entries absent)
+absent-others frame block ((number, Some other) ∷ entries) absent = by-test (λ test. IsAbsent block (blocks_of (cond test entries ((number, Some other) ∷ others frame entries)))) (nat_eq frame number) (λ _. absent.1) (λ _. (absent.0, absent-others frame block entries absent.1))
 
 pub none-others : (frame : ℕ) (entries : Frames) → blocks_of entries ≡ [] → blocks_of (others frame entries) ≡ []
 none-others frame [] none = none
-none-others frame ((number, None) ∷ entries) none = elim (nat_eq frame number) as (λ test. blocks_of (cond test entries ((number, None) ∷ others frame entries)) ≡ []) [
-  | true ↦ none
-  | false ↦ none-others frame entries none
-]
+none-others frame ((number, None) ∷ entries) none = by-test (λ test. blocks_of (cond test entries ((number, None) ∷ others frame entries)) ≡ []) (nat_eq frame number) (λ _. none) (λ _. none-others frame entries none)
 none-others frame ((number, Some other) ∷ entries) none = cc
 
 pub precedes-others : (frame : ℕ) (held : Option ℕ) (entries : Frames) → Precedes held entries → Precedes held (others frame entries)
@@ -44,17 +37,11 @@ precedes-others frame (Some block) entries absent = absent-others frame block en
 
 pub order-others : (frame : ℕ) (entries : Frames) → IsOrder entries → IsOrder (others frame entries)
 order-others frame [] order = tt
-order-others frame (entry ∷ entries) order = elim (nat_eq frame entry.0) as (λ test. IsOrder (cond test entries (entry ∷ others frame entries))) [
-  | true ↦ order.1.1
-  | false ↦ (free-others frame entry.0 entries order.0, (precedes-others frame entry.1 entries order.1.0, order-others frame entries order.1.1))
-]
+order-others frame (entry ∷ entries) order = by-test (λ test. IsOrder (cond test entries (entry ∷ others frame entries))) (nat_eq frame entry.0) (λ _. order.1.1) (λ _. (free-others frame entry.0 entries order.0, (precedes-others frame entry.1 entries order.1.0, order-others frame entries order.1.1)))
 
 pub below-others : (frame count : ℕ) (entries : Frames) → AreBelow count entries → AreBelow count (others frame entries)
 below-others frame count [] below = tt
-below-others frame count (entry ∷ entries) below = elim (nat_eq frame entry.0) as (λ test. AreBelow count (cond test entries (entry ∷ others frame entries))) [
-  | true ↦ below.1
-  | false ↦ (below.0, below-others frame count entries below.1)
-]
+below-others frame count (entry ∷ entries) below = by-test (λ test. AreBelow count (cond test entries (entry ∷ others frame entries))) (nat_eq frame entry.0) (λ _. below.1) (λ _. (below.0, below-others frame count entries below.1))
 
 -- a frame that is free is not looked up
 pub lookup-free : (frame : ℕ) (entries : Frames) → IsFree frame entries → lookup (nat_eq frame) entries ≡ None
@@ -67,39 +54,24 @@ entry-free frame (entry ∷ entries) free = let below : lookup_entry (nat_eq fra
 
 pub free-removed : (frame : ℕ) (entries : Frames) → IsOrder entries → IsFree frame (others frame entries)
 free-removed frame [] order = tt
-free-removed frame (entry ∷ entries) order = (elim (nat_eq frame entry.0) as (λ test. nat_eq frame entry.0 ≡ test → IsFree frame (cond test entries (entry ∷ others frame entries))) [
-  | true ↦ λ is. let same : entry.0 ≡ frame = grind (arith, nat_tests, is) in subst (λ number. IsFree number entries) same order.0
-  | false ↦ λ is. (grind (arith, nat_tests, is), free-removed frame entries order.1.1)
-]) refl
+free-removed frame (entry ∷ entries) order = by-test (λ test. IsFree frame (cond test entries (entry ∷ others frame entries))) (nat_eq frame entry.0) (λ is. let same : entry.0 ≡ frame = grind (arith, nat_tests, is) in subst (λ number. IsFree number entries) same order.0) (λ is. (grind (arith, nat_tests, is), free-removed frame entries order.1.1))
 
 pub lookup-others : (frame other : ℕ) (entries : Frames) → other ≢ frame → lookup (nat_eq other) (others frame entries) ≡ lookup (nat_eq other) entries
 lookup-others frame other [] apart = refl
-lookup-others frame other (entry ∷ entries) apart = let below : lookup (nat_eq other) (others frame entries) ≡ lookup (nat_eq other) entries = lookup-others frame other entries apart in (elim (nat_eq frame entry.0) as (λ test. nat_eq frame entry.0 ≡ test → lookup (nat_eq other) (cond test entries (entry ∷ others frame entries)) ≡ lookup (nat_eq other) (entry ∷ entries)) [
-  | true ↦ λ is. grind (arith, nat_tests, is)
-  | false ↦ λ is. ap (cond (nat_eq other entry.0) (Some entry.1)) below
-]) refl
+lookup-others frame other (entry ∷ entries) apart = let below : lookup (nat_eq other) (others frame entries) ≡ lookup (nat_eq other) entries = lookup-others frame other entries apart in by-test (λ test. lookup (nat_eq other) (cond test entries (entry ∷ others frame entries)) ≡ lookup (nat_eq other) (entry ∷ entries)) (nat_eq frame entry.0) (λ is. grind (arith, nat_tests, is)) (λ is. ap (cond (nat_eq other entry.0) (Some entry.1)) below)
 
 pub length-others : (frame : ℕ) (entries : Frames) (held : Option ℕ) → lookup (nat_eq frame) entries ≡ Some held → length (others frame entries) + 1 ≡ length entries
 length-others frame [] held found = cc
-length-others frame (entry ∷ entries) held found = (elim (nat_eq frame entry.0) as (λ test. cond test (Some entry.1) (lookup (nat_eq frame) entries) ≡ Some held → length (cond test entries (entry ∷ others frame entries)) + 1 ≡ length (entry ∷ entries)) [
-  | true ↦ λ _. omega arith
-  | false ↦ λ below. let less : length (others frame entries) + 1 ≡ length entries = length-others frame entries held below in omega arith
-]) found
+length-others frame (entry ∷ entries) held found = by-test (λ test. cond test (Some entry.1) (lookup (nat_eq frame) entries) ≡ Some held → length (cond test entries (entry ∷ others frame entries)) + 1 ≡ length (entry ∷ entries)) (nat_eq frame entry.0) (λ _ _. omega arith) (λ _ below. let less : length (others frame entries) + 1 ≡ length entries = length-others frame entries held below in omega arith) found
 
 pub entry-found : (frame : ℕ) (entries : Frames) (held : Option ℕ) → lookup (nat_eq frame) entries ≡ Some held → lookup_entry (nat_eq frame) entries ≡ Some (frame, held)
 entry-found frame [] held found = cc
-entry-found frame (entry ∷ entries) held found = (elim (nat_eq frame entry.0) as (λ test. nat_eq frame entry.0 ≡ test → cond test (Some entry.1) (lookup (nat_eq frame) entries) ≡ Some held → cond test (Some entry) (lookup_entry (nat_eq frame) entries) ≡ Some (frame, held)) [
-  | true ↦ λ is same. let number : entry.0 ≡ frame = grind (arith, nat_tests, is) in let value : entry.1 ≡ held = cc in ap (λ (e : ℕ × Option ℕ). Some e) (λ i. (number i, value i))
-  | false ↦ λ is below. entry-found frame entries held below
-]) refl found
+entry-found frame (entry ∷ entries) held found = by-test (λ test. cond test (Some entry.1) (lookup (nat_eq frame) entries) ≡ Some held → cond test (Some entry) (lookup_entry (nat_eq frame) entries) ≡ Some (frame, held)) (nat_eq frame entry.0) (λ is same. let number : entry.0 ≡ frame = grind (arith, nat_tests, is) in let value : entry.1 ≡ held = cc in ap (λ (e : ℕ × Option ℕ). Some e) (λ i. (number i, value i))) (λ is below. entry-found frame entries held below) found
 
 -- a block that is outside is absent
 pub absent-without : (block : ℕ) (blocks : List ℕ) → IsAbsent block (without block blocks)
 absent-without block [] = tt
-absent-without block (other ∷ others) = (elim (is_within block (block + 1) other) as (λ test. is_within block (block + 1) other ≡ test → IsAbsent block (cond test (without block others) (other ∷ without block others))) [
-  | true ↦ λ _. absent-without block others
-  | false ↦ λ is. (grind (arith, nat_tests, is), absent-without block others)
-]) refl
+absent-without block (other ∷ others) = by-test (λ test. IsAbsent block (cond test (without block others) (other ∷ without block others))) (is_within block (block + 1) other) (λ _. absent-without block others) (λ is. (grind (arith, nat_tests, is), absent-without block others))
 
 pub without-absent : (block : ℕ) (blocks : List ℕ) → IsAbsent block blocks → without block blocks ≡ blocks
 without-absent block [] absent = refl
@@ -108,23 +80,14 @@ without-absent block (other ∷ others) absent = let below : without block other
 -- an absent block is held by no frame
 pub holds-absent : (block frame : ℕ) (entries : Frames) → IsAbsent block (blocks_of entries) → Holds entries frame block → ⊥
 holds-absent block frame [] absent holds = cc
-holds-absent block frame ((number, None) ∷ entries) absent holds = (elim (nat_eq frame number) as (λ test. cond test (Some None) (lookup (nat_eq frame) entries) ≡ Some (Some block) → ⊥) [
-  | true ↦ λ same. cc
-  | false ↦ λ below. holds-absent block frame entries absent below
-]) holds
-holds-absent block frame ((number, Some other) ∷ entries) absent holds = (elim (nat_eq frame number) as (λ test. cond test (Some (Some other)) (lookup (nat_eq frame) entries) ≡ Some (Some block) → ⊥) [
-  | true ↦ λ same. absent.0 (cc)
-  | false ↦ λ below. holds-absent block frame entries absent.1 below
-]) holds
+holds-absent block frame ((number, None) ∷ entries) absent holds = by-test (λ test. cond test (Some None) (lookup (nat_eq frame) entries) ≡ Some (Some block) → ⊥) (nat_eq frame number) (λ _ same. cc) (λ _ below. holds-absent block frame entries absent below) holds
+holds-absent block frame ((number, Some other) ∷ entries) absent holds = by-test (λ test. cond test (Some (Some other)) (lookup (nat_eq frame) entries) ≡ Some (Some block) → ⊥) (nat_eq frame number) (λ _ same. absent.0 (cc)) (λ _ below. holds-absent block frame entries absent.1 below) holds
 
 -- a block that no frame holds is absent
 pub absent-lookups : (block : ℕ) (entries : Frames) → IsOrder entries → ((frame : ℕ) → Holds entries frame block → ⊥) → IsAbsent block (blocks_of entries)
 absent-lookups block [] order none = tt
 absent-lookups block (entry ∷ entries) order none =
-    let rest : IsAbsent block (blocks_of entries) = absent-lookups block entries order.1.1 (λ frame holds. (elim (nat_eq frame entry.0) as (λ test. nat_eq frame entry.0 ≡ test → ⊥) [
-      | true ↦ λ is. let same : entry.0 ≡ frame = grind (arith, nat_tests, is) in let free : IsFree frame entries = subst (λ number. IsFree number entries) same order.0 in let missing : lookup (nat_eq frame) entries ≡ None = lookup-free frame entries free in cc
-      | false ↦ λ is. none frame (ap (λ test. cond test (Some entry.1) (lookup (nat_eq frame) entries)) is ∙ holds)
-    ]) refl) in
+    let rest : IsAbsent block (blocks_of entries) = absent-lookups block entries order.1.1 (λ frame holds. by-test (λ test. ⊥) (nat_eq frame entry.0) (λ is. let same : entry.0 ≡ frame = grind (arith, nat_tests, is) in let free : IsFree frame entries = subst (λ number. IsFree number entries) same order.0 in let missing : lookup (nat_eq frame) entries ≡ None = lookup-free frame entries free in cc) (λ is. none frame (ap (λ test. cond test (Some entry.1) (lookup (nat_eq frame) entries)) is ∙ holds))) in
     let here : nat_eq entry.0 entry.0 ≡ true = grind (arith, nat_tests) in
     let first : entry.1 ≡ Some block → ⊥ = λ is. none entry.0 (ap (λ test. cond test (Some entry.1) (lookup (nat_eq entry.0) entries)) here ∙ ap (λ (h : Option ℕ). Some h) is) in
     (elim entry.1 as (λ held. (held ≡ Some block → ⊥) → IsAbsent block (with_block held (blocks_of entries))) [
@@ -135,16 +98,16 @@ absent-lookups block (entry ∷ entries) order none =
 -- the block of a frame is held there alone
 pub blocks-others : (frame block : ℕ) (entries : Frames) → IsOrder entries → Holds entries frame block → blocks_of (others frame entries) ≡ without block (blocks_of entries)
 blocks-others frame block [] order holds = cc
-blocks-others frame block ((number, None) ∷ entries) order holds = (elim (nat_eq frame number) as (λ test. cond test (Some None) (lookup (nat_eq frame) entries) ≡ Some (Some block) → blocks_of (cond test entries ((number, None) ∷ others frame entries)) ≡ without block (blocks_of entries)) [
-  | true ↦ λ same. cc
-  | false ↦ λ below. blocks-others frame block entries order.1.1 below
-]) holds
+blocks-others frame block ((number, None) ∷ entries) order holds = by-test (λ test. cond test (Some None) (lookup (nat_eq frame) entries) ≡ Some (Some block) → blocks_of (cond test entries ((number, None) ∷ others frame entries)) ≡ without block (blocks_of entries)) (nat_eq frame number) (λ _ same. cc) (λ _ below. blocks-others frame block entries order.1.1 below) holds
 blocks-others frame block ((number, Some other) ∷ entries) order holds = (elim (nat_eq frame number) as (λ test. cond test (Some (Some other)) (lookup (nat_eq frame) entries) ≡ Some (Some block) → blocks_of (cond test entries ((number, Some other) ∷ others frame entries)) ≡ without block (other ∷ blocks_of entries)) [
   | true ↦ λ same. let is : other ≡ block = cc in let yes : is_within block (block + 1) other ≡ true = grind (arith, nat_tests, is) in
       sym (ap (λ test. cond test (without block (blocks_of entries)) (other ∷ without block (blocks_of entries))) yes ∙ without-absent block (blocks_of entries) (subst (λ b. IsAbsent b (blocks_of entries)) is order.1.0))
   | false ↦ λ below. let apart : other ≢ block = λ is. holds-absent block frame entries (subst (λ b. IsAbsent b (blocks_of entries)) is order.1.0) below in let no : is_within block (block + 1) other ≡ false = grind (arith, nat_tests, apart) in
       ap (λ xs. other ∷ xs) (blocks-others frame block entries order.1.1 below) ∙ sym (ap (λ test. cond test (without block (blocks_of entries)) (other ∷ without block (blocks_of entries))) no)
 ]) holds
+
+pub absent-released : (frame block : ℕ) (entries : Frames) → IsOrder entries → Holds entries frame block → IsAbsent block (blocks_of (others frame entries))
+absent-released frame block entries order holds = subst (IsAbsent block) (sym (blocks-others frame block entries order holds)) (absent-without block (blocks_of entries))
 
 -- a frame that holds none goes last
 free-last : (frame other : ℕ) (entries : Frames) → frame ≢ other → IsFree other entries → IsFree other (entries ++ (frame, None) ∷ [])
@@ -173,20 +136,11 @@ none_held = None
 
 -- what is held stays held, but for the frame that goes last
 pub holds-last : (frame other block : ℕ) (entries : Frames) → Holds (entries ++ (frame, None) ∷ []) other block → Holds entries other block
-holds-last frame other block [] holds = (elim (nat_eq other frame) as (λ test. cond test (Some none_held) None ≡ Some (Some block) → Holds [] other block) [
-  | true ↦ λ same. cc
-  | false ↦ λ same. same
-]) holds
-holds-last frame other block (entry ∷ entries) holds = (elim (nat_eq other entry.0) as (λ test. cond test (Some entry.1) (lookup (nat_eq other) (entries ++ (frame, None) ∷ [])) ≡ Some (Some block) → cond test (Some entry.1) (lookup (nat_eq other) entries) ≡ Some (Some block)) [
-  | true ↦ λ same. same
-  | false ↦ λ below. holds-last frame other block entries below
-]) holds
+holds-last frame other block [] holds = by-test (λ test. cond test (Some none_held) None ≡ Some (Some block) → Holds [] other block) (nat_eq other frame) (λ _ same. cc) (λ _ same. same) holds
+holds-last frame other block (entry ∷ entries) holds = by-test (λ test. cond test (Some entry.1) (lookup (nat_eq other) (entries ++ (frame, None) ∷ [])) ≡ Some (Some block) → cond test (Some entry.1) (lookup (nat_eq other) entries) ≡ Some (Some block)) (nat_eq other entry.0) (λ _ same. same) (λ _ below. holds-last frame other block entries below) holds
 
 other-number : (frame number : ℕ) (held : Option ℕ) (entries : Frames) → IsFree number entries → lookup (nat_eq frame) entries ≡ Some held → nat_eq frame number ≡ false
-other-number frame number held entries free found = (elim (nat_eq frame number) as (λ test. nat_eq frame number ≡ test → test ≡ false) [
-  | true ↦ λ is. let same : number ≡ frame = grind (arith, nat_tests, is) in let missing : lookup (nat_eq frame) entries ≡ None = lookup-free frame entries (subst (λ n. IsFree n entries) same free) in cc
-  | false ↦ λ is. refl
-]) refl
+other-number frame number held entries free found = by-test (λ test. test ≡ false) (nat_eq frame number) (λ is. let same : number ≡ frame = grind (arith, nat_tests, is) in let missing : lookup (nat_eq frame) entries ≡ None = lookup-free frame entries (subst (λ n. IsFree n entries) same free) in cc) (λ is. refl)
 
 take-nil : (count : ℕ) → take {A = ℕ} count [] ≡ []
 take-nil zero = refl
@@ -207,38 +161,25 @@ last-tail entry next entries =
     let right : length (next ∷ entries) - 1 ≡ length entries = omega arith in
     ap (slice_get (entry ∷ next ∷ entries)) left ∙ sym (ap (slice_get (next ∷ entries)) right)
 
-pub lookup-evicted : (frame : ℕ) (held : Option ℕ) (entries : Frames) → IsOrder entries → last_entry entries ≡ Some (frame, held) → lookup (nat_eq frame) entries ≡ Some held
-lookup-evicted frame held [] order last = cc
-lookup-evicted frame held (entry ∷ []) order last =
+pub evicted : (frame : ℕ) (held : Option ℕ) (entries : Frames) → IsOrder entries → last_entry entries ≡ Some (frame, held) → (lookup (nat_eq frame) entries ≡ Some held) × (blocks_of (others frame entries) ≡ take (length entries - 1) (blocks_of entries))
+evicted frame held [] order last = absurd (cc)
+evicted frame held (entry ∷ []) order last =
     let same : entry ≡ (frame, held) = cc in
     let here : nat_eq frame entry.0 ≡ true = grind (arith, nat_tests, ap (λ (e : ℕ × Option ℕ). e.0) same) in
-    ap (λ test. cond test (Some entry.1) none_found) here ∙ ap (λ (e : ℕ × Option ℕ). Some e.1) same
-lookup-evicted frame held (entry ∷ next ∷ entries) order last =
-    let below : lookup (nat_eq frame) (next ∷ entries) ≡ Some held = lookup-evicted frame held (next ∷ entries) order.1.1 (sym (last-tail entry next entries) ∙ last) in
-    let apart : nat_eq frame entry.0 ≡ false = other-number frame entry.0 held (next ∷ entries) order.0 below in
-    ap (λ test. cond test (Some entry.1) (lookup (nat_eq frame) (next ∷ entries))) apart ∙ below
-
-pub blocks-evicted : (frame : ℕ) (held : Option ℕ) (entries : Frames) → IsOrder entries → last_entry entries ≡ Some (frame, held) → blocks_of (others frame entries) ≡ take (length entries - 1) (blocks_of entries)
-blocks-evicted frame held [] order last = cc
-blocks-evicted frame held (entry ∷ []) order last =
-    let same : entry ≡ (frame, held) = cc in
-    let here : nat_eq frame entry.0 ≡ true = grind (arith, nat_tests, ap (λ (e : ℕ × Option ℕ). e.0) same) in
-    ap (λ test. blocks_of (cond test [] (entry ∷ []))) here
-blocks-evicted frame held (entry ∷ next ∷ entries) order last =
-    let found : lookup (nat_eq frame) (next ∷ entries) ≡ Some held = lookup-evicted frame held (next ∷ entries) order.1.1 (sym (last-tail entry next entries) ∙ last) in
-    let apart : nat_eq frame entry.0 ≡ false = other-number frame entry.0 held (next ∷ entries) order.0 found in
-    let below : blocks_of (others frame (next ∷ entries)) ≡ take (length (next ∷ entries) - 1) (blocks_of (next ∷ entries)) = blocks-evicted frame held (next ∷ entries) order.1.1 (sym (last-tail entry next entries) ∙ last) in
-    let more : length (next ∷ entries) - 1 + 1 ≡ length (entry ∷ next ∷ entries) - 1 = omega arith in
-    ap (λ test. blocks_of (cond test (next ∷ entries) (entry ∷ others frame (next ∷ entries)))) apart
-    ∙ (ap (with_block entry.1) below ∙ (take-with entry.1 (length (next ∷ entries) - 1) (next ∷ entries) order.1.0
-    ∙ ap (λ (n : ℕ). take n (with_block entry.1 (blocks_of (next ∷ entries)))) more))
+    (ap (λ test. cond test (Some entry.1) none_found) here ∙ ap (λ (e : ℕ × Option ℕ). Some e.1) same, ap (λ test. blocks_of (cond test [] (entry ∷ []))) here)
+evicted frame held (entry ∷ next ∷ entries) order last =
+    let below = evicted frame held (next ∷ entries) order.1.1 (sym (last-tail entry next entries) ∙ last) in
+    let apart : nat_eq frame entry.0 ≡ false = other-number frame entry.0 held (next ∷ entries) order.0 below.0 in
+    let more : length (next ∷ entries) - 1 + 1 ≡ length (entry ∷ next ∷ entries) - 1 = omega arith in (
+      ap (λ test. cond test (Some entry.1) (lookup (nat_eq frame) (next ∷ entries))) apart ∙ below.0,
+      ap (λ test. blocks_of (cond test (next ∷ entries) (entry ∷ others frame (next ∷ entries)))) apart
+          ∙ (ap (with_block entry.1) below.1 ∙ (take-with entry.1 (length (next ∷ entries) - 1) (next ∷ entries) order.1.0
+          ∙ ap (λ (n : ℕ). take n (with_block entry.1 (blocks_of (next ∷ entries)))) more)),
+    )
 
 pub below-lookup : (frame count : ℕ) (held : Option ℕ) (entries : Frames) → AreBelow count entries → lookup (nat_eq frame) entries ≡ Some held → frame < count
 below-lookup frame count held [] below found = cc
-below-lookup frame count held (entry ∷ entries) below found = (elim (nat_eq frame entry.0) as (λ test. nat_eq frame entry.0 ≡ test → cond test (Some entry.1) (lookup (nat_eq frame) entries) ≡ Some held → frame < count) [
-  | true ↦ λ is _. let same : entry.0 ≡ frame = grind (arith, nat_tests, is) in subst (λ number. number < count) same below.0
-  | false ↦ λ is rest. below-lookup frame count held entries below.1 rest
-]) refl found
+below-lookup frame count held (entry ∷ entries) below found = by-test (λ test. cond test (Some entry.1) (lookup (nat_eq frame) entries) ≡ Some held → frame < count) (nat_eq frame entry.0) (λ is _. let same : entry.0 ≡ frame = grind (arith, nat_tests, is) in subst (λ number. number < count) same below.0) (λ is rest. below-lookup frame count held entries below.1 rest) found
 
 -- at most so many blocks are held as there are frames
 pub length-blocks : (entries : Frames) → length (blocks_of entries) ≤ length entries
@@ -246,16 +187,9 @@ length-blocks [] = omega arith
 length-blocks ((number, None) ∷ entries) = let below : length (blocks_of entries) ≤ length entries = length-blocks entries in omega arith
 length-blocks ((number, Some block) ∷ entries) = let below : length (blocks_of entries) ≤ length entries = length-blocks entries in omega arith
 
--- a frame that is there takes another block, and goes to the front
-pub put-present : (entries : Frames) (most frame : ℕ) (before held : Option ℕ) → lookup (nat_eq frame) entries ≡ Some before → put_entries nat_eq (lru_cache entries most) frame held ≡ (frame, held) ∷ others frame entries
-put-present entries most frame before held found = rw (entry-found frame entries before found)
-
 pub absent-outside : (block first end : ℕ) (blocks : List ℕ) → IsAbsent block blocks → IsAbsent block (outside first end blocks)
 absent-outside block first end [] absent = tt
-absent-outside block first end (other ∷ others) absent = elim (is_within first end other) as (λ test. IsAbsent block (cond test (outside first end others) (other ∷ outside first end others))) [
-  | true ↦ absent-outside block first end others absent.1
-  | false ↦ (absent.0, absent-outside block first end others absent.1)
-]
+absent-outside block first end (other ∷ others) absent = by-test (λ test. IsAbsent block (cond test (outside first end others) (other ∷ outside first end others))) (is_within first end other) (λ _. absent-outside block first end others absent.1) (λ _. (absent.0, absent-outside block first end others absent.1))
 
 -- a range with the block behind it
 pub outside-more : (first end : ℕ) (blocks : List ℕ) → first ≤ end → without end (outside first end blocks) ≡ outside first (end + 1) blocks
@@ -266,14 +200,6 @@ pub outside-none : (first : ℕ) (blocks : List ℕ) → outside first first blo
 outside-none first [] = refl
 outside-none first (block ∷ blocks) = let below : outside first first blocks ≡ blocks = outside-none first blocks in grind (arith, nat_tests, below)
 
--- no frame holds a block
-pub lookup-unheld : (count frame block : ℕ) → Holds (unheld count) frame block → ⊥
-lookup-unheld zero frame block holds = cc
-lookup-unheld (suc count) frame block holds = (elim (nat_eq frame count) as (λ test. cond test (Some None) (lookup (nat_eq frame) (unheld count)) ≡ Some (Some block) → ⊥) [
-  | true ↦ λ same. cc
-  | false ↦ λ below. lookup-unheld count frame block below
-]) holds
-
 pub length-unheld : (count : ℕ) → length (unheld count) ≡ count
 length-unheld zero = refl
 length-unheld (suc count) = ap suc (length-unheld count)
@@ -281,6 +207,10 @@ length-unheld (suc count) = ap suc (length-unheld count)
 pub blocks-unheld : (count : ℕ) → blocks_of (unheld count) ≡ []
 blocks-unheld zero = refl
 blocks-unheld (suc count) = blocks-unheld count
+
+-- no frame holds a block
+pub lookup-unheld : (count frame block : ℕ) → Holds (unheld count) frame block → ⊥
+lookup-unheld count frame block holds = holds-absent block frame (unheld count) (rw (blocks-unheld count) tt) holds
 
 pub free-unheld : (count frame : ℕ) → count ≤ frame → IsFree frame (unheld count)
 free-unheld zero frame above = tt
@@ -309,7 +239,7 @@ pub placed : {T E : Type 0} (before after : LruCache ℕ (Option ℕ)) (frame : 
 placed before after frame held (Err fault) there succeeds entries = let ok = succeeds there in cc
 placed before after frame held (Ok value) there succeeds entries =
     let was = some-is (lookup (nat_eq frame) before.entries) there in
-    entries ∙ ap (λ (es : Frames). lru_cache es before.cap) (put-present before.entries before.cap frame was.0 held was.1)
+    entries ∙ ap (λ (es : Frames). lru_cache es before.cap) (rw (entry-found frame before.entries was.0 was.1))
 
 -- a frame that is there, at the front with another block or none
 pub below-placed : (frame count : ℕ) (before held : Option ℕ) (entries : Frames) → lookup (nat_eq frame) entries ≡ Some before → AreBelow count entries → AreBelow count ((frame, held) ∷ others frame entries)
@@ -328,9 +258,8 @@ holds-front frame block held entries holds =
     let here : nat_eq frame frame ≡ true = grind (arith, nat_tests) in
     let same : Some held ≡ Some (Some block) = sym (ap (λ test. cond test (Some held) (lookup (nat_eq frame) entries)) here) ∙ holds in cc
 
-pub order-touched : (frame block : ℕ) (entries : Frames) → IsOrder entries → Holds entries frame block → IsOrder ((frame, Some block) ∷ others frame entries)
-order-touched frame block entries order holds =
-    (free-removed frame entries order, (subst (IsAbsent block) (sym (blocks-others frame block entries order holds)) (absent-without block (blocks_of entries)), order-others frame entries order))
+pub order-placed : (frame block : ℕ) (entries : Frames) → IsOrder entries → IsAbsent block (blocks_of (others frame entries)) → IsOrder ((frame, Some block) ∷ others frame entries)
+order-placed frame block entries order absent = (free-removed frame entries order, (absent, order-others frame entries order))
 
 pub blocks-touched : (frame block : ℕ) (entries : Frames) → IsOrder entries → Holds entries frame block → blocks_of ((frame, Some block) ∷ others frame entries) ≡ used (length entries) block (blocks_of entries)
 blocks-touched frame block entries order holds =
@@ -354,13 +283,10 @@ last-is entries frame is = (elim (last_entry entries) as (λ (last : Option (ℕ
   | Some entry ↦ λ same. let number : entry.0 ≡ frame = cc in (entry.1, ap (λ (n : ℕ). Some (n, entry.1)) number)
 ]) is
 
-pub order-admitted : (frame block : ℕ) (entries : Frames) → IsOrder entries → IsAbsent block (blocks_of entries) → IsOrder ((frame, Some block) ∷ others frame entries)
-order-admitted frame block entries order absent = (free-removed frame entries order, (absent-others frame block entries absent, order-others frame entries order))
-
 pub blocks-admitted : (frame block : ℕ) (held : Option ℕ) (entries : Frames) → IsOrder entries → IsAbsent block (blocks_of entries) → last_entry entries ≡ Some (frame, held) → 0 < length entries → blocks_of ((frame, Some block) ∷ others frame entries) ≡ used (length entries) block (blocks_of entries)
 blocks-admitted frame block held entries order absent last some =
     let more : length entries ≡ suc (length entries - 1) = omega arith in
-    ap (λ (bs : List ℕ). block ∷ bs) (blocks-evicted frame held entries order last)
+    ap (λ (bs : List ℕ). block ∷ bs) (evicted frame held entries order last).1
     ∙ (ap (λ (bs : List ℕ). take (suc (length entries - 1)) (block ∷ bs)) (sym (without-absent block (blocks_of entries) absent))
     ∙ ap (λ (n : ℕ). take n (block ∷ without block (blocks_of entries))) (sym more))
 
@@ -374,8 +300,7 @@ holds-emptied frame block other held entries order was holds =
     let rest : Holds (others frame entries) other held = holds-last frame other held (others frame entries) holds in
     let apart : other ≢ frame = λ same. let missing : lookup (nat_eq frame) (others frame entries) ≡ None = lookup-free frame (others frame entries) (free-removed frame entries order) in
     let here : Holds (others frame entries) frame held = subst (λ number. Holds (others frame entries) number held) same rest in (cc) in
-    let absent : IsAbsent block (blocks_of (others frame entries)) = subst (IsAbsent block) (sym (blocks-others frame block entries order was)) (absent-without block (blocks_of entries)) in
-    (sym (lookup-others frame other entries apart) ∙ rest, λ same. holds-absent block other (others frame entries) absent (subst (λ b. Holds (others frame entries) other b) same rest))
+    (sym (lookup-others frame other entries apart) ∙ rest, λ same. holds-absent block other (others frame entries) (absent-released frame block entries order was) (subst (λ b. Holds (others frame entries) other b) same rest))
 
 pub length-last : (frame : ℕ) (entries : Frames) → length (entries ++ (frame, None) ∷ []) ≡ length entries + 1
 length-last frame [] = refl
@@ -395,33 +320,17 @@ within-none first block = grind (arith, nat_tests)
 pub within-more : (first end block : ℕ) → is_within first end block ≡ false → block ≢ end → is_within first (end + 1) block ≡ false
 within-more first end block out apart = grind (arith, nat_tests)
 
-pub holds-one : (frame first second : ℕ) (entries : Frames) → Holds entries frame first → Holds entries frame second → first ≡ second
-holds-one frame first second entries one other = cc
-
 -- a block is held by one frame
 pub holds-unique : (first second block : ℕ) (entries : Frames) → IsOrder entries → Holds entries first block → Holds entries second block → second ≡ first
 holds-unique first second block entries order one other = ⊎_elim (λ is. is)
-    (λ (differ : second ≢ first).
-    let absent : IsAbsent block (blocks_of (others first entries)) = subst (IsAbsent block) (sym (blocks-others first block entries order one)) (absent-without block (blocks_of entries)) in
-    absurd (holds-absent block second (others first entries) absent (lookup-others first second entries differ ∙ other)))
+    (λ (differ : second ≢ first). absurd (holds-absent block second (others first entries) (absent-released first block entries order one) (lookup-others first second entries differ ∙ other)))
     (cases_eq second first)
-
--- a block whose frame was found is not absent
-pub found-held : (found : Option ℕ) (told : Bool) (entries : Frames) (block count : ℕ) → told ≡ is_some found → IfSome found (λ frame. Holds entries frame block × (frame < count)) → told ≡ true → IsAbsent block (blocks_of entries) → ⊥
-found-held None told entries block count is some true_is absent = cc
-found-held (Some frame) told entries block count is some true_is absent = holds-absent block frame entries absent some.0
 
 -- one block fewer is held without the frame of a block
 pub length-released : (frame block : ℕ) (entries : Frames) → Holds entries frame block → length (blocks_of (others frame entries)) + 1 ≡ length (blocks_of entries)
 length-released frame block [] holds = cc
-length-released frame block ((number, None) ∷ entries) holds = (elim (nat_eq frame number) as (λ test. cond test (Some None) (lookup (nat_eq frame) entries) ≡ Some (Some block) → length (blocks_of (cond test entries ((number, None) ∷ others frame entries))) + 1 ≡ length (blocks_of entries)) [
-  | true ↦ λ same. cc
-  | false ↦ λ below. length-released frame block entries below
-]) holds
-length-released frame block ((number, Some other) ∷ entries) holds = (elim (nat_eq frame number) as (λ test. cond test (Some (Some other)) (lookup (nat_eq frame) entries) ≡ Some (Some block) → length (blocks_of (cond test entries ((number, Some other) ∷ others frame entries))) + 1 ≡ length (other ∷ blocks_of entries)) [
-  | true ↦ λ same. omega arith
-  | false ↦ λ below. let less : length (blocks_of (others frame entries)) + 1 ≡ length (blocks_of entries) = length-released frame block entries below in omega arith
-]) holds
+length-released frame block ((number, None) ∷ entries) holds = by-test (λ test. cond test (Some None) (lookup (nat_eq frame) entries) ≡ Some (Some block) → length (blocks_of (cond test entries ((number, None) ∷ others frame entries))) + 1 ≡ length (blocks_of entries)) (nat_eq frame number) (λ _ same. cc) (λ _ below. length-released frame block entries below) holds
+length-released frame block ((number, Some other) ∷ entries) holds = by-test (λ test. cond test (Some (Some other)) (lookup (nat_eq frame) entries) ≡ Some (Some block) → length (blocks_of (cond test entries ((number, Some other) ∷ others frame entries))) + 1 ≡ length (other ∷ blocks_of entries)) (nat_eq frame number) (λ _ same. omega arith) (λ _ below. let less : length (blocks_of (others frame entries)) + 1 ≡ length (blocks_of entries) = length-released frame block entries below in omega arith) holds
 
 pub length-touched : (frame block : ℕ) (entries : Frames) → Holds entries frame block → length (blocks_of ((frame, Some block) ∷ others frame entries)) ≡ length (blocks_of entries)
 length-touched frame block entries holds = let less : length (blocks_of (others frame entries)) + 1 ≡ length (blocks_of entries) = length-released frame block entries holds in omega arith
@@ -452,10 +361,7 @@ no-block (Some block) blocks none = absurd (none block refl)
 -- without a frame that holds no block as many are held
 pub blocks-free : (frame : ℕ) (entries : Frames) → ((block : ℕ) → Holds entries frame block → ⊥) → blocks_of (others frame entries) ≡ blocks_of entries
 blocks-free frame [] none = refl
-blocks-free frame ((number, held) ∷ entries) none = (elim (nat_eq frame number) as (λ test. ((block : ℕ) → cond test (Some held) (lookup (nat_eq frame) entries) ≡ Some (Some block) → ⊥) → blocks_of (cond test entries ((number, held) ∷ others frame entries)) ≡ with_block held (blocks_of entries)) [
-  | true ↦ λ here. no-block held (blocks_of entries) (λ block is. here block (ap (λ (h : Option ℕ). Some h) is))
-  | false ↦ λ below. ap (with_block held) (blocks-free frame entries below)
-]) none
+blocks-free frame ((number, held) ∷ entries) none = by-test (λ test. ((block : ℕ) → cond test (Some held) (lookup (nat_eq frame) entries) ≡ Some (Some block) → ⊥) → blocks_of (cond test entries ((number, held) ∷ others frame entries)) ≡ with_block held (blocks_of entries)) (nat_eq frame number) (λ _ here. no-block held (blocks_of entries) (λ block is. here block (ap (λ (h : Option ℕ). Some h) is))) (λ _ below. ap (with_block held) (blocks-free frame entries below)) none
 
 -- a frame that is there, and holds no block
 pub free-is : (found : Option (Option ℕ)) → IsSome found → ((block : ℕ) → found ≡ Some (Some block) → ⊥) → found ≡ Some None
@@ -467,18 +373,10 @@ free-is (Some (Some block)) some none = absurd (none block refl)
 pub free-holds : (frame : ℕ) (entries : Frames) → lookup (nat_eq frame) entries ≡ Some None → (block : ℕ) → Holds entries frame block → ⊥
 free-holds frame entries free block holds = cc
 
--- a block whose frame was found is held
-pub held-found : (found : Option ℕ) (entries : Frames) (block count : ℕ) → IfSome found (λ frame. Holds entries frame block × (frame < count)) → IfSome found (λ _. IsAbsent block (blocks_of entries) → ⊥)
-held-found None entries block count some = tt
-held-found (Some frame) entries block count some = λ absent. holds-absent block frame entries absent some.0
-
 -- a block that is absent beside another one is absent
 pub absent-back : (block other : ℕ) (blocks : List ℕ) → other ≢ block → IsAbsent other (without block blocks) → IsAbsent other blocks
 absent-back block other [] differ absent = tt
-absent-back block other (first ∷ blocks) differ absent = (elim (is_within block (block + 1) first) as (λ test. is_within block (block + 1) first ≡ test → IsAbsent other (cond test (without block blocks) (first ∷ without block blocks)) → IsAbsent other (first ∷ blocks)) [
-  | true ↦ λ is rest. let here : first ≡ block = grind (arith, nat_tests, is) in ((λ same. differ (sym same ∙ here)), absent-back block other blocks differ rest)
-  | false ↦ λ is rest. (rest.0, absent-back block other blocks differ rest.1)
-]) refl absent
+absent-back block other (first ∷ blocks) differ absent = by-test (λ test. IsAbsent other (cond test (without block blocks) (first ∷ without block blocks)) → IsAbsent other (first ∷ blocks)) (is_within block (block + 1) first) (λ is rest. let here : first ≡ block = grind (arith, nat_tests, is) in ((λ same. differ (sym same ∙ here)), absent-back block other blocks differ rest)) (λ is rest. (rest.0, absent-back block other blocks differ rest.1)) absent
 
 -- a frame that goes to the front makes no block absent
 pub absent-touched : (frame block other : ℕ) (entries : Frames) → IsOrder entries → Holds entries frame block → IsAbsent other (blocks_of ((frame, Some block) ∷ others frame entries)) → IsAbsent other (blocks_of entries)

@@ -1,5 +1,5 @@
 -- A device in whole blocks behind a cache, with buffers that keep blocks: what a caller sees of it.
-use Rattle.std.specs.Prelude.{◌≡◌, ℕ, ◌+◌, ◌*◌, ◌^◌, ◌≤◌, ◌<◌, ◌≢◌, ◌==◌, Bool, false, if◌then◌else◌, List, [], ◌∷◌, length, replicate, Option, None, Some, Result, MatchResult, IsOk, slice_index_or, ⊤}
+use Rattle.std.specs.Prelude.{◌≡◌, ℕ, ◌+◌, ◌*◌, ◌^◌, ◌≤◌, ◌<◌, ◌≢◌, ◌==◌, Bool, false, if◌then◌else◌, List, [], ◌∷◌, length, replicate, Option, None, Some, Result, MatchResult, IsOk, slice_index_or, slice_set, OnOk, OnErr, ⊤}
 use Rattle.cola_device.specs.declared.counts.Counts.{Counts}
 use Rattle.cola_device.specs.declared.device.Device as device
 use Rattle.cola_device.specs.Counts.{Called}
@@ -93,6 +93,25 @@ pub record IsRead {D T E : Type 0} (d : device.Ghosts D) (block : ℕ) (result :
   pub counts : Called (d.counts before.device) (d.counts now.device) 1 0 0 result
   pub blocks : now.blocks ≡ before.blocks
   pub size : now.size ≡ before.size
+
+-- a buffer that may be turned to a block: there is one of this number, and the device has that block, with the copies and what is borrowed as they are to be
+pub record CanTurn {D : Type 0} (told : Option (List ℕ)) (cache : Cache D) (copies : List ℕ) (lasts shares : List (Option ℕ)) (buffer block size : ℕ) : Type 0 where
+  pub size_is : size ≡ cache.size
+  pub there : buffer < length lasts
+  pub most : cache.size ≤ 65536
+  pub fits : block * cache.size < 2 ^ 64
+  pub inside : HasRange told (block * cache.size) cache.size
+  pub copies_are : AreCopies told copies lasts shares size
+  pub shared : AreShared cache.held lasts shares
+
+-- what turning a buffer to a block that it does not hold leaves: it holds that block, or none after an error, and all else that is true stays so
+pub record IsTurned {D T E : Type 0} (d : device.Ghosts D) (result : Result T E) (buffer block size : ℕ) (before now : Cache D) (lasts lasts_now shares_now : List (Option ℕ)) (copies_now : List ℕ) : Type 0 where
+  pub ok : OnOk result (lasts_now ≡ slice_set lasts buffer (Some block))
+  pub err : OnErr result (lasts_now ≡ slice_set lasts buffer None)
+  pub copies : AreCopies (d.bytes now.device) copies_now lasts_now shares_now size
+  pub shared : AreShared now.held lasts_now shares_now
+  pub read : IsRead d block result before now
+  pub since : (many : ℕ) (made : Made) → block < many → Since many before.blocks before.held made (d.counts before.device) → Since many now.blocks now.held made (d.counts now.device)
 
 -- and after one was written, in part or whole: all is as it was, and after an error the block is given up
 abbrev pub HeldWritten : {D T E : Type 0} → Result T E → ℕ → Cache D → Cache D → Type 0

@@ -1,15 +1,17 @@
 //! Whole blocks of a device behind a cache, and numbered buffers, each of which keeps the block that was read last by
 //! way of it.
 ghost use Rattle.std.specs.Prelude.{◌≡◌, ◌≢◌, ℕ, ◌+◌, ◌*◌, ◌^◌, ◌≤◌, ◌<◌, [], ◌∷◌, length, map, replicate, Option, None, Some, IfOk, IfErr, IfSome, OnOk, OnErr, IsOk, slice_set};
+ghost use Rattle.std.specs.Box.{boxed_slice_items};
 ghost use Rattle.cola_device.specs.Bytes.{HasRange, Gives, Wrote, part};
 ghost use Rattle.cola_device.specs.Counts.{Called};
 ghost use Rattle.cola_cache.specs.Order.{IsAbsent};
 ghost use Rattle.cola_cache.specs.Cache.{used};
-ghost use Rattle.cola_cache.specs.Blocks.{IsSound, AreFew, AreCopies, AreShared, IsRead, HeldRead, HeldWritten, Made, Since, Stays, forgotten, last_in, new_blocks};
+ghost use Rattle.cola_cache.specs.Blocks.{IsSound, AreFew, AreCopies, AreShared, CanTurn, IsTurned, IsRead, HeldRead, HeldWritten, Made, Since, Stays, forgotten, last_in, new_blocks};
 
 use crate::cached::{Cached, size_of_block};
 use cola_device::{Device, DeviceFault};
 use std::alloc::{AllocError, Global};
+use std::boxed::BoxedSlice;
 use std::marker::Model;
 
 /// The blocks of a file on the device `D`, behind a cache, and buffers that each keep one block. Blocks and buffers are
@@ -17,10 +19,10 @@ use std::marker::Model;
 #[derive(Drop)]
 pub struct Buffers<D: Device> {
     device: Cached<D>,
-    copies: Vec<u8>,
-    lasts: Vec<Option<u64>>,
+    copies: BoxedSlice<u8>,
+    lasts: BoxedSlice<Option<u64>>,
     /// For each buffer that borrows its block from the cache, the frame where that was found.
-    shares: Vec<Option<u32>>,
+    shares: BoxedSlice<Option<u32>>,
     size: u32,
     many: u64,
     made_reads: u64,
@@ -29,24 +31,25 @@ pub struct Buffers<D: Device> {
 
 impl<D: Device> Model for Buffers<D> {
     ghost use Rattle.std.specs.Prelude.{◌≡◌};
+    ghost use Rattle.std.specs.Box.{boxed_slice_items};
     ghost use Rattle.cola_cache.specs.Blocks.{Blocks, IsSound, AreCopies, AreShared};
 
     ghost Value = { Blocks D };
 
     ghost view = { λ b. record {
       cache = b.device;
-      lasts = b.lasts.items;
+      lasts = boxed_slice_items b.lasts;
       many = b.many;
       made = record { reads = b.made_reads; faults = b.made_faults };
     } };
 
     ghost invariant = { λ b. (b.size ≡ b.device.size) × IsSound (D.bytes b.device.device) (D.counts b.device.device) (record {
       cache = b.device;
-      lasts = b.lasts.items;
+      lasts = boxed_slice_items b.lasts;
       many = b.many;
       made = record { reads = b.made_reads; faults = b.made_faults };
-    }) × AreCopies (D.bytes b.device.device) b.copies.items b.lasts.items b.shares.items b.size
-        × AreShared b.device.held b.lasts.items b.shares.items };
+    }) × AreCopies (D.bytes b.device.device) (boxed_slice_items b.copies) (boxed_slice_items b.lasts) (boxed_slice_items b.shares) b.size
+        × AreShared b.device.held (boxed_slice_items b.lasts) (boxed_slice_items b.shares) };
 }
 
 /// Room for the copies of so many buffers, and what says which block each holds, and which it borrows: none.
@@ -54,15 +57,22 @@ fn room(
     alloc: Global,
     buffers: u32,
     size: u32,
-) -> Result<(Vec<u8>, Vec<Option<u64>>, Vec<Option<u32>>), AllocError>
+) -> Result<
+    (
+        BoxedSlice<u8>,
+        BoxedSlice<Option<u64>>,
+        BoxedSlice<Option<u32>>,
+    ),
+    AllocError,
+>
     requires size { size ≤ 65536 }
-    ensures copies { IfOk result (λ made. length made.0.items ≡ buffers * size) }
-    ensures lasts { IfOk result (λ made. made.1.items ≡ replicate buffers None) }
-    ensures shares { IfOk result (λ made. made.2.items ≡ replicate buffers None) }
+    ensures copies { IfOk result (λ made. length (boxed_slice_items made.0) ≡ buffers * size) }
+    ensures lasts { IfOk result (λ made. boxed_slice_items made.1 ≡ replicate buffers None) }
+    ensures shares { IfOk result (λ made. boxed_slice_items made.2 ≡ replicate buffers None) }
 {
-    let copies = vec![in alloc; 0u8; buffers as usize * size as usize]?;
-    let lasts = vec![in alloc; None; buffers as usize]?;
-    let shares = vec![in alloc; None; buffers as usize]?;
+    let copies = vec![in alloc; 0u8; buffers as usize * size as usize]?.into_boxed_slice();
+    let lasts = vec![in alloc; None; buffers as usize]?.into_boxed_slice();
+    let shares = vec![in alloc; None; buffers as usize]?.into_boxed_slice();
     Ok((copies, lasts, shares))
 }
 
@@ -183,21 +193,9 @@ fn fetch<D: Device>(
     block: u64,
     size: usize,
 ) -> Result<(), DeviceFault>
-    requires size { size ≡ device.old.size }
-    requires buffer { buffer < length lasts.old }
-    requires most { device.old.size ≤ 65536 }
-    requires fits { block * device.old.size < 2 ^ 64 }
-    requires inside { HasRange (D.bytes device.old.device) (block * device.old.size) device.old.size }
-    requires copies { AreCopies (D.bytes device.old.device) copies.old lasts.old shares.old size }
-    requires shared { AreShared device.old.held lasts.old shares.old }
+    requires can { CanTurn (D.bytes device.old.device) device.old copies.old lasts.old shares.old buffer block size }
     requires after { AreShared (used device.old.blocks block device.old.held) lasts.old shares.old }
-    ensures ok { OnOk result (lasts.new ≡ slice_set lasts.old buffer (Some block)) }
-    ensures err { OnErr result (lasts.new ≡ slice_set lasts.old buffer None) }
-    ensures copies { AreCopies (D.bytes device.new.device) copies.new lasts.new shares.new size }
-    ensures shared { AreShared device.new.held lasts.new shares.new }
-    ensures read { IsRead D.Device block result device.old device.new }
-    ensures since { (many : ℕ) (made : Made) → block < many → Since many device.old.blocks device.old.held made (D.counts device.old.device)
-        → Since many device.new.blocks device.new.held made (D.counts device.new.device) }
+    ensures { IsTurned D.Device result buffer block size device.old device.new lasts.old lasts.new shares.new copies.new }
 {
     lasts[buffer] = None;
     shares[buffer] = None;
@@ -222,20 +220,8 @@ fn turn<D: Device>(
     block: u64,
     size: usize,
 ) -> Result<(), DeviceFault>
-    requires size { size ≡ device.old.size }
-    requires buffer { buffer < length lasts.old }
-    requires most { device.old.size ≤ 65536 }
-    requires fits { block * device.old.size < 2 ^ 64 }
-    requires inside { HasRange (D.bytes device.old.device) (block * device.old.size) device.old.size }
-    requires copies { AreCopies (D.bytes device.old.device) copies.old lasts.old shares.old size }
-    requires shared { AreShared device.old.held lasts.old shares.old }
-    ensures ok { OnOk result (lasts.new ≡ slice_set lasts.old buffer (Some block)) }
-    ensures err { OnErr result (lasts.new ≡ slice_set lasts.old buffer None) }
-    ensures copies { AreCopies (D.bytes device.new.device) copies.new lasts.new shares.new size }
-    ensures shared { AreShared device.new.held lasts.new shares.new }
-    ensures read { IsRead D.Device block result device.old device.new }
-    ensures since { (many : ℕ) (made : Made) → block < many → Since many device.old.blocks device.old.held made (D.counts device.old.device)
-        → Since many device.new.blocks device.new.held made (D.counts device.new.device) }
+    requires { CanTurn (D.bytes device.old.device) device.old copies.old lasts.old shares.old buffer block size }
+    ensures { IsTurned D.Device result buffer block size device.old device.new lasts.old lasts.new shares.new copies.new }
 {
     if let Some(frame) = device.find(block) {
         device.touch(block, frame);

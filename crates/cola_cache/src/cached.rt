@@ -1,5 +1,6 @@
 //! A device over a device, which keeps whole blocks of it in memory.
 ghost use Rattle.std.specs.Prelude.{◌≡◌, ◌≢◌, true, false, Option, ℕ, ◌+◌, ◌-◌, ◌*◌, ◌^◌, ◌/◌, ◌%◌, ◌≤◌, ◌<◌, [], List, Contains, OnOk, OnErr, IfOk, IfErr, IfSome, MatchResult, IsOk, None, Some, length, min, take};
+ghost use Rattle.std.specs.Box.{boxed_slice_items};
 ghost use Rattle.cola_device.specs.Bytes.{IsEmpty, HasSize, HasRange, Gives, LaidOut, Wrote, part, splice};
 ghost use Rattle.cola_device.specs.Counts.{Called};
 ghost use Rattle.cola_cache.specs.Order.{IsAbsent, Holds, blocks_of, unheld};
@@ -8,6 +9,7 @@ ghost use Rattle.cola_cache.specs.Cache.{Agree, IsBlock, IsWritten, blocks_touch
 use crate::order::Order;
 use cola_device::{Device, DeviceFault, MAX_TRANSFER};
 use std::alloc::{AllocError, Global};
+use std::boxed::BoxedSlice;
 use std::marker::Model;
 
 /// A device over the device `D`, which keeps up to so many whole blocks of it in memory. It holds the bytes of `D`,
@@ -16,12 +18,13 @@ use std::marker::Model;
 pub struct Cached<D: Device> {
     device: D,
     order: Order,
-    copies: Vec<u8>,
+    copies: BoxedSlice<u8>,
     size: u32,
 }
 
 impl<D: Device> Model for Cached<D> {
     ghost use Rattle.std.specs.Prelude.{◌≡◌, ◌≤◌, ◌*◌, length};
+    ghost use Rattle.std.specs.Box.{boxed_slice_items};
     ghost use Rattle.cola_cache.specs.Order.{blocks_of};
     ghost use Rattle.cola_cache.specs.Cache.{Cache, Agree};
 
@@ -34,8 +37,8 @@ impl<D: Device> Model for Cached<D> {
       size = c.size;
     } };
 
-    ghost invariant = { λ c. Agree (D.bytes c.device) c.order c.copies.items c.size
-        × (length c.copies.items ≡ length c.order * c.size) × (512 ≤ c.size) × (c.size ≤ 65536) };
+    ghost invariant = { λ c. Agree (D.bytes c.device) c.order (boxed_slice_items c.copies) c.size
+        × (length (boxed_slice_items c.copies) ≡ length c.order * c.size) × (512 ≤ c.size) × (c.size ≤ 65536) };
 }
 
 /// The bytes of a block.
@@ -50,14 +53,14 @@ pub(crate) fn size_of_block(block_exp: u8) -> u32
 }
 
 /// Frames for so many blocks, and what says which block each holds: none.
-fn frames(alloc: Global, blocks: u32, size: u32) -> Result<(Order, Vec<u8>), AllocError>
+fn frames(alloc: Global, blocks: u32, size: u32) -> Result<(Order, BoxedSlice<u8>), AllocError>
     requires blocks { blocks ≤ 4096 }
     requires size { size ≤ 65536 }
     ensures order { IfOk result (λ made. made.0 ≡ unheld blocks) }
-    ensures copies { IfOk result (λ made. length made.1.items ≡ blocks * size) }
+    ensures copies { IfOk result (λ made. length (boxed_slice_items made.1) ≡ blocks * size) }
 {
     let order = Order::new(alloc, blocks)?;
-    let copies = vec![in alloc; 0u8; blocks as usize * size as usize]?;
+    let copies = vec![in alloc; 0u8; blocks as usize * size as usize]?.into_boxed_slice();
     Ok((order, copies))
 }
 
@@ -178,7 +181,7 @@ impl<D: Device> Cached<D> {
         ensures held { result ≡ true → IsAbsent block self.now.held → ⊥ }
         ensures absent { result ≡ false → IsAbsent block self.now.held }
     {
-        self.order.find(block).is_some()
+        self.find(block).is_some()
     }
 
     /// The frame that holds a block, where the block is held.

@@ -3,26 +3,28 @@ ghost use Rattle.std.specs.Prelude.{◌≡◌, ◌+◌, ◌*◌, ◌<◌, ◌≤
 ghost use Rattle.cola_cache.specs.Index.{block_in, chain_of, AreChained, IsAbove};
 
 use std::alloc::{AllocError, Global};
+use std::boxed::BoxedSlice;
 use std::marker::Model;
 
 /// The block that each frame holds, by the frames' numbers. Each block belongs to one of a fixed number of chains; the
 /// frames of a chain are linked, from the highest number down.
 #[derive(Drop)]
 pub(crate) struct BlockIndex {
-    blocks: Vec<Option<u64>>,
+    blocks: BoxedSlice<Option<u64>>,
     /// A link for each frame, and behind them one for each chain, to its first frame. A link is one more than a frame's
     /// number, or 0 where the chain ends.
-    links: Vec<u32>,
+    links: BoxedSlice<u32>,
 }
 
 impl Model for BlockIndex {
+    ghost use Rattle.std.specs.Box.{boxed_slice_items};
     ghost use Rattle.cola_cache.specs.Index.{Blocks, AreChained};
 
     ghost Value = { Blocks };
 
-    ghost view = { λ i. i.blocks.items };
+    ghost view = { λ i. boxed_slice_items i.blocks };
 
-    ghost invariant = { λ i. AreChained i.blocks.items i.links.items };
+    ghost invariant = { λ i. AreChained (boxed_slice_items i.blocks) (boxed_slice_items i.links) };
 }
 
 /// The chain that a block belongs to, where there are so many frames.
@@ -71,8 +73,8 @@ impl BlockIndex {
     pub(crate) fn new(alloc: Global, count: u32) -> Result<BlockIndex, AllocError>
         ensures { IfOk result (λ index. index ≡ replicate count None) }
     {
-        let blocks = vec![in alloc; None; count as usize]?;
-        let links = vec![in alloc; 0u32; 3 * count as usize + 1]?;
+        let blocks = vec![in alloc; None; count as usize]?.into_boxed_slice();
+        let links = vec![in alloc; 0u32; 3 * count as usize + 1]?.into_boxed_slice();
         Ok(BlockIndex { blocks, links })
     }
 

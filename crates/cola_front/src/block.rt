@@ -85,7 +85,7 @@ pub(crate) fn put_header(block: &mut [u8], header: &[u8; 512])
 /// Gives the places from `from` up to `to` what a block's bytes spell, where the block begins at the place `first`.
 pub(crate) fn take_cells(
     format: Format,
-    cells: &mut Vec<Option<Cell>>,
+    cells: &mut [Option<Cell>],
     block: &[u8],
     first: usize,
     from: usize,
@@ -93,12 +93,12 @@ pub(crate) fn take_cells(
 )
     requires begin { first ≤ from }
     requires order { from ≤ to }
-    requires end { to ≤ length cells.old.items }
+    requires end { to ≤ length cells.old }
     requires whole { width format * (to - first) ≤ length block.now }
-    ensures taken { (place : ℕ) → from ≤ place → place < to → slice_index_or cells.new.items place None ≡ decoded format (cell_bytes format block.now (place - first)) }
-    ensures below { (place : ℕ) → place < from → slice_index_or cells.new.items place None ≡ slice_index_or cells.old.items place None }
-    ensures above { (place : ℕ) → from ≤ place → to ≤ place → slice_index_or cells.new.items place None ≡ slice_index_or cells.old.items place None }
-    ensures many { length cells.new.items ≡ length cells.old.items }
+    ensures taken { (place : ℕ) → from ≤ place → place < to → slice_index_or cells.new place None ≡ decoded format (cell_bytes format block.now (place - first)) }
+    ensures below { (place : ℕ) → place < from → slice_index_or cells.new place None ≡ slice_index_or cells.old place None }
+    ensures above { (place : ℕ) → from ≤ place → to ≤ place → slice_index_or cells.new place None ≡ slice_index_or cells.old place None }
+    ensures many { length cells.new ≡ length cells.old }
     ensures whole { width format * (to - first) ≤ length block.now }
 {
     let _item: Option<Item> = None;

@@ -1,5 +1,6 @@
 //! The front of a store: its blocks 0 and 1 in memory.
 ghost use Rattle.std.specs.Prelude.{◌≡◌, ◌⊎◌, ℕ, ◌+◌, ◌-◌, ◌*◌, ◌^◌, ◌≤◌, ◌<◌, Option, None, Some, IfOk, IfSome, OnOk, OnErr, slice_set, length, take, drop, replicate, ◌++◌};
+ghost use Rattle.std.specs.Box.{boxed_slice_items};
 ghost use Rattle.cola_outside.specs.Told.{Both};
 ghost use Rattle.cola_cell.specs.Format.{CellFits};
 ghost use Rattle.cola_cell.specs.Decoded.{decoded};
@@ -11,6 +12,7 @@ use crate::block::{know_spelling, put_cells, put_header, take_cells};
 use cola_cell::{Cell, Format, Item};
 use cola_device::{Device, DeviceFault, MAX_TRANSFER};
 use std::alloc::{AllocError, Global};
+use std::boxed::BoxedSlice;
 use std::marker::Model;
 
 /// Blocks 0 and 1 of a store in memory: what stands at each place behind the header, by the number of the cell. Reads
@@ -19,10 +21,11 @@ use std::marker::Model;
 pub struct Front {
     format: Format,
     block: usize,
-    cells: Vec<Option<Cell>>,
+    cells: BoxedSlice<Option<Cell>>,
 }
 
 impl Model for Front {
+    ghost use Rattle.std.specs.Box.{boxed_slice_items};
     ghost use Rattle.cola_front.specs.Front.{FrontCells, IsFront};
 
     ghost Value = { FrontCells };
@@ -30,13 +33,13 @@ impl Model for Front {
     ghost view = { λ f. record {
       format = f.format;
       block = f.block;
-      cells = f.cells.items;
+      cells = boxed_slice_items f.cells;
     } };
 
     ghost invariant = { λ f. IsFront (record {
       format = f.format;
       block = f.block;
-      cells = f.cells.items;
+      cells = boxed_slice_items f.cells;
     }) };
 }
 
@@ -52,12 +55,13 @@ fn cells_of_block(block_exp: u8) -> usize
 }
 
 /// So many places without a cell.
-fn no_cells(alloc: Global, many: usize) -> Result<Vec<Option<Cell>>, AllocError>
-    ensures { IfOk result (λ cells. cells.items ≡ replicate many None) }
+fn no_cells(alloc: Global, many: usize) -> Result<BoxedSlice<Option<Cell>>, AllocError>
+    ensures { IfOk result (λ cells. boxed_slice_items cells ≡ replicate many None) }
 {
     let _item: Option<Item> = None;
     let none: Option<Cell> = None;
-    vec![in alloc; none; many]
+    let cells = vec![in alloc; none; many]?;
+    Ok(cells.into_boxed_slice())
 }
 
 impl Front {

@@ -1,19 +1,17 @@
-use Rattle.std.proofs.Common.{◌≡◌, Some, subst}
+use Rattle.std.proofs.Common.{◌≡◌, Some, subst, refl, rules}
 use Rattle.cola_cache.specs.Order.{IsAbsent}
 use Rattle.cola_cache.proofs.BlocksLemmas.{copies-borrowed, shared-turned, since-touched}
 use Rattle.cola_cache.proofs.buffers.turn.Goals as goal
 
-pub returns-in-Some-clause-copies : goal.returns-in-Some-clause-copies
-returns-in-Some-clause-copies g c =
-    rw c.touch.ensures.device (copies-borrowed (g.D.Device.bytes c.args.device.now.device) c.args.copies.now c.args.lasts.now c.args.shares.now c.args.buffer c.in-Some.frame c.args.size (Some c.args.block) c.requires.buffer c.requires.copies)
-
-pub returns-in-Some-clause-shared : goal.returns-in-Some-clause-shared
-returns-in-Some-clause-shared g c =
-    shared-turned c.touch.new.self.held c.args.lasts.now c.args.shares.now c.args.buffer (Some c.args.block) (Some c.in-Some.frame) c.requires.buffer c.requires.copies.shares_too
-    (λ block is some absent. let same : block ≡ c.args.block = cc in c.in-Some.ensures.some (subst (λ b. IsAbsent b c.args.device.now.held) same (c.touch.ensures.stay block absent)))
-    (λ other block is borrowed absent. c.requires.shared other block is borrowed (c.touch.ensures.stay block absent))
-
-pub returns-in-Some-clause-since : goal.returns-in-Some-clause-since
-returns-in-Some-clause-since g c = λ many made less since.
-    rw (c.touch.ensures.settings.0, c.touch.ensures.device)
-    (since-touched many c.args.device.now.blocks c.args.block c.args.device.now.held c.touch.new.self.held made (g.D.Device.counts c.args.device.now.device) c.touch.ensures.held c.touch.ensures.as_many less since)
+pub returns-in-Some : goal.returns-in-Some
+returns-in-Some g c = record {
+  ok = refl;
+  err = tt;
+  copies = rw c.touch.ensures.device (copies-borrowed (g.D.Device.bytes c.args.device.now.device) c.args.copies.now c.args.lasts.now c.args.shares.now c.args.buffer c.in-Some.frame c.args.size (Some c.args.block) c.requires.there c.requires.copies_are);
+  shared = shared-turned c.touch.new.self.held c.args.lasts.now c.args.shares.now c.args.buffer (Some c.args.block) (Some c.in-Some.frame) c.requires.there c.requires.copies_are.shares_too
+      (λ block is some absent. let same : block ≡ c.args.block = cc in c.in-Some.ensures.some (subst (λ b. IsAbsent b c.args.device.now.held) same (c.touch.ensures.stay block absent)))
+      (λ other block is borrowed absent. c.requires.shared other block is borrowed (c.touch.ensures.stay block absent));
+  read = search rules;
+  since = λ many made less since. rw (c.touch.ensures.settings.0, c.touch.ensures.device)
+      (since-touched many c.args.device.now.blocks c.args.block c.args.device.now.held c.touch.new.self.held made (g.D.Device.counts c.args.device.now.device) c.touch.ensures.held c.touch.ensures.as_many less since);
+}

@@ -3,13 +3,13 @@ use Rattle.cola_front.proofs.FrontLemmas.{taken_none, taken_more}
 use Rattle.cola_front.proofs.block.take_cells.Goals as goal
 
 pub loop-place-init : goal.loop-place-init
-loop-place-init c = taken_none c.args.format c.args.block.now c.args.first c.args.from c.args.cells.now.items
+loop-place-init c = taken_none c.args.format c.args.block.now c.args.first c.args.from c.args.cells.now
 
 pub loop-place-preserved : goal.loop-place-preserved
 loop-place-preserved c =
     let t = c.loop-place.invariant in
     let many = t.many in
-    taken_more c.args.format c.args.block.now c.args.first c.args.from c.loop-place.place c.args.cells.now.items c.loop-place.cells.items c.cell_in.result t c.loop-place.auto.place
+    taken_more c.args.format c.args.block.now c.args.first c.args.from c.loop-place.place c.args.cells.now c.loop-place.cells c.cell_in.result t c.loop-place.auto.place
     (omega (arith, c.loop-place-test.true, c.requires.end, many)) c.cell_in.ensures
 
 pub returns-clause-taken : goal.returns-clause-taken

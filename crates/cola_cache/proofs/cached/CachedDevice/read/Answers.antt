@@ -8,8 +8,7 @@ use Rattle.cola_cache.proofs.cached.CachedDevice.read.Goals as goal
 
 pub returns-in-Some-clause-block : goal.returns-in-Some-clause-block
 returns-in-Some-clause-block g c = λ block is.
-    let this : IsBlock c.self.inside.size c.args.at (length c.args.into.now) block = rw (← c.self.view_is) at is in
-    let found : c.in-Some.block ≡ block = one-block c.self.inside.size c.args.at (length c.args.into.now) c.in-Some.block block (omega (arith, c.self.invariant.2)) c.in-Some.ensures.some.0 this in
+    let found : c.in-Some.block ≡ block = one-block c.self.inside.size c.args.at (length c.args.into.now) c.in-Some.block block (omega (arith, c.self.invariant.2)) c.in-Some.ensures.some.0 (rw (← c.self.view_is) at is) in
     subst (λ (b : ℕ). OnOk c.read_block.result (blocks_of c.read_block.new.order ≡ used c.args.self.now.blocks b c.args.self.now.held)) found (rw (← c.self.view_is) c.read_block.ensures.ok)
 
 pub returns-in-Some-clause-other : goal.returns-in-Some-clause-other
@@ -17,14 +16,12 @@ returns-in-Some-clause-other g c = λ none. absurd (none c.in-Some.block (rw (�
 
 pub returns-in-Some-clause-hit : goal.returns-in-Some-clause-hit
 returns-in-Some-clause-hit g c = λ block is present.
-    let this : IsBlock c.self.inside.size c.args.at (length c.args.into.now) block = rw (← c.self.view_is) at is in
-    let found : c.in-Some.block ≡ block = one-block c.self.inside.size c.args.at (length c.args.into.now) c.in-Some.block block (omega (arith, c.self.invariant.2)) c.in-Some.ensures.some.0 this in
+    let found : c.in-Some.block ≡ block = one-block c.self.inside.size c.args.at (length c.args.into.now) c.in-Some.block block (omega (arith, c.self.invariant.2)) c.in-Some.ensures.some.0 (rw (← c.self.view_is) at is) in
     rw (← c.self.view_is) (c.read_block.ensures.hit (λ absent. present (subst (λ (b : ℕ). IsAbsent b c.args.self.now.held) found (rw (← c.self.view_is) absent))))
 
 pub returns-in-Some-clause-reads : goal.returns-in-Some-clause-reads
 returns-in-Some-clause-reads g c = λ block is room.
-    let this : IsBlock c.self.inside.size c.args.at (length c.args.into.now) block = rw (← c.self.view_is) at is in
-    let found : c.in-Some.block ≡ block = one-block c.self.inside.size c.args.at (length c.args.into.now) c.in-Some.block block (omega (arith, c.self.invariant.2)) c.in-Some.ensures.some.0 this in
+    let found : c.in-Some.block ≡ block = one-block c.self.inside.size c.args.at (length c.args.into.now) c.in-Some.block block (omega (arith, c.self.invariant.2)) c.in-Some.ensures.some.0 (rw (← c.self.view_is) at is) in
     rw (← c.self.view_is) (c.read_block.ensures.reads (λ absent. rw (← c.self.view_is) at (room (subst (λ (b : ℕ). IsAbsent b c.args.self.now.held) found (rw (← c.self.view_is) absent)))))
 
 pub returns-in-None-clause-reads : goal.returns-in-None-clause-reads

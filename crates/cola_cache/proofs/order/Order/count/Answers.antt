@@ -1,12 +1,10 @@
-use Rattle.std.proofs.Common.{◌<◌, Some, arith}
-use Rattle.cola_cache.specs.Order.{Holds}
+use Rattle.std.proofs.Common.{Some, arith}
 use Rattle.cola_cache.proofs.OrderLemmas.{below-lookup, none-held, length-blocks}
 use Rattle.cola_cache.proofs.order.Order.count.Goals as goal
 
 pub returns-clause-below : goal.returns-clause-below
 returns-clause-below c = λ frame block holds.
-    let entries : Holds c.self.inside.slots.entries frame block = rw c.self.view_is holds in
-    let below : frame < c.self.inside.count = below-lookup frame c.self.inside.count (Some block) c.self.inside.slots.entries c.self.invariant.1 entries in
+    let below = below-lookup frame c.self.inside.count (Some block) c.self.inside.slots.entries c.self.invariant.1 (rw c.self.view_is holds) in
     rw (← c.self.view_is) (omega (arith, below, c.self.invariant.2))
 
 pub returns-clause-none : goal.returns-clause-none

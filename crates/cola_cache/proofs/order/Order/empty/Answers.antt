@@ -8,15 +8,12 @@ use Rattle.cola_cache.proofs.order.Order.empty.Goals as goal
 pub place-requires : goal.place-requires
 place-requires c = let holds : Holds c.self.inside.slots.entries c.args.frame c.args.block = rw c.self.view_is c.requires in rw holds refl
 
-pub remove-requires-clause-inside : goal.remove-requires-clause-inside
-remove-requires-clause-inside c =
-    let holds : Holds c.self.inside.slots.entries c.args.frame c.args.block = rw c.self.view_is c.requires in
-    omega (arith, below-lookup c.args.frame c.self.inside.count (Some c.args.block) c.self.inside.slots.entries c.self.invariant.1 holds, c.self.invariant.4)
-
-pub remove-requires-clause-held : goal.remove-requires-clause-held
-remove-requires-clause-held c =
-    let holds : Holds c.self.inside.slots.entries c.args.frame c.args.block = rw c.self.view_is c.requires in
-    c.self.invariant.3 c.args.frame ∙ ap (λ (found : Option (Option ℕ)). unwrap_or found None) holds
+pub remove-requires : goal.remove-requires
+remove-requires c =
+    let holds : Holds c.self.inside.slots.entries c.args.frame c.args.block = rw c.self.view_is c.requires in record {
+      inside = omega (arith, below-lookup c.args.frame c.self.inside.count (Some c.args.block) c.self.inside.slots.entries c.self.invariant.1 holds, c.self.invariant.4);
+      held = c.self.invariant.3 c.args.frame ∙ ap (λ (found : Option (Option ℕ)). unwrap_or found None) holds;
+    }
 
 pub invariant_of-self : goal.invariant_of-self
 invariant_of-self c =
@@ -31,30 +28,12 @@ invariant_of-self c =
       rw (c.remove.ensures, length-set) c.self.invariant.4,
     )
 
-pub returns-clause-blocks : goal.returns-clause-blocks
-returns-clause-blocks c =
-    let holds : Holds c.self.inside.slots.entries c.args.frame c.args.block = rw c.self.view_is c.requires in
-    rw (c.demote.ensures.entries, c.place.ensures, demoted-placed c.args.frame None (others c.args.frame c.self.inside.slots.entries), ← c.self.view_is)
-    (blocks-last c.args.frame (others c.args.frame c.self.inside.slots.entries) ∙ blocks-others c.args.frame c.args.block c.self.inside.slots.entries c.self.invariant.0 holds)
-
-pub returns-clause-count : goal.returns-clause-count
-returns-clause-count c =
-    let holds : Holds c.self.inside.slots.entries c.args.frame c.args.block = rw c.self.view_is c.requires in
-    rw (c.demote.ensures.entries, c.place.ensures, demoted-placed c.args.frame None (others c.args.frame c.self.inside.slots.entries), ← c.self.view_is)
-    (length-last c.args.frame (others c.args.frame c.self.inside.slots.entries) ∙ length-others c.args.frame c.self.inside.slots.entries (Some c.args.block) holds)
-
-pub returns-clause-same : goal.returns-clause-same
-returns-clause-same c = λ other held now.
-    let holds : Holds c.self.inside.slots.entries c.args.frame c.args.block = rw c.self.view_is c.requires in
-    rw (← c.self.view_is) (holds-emptied c.args.frame c.args.block other held c.self.inside.slots.entries c.self.invariant.0 holds
-    (rw (c.demote.ensures.entries, c.place.ensures, demoted-placed c.args.frame None (others c.args.frame c.self.inside.slots.entries)) at now))
-
-pub returns-clause-free : goal.returns-clause-free
-returns-clause-free c =
-    rw (c.demote.ensures.entries, c.place.ensures, demoted-placed c.args.frame None (others c.args.frame c.self.inside.slots.entries))
-    (lookup-last c.args.frame (others c.args.frame c.self.inside.slots.entries) (free-removed c.args.frame c.self.inside.slots.entries c.self.invariant.0))
-
-pub returns-clause-others : goal.returns-clause-others
-returns-clause-others c =
-    rw (c.demote.ensures.entries, c.place.ensures, demoted-placed c.args.frame None (others c.args.frame c.self.inside.slots.entries), ← c.self.view_is)
-    (blocks-last c.args.frame (others c.args.frame c.self.inside.slots.entries))
+pub returns : goal.returns
+returns c =
+    let holds : Holds c.self.inside.slots.entries c.args.frame c.args.block = rw c.self.view_is c.requires in record {
+      blocks = rw (c.demote.ensures.entries, c.place.ensures, demoted-placed c.args.frame None (others c.args.frame c.self.inside.slots.entries), ← c.self.view_is) (blocks-last c.args.frame (others c.args.frame c.self.inside.slots.entries) ∙ blocks-others c.args.frame c.args.block c.self.inside.slots.entries c.self.invariant.0 holds);
+      count = rw (c.demote.ensures.entries, c.place.ensures, demoted-placed c.args.frame None (others c.args.frame c.self.inside.slots.entries), ← c.self.view_is) (length-last c.args.frame (others c.args.frame c.self.inside.slots.entries) ∙ length-others c.args.frame c.self.inside.slots.entries (Some c.args.block) holds);
+      same = λ other held now. rw (← c.self.view_is) (holds-emptied c.args.frame c.args.block other held c.self.inside.slots.entries c.self.invariant.0 holds (rw (c.demote.ensures.entries, c.place.ensures, demoted-placed c.args.frame None (others c.args.frame c.self.inside.slots.entries)) at now));
+      others = rw (c.demote.ensures.entries, c.place.ensures, demoted-placed c.args.frame None (others c.args.frame c.self.inside.slots.entries), ← c.self.view_is) (blocks-last c.args.frame (others c.args.frame c.self.inside.slots.entries));
+      free = rw (c.demote.ensures.entries, c.place.ensures, demoted-placed c.args.frame None (others c.args.frame c.self.inside.slots.entries)) (lookup-last c.args.frame (others c.args.frame c.self.inside.slots.entries) (free-removed c.args.frame c.self.inside.slots.entries c.self.invariant.0));
+    }

@@ -1,4 +1,5 @@
-use Rattle.std.proofs.Common.{◌≢◌, ◌≤◌, refl, ◌∙◌, arith}
+use Rattle.std.proofs.Common.{◌≢◌, ◌≤◌, ℕ, refl, ◌∙◌, arith}
+use Rattle.cola_cache.specs.Order.{Holds}
 use Rattle.cola_cache.proofs.order.Order.give_up_all.Goals as goal
 
 pub loop-frame-init : goal.loop-frame-init
@@ -14,17 +15,10 @@ loop-frame-preserved c = record {
       omega (arith, differ, less);
 }
 
-pub returns-clause-blocks : goal.returns-clause-blocks
-returns-clause-blocks c = c.count.ensures.none (λ other held now.
-    let low = c.loop-frame.invariant.done other held now in
-    let high = c.count.ensures.below other held now in
-    absurd (omega (arith, low, high, c.count-frame-end.ensures.is, c.loop-frame.invariant.count, c.loop-frame-test.false, c.loop-frame.auto.frame-end)))
-
-pub returns-clause-count : goal.returns-clause-count
-returns-clause-count c = c.loop-frame.invariant.count
-
-pub returns-clause-none : goal.returns-clause-none
-returns-clause-none c = λ other held now.
-    let low = c.loop-frame.invariant.done other held now in
-    let high = c.count.ensures.below other held now in
-    omega (arith, low, high, c.count-frame-end.ensures.is, c.loop-frame.invariant.count, c.loop-frame-test.false, c.loop-frame.auto.frame-end)
+pub returns : goal.returns
+returns c =
+    let none : (other held : ℕ) → Holds c.loop-frame.self other held → ⊥ = λ other held now. omega (arith, c.loop-frame.invariant.done other held now, c.count.ensures.below other held now, c.count-frame-end.ensures.is, c.loop-frame.invariant.count, c.loop-frame-test.false, c.loop-frame.auto.frame-end) in record {
+      blocks = c.count.ensures.none none;
+      count = c.loop-frame.invariant.count;
+      none = none;
+    }

@@ -1,9 +1,7 @@
-use Rattle.std.proofs.Common.{◌≡◌, ◌+◌, ◌-◌, ◌*◌, ◌<◌, ◌≤◌, ℕ, length, ap, subst, sym, ◌∙◌, arith}
-use Rattle.std.specs.Prelude.{IfSome}
+use Rattle.std.proofs.Common.{◌≡◌, ◌*◌, ℕ, length, subst, arith}
 use Rattle.cola_cell.specs.Format.{width}
-use Rattle.cola_cell.specs.Decoded.{decoded}
 use Rattle.cola_device.specs.Bytes.{Gives}
-use Rattle.cola_front.specs.Front.{FrontCells, cell_at, cell_bytes}
+use Rattle.cola_front.specs.Front.{FrontCells}
 use Rattle.cola_front.proofs.Stored.{loaded_told}
 use Rattle.cola_front.proofs.front.Front.load_block.Goals as goal
 

@@ -9,5 +9,5 @@ returns-clause-put c =
     let i = c.self.inside in
     c.put_cells.ensures.put
     ∙ (ap (λ (xs : List (Option Cell)). stored_all i.format (take i.block (drop i.block xs))) c.deref.ensures.value
-    ∙ (second_taken (record { format = i.format; block = i.block; cells = i.cells.items }) c.self.invariant
+    ∙ (second_taken (record { format = i.format; block = i.block; cells = i.cells.items.items }) c.self.invariant
     ∙ ap second_block c.self.view_is))
