@@ -1,5 +1,6 @@
 //! The cells of a store over a device.
 ghost use Rattle.std.specs.Prelude.{◌≡◌, ◌+◌, ◌*◌, ◌^◌, ◌≤◌, ◌<◌, ℕ, Option, List, IfOk, IfErr, length, replicate};
+ghost use Rattle.std.specs.Box.{boxed_slice_items};
 ghost use Rattle.cola_cell.specs.Flat.{shadow_at};
 ghost use Rattle.cola_cell.specs.Format.{width};
 ghost use Rattle.cola_cell.specs.Shadows.{emptied};
@@ -16,6 +17,7 @@ use cola_device::Device;
 use cola_front::Front;
 use cola_layout::Geometry;
 use std::alloc::{AllocError, Global};
+use std::boxed::BoxedSlice;
 use std::marker::Model;
 
 /// The cells of a store's runs over the device `D`, which has the store's file.
@@ -28,12 +30,13 @@ pub struct RunStore<D: Device> {
     pub(crate) buffers: Buffers<D>,
     pub(crate) geometry: Geometry,
     pub(crate) front: Front,
-    pub(crate) shadows: Vec<Shadow>,
-    pub(crate) tails: Vec<u8>,
+    pub(crate) shadows: BoxedSlice<Shadow>,
+    pub(crate) tails: BoxedSlice<u8>,
     pub(crate) ticked: u64,
 }
 
 impl<D: Device> Model for RunStore<D> {
+    ghost use Rattle.std.specs.Box.{boxed_slice_items};
     ghost use Rattle.cola_run.specs.Store.{Store, IsStore};
 
     ghost Value = { Store D };
@@ -42,8 +45,8 @@ impl<D: Device> Model for RunStore<D> {
       buffers = s.buffers;
       geometry = s.geometry;
       front = s.front;
-      shadows = s.shadows.items;
-      tails = s.tails.items;
+      shadows = boxed_slice_items s.shadows;
+      tails = boxed_slice_items s.tails;
       ticked = s.ticked;
     } };
 
@@ -51,8 +54,8 @@ impl<D: Device> Model for RunStore<D> {
       buffers = s.buffers;
       geometry = s.geometry;
       front = s.front;
-      shadows = s.shadows.items;
-      tails = s.tails.items;
+      shadows = boxed_slice_items s.shadows;
+      tails = boxed_slice_items s.tails;
       ticked = s.ticked;
     }) };
 }
@@ -79,10 +82,13 @@ fn levels_on_device(geometry: &Geometry) -> u8
 }
 
 /// The front, the shadows and the tails of a store: no cell stands in them yet.
-fn parts(alloc: Global, geometry: &Geometry) -> Result<(Front, Vec<Shadow>, Vec<u8>), AllocError>
+fn parts(
+    alloc: Global,
+    geometry: &Geometry,
+) -> Result<(Front, BoxedSlice<Shadow>, BoxedSlice<u8>), AllocError>
     ensures front { IfOk result (λ made. made.0 ≡ new_front geometry.now.block_exp geometry.now.format) }
-    ensures shadows { IfOk result (λ made. made.1.items ≡ replicate (geometry.now.bottom + 1) (emptied 1)) }
-    ensures tails { IfOk result (λ made. made.2.items ≡ replicate (width geometry.now.format * (block_cells geometry.now * device_levels geometry.now)) 0) }
+    ensures shadows { IfOk result (λ made. boxed_slice_items made.1 ≡ replicate (geometry.now.bottom + 1) (emptied 1)) }
+    ensures tails { IfOk result (λ made. boxed_slice_items made.2 ≡ replicate (width geometry.now.format * (block_cells geometry.now * device_levels geometry.now)) 0) }
 {
     let front = Front::new(alloc, geometry.block_exp, geometry.format)?;
     let empty = Shadow {
@@ -90,9 +96,9 @@ fn parts(alloc: Global, geometry: &Geometry) -> Result<(Front, Vec<Shadow>, Vec<
         len: 0,
         saved: true,
     };
-    let shadows = vec![in alloc; empty; geometry.levels() as usize]?;
+    let shadows = vec![in alloc; empty; geometry.levels() as usize]?.into_boxed_slice();
     let cells = cells_of_block(geometry) as usize * levels_on_device(geometry) as usize;
-    let tails = vec![in alloc; 0u8; geometry.format.width() * cells]?;
+    let tails = vec![in alloc; 0u8; geometry.format.width() * cells]?.into_boxed_slice();
     Ok((front, shadows, tails))
 }
 

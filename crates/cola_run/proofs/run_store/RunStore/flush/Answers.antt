@@ -11,14 +11,14 @@ use Rattle.cola_run.proofs.run_store.RunStore.flush.Goals as goal
 pub returns-clause-reads : goal.returns-clause-reads
 returns-clause-reads g c =
     let i = c.self.inside in
-    let view : Store _ = record { buffers = i.buffers; geometry = i.geometry; front = i.front; shadows = i.shadows.items; tails = i.tails.items; ticked = i.ticked } in
+    let view : Store _ = record { buffers = i.buffers; geometry = i.geometry; front = i.front; shadows = i.shadows.items.items; tails = i.tails.items.items; ticked = i.ticked } in
     let told = g.D.Device.bytes in
-    let shadows : List Shadow = (with_items i.shadows c.flush_parts.new.shadows).items in
-    let back : shadows ≡ c.flush_parts.new.shadows = with_items_is i.shadows c.flush_parts.new.shadows (c.flush_parts.auto.shadows ∙ c.deref_mut.ensures.len) in
+    let shadows : List Shadow = (with_items i.shadows.items c.flush_parts.new.shadows).items in
+    let back : shadows ≡ c.flush_parts.new.shadows = with_items_is i.shadows.items c.flush_parts.new.shadows (c.flush_parts.auto.shadows ∙ c.deref_mut.ensures.len) in
     let now : Store _ = record view { buffers = c.flush_parts.new.buffers; shadows = shadows } in
     let reads : SameCells i.geometry i.front (cells_of (told i.buffers.cache.device) view).lower (cells_of (told c.flush_parts.new.buffers.cache.device) now).lower =
-    subst (λ (xs : List Shadow). SameCells i.geometry i.front (cells_of (told i.buffers.cache.device) view).lower (record { told = told c.flush_parts.new.buffers.cache.device; shadows = xs; tails = i.tails.items })) (sym back)
-    (subst (λ (xs : List Shadow). SameCells i.geometry i.front (record { told = told i.buffers.cache.device; shadows = xs; tails = i.tails.items }) (record { told = told c.flush_parts.new.buffers.cache.device; shadows = c.flush_parts.new.shadows; tails = i.tails.items })) c.deref_mut.ensures.value
+    subst (λ (xs : List Shadow). SameCells i.geometry i.front (cells_of (told i.buffers.cache.device) view).lower (record { told = told c.flush_parts.new.buffers.cache.device; shadows = xs; tails = i.tails.items.items })) (sym back)
+    (subst (λ (xs : List Shadow). SameCells i.geometry i.front (record { told = told i.buffers.cache.device; shadows = xs; tails = i.tails.items.items }) (record { told = told c.flush_parts.new.buffers.cache.device; shadows = c.flush_parts.new.shadows; tails = i.tails.items.items })) c.deref_mut.ensures.value
     (subst (λ (ts : List ℕ). SameCells i.geometry i.front (record { told = told i.buffers.cache.device; shadows = c.deref_mut.result.now; tails = ts }) (record { told = told c.flush_parts.new.buffers.cache.device; shadows = c.flush_parts.new.shadows; tails = ts })) c.deref.ensures.value
     c.flush_parts.ensures.reads)) in
     subst (λ (s : Store _). SameReads (held_of told s) (held_of told now)) c.self.view_is

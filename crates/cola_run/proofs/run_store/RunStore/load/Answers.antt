@@ -21,12 +21,12 @@ on-both (Err e) f p q = tt
 pub invariant_of-self : goal.invariant_of-self
 invariant_of-self g c =
     let i = c.self.inside in
-    let view : Store _ = record { buffers = i.buffers; geometry = i.geometry; front = i.front; shadows = i.shadows.items; tails = i.tails.items; ticked = i.ticked } in
+    let view : Store _ = record { buffers = i.buffers; geometry = i.geometry; front = i.front; shadows = i.shadows.items.items; tails = i.tails.items.items; ticked = i.ticked } in
     let told = g.D.Device.bytes in
-    let shadows : List Shadow = (with_items i.shadows c.load_parts.new.shadows).items in
-    let tails : List ℕ = (with_items i.tails c.load_parts.new.tails).items in
-    let back : shadows ≡ c.load_parts.new.shadows = with_items_is i.shadows c.load_parts.new.shadows (c.load_parts.auto.shadows ∙ c.deref_mut.ensures.len) in
-    let back_tails : tails ≡ c.load_parts.new.tails = with_items_is i.tails c.load_parts.new.tails (c.load_parts.auto.tails ∙ c.deref_mut-2.ensures.len) in
+    let shadows : List Shadow = (with_items i.shadows.items c.load_parts.new.shadows).items in
+    let tails : List ℕ = (with_items i.tails.items c.load_parts.new.tails).items in
+    let back : shadows ≡ c.load_parts.new.shadows = with_items_is i.shadows.items c.load_parts.new.shadows (c.load_parts.auto.shadows ∙ c.deref_mut.ensures.len) in
+    let back_tails : tails ≡ c.load_parts.new.tails = with_items_is i.tails.items c.load_parts.new.tails (c.load_parts.auto.tails ∙ c.deref_mut-2.ensures.len) in
     let now : Store _ = record view { buffers = c.load_parts.new.buffers; front = c.load_parts.new.front; shadows = shadows; tails = tails } in
     let new = told c.load_parts.new.buffers.cache.device in
     let lower : Lower = (cells_of (told i.buffers.cache.device) view).lower in
@@ -34,7 +34,7 @@ invariant_of-self g c =
     let stays : StaySound i.geometry lower lower_now =
     subst (λ (xs : List Shadow). StaySound i.geometry lower (record { told = new; shadows = xs; tails = tails })) (sym back)
     (subst (λ (ts : List ℕ). StaySound i.geometry lower (record { told = new; shadows = c.load_parts.new.shadows; tails = ts })) (sym back_tails)
-    (subst (λ (xs : List Shadow). StaySound i.geometry (record { told = told i.buffers.cache.device; shadows = xs; tails = i.tails.items }) (record { told = new; shadows = c.load_parts.new.shadows; tails = c.load_parts.new.tails })) c.deref_mut.ensures.value
+    (subst (λ (xs : List Shadow). StaySound i.geometry (record { told = told i.buffers.cache.device; shadows = xs; tails = i.tails.items.items }) (record { told = new; shadows = c.load_parts.new.shadows; tails = c.load_parts.new.tails })) c.deref_mut.ensures.value
     (subst (λ (ts : List ℕ). StaySound i.geometry (record { told = told i.buffers.cache.device; shadows = c.deref_mut.result.now; tails = ts }) (record { told = new; shadows = c.load_parts.new.shadows; tails = c.load_parts.new.tails })) c.deref_mut-2.ensures.value
     c.load_parts.ensures.sound))) in
     let kept = c.load_parts.ensures.shape in
@@ -60,12 +60,12 @@ invariant_of-self g c =
 pub returns-clause-loaded : goal.returns-clause-loaded
 returns-clause-loaded g c =
     let i = c.self.inside in
-    let view : Store _ = record { buffers = i.buffers; geometry = i.geometry; front = i.front; shadows = i.shadows.items; tails = i.tails.items; ticked = i.ticked } in
+    let view : Store _ = record { buffers = i.buffers; geometry = i.geometry; front = i.front; shadows = i.shadows.items.items; tails = i.tails.items.items; ticked = i.ticked } in
     let told = g.D.Device.bytes in
-    let shadows : List Shadow = (with_items i.shadows c.load_parts.new.shadows).items in
-    let tails : List ℕ = (with_items i.tails c.load_parts.new.tails).items in
-    let back : shadows ≡ c.load_parts.new.shadows = with_items_is i.shadows c.load_parts.new.shadows (c.load_parts.auto.shadows ∙ c.deref_mut.ensures.len) in
-    let back_tails : tails ≡ c.load_parts.new.tails = with_items_is i.tails c.load_parts.new.tails (c.load_parts.auto.tails ∙ c.deref_mut-2.ensures.len) in
+    let shadows : List Shadow = (with_items i.shadows.items c.load_parts.new.shadows).items in
+    let tails : List ℕ = (with_items i.tails.items c.load_parts.new.tails).items in
+    let back : shadows ≡ c.load_parts.new.shadows = with_items_is i.shadows.items c.load_parts.new.shadows (c.load_parts.auto.shadows ∙ c.deref_mut.ensures.len) in
+    let back_tails : tails ≡ c.load_parts.new.tails = with_items_is i.tails.items c.load_parts.new.tails (c.load_parts.auto.tails ∙ c.deref_mut-2.ensures.len) in
     let now : Store _ = record view { buffers = c.load_parts.new.buffers; front = c.load_parts.new.front; shadows = shadows; tails = tails } in
     let new = told c.load_parts.new.buffers.cache.device in
     let lower : Lower = (cells_of (told i.buffers.cache.device) view).lower in
@@ -73,7 +73,7 @@ returns-clause-loaded g c =
     let stays : StaySound i.geometry lower lower_now =
     subst (λ (xs : List Shadow). StaySound i.geometry lower (record { told = new; shadows = xs; tails = tails })) (sym back)
     (subst (λ (ts : List ℕ). StaySound i.geometry lower (record { told = new; shadows = c.load_parts.new.shadows; tails = ts })) (sym back_tails)
-    (subst (λ (xs : List Shadow). StaySound i.geometry (record { told = told i.buffers.cache.device; shadows = xs; tails = i.tails.items }) (record { told = new; shadows = c.load_parts.new.shadows; tails = c.load_parts.new.tails })) c.deref_mut.ensures.value
+    (subst (λ (xs : List Shadow). StaySound i.geometry (record { told = told i.buffers.cache.device; shadows = xs; tails = i.tails.items.items }) (record { told = new; shadows = c.load_parts.new.shadows; tails = c.load_parts.new.tails })) c.deref_mut.ensures.value
     (subst (λ (ts : List ℕ). StaySound i.geometry (record { told = told i.buffers.cache.device; shadows = c.deref_mut.result.now; tails = ts }) (record { told = new; shadows = c.load_parts.new.shadows; tails = c.load_parts.new.tails })) c.deref_mut-2.ensures.value
     c.load_parts.ensures.sound))) in
     let kept = c.load_parts.ensures.shape in

@@ -11,7 +11,7 @@ use Rattle.cola_run.proofs.run_store.RunStore.mark_in_use.Goals as goal
 pub invariant_of-self : goal.invariant_of-self
 invariant_of-self g c =
     let i = c.self.inside in
-    let view : Store _ = record { buffers = i.buffers; geometry = i.geometry; front = i.front; shadows = i.shadows.items; tails = i.tails.items; ticked = i.ticked } in
+    let view : Store _ = record { buffers = i.buffers; geometry = i.geometry; front = i.front; shadows = i.shadows.items.items; tails = i.tails.items.items; ticked = i.ticked } in
     let told = g.D.Device.bytes in
     let size : i.buffers.cache.size ≡ block_bytes i.geometry = c.self.invariant.size in
     let shape = c.self.invariant.cells.shape in
@@ -21,7 +21,7 @@ invariant_of-self g c =
     record {
       cells = record {
         shape = record { block = shape.block; shallow = shape.shallow; format = shape.format; front_block = shape.front_block; shadows_many = shape.shadows_many; shadows_fit = shape.shadows_fit; tails_many = shape.tails_many; unsaved = shape.unsaved };
-        backed = subst (λ (x : Option (List ℕ)). IfSome x (IsBacked i.geometry i.shadows.items i.tails.items)) (sym c.settle.ensures.bytes_stay) (heads-backed i.geometry shape.block i.shadows.items i.tails.items c.write_byte.result 14 (1 ∷ []) within (told i.buffers.cache.device) (told c.write_byte.new.self.cache.device) c.write_byte.ensures.wrote backed);
+        backed = subst (λ (x : Option (List ℕ)). IfSome x (IsBacked i.geometry i.shadows.items.items i.tails.items.items)) (sym c.settle.ensures.bytes_stay) (heads-backed i.geometry shape.block i.shadows.items.items i.tails.items.items c.write_byte.result 14 (1 ∷ []) within (told i.buffers.cache.device) (told c.write_byte.new.self.cache.device) c.write_byte.ensures.wrote backed);
       };
       size = c.settle.ensures.stays.size ∙ c.write_byte.ensures.stays.size ∙ size;
       many = c.settle.ensures.stays.many ∙ c.write_byte.ensures.stays.many ∙ c.self.invariant.many;
@@ -31,7 +31,7 @@ invariant_of-self g c =
 pub invariant_of-self-in-Err : goal.invariant_of-self-in-Err
 invariant_of-self-in-Err g c =
     let i = c.self.inside in
-    let view : Store _ = record { buffers = i.buffers; geometry = i.geometry; front = i.front; shadows = i.shadows.items; tails = i.tails.items; ticked = i.ticked } in
+    let view : Store _ = record { buffers = i.buffers; geometry = i.geometry; front = i.front; shadows = i.shadows.items.items; tails = i.tails.items.items; ticked = i.ticked } in
     let told = g.D.Device.bytes in
     let size : i.buffers.cache.size ≡ block_bytes i.geometry = c.self.invariant.size in
     let shape = c.self.invariant.cells.shape in
@@ -41,7 +41,7 @@ invariant_of-self-in-Err g c =
     record {
       cells = record {
         shape = record { block = shape.block; shallow = shape.shallow; format = shape.format; front_block = shape.front_block; shadows_many = shape.shadows_many; shadows_fit = shape.shadows_fit; tails_many = shape.tails_many; unsaved = shape.unsaved };
-        backed = heads-backed i.geometry shape.block i.shadows.items i.tails.items c.write_byte.result 14 (1 ∷ []) within (told i.buffers.cache.device) (told c.write_byte.new.self.cache.device) c.write_byte.ensures.wrote backed;
+        backed = heads-backed i.geometry shape.block i.shadows.items.items i.tails.items.items c.write_byte.result 14 (1 ∷ []) within (told i.buffers.cache.device) (told c.write_byte.new.self.cache.device) c.write_byte.ensures.wrote backed;
       };
       size = c.write_byte.ensures.stays.size ∙ size;
       many = c.write_byte.ensures.stays.many ∙ c.self.invariant.many;
@@ -51,7 +51,7 @@ invariant_of-self-in-Err g c =
 pub returns-in-Ok-clause-cells_stay : goal.returns-in-Ok-clause-cells_stay
 returns-in-Ok-clause-cells_stay g c =
     let i = c.self.inside in
-    let view : Store _ = record { buffers = i.buffers; geometry = i.geometry; front = i.front; shadows = i.shadows.items; tails = i.tails.items; ticked = i.ticked } in
+    let view : Store _ = record { buffers = i.buffers; geometry = i.geometry; front = i.front; shadows = i.shadows.items.items; tails = i.tails.items.items; ticked = i.ticked } in
     let told = g.D.Device.bytes in
     let size : i.buffers.cache.size ≡ block_bytes i.geometry = c.self.invariant.size in
     let shape = c.self.invariant.cells.shape in
@@ -59,14 +59,14 @@ returns-in-Ok-clause-cells_stay g c =
     let large = block-least i.geometry shape.block in
     let within : 14 + 1 ≤ 2 * block_bytes i.geometry = omega (arith, large) in
     λ l s j.
-    ap (λ (x : Option (List ℕ)). spots_of (record { geometry = i.geometry; front = i.front; lower = record { told = x; shadows = i.shadows.items; tails = i.tails.items } }) l s j) c.settle.ensures.bytes_stay
-    ∙ heads-spots i.geometry shape.block i.shadows.items i.tails.items c.write_byte.result 14 (1 ∷ []) within i.front (told i.buffers.cache.device) (told c.write_byte.new.self.cache.device) c.write_byte.ensures.wrote backed l s j
+    ap (λ (x : Option (List ℕ)). spots_of (record { geometry = i.geometry; front = i.front; lower = record { told = x; shadows = i.shadows.items.items; tails = i.tails.items.items } }) l s j) c.settle.ensures.bytes_stay
+    ∙ heads-spots i.geometry shape.block i.shadows.items.items i.tails.items.items c.write_byte.result 14 (1 ∷ []) within i.front (told i.buffers.cache.device) (told c.write_byte.new.self.cache.device) c.write_byte.ensures.wrote backed l s j
     ∙ ap (λ (x : Store _). spots_of (cells_of (told x.buffers.cache.device) x) l s j) c.self.view_is
 
 pub returns-in-Err-clause-cells_stay : goal.returns-in-Err-clause-cells_stay
 returns-in-Err-clause-cells_stay g c =
     let i = c.self.inside in
-    let view : Store _ = record { buffers = i.buffers; geometry = i.geometry; front = i.front; shadows = i.shadows.items; tails = i.tails.items; ticked = i.ticked } in
+    let view : Store _ = record { buffers = i.buffers; geometry = i.geometry; front = i.front; shadows = i.shadows.items.items; tails = i.tails.items.items; ticked = i.ticked } in
     let told = g.D.Device.bytes in
     let size : i.buffers.cache.size ≡ block_bytes i.geometry = c.self.invariant.size in
     let shape = c.self.invariant.cells.shape in
@@ -74,7 +74,7 @@ returns-in-Err-clause-cells_stay g c =
     let large = block-least i.geometry shape.block in
     let within : 14 + 1 ≤ 2 * block_bytes i.geometry = omega (arith, large) in
     λ l s j.
-    heads-spots i.geometry shape.block i.shadows.items i.tails.items c.write_byte.result 14 (1 ∷ []) within i.front (told i.buffers.cache.device) (told c.write_byte.new.self.cache.device) c.write_byte.ensures.wrote backed l s j
+    heads-spots i.geometry shape.block i.shadows.items.items i.tails.items.items c.write_byte.result 14 (1 ∷ []) within i.front (told i.buffers.cache.device) (told c.write_byte.new.self.cache.device) c.write_byte.ensures.wrote backed l s j
     ∙ ap (λ (x : Store _). spots_of (cells_of (told x.buffers.cache.device) x) l s j) c.self.view_is
 
 pub returns-in-Ok-clause-settled : goal.returns-in-Ok-clause-settled

@@ -14,7 +14,7 @@ use Rattle.cola_run.proofs.run_store.RunStore.read_by.Goals as goal
 pub returns-then-level-front_levels-clause-reads : goal.returns-then-level-front_levels-clause-reads
 returns-then-level-front_levels-clause-reads g c =
     let i = c.self.inside in
-    let view : Store _ = record { buffers = i.buffers; geometry = i.geometry; front = i.front; shadows = i.shadows.items; tails = i.tails.items; ticked = i.ticked } in
+    let view : Store _ = record { buffers = i.buffers; geometry = i.geometry; front = i.front; shadows = i.shadows.items.items; tails = i.tails.items.items; ticked = i.ticked } in
     let now : Store _ = record view { ticked = (i.ticked + 1) % 2 ^ 64 } in
     subst (λ (s : Store _). Reads (held_of g.D.Device.bytes s) (spent_of g.D.Device.counts s) (spent_of g.D.Device.counts now) (buffer_for c.args.reader c.args.level) c.args.level c.args.slot c.args.index c.read_in_front.result) c.self.view_is
     (reads-memory (held_of g.D.Device.bytes view) (spent_of g.D.Device.counts view) ((i.ticked + 1) % 2 ^ 64) (buffer_for c.args.reader c.args.level) c.args.level c.args.slot c.args.index c.read_in_front.result
@@ -23,7 +23,7 @@ returns-then-level-front_levels-clause-reads g c =
 pub returns-then-has_in_tail-clause-reads : goal.returns-then-has_in_tail-clause-reads
 returns-then-has_in_tail-clause-reads g c =
     let i = c.self.inside in
-    let view : Store _ = record { buffers = i.buffers; geometry = i.geometry; front = i.front; shadows = i.shadows.items; tails = i.tails.items; ticked = i.ticked } in
+    let view : Store _ = record { buffers = i.buffers; geometry = i.geometry; front = i.front; shadows = i.shadows.items.items; tails = i.tails.items.items; ticked = i.ticked } in
     let now : Store _ = record view { ticked = (i.ticked + 1) % 2 ^ 64 } in
     subst (λ (s : Store _). Reads (held_of g.D.Device.bytes s) (spent_of g.D.Device.counts s) (spent_of g.D.Device.counts now) (buffer_for c.args.reader c.args.level) c.args.level c.args.slot c.args.index c.read_in_tail.result) c.self.view_is
     (reads-memory (held_of g.D.Device.bytes view) (spent_of g.D.Device.counts view) ((i.ticked + 1) % 2 ^ 64) (buffer_for c.args.reader c.args.level) c.args.level c.args.slot c.args.index c.read_in_tail.result
@@ -32,19 +32,19 @@ returns-then-has_in_tail-clause-reads g c =
 pub returns-clause-reads : goal.returns-clause-reads
 returns-clause-reads g c =
     let i = c.self.inside in
-    let view : Store _ = record { buffers = i.buffers; geometry = i.geometry; front = i.front; shadows = i.shadows.items; tails = i.tails.items; ticked = i.ticked } in
+    let view : Store _ = record { buffers = i.buffers; geometry = i.geometry; front = i.front; shadows = i.shadows.items.items; tails = i.tails.items.items; ticked = i.ticked } in
     let now : Store _ = record view { buffers = c.read_by_buffer.new.buffers; ticked = (i.ticked + 1) % 2 ^ 64 } in
     let place : IsPlace (i.geometry.bottom + 1) c.args.level c.args.slot c.args.index = subst (λ (s : Store _). IsPlace (s.geometry.bottom + 1) c.args.level c.args.slot c.args.index) (sym c.self.view_is) c.requires in
     let low : c.args.level < i.geometry.bottom + 1 = place.level_in in
     let front = c.front_levels.ensures.value in
     let some = c.front_levels.ensures.some in
     let device : IsOnDevice i.geometry c.args.level = record { within = omega (arith, low); whole = omega (arith, front, some, c.if-level-front_levels.false) } in
-    let shadow : c.shadow_of-shadow.result ≡ shadow_at i.shadows.items c.args.level = c.shadow_of-shadow.ensures ∙ ap (λ (xs : List Shadow). shadow_at xs c.args.level) c.deref.ensures.value in
-    let outside : is_in_tail (block_cells i.geometry) (shadow_at i.shadows.items c.args.level) c.args.slot c.args.index ≡ false =
+    let shadow : c.shadow_of-shadow.result ≡ shadow_at i.shadows.items.items c.args.level = c.shadow_of-shadow.ensures ∙ ap (λ (xs : List Shadow). shadow_at xs c.args.level) c.deref.ensures.value in
+    let outside : is_in_tail (block_cells i.geometry) (shadow_at i.shadows.items.items c.args.level) c.args.slot c.args.index ≡ false =
     ap (λ (x : Shadow). is_in_tail (block_cells i.geometry) x c.args.slot c.args.index) (sym shadow) ∙ sym c.has_in_tail.ensures ∙ c.if-has_in_tail.false in
     let turns = subst (λ (n : ℕ). Turns g.D.Device.counts i.buffers c.read_by_buffer.new.buffers n (block_number i.geometry c.args.level c.args.slot c.args.index) c.read_by_buffer.result) c.buffer_of-buffer.ensures c.read_by_buffer.ensures.turns in
     subst (λ (s : Store _). Reads (held_of g.D.Device.bytes s) (spent_of g.D.Device.counts s) (spent_of g.D.Device.counts now) (buffer_for c.args.reader c.args.level) c.args.level c.args.slot c.args.index c.read_by_buffer.result) c.self.view_is
     (reads-device g.D.Device.bytes g.D.Device.counts view c.read_by_buffer.new.buffers ((i.ticked + 1) % 2 ^ 64) c.args.reader c.args.level c.args.slot c.args.index c.read_by_buffer.result
     c.self.invariant.cells.shape.block c.self.invariant.buffers_many place device
-    (λ q. false≢true (sym outside ∙ tail-is (block_cells i.geometry) (shadow_at i.shadows.items c.args.level) c.args.slot c.args.index q))
+    (λ q. false≢true (sym outside ∙ tail-is (block_cells i.geometry) (shadow_at i.shadows.items.items c.args.level) c.args.slot c.args.index q))
     c.read_by_buffer.ensures.finds turns (omega arith))

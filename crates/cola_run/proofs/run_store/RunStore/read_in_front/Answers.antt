@@ -27,7 +27,7 @@ read-requires-clause-within g c =
 pub returns : goal.returns
 returns g c =
     let i = c.self.inside in
-    let view : Store _ = record { buffers = i.buffers; geometry = i.geometry; front = i.front; shadows = i.shadows.items; tails = i.tails.items; ticked = i.ticked } in
+    let view : Store _ = record { buffers = i.buffers; geometry = i.geometry; front = i.front; shadows = i.shadows.items.items; tails = i.tails.items.items; ticked = i.ticked } in
     let format : i.front.format ≡ i.geometry.format = c.self.invariant.cells.shape.format in
     let fits : IfSome c.read.result (CellFits i.geometry.format) =
     subst (λ (f : Format). IfSome c.read.result (CellFits f)) format

@@ -13,8 +13,8 @@ use Rattle.cola_run.proofs.run_store.RunStore.read_in_tail.Goals as goal
 pub returns : goal.returns
 returns g c =
     let i = c.self.inside in
-    let view : Store _ = record { buffers = i.buffers; geometry = i.geometry; front = i.front; shadows = i.shadows.items; tails = i.tails.items; ticked = i.ticked } in
-    let inside = in-tail (block_cells i.geometry) (shadow_at i.shadows.items c.args.level) c.args.slot c.args.index
+    let view : Store _ = record { buffers = i.buffers; geometry = i.geometry; front = i.front; shadows = i.shadows.items.items; tails = i.tails.items.items; ticked = i.ticked } in
+    let inside = in-tail (block_cells i.geometry) (shadow_at i.shadows.items.items c.args.level) c.args.slot c.args.index
     (subst (λ (s : Store _). is_in_tail (block_cells s.geometry) (shadow_at s.shadows c.args.level) c.args.slot c.args.index ≡ true) (sym c.self.view_is) c.requires.tail) in
     record {
       answer = λ faults.
@@ -25,6 +25,6 @@ returns g c =
           inside
           (c.cell_in.ensures
           ∙ ap (λ (xs : List ℕ). decoded i.geometry.format (cell_bytes i.geometry.format xs c.place_in_tails-place.result)) c.deref.ensures.value
-          ∙ ap (λ (n : ℕ). decoded i.geometry.format (cell_bytes i.geometry.format i.tails.items n)) c.place_in_tails-place.ensures.value)
+          ∙ ap (λ (n : ℕ). decoded i.geometry.format (cell_bytes i.geometry.format i.tails.items.items n)) c.place_in_tails-place.ensures.value)
           c.place-number.ensures.value c.cell_or_bad.ensures);
     }
