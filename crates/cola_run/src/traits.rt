@@ -142,7 +142,6 @@ impl<D: Device> CellSource for RunStore<D> {
     }
 
     fn ticked(&self) -> u64 {
-        let _ = &self.geometry;
         self.ticked
     }
 }
