@@ -19,47 +19,64 @@ use Rattle.cola_wide.proofs.Writes.{spelled-first, first-size, first-behind, fir
 
 -- ---- counts
 
-pub reads-then : (a b c : Counts) (q r total : ℕ) → q + r ≤ total → CountsReads a b q → CountsReads b c r → CountsReads a c total
-reads-then a b c q r total within x y = record {
+pub reads-then : (a b c : Counts) (q r total o t others : ℕ) → q + r ≤ total → o + t ≤ others → CountsReads a b q o → CountsReads b c r t → CountsReads a c total others
+reads-then a b c q r total o t others within few x y = record {
   faults_stay = omega (arith, x.faults_stay, y.faults_stay);
   reads_stay = omega (arith, x.reads_stay, y.reads_stay);
   reads_rise = omega (arith, within, x.reads_rise, y.reads_rise);
   writes_is = y.writes_is ∙ x.writes_is;
+  others_stay = omega (arith, x.others_stay, y.others_stay);
+  others_rise = omega (arith, few, x.others_rise, y.others_rise);
 }
 
-pub writes-then : (a b c : Counts) (q r total : ℕ) → q + r ≤ total → CountsWrites a b q → CountsWrites b c r → CountsWrites a c total
-writes-then a b c q r total within x y = record {
+pub writes-then : (a b c : Counts) (q r total o t others : ℕ) → q + r ≤ total → o + t ≤ others → CountsWrites a b q o → CountsWrites b c r t → CountsWrites a c total others
+writes-then a b c q r total o t others within few x y = record {
   faults_stay = omega (arith, x.faults_stay, y.faults_stay);
   reads_is = y.reads_is ∙ x.reads_is;
   writes_stay = omega (arith, x.writes_stay, y.writes_stay);
   writes_rise = omega (arith, within, x.writes_rise, y.writes_rise);
+  others_stay = omega (arith, x.others_stay, y.others_stay);
+  others_rise = omega (arith, few, x.others_rise, y.others_rise);
 }
 
-pub called-reads : {T E : Type 0} {others : ℕ} (result : Result T E) (a b : Counts) (n total : ℕ) → n ≤ total → Called a b n 0 others result → CountsReads a b total
+pub called-reads : {T E : Type 0} {others : ℕ} (result : Result T E) (a b : Counts) (n total : ℕ) → n ≤ total → Called a b n 0 others result → CountsReads a b total others
 called-reads result a b n total within called = record {
   faults_stay = called.faults_stay;
   reads_stay = called.reads_stay;
   reads_rise = omega (arith, within, called.reads_rise);
   writes_is = omega (arith, called.writes_stay, called.writes_rise);
+  others_stay = called.others_stay;
+  others_rise = called.others_rise;
 }
 
-pub called-writes : {T E : Type 0} {others : ℕ} (result : Result T E) (a b : Counts) (n total : ℕ) → n ≤ total → Called a b 0 n others result → CountsWrites a b total
+pub called-writes : {T E : Type 0} {others : ℕ} (result : Result T E) (a b : Counts) (n total : ℕ) → n ≤ total → Called a b 0 n others result → CountsWrites a b total others
 called-writes result a b n total within called = record {
   faults_stay = called.faults_stay;
   reads_is = omega (arith, called.reads_stay, called.reads_rise);
   writes_stay = called.writes_stay;
   writes_rise = omega (arith, within, called.writes_rise);
+  others_stay = called.others_stay;
+  others_rise = called.others_rise;
 }
 
-pub writes-none : (a : Counts) (n : ℕ) → CountsWrites a a n
-writes-none a n = record { faults_stay = omega arith; reads_is = refl; writes_stay = omega arith; writes_rise = omega arith }
+pub writes-none : (a : Counts) (n others : ℕ) → CountsWrites a a n others
+writes-none a n others = record {
+  faults_stay = omega arith;
+  reads_is = refl;
+  writes_stay = omega arith;
+  writes_rise = omega arith;
+  others_stay = omega arith;
+  others_rise = omega arith;
+}
 
-reads-more : (a b : Counts) (q total : ℕ) → q ≤ total → CountsReads a b q → CountsReads a b total
-reads-more a b q total within x = record {
+reads-more : (a b : Counts) (q total others : ℕ) → q ≤ total → CountsReads a b q others → CountsReads a b total others
+reads-more a b q total others within x = record {
   faults_stay = x.faults_stay;
   reads_stay = x.reads_stay;
   reads_rise = omega (arith, within, x.reads_rise);
   writes_is = x.writes_is;
+  others_stay = x.others_stay;
+  others_rise = x.others_rise;
 }
 
 -- ---- what the device that is read has
@@ -68,32 +85,36 @@ pub rose-after : (a b c : ℕ) → b ≡ a → Rose b c → Rose a c
 rose-after a b c same rose = subst (λ (n : ℕ). Rose n c) same rose
 
 module _ {D : Type 0} (d : device.Ghosts D) where
-  pub found-map : (before now : D) (why other : List ℕ → Type 0) (reads : ℕ) → ((bytes : List ℕ) → why bytes → other bytes) → IsFound d before now why reads → IsFound d before now other reads
-  found-map before now why other reads f found = record { why_is = some-then why other (d.bytes before) f found.why_is; counts = found.counts; no_fault = found.no_fault }
+  pub found-map : (before now : D) (why other : List ℕ → Type 0) (reads others : ℕ) → ((bytes : List ℕ) → why bytes → other bytes) → IsFound d before now why reads others → IsFound d before now other reads others
+  found-map before now why other reads others f found = record { why_is = some-then why other (d.bytes before) f found.why_is; counts = found.counts; no_fault = found.no_fault }
 
-  pub found-more : (before now : D) (why : List ℕ → Type 0) (q total : ℕ) → q ≤ total → IsFound d before now why q → IsFound d before now why total
-  found-more before now why q total within found = record { why_is = found.why_is; counts = reads-more (d.counts before) (d.counts now) q total within found.counts; no_fault = found.no_fault }
+  pub found-more : (before now : D) (why : List ℕ → Type 0) (q total others : ℕ) → q ≤ total → IsFound d before now why q others → IsFound d before now why total others
+  found-more before now why q total others within found = record { why_is = found.why_is; counts = reads-more (d.counts before) (d.counts now) q total others within found.counts; no_fault = found.no_fault }
 
-  module _ (from mid now : D) (why : List ℕ → Type 0) (q r total : ℕ) (within : q + r ≤ total) (first : IsFound d from mid why q) (stay : d.bytes mid ≡ d.bytes from) where
-    pub found-then : (more : List ℕ → Type 0) → IsFound d mid now more r → IsFound d from now more total
+  -- behind steps that met no fault, others that make reads alone
+  module _ (from mid now : D) (why : List ℕ → Type 0) (q r total others : ℕ) (within : q + r ≤ total) (first : IsFound d from mid why q others) (stay : d.bytes mid ≡ d.bytes from) where
+    pub counts-then : CountsReads (d.counts mid) (d.counts now) r 0 → CountsReads (d.counts from) (d.counts now) total others
+    counts-then next = reads-then (d.counts from) (d.counts mid) (d.counts now) q r total others 0 others within (omega arith) first.counts next
+
+    pub found-then : (more : List ℕ → Type 0) → IsFound d mid now more r 0 → IsFound d from now more total others
     found-then more next = record {
       why_is = subst (λ (t : Option (List ℕ)). IfSome t more) stay next.why_is;
-      counts = reads-then (d.counts from) (d.counts mid) (d.counts now) q r total within first.counts next.counts;
+      counts = counts-then next.counts;
       no_fault = next.no_fault ∙ first.no_fault;
     }
 
     -- and what both say
-    pub found-both : (more all : List ℕ → Type 0) → ((bytes : List ℕ) → why bytes → more bytes → all bytes) → IsFound d mid now more r → IsFound d from now all total
+    pub found-both : (more all : List ℕ → Type 0) → ((bytes : List ℕ) → why bytes → more bytes → all bytes) → IsFound d mid now more r 0 → IsFound d from now all total others
     found-both more all f next = record {
       why_is = some-both why more all (d.bytes from) f first.why_is (subst (λ (t : Option (List ℕ)). IfSome t more) stay next.why_is);
-      counts = reads-then (d.counts from) (d.counts mid) (d.counts now) q r total within first.counts next.counts;
+      counts = counts-then next.counts;
       no_fault = next.no_fault ∙ first.no_fault;
     }
 
-    pub failed-then : FailedReading d mid now r → FailedReading d from now total
+    pub failed-then : FailedReading d mid now r 0 → FailedReading d from now total others
     failed-then next = record {
       cause = rose-after (d.counts from).faults (d.counts mid).faults (d.counts now).faults first.no_fault next.cause;
-      counts = reads-then (d.counts from) (d.counts mid) (d.counts now) q r total within first.counts next.counts;
+      counts = counts-then next.counts;
     }
 
 module _ {D E : Type 0} (d : device.Ghosts D) (e : device.Ghosts E) (header : Fields) where
@@ -108,8 +129,8 @@ module _ {D E : Type 0} (d : device.Ghosts D) (e : device.Ghosts E) (header : Fi
   block-not_loaded from now to first high wide NotClosed begun load = absurd load
   block-not_loaded from now to first high wide OutOfMemory begun load = absurd load
   block-not_loaded from now to first high wide NotEmpty begun load = absurd load
-  block-not_loaded from now to first high wide Device begun load = record { cause = inl load.cause; begun = begun; reads_are = load.counts; writes_are = writes-none (e.counts to) 1 }
-  block-not_loaded from now to first high wide (BadCell number) begun load = record { source = load; begun = begun; writes_are = writes-none (e.counts to) 1; no_fault = refl }
+  block-not_loaded from now to first high wide Device begun load = record { cause = inl load.cause; begun = begun; reads_are = load.counts; writes_are = writes-none (e.counts to) 1 0 }
+  block-not_loaded from now to first high wide (BadCell number) begun load = record { source = load; begun = begun; writes_are = writes-none (e.counts to) 1 0; no_fault = refl }
 
   -- ---- blocks in turn
 
@@ -118,23 +139,23 @@ module _ {D E : Type 0} (d : device.Ghosts D) (e : device.Ghosts E) (header : Fi
   blocks-none from to high order begun = record {
     source = record {
       why_is = some-any (AreSpelled header (block_cells header) high) (d.bytes from) (λ old n low below. absurd (omega (arith, order, low, below)));
-      counts = record { faults_stay = omega arith; reads_stay = omega arith; reads_rise = omega arith; writes_is = refl };
+      counts = record { faults_stay = omega arith; reads_stay = omega arith; reads_rise = omega arith; writes_is = refl; others_stay = omega arith; others_rise = omega arith };
       no_fault = refl;
     };
     copied = some-any (λ old. IfSome (e.bytes to) (AreCopied header (block_cells header) high old)) (d.bytes from)
         (λ old. some-any (AreCopied header (block_cells header) high old) (e.bytes to) (λ new n low below. absurd (omega (arith, order, low, below))));
     begun = begun;
-    counts = writes-none (e.counts to) 0;
+    counts = writes-none (e.counts to) 0 0;
     no_fault = refl;
   }
 
   module _ (from mid now : D) (to other last : E) (low middle high q r total : ℕ) (within : q + r ≤ total) (stay : d.bytes mid ≡ d.bytes from) (before : BlocksAreCopied d e header from mid to other low middle q) where
     pub blocks-then : BlocksAreCopied d e header mid now other last middle high r → BlocksAreCopied d e header from now to last low high total
     blocks-then next = record {
-      source = found-both d from mid now (AreSpelled header low middle) q r total within before.source stay (AreSpelled header middle high) (AreSpelled header low high) (λ old x y. spelled-join header old low middle high x y) next.source;
+      source = found-both d from mid now (AreSpelled header low middle) q r total 0 within before.source stay (AreSpelled header middle high) (AreSpelled header low high) (λ old x y. spelled-join header old low middle high x y) next.source;
       copied = subst (λ (t : Option (List ℕ)). IfSome t (λ old. IfSome (e.bytes last) (AreCopied header (block_cells header) high old))) stay next.copied;
       begun = next.begun;
-      counts = writes-then (e.counts to) (e.counts other) (e.counts last) q r total within before.counts next.counts;
+      counts = writes-then (e.counts to) (e.counts other) (e.counts last) q r total 0 0 0 within (omega arith) before.counts next.counts;
       no_fault = next.no_fault ∙ before.no_fault;
     }
 
@@ -151,21 +172,21 @@ module _ {D E : Type 0} (d : device.Ghosts D) (e : device.Ghosts E) (header : Fi
         | inr others ↦ inr (rose-after (e.counts to).faults (e.counts other).faults (e.counts last).faults before.no_fault others)
       ];
       begun = next.begun;
-      reads_are = reads-then (d.counts from) (d.counts mid) (d.counts now) q r total within before.source.counts next.reads_are;
-      writes_are = writes-then (e.counts to) (e.counts other) (e.counts last) q r total within before.counts next.writes_are;
+      reads_are = reads-then (d.counts from) (d.counts mid) (d.counts now) q r total 0 0 0 within (omega arith) before.source.counts next.reads_are;
+      writes_are = writes-then (e.counts to) (e.counts other) (e.counts last) q r total 0 0 0 within (omega arith) before.counts next.writes_are;
     }
     blocks-fail end (BadCell number) order next = record {
-      source = found-both d from mid now (AreSpelled header low middle) q r total within before.source stay (IsLowestBad header middle number) (IsLowestBad header low number) (λ old x y. bad-later header old low middle number order x y) next.source;
+      source = found-both d from mid now (AreSpelled header low middle) q r total 0 within before.source stay (IsLowestBad header middle number) (IsLowestBad header low number) (λ old x y. bad-later header old low middle number order x y) next.source;
       begun = next.begun;
-      writes_are = writes-then (e.counts to) (e.counts other) (e.counts last) q r total within before.counts next.writes_are;
+      writes_are = writes-then (e.counts to) (e.counts other) (e.counts last) q r total 0 0 0 within (omega arith) before.counts next.writes_are;
       no_fault = next.no_fault ∙ before.no_fault;
     }
 
   -- ---- all blocks
 
   -- copying blocks was refused, behind a first block that is spelled
-  pub blocks-refused : (from mid now : D) (to last : E) (high q reads writes : ℕ) (head : List ℕ) (fault : UpgradeFault) → 1 + q ≤ reads → q ≤ writes → d.bytes mid ≡ d.bytes from → IsFound d from mid (AreSpelled header 0 (block_cells header)) 1 →
-      CopiesBlocks d e header mid now to last (block_cells header) high q (Err fault) → CopiesAll d e header from now to last head reads writes (Err fault)
+  pub blocks-refused : (from mid now : D) (to last : E) (high q reads writes : ℕ) (head : List ℕ) (fault : UpgradeFault) → 1 + q ≤ reads → q ≤ writes → d.bytes mid ≡ d.bytes from → IsFound d from mid (AreSpelled header 0 (block_cells header)) 1 0 →
+      CopiesBlocks d e header mid now to last (block_cells header) high q (Err fault) → CopiesAll d e header from now to last head reads 0 writes 0 (Err fault)
   blocks-refused from mid now to last high q reads writes head Small within some stay first next = absurd next
   blocks-refused from mid now to last high q reads writes head NotStore within some stay first next = absurd next
   blocks-refused from mid now to last high q reads writes head Already within some stay first next = absurd next
@@ -178,19 +199,19 @@ module _ {D E : Type 0} (d : device.Ghosts D) (e : device.Ghosts E) (header : Fi
       | inr others ↦ inr others
     ];
     begun = next.begun;
-    reads_are = reads-then (d.counts from) (d.counts mid) (d.counts now) 1 q reads within first.counts next.reads_are;
-    writes_are = writes-then (e.counts to) (e.counts to) (e.counts last) 0 q writes (omega (arith, some)) (writes-none (e.counts to) 0) next.writes_are;
+    reads_are = reads-then (d.counts from) (d.counts mid) (d.counts now) 1 q reads 0 0 0 within (omega arith) first.counts next.reads_are;
+    writes_are = writes-then (e.counts to) (e.counts to) (e.counts last) 0 q writes 0 0 0 (omega (arith, some)) (omega arith) (writes-none (e.counts to) 0 0) next.writes_are;
   })
   blocks-refused from mid now to last high q reads writes head (BadCell number) within some stay first next = record {
-    source = found-both d from mid now (AreSpelled header 0 (block_cells header)) 1 q reads within first stay (IsLowestBad header (block_cells header) number) (IsLowestBad header 0 number) (λ old x y. bad-later header old 0 (block_cells header) number (omega arith) x y) next.source;
+    source = found-both d from mid now (AreSpelled header 0 (block_cells header)) 1 q reads 0 within first stay (IsLowestBad header (block_cells header) number) (IsLowestBad header 0 number) (λ old x y. bad-later header old 0 (block_cells header) number (omega arith) x y) next.source;
     begun = next.begun;
-    writes_are = writes-then (e.counts to) (e.counts to) (e.counts last) 0 q writes (omega (arith, some)) (writes-none (e.counts to) 0) next.writes_are;
+    writes_are = writes-then (e.counts to) (e.counts to) (e.counts last) 0 q writes 0 0 0 (omega (arith, some)) (omega arith) (writes-none (e.counts to) 0 0) next.writes_are;
     no_fault = next.no_fault;
   }
 
   -- the first block was not loaded
   pub first-not_loaded : (from now : D) (to : E) (head wide : List ℕ) (reads writes : ℕ) (fault : UpgradeFault) → 1 ≤ reads → IfSome (e.bytes to) (IsBegun header) → LoadsBlock d from now header 0 wide (Err fault) →
-      CopiesAll d e header from now to to head reads writes (Err fault)
+      CopiesAll d e header from now to to head reads 0 writes 0 (Err fault)
   first-not_loaded from now to head wide reads writes Small within begun load = absurd load
   first-not_loaded from now to head wide reads writes NotStore within begun load = absurd load
   first-not_loaded from now to head wide reads writes Already within begun load = absurd load
@@ -198,40 +219,43 @@ module _ {D E : Type 0} (d : device.Ghosts D) (e : device.Ghosts E) (header : Fi
   first-not_loaded from now to head wide reads writes OutOfMemory within begun load = absurd load
   first-not_loaded from now to head wide reads writes NotEmpty within begun load = absurd load
   first-not_loaded from now to head wide reads writes Device within begun load =
-      inl (record { cause = inl load.cause; begun = begun; reads_are = reads-more (d.counts from) (d.counts now) 1 reads within load.counts; writes_are = writes-none (e.counts to) writes })
+      inl (record { cause = inl load.cause; begun = begun; reads_are = reads-more (d.counts from) (d.counts now) 1 reads 0 within load.counts; writes_are = writes-none (e.counts to) writes 0 })
   first-not_loaded from now to head wide reads writes (BadCell number) within begun load =
-      record { source = found-more d from now (IsLowestBad header 0 number) 1 reads within load; begun = begun; writes_are = writes-none (e.counts to) writes; no_fault = refl }
+      record { source = found-more d from now (IsLowestBad header 0 number) 1 reads 0 within load; begun = begun; writes_are = writes-none (e.counts to) writes 0; no_fault = refl }
 
   -- copying all, behind steps that met no fault
-  module _ (from mid now : D) (to other last : E) (why : List ℕ → Type 0) (head : List ℕ) (q r reads w v writes : ℕ) (within : q + r ≤ reads) (few : w + v ≤ writes) (first : IsFound d from mid why q)
-      (stay : d.bytes mid ≡ d.bytes from) (counted : CountsWrites (e.counts to) (e.counts other) w) (calm : (e.counts other).faults ≡ (e.counts to).faults) where
-    failed-copying : FailedCopying d e header mid now other last r v → FailedCopying d e header from now to last reads writes
+  module _ (from mid now : D) (to other last : E) (why : List ℕ → Type 0) (head : List ℕ) (q r reads asks w v writes others : ℕ) (within : q + r ≤ reads) (few : w + v ≤ writes) (first : IsFound d from mid why q asks)
+      (stay : d.bytes mid ≡ d.bytes from) (counted : CountsWrites (e.counts to) (e.counts other) w others) (calm : (e.counts other).faults ≡ (e.counts to).faults) where
+    counts-behind : (more all : ℕ) → others + more ≤ all → CountsWrites (e.counts other) (e.counts last) v more → CountsWrites (e.counts to) (e.counts last) writes all
+    counts-behind more all in_all next = writes-then (e.counts to) (e.counts other) (e.counts last) w v writes others more all few in_all counted next
+
+    failed-copying : FailedCopying d e header mid now other last r 0 v 0 → FailedCopying d e header from now to last reads asks writes others
     failed-copying next = record {
       cause = elim next.cause [
         | inl mine ↦ inl (rose-after (d.counts from).faults (d.counts mid).faults (d.counts now).faults first.no_fault mine)
-        | inr others ↦ inr (rose-after (e.counts to).faults (e.counts other).faults (e.counts last).faults calm others)
+        | inr yours ↦ inr (rose-after (e.counts to).faults (e.counts other).faults (e.counts last).faults calm yours)
       ];
       begun = next.begun;
-      reads_are = reads-then (d.counts from) (d.counts mid) (d.counts now) q r reads within first.counts next.reads_are;
-      writes_are = writes-then (e.counts to) (e.counts other) (e.counts last) w v writes few counted next.writes_are;
+      reads_are = counts-then d from mid now why q r reads asks within first stay next.reads_are;
+      writes_are = counts-behind 0 others (omega arith) next.writes_are;
     }
 
-    failed-last : FailedLast d e header mid now other last r v → FailedLast d e header from now to last reads writes
+    failed-last : FailedLast d e header mid now other last r 0 v 1 → FailedLast d e header from now to last reads asks writes (others + 1)
     failed-last next = record {
       cause = rose-after (e.counts to).faults (e.counts other).faults (e.counts last).faults calm next.cause;
-      source = found-then d from mid now why q r reads within first stay (AreSpelled header 0 (cells_of header)) next.source;
+      source = found-then d from mid now why q r reads asks within first stay (AreSpelled header 0 (cells_of header)) next.source;
       size = next.size;
       copied = subst (λ (t : Option (List ℕ)). IfSome t (λ old. IfSome (e.bytes last) (AreCopied header (block_cells header) (cells_of header) old))) stay next.copied;
-      writes_are = writes-then (e.counts to) (e.counts other) (e.counts last) w v writes few counted next.writes_are;
+      writes_are = counts-behind 1 (others + 1) (omega arith) next.writes_are;
     }
 
-    pub all-later : (result : Result (Unit {0}) UpgradeFault) → CopiesAll d e header mid now other last head r v result → CopiesAll d e header from now to last head reads writes result
+    pub all-later : (result : Result (Unit {0}) UpgradeFault) → CopiesAll d e header mid now other last head r 0 v 0 result → CopiesAll d e header from now to last head reads asks writes others result
     all-later (Ok value) next = record {
-      source = found-then d from mid now why q r reads within first stay (AreSpelled header 0 (cells_of header)) next.source;
+      source = found-then d from mid now why q r reads asks within first stay (AreSpelled header 0 (cells_of header)) next.source;
       size = next.size;
       filled = subst (λ (t : Option (List ℕ)). IfSome t (λ old. IfSome (e.bytes last) (IsFilled header head old))) stay next.filled;
       settled = next.settled;
-      writes_are = writes-then (e.counts to) (e.counts other) (e.counts last) w v writes few counted next.writes_are;
+      writes_are = counts-behind 1 (others + 1) (omega arith) next.writes_are;
       no_fault = next.no_fault ∙ calm;
     }
     all-later (Err Small) next = absurd next
@@ -245,9 +269,9 @@ module _ {D E : Type 0} (d : device.Ghosts D) (e : device.Ghosts E) (header : Fi
       | inr written ↦ inr (failed-last written)
     ]
     all-later (Err (BadCell number)) next = record {
-      source = found-then d from mid now why q r reads within first stay (IsLowestBad header 0 number) next.source;
+      source = found-then d from mid now why q r reads asks within first stay (IsLowestBad header 0 number) next.source;
       begun = next.begun;
-      writes_are = writes-then (e.counts to) (e.counts other) (e.counts last) w v writes few counted next.writes_are;
+      writes_are = counts-behind 0 others (omega arith) next.writes_are;
       no_fault = next.no_fault ∙ calm;
     }
 
@@ -255,11 +279,11 @@ module _ {D E : Type 0} (d : device.Ghosts D) (e : device.Ghosts E) (header : Fi
 
   module _ (from now : D) (to last : E) (head wide : List ℕ) (long : length wide ≡ 128 * block_cells header) (many : length head ≡ 512) (some : 8 ≤ block_cells header) (within : block_cells header ≤ cells_of header)
       (begun : IfSome (e.bytes to) (IsBegun header)) (spelled : IfSome (d.bytes from) (AreSpelled header (block_cells header) (cells_of header)))
-      (copied : IfSome (d.bytes from) (λ old. IfSome (e.bytes to) (AreCopied header (block_cells header) (cells_of header) old))) (loaded : IsFound d from now (λ old. IsBlockOf header 0 old wide) 1) where
+      (copied : IfSome (d.bytes from) (λ old. IfSome (e.bytes to) (AreCopied header (block_cells header) (cells_of header) old))) (loaded : IsFound d from now (λ old. IsBlockOf header 0 old wide) 1 0) where
     size : length (splice wide 0 head) ≡ 128 * block_cells header
     size = length-splice wide 0 head (omega (arith, long, many, some)) ∙ long
 
-    all-spelled : IsFound d from now (AreSpelled header 0 (cells_of header)) 1
+    all-spelled : IsFound d from now (AreSpelled header 0 (cells_of header)) 1 0
     all-spelled = record {
       why_is = some-both (AreSpelled header (block_cells header) (cells_of header)) (λ old. IsBlockOf header 0 old wide) (AreSpelled header 0 (cells_of header)) (d.bytes from)
           (λ old behind block. spelled-join header old 0 (block_cells header) (cells_of header) (spelled-first header old wide block) behind) spelled loaded.why_is;
@@ -268,7 +292,7 @@ module _ {D E : Type 0} (d : device.Ghosts D) (e : device.Ghosts E) (header : Fi
     }
 
     first-written : (result : Result (Unit {0}) UpgradeFault) → Wrote result 0 (splice wide 0 head) (e.bytes to) (e.bytes last) → OnOk result (IsSettled e last) → Called (e.counts to) (e.counts last) 0 1 1 result → IfErr result (λ fault. fault ≡ Device) →
-        CopiesAll d e header from now to last head 1 1 result
+        CopiesAll d e header from now to last head 1 0 1 0 result
     first-written (Ok value) wrote settled called fault = record {
       source = all-spelled;
       size = first-size header (splice wide 0 head) size within (e.bytes to) (e.bytes last) begun {T = Unit {0}} {E = UpgradeFault} (Ok value) wrote;
@@ -293,5 +317,5 @@ module _ {D E : Type 0} (d : device.Ghosts D) (e : device.Ghosts E) (header : Fi
     first-written (Err (BadCell number)) wrote settled called fault = cc
 
     pub first-copied : (left : List ℕ) (result : Result (Unit {0}) UpgradeFault) → left ≡ splice wide 0 head → Wrote result 0 left (e.bytes to) (e.bytes last) → OnOk result (IsSettled e last) → Called (e.counts to) (e.counts last) 0 1 1 result → IfErr result (λ fault. fault ≡ Device) →
-        CopiesAll d e header from now to last head 1 1 result
+        CopiesAll d e header from now to last head 1 0 1 0 result
     first-copied left result is wrote settled called fault = first-written result (subst (λ (xs : List ℕ). Wrote result 0 xs (e.bytes to) (e.bytes last)) is wrote) settled called fault

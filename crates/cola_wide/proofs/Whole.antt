@@ -17,7 +17,7 @@ use Rattle.cola_wide.specs.declared.fault.UpgradeFault.{UpgradeFault}
 use Rattle.cola_wide.specs.declared.fault.UpgradeFault.TheVariants.{Small, NotStore, Already, NotClosed, OutOfMemory, NotEmpty, Device, BadCell}
 use Rattle.cola_wide.specs.Copied.{cells_of, block_count, wide_size, with_version, IsLowestBad, IsBegun, IsFilled, IsCopyOf}
 use Rattle.cola_cell.specs.Format.{width}
-use Rattle.cola_wide.specs.Upgrade.{file_size, IsClosedFile, IsSmall, IsNoStore, IsWide, IsInUse, IsFound, FindsHeader, LaysOut, IsLaidOut, HadBytes, FailedCopying, FailedLast, CopiesAll, WasBegun, IsWhole, Upgrades, CanBeUpgraded, IsDoneForMemory}
+use Rattle.cola_wide.specs.Upgrade.{file_size, IsClosedFile, IsSmall, IsNoStore, IsWide, IsInUse, IsFound, FindsHeader, LaysOut, IsLaidOut, HadBytes, reading_others, laying_others, writing_others, FailedCopying, FailedLast, CopiesAll, WasBegun, IsWhole, Upgrades, CanBeUpgraded, IsDoneForMemory}
 use Rattle.cola_wide.proofs.Told.{some-then, some-both}
 use Rattle.cola_wide.proofs.Header.{copy-of, stands-not_bad}
 use Rattle.cola_wide.proofs.Writes.{span-some, span-within}
@@ -36,9 +36,9 @@ module _ {D E : Type 0} (d : device.Ghosts D) (e : device.Ghosts E) (from mid : 
   not-found head Device found = inl (record { source = found; untouched = refl })
   not-found head (BadCell number) found = absurd found
 
-  module _ (header : Header) (head : List ℕ) (found : IsFound d from mid (λ bytes. IsClosedFile (fields_of header) bytes × (head ≡ take 512 bytes)) 1) where
-    closed : IsFound d from mid (IsClosedFile (fields_of header)) 1
-    closed = found-map d from mid (λ bytes. IsClosedFile (fields_of header) bytes × (head ≡ take 512 bytes)) (IsClosedFile (fields_of header)) 1 (λ bytes both. both.0) found
+  module _ (header : Header) (head : List ℕ) (found : IsFound d from mid (λ bytes. IsClosedFile (fields_of header) bytes × (head ≡ take 512 bytes)) 1 reading_others) where
+    closed : IsFound d from mid (IsClosedFile (fields_of header)) 1 reading_others
+    closed = found-map d from mid (λ bytes. IsClosedFile (fields_of header) bytes × (head ≡ take 512 bytes)) (IsClosedFile (fields_of header)) 1 reading_others (λ bytes both. both.0) found
 
     pub no-memory : Upgrades d e from mid to to (Err OutOfMemory)
     no-memory = (header, record { source = closed; untouched = refl })
@@ -68,7 +68,7 @@ module _ {D E : Type 0} (d : device.Ghosts D) (e : device.Ghosts E) (from mid : 
           some-both (λ new. length new ≡ wide_size (fields_of header)) (IsFilled (fields_of header) two old) (IsCopyOf (fields_of header) old) (e.bytes last)
           (λ new long whole. copy-of (fields_of header) two old new one both.0.has.spelled (version ∙ ap (λ (xs : List ℕ). with_version 2 xs) both.1) long whole) size filled
 
-      put-together : (result : Result (Unit {0}) UpgradeFault) → CopiesAll d e (fields_of header) from now to last two (block_count (fields_of header) + 2) (block_count (fields_of header)) result → Upgrades d e from now to last result
+      put-together : (result : Result (Unit {0}) UpgradeFault) → CopiesAll d e (fields_of header) from now to last two (block_count (fields_of header) + 2) reading_others (block_count (fields_of header)) laying_others result → Upgrades d e from now to last result
       put-together (Ok value) all = (
         header,
         begun-by (IsWhole d e from now to last (fields_of header)) (record {
@@ -90,16 +90,16 @@ module _ {D E : Type 0} (d : device.Ghosts D) (e : device.Ghosts E) (from mid : 
       put-together (Err Device) all = inr (
         header,
         inr (elim all [
-          | inl copying ↦ inl (begun-by (FailedCopying d e (fields_of header) from now to last (block_count (fields_of header) + 2) (block_count (fields_of header))) copying)
-          | inr written ↦ inr (begun-by (FailedLast d e (fields_of header) from now to last (block_count (fields_of header) + 2) (block_count (fields_of header))) written)
+          | inl copying ↦ inl (begun-by (FailedCopying d e (fields_of header) from now to last (block_count (fields_of header) + 2) reading_others (block_count (fields_of header)) laying_others) copying)
+          | inr written ↦ inr (begun-by (FailedLast d e (fields_of header) from now to last (block_count (fields_of header) + 2) reading_others (block_count (fields_of header)) writing_others) written)
         ]),
       )
       put-together (Err (BadCell number)) all = (header, begun-by _ all)
 
-      pub upgraded : (result : Result (Unit {0}) UpgradeFault) → CopiesAll d e (fields_of header) mid now other last two (block_count (fields_of header) + 1) (block_count (fields_of header)) result → Upgrades d e from now to last result
+      pub upgraded : (result : Result (Unit {0}) UpgradeFault) → CopiesAll d e (fields_of header) mid now other last two (block_count (fields_of header) + 1) 0 (block_count (fields_of header)) 0 result → Upgrades d e from now to last result
       upgraded result all =
           put-together result
-          (all-later d e (fields_of header) from mid now to other last (IsClosedFile (fields_of header)) two 1 (block_count (fields_of header) + 1) (block_count (fields_of header) + 2) 0 (block_count (fields_of header)) (block_count (fields_of header))
+          (all-later d e (fields_of header) from mid now to other last (IsClosedFile (fields_of header)) two 1 (block_count (fields_of header) + 1) (block_count (fields_of header) + 2) reading_others 0 (block_count (fields_of header)) (block_count (fields_of header)) laying_others
           (omega arith) (omega arith) closed stay laid.counts laid.no_fault result all)
 
 -- ---- what an upgrade may answer where all is well

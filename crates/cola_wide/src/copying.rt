@@ -161,7 +161,7 @@ fn copy_first<D: Device, E: Device>(
     requires begun { IfSome (E.bytes to.old) (IsBegun (fields_of header.now)) }
     requires spelled { IfSome (D.bytes from.old) (AreSpelled (fields_of header.now) (block_cells (fields_of header.now)) (cells_of (fields_of header.now))) }
     requires copied { IfSome (D.bytes from.old) (λ old. IfSome (E.bytes to.old) (AreCopied (fields_of header.now) (block_cells (fields_of header.now)) (cells_of (fields_of header.now)) old)) }
-    ensures copied { CopiesAll D.Device E.Device (fields_of header.now) from.old from.new to.old to.new head.now 1 1 result }
+    ensures copied { CopiesAll D.Device E.Device (fields_of header.now) from.old from.new to.old to.new head.now 1 0 1 0 result }
     ensures bytes_stay { D.bytes from.new ≡ D.bytes from.old }
     ensures kept { D.kept from.new ≡ D.kept from.old }
     ensures other_kept { E.kept to.new ≡ E.kept to.old }
@@ -188,7 +188,7 @@ pub(crate) fn copy_all<D: Device, E: Device>(
     requires narrow { length narrow.old ≡ 64 * block_cells (fields_of header.now) }
     requires wide { length wide.old ≡ 128 * block_cells (fields_of header.now) }
     requires begun { IfSome (E.bytes to.old) (IsBegun (fields_of header.now)) }
-    ensures copied { CopiesAll D.Device E.Device (fields_of header.now) from.old from.new to.old to.new head.now (block_count (fields_of header.now) + 1) (block_count (fields_of header.now)) result }
+    ensures copied { CopiesAll D.Device E.Device (fields_of header.now) from.old from.new to.old to.new head.now (block_count (fields_of header.now) + 1) 0 (block_count (fields_of header.now)) 0 result }
     ensures bytes_stay { D.bytes from.new ≡ D.bytes from.old }
     ensures kept { D.kept from.new ≡ D.kept from.old }
     ensures other_kept { E.kept to.new ≡ E.kept to.old }

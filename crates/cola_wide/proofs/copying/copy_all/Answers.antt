@@ -23,7 +23,7 @@ pub returns-in-Err-copy_blocks-clause-copied : goal.returns-in-Err-copy_blocks-c
 returns-in-Err-copy_blocks-clause-copied g c =
     let header = fields_of c.args.header.now in
     let some = blocks-some c.args.header.now in
-    let first = found-map g.D.Device c.args.from.now c.load_block.new.from (λ old. IsBlockOf header 0 old c.load_block.new.wide) (AreSpelled header 0 (block_cells header)) 1 (λ old block. spelled-first header old c.load_block.new.wide block) c.in-Ok.ensures.loaded in
+    let first = found-map g.D.Device c.args.from.now c.load_block.new.from (λ old. IsBlockOf header 0 old c.load_block.new.wide) (AreSpelled header 0 (block_cells header)) 1 0 (λ old block. spelled-first header old c.load_block.new.wide block) c.in-Ok.ensures.loaded in
     blocks-refused g.D.Device g.E.Device header c.args.from.now c.load_block.new.from c.copy_blocks.new.from c.args.to.now c.copy_blocks.new.to (cells_of header) (block_count header - 1) (block_count header + 1) (block_count header) c.args.head.now c.in-Err-copy_blocks.fault
     (omega (arith, some)) (omega arith) c.load_block.ensures.bytes_stay first c.in-Err-copy_blocks.ensures.copied
 
@@ -51,8 +51,8 @@ returns-clause-copied g c =
     let header = fields_of c.args.header.now in
     let some = blocks-some c.args.header.now in
     let blocks = c.in-Ok-copy_blocks.ensures.copied in
-    let both = found-then g.D.Device c.args.from.now c.load_block.new.from c.copy_blocks.new.from (λ old. IsBlockOf header 0 old c.load_block.new.wide) 1 (block_count header - 1) (block_count header) (omega (arith, some)) c.in-Ok.ensures.loaded c.load_block.ensures.bytes_stay
+    let both = found-then g.D.Device c.args.from.now c.load_block.new.from c.copy_blocks.new.from (λ old. IsBlockOf header 0 old c.load_block.new.wide) 1 (block_count header - 1) (block_count header) 0 (omega (arith, some)) c.in-Ok.ensures.loaded c.load_block.ensures.bytes_stay
     (AreSpelled header (block_cells header) (cells_of header)) blocks.source in
     all-later g.D.Device g.E.Device header c.args.from.now c.copy_blocks.new.from c.copy_first.new.from c.args.to.now c.copy_blocks.new.to c.copy_first.new.to (AreSpelled header (block_cells header) (cells_of header)) c.args.head.now
-    (block_count header) 1 (block_count header + 1) (block_count header - 1) 1 (block_count header) (omega arith) (omega (arith, some)) both (c.copy_blocks.ensures.bytes_stay ∙ c.load_block.ensures.bytes_stay) blocks.counts blocks.no_fault
+    (block_count header) 1 (block_count header + 1) 0 (block_count header - 1) 1 (block_count header) 0 (omega arith) (omega (arith, some)) both (c.copy_blocks.ensures.bytes_stay ∙ c.load_block.ensures.bytes_stay) blocks.counts blocks.no_fault
     c.copy_first.result c.copy_first.ensures.copied

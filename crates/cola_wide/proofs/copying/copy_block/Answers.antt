@@ -34,7 +34,7 @@ returns-in-Ok-write-clause-copied g c =
     let behind : 8 ≤ first = (let from = c.requires.behind in omega (arith, from, span-some c.args.header.now)) in
     let loaded = c.in-Ok.ensures.loaded in
     record {
-      source = found-map g.D.Device c.args.from.now c.load_block.new.from (λ bytes. IsBlockOf header first bytes wide) (AreSpelled header first (first + block_cells header)) 1 (λ bytes block. spelled-of header bytes wide first block) loaded;
+      source = found-map g.D.Device c.args.from.now c.load_block.new.from (λ bytes. IsBlockOf header first bytes wide) (AreSpelled header first (first + block_cells header)) 1 0 (λ bytes block. spelled-of header bytes wide first block) loaded;
       copied = copied-after header first wide long c.requires.inside before now DeviceFault c.in-Ok-write.field-0 old (block_cells header) c.in-Ok-write.ensures.wrote c.requires.begun c.requires.copied loaded.why_is;
       begun = begun-after header first wide long c.requires.inside before now {T = Unit {0}} {E = DeviceFault} (Ok c.in-Ok-write.field-0) behind c.in-Ok-write.ensures.wrote c.requires.begun;
       counts = called-writes {T = Unit {0}} {E = DeviceFault} (Ok c.in-Ok-write.field-0) (g.E.Device.counts c.args.to.now) (g.E.Device.counts c.write.new.self) 1 1 (omega arith) c.in-Ok-write.ensures.counts;
