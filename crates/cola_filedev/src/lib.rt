@@ -6,8 +6,6 @@ mod file;
 mod handle;
 pub mod laws;
 mod system;
-#[cfg(test)]
-mod tests;
 
 pub use access::{OpenedFile, Opener};
 pub use file::PathDevice;

@@ -9,6 +9,8 @@ mod cell;
 #[cfg(test)]
 mod clock;
 #[cfg(test)]
+mod files;
+#[cfg(test)]
 mod generated;
 #[cfg(test)]
 mod image;
