@@ -145,14 +145,15 @@ fn keeps_what_a_file_holds(rt: HostRuntime) -> Result<(), Fail> {
     Ok(())
 }
 
-/// A device of the system that has no room for any byte.
+/// A device of the system that has no room for any byte, and that the system does not sync.
 #[test]
 fn is_refused_by_a_full_device(rt: HostRuntime) {
     let mut device = FileDevice::new(&rt, "/dev/full", false);
     assert_eq!(rt; device.write(0, b"a"), Err(DeviceFault));
     assert_eq!(rt; device.lay_out(1), Err(DeviceFault));
+    assert_eq!(rt; device.settle(), Err(DeviceFault));
     assert_eq!(rt; device.read(0, &mut [1]), Ok(()));
-    assert_eq!(rt; device.faults(), 2);
+    assert_eq!(rt; device.faults(), 3);
 }
 
 #[test]
