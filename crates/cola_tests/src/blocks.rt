@@ -1,6 +1,5 @@
 //! Blocks behind a cache, and the buffers over them: worked rows, refusals, and many calls beside a plain list.
-ghost use Rattle.std.specs.Prelude.{◌≡◌, ◌<◌, ◌≤◌, length, Some, IfOk};
-ghost use Rattle.cola_device.specs.Bytes.{HasRange};
+ghost use Rattle.std.specs.Prelude.{◌≡◌, ◌<◌, ◌≤◌, length, IfOk};
 
 use cola_cache::{Buffers, Cached};
 use cola_device::{Device, DeviceFault, MemoryDevice, SPOILED};
@@ -48,13 +47,10 @@ fn read_write_and_lose<D: Device>(
 ) -> Result<(), Fail> {
     read_block(cached, 2, block)?;
     read_block(cached, 2, block)?;
-    assert_eq!(rt; cached.reads(), 1);
     write_one_byte(cached, b'x')?;
     read_block(cached, 2, block)?;
-    assert_eq!(rt; cached.reads(), 1);
-    assert_eq!(rt; block.get(4), Some(&b'x'));
-    assert_eq!(rt; write_one_byte(cached, b'y'), Err(DeviceFault));
-    assert!(rt; !cached.holds(2));
+    assert!(rt; cached.reads() == 1 && block.get(4).copied() == Some(b'x'));
+    assert!(rt; write_one_byte(cached, b'y').is_err() && !cached.holds(2));
     Ok(())
 }
 
@@ -72,13 +68,12 @@ fn pass_cache_refusals_on<D: Device>(
     block: &mut [u8],
 ) -> Result<(), Fail> {
     read_block(cached, 0, block)?;
-    assert_eq!(rt; read_block(cached, 1, block), Err(DeviceFault));
-    assert!(rt; cached.holds(0));
-    assert!(rt; !cached.holds(1));
-    assert_eq!(rt; cached.size(), Err(DeviceFault));
-    assert_eq!(rt; cached.settle(), Err(DeviceFault));
-    assert_eq!(rt; cached.reads(), 2);
-    assert_eq!(rt; cached.faults(), 3);
+    let read = read_block(cached, 1, block);
+    assert!(rt; read.is_err() && cached.holds(0) && !cached.holds(1));
+    let size = cached.size();
+    let settled = cached.settle();
+    assert!(rt; size.is_err() && settled.is_err());
+    assert!(rt; cached.reads() == 2 && cached.faults() == 3);
     Ok(())
 }
 
@@ -97,8 +92,7 @@ fn pass_all_on(
 ) -> Result<(), Fail> {
     read_block(cached, 2, block)?;
     read_block(cached, 2, block)?;
-    assert_eq!(rt; cached.inner().calls(), 5);
-    assert!(rt; !cached.holds(2));
+    assert!(rt; cached.inner().calls() == 5 && !cached.holds(2));
     Ok(())
 }
 
@@ -107,46 +101,6 @@ fn with_no_blocks_every_call_passes_through(rt: HostRuntime) -> Result<(), Fail>
     let mut block = vec![in rt.alloc(); 1u8; 2048]?;
     let mut cached = cache(rt.alloc(), Vec::new(rt.alloc()), 0)?;
     pass_all_on(&rt, &mut cached, &mut block)
-}
-
-/// Four blocks of 512 bytes of a device, behind a cache of so many blocks, and two buffers.
-fn over<D: Device + Drop>(alloc: Global, device: D, cache: u32) -> Result<Buffers<D>, AllocError>
-    requires cache { cache ≤ 4096 }
-    requires inside { HasRange (D.bytes device) 0 2048 }
-    ensures many { IfOk result (λ made. made.many ≡ 4) }
-    ensures size { IfOk result (λ made. made.cache.size ≡ 512) }
-    ensures lasts { IfOk result (λ made. length made.lasts ≡ 2) }
-{
-    match Buffers::new(alloc, device, cache, 3, 4, 2) {
-        Ok(made) => Ok(made),
-        Err((_, error)) => Err(error),
-    }
-}
-
-/// A device with 2,048 bytes of the value 7, which refuses these of its calls.
-fn device(alloc: Global, failing: Vec<u64>) -> Result<MemoryDevice, AllocError>
-    ensures { IfOk result (λ made. HasRange (Some made.bytes) 0 2048) }
-{
-    let bytes = vec![in alloc; 7u8; 2048]?;
-    Ok(MemoryDevice::holding(bytes, failing))
-}
-
-/// The first byte of a block, by way of a buffer.
-fn first_byte<D: Device>(
-    blocks: &mut Buffers<D>,
-    buffer: usize,
-    block: u64,
-) -> Result<u8, DeviceFault>
-    requires buffer { buffer < length blocks.old.lasts }
-    requires block { block < blocks.old.many }
-    ensures many { blocks.new.many ≡ blocks.old.many }
-    ensures size { blocks.new.cache.size ≡ blocks.old.cache.size }
-    ensures lasts { length blocks.new.lasts ≡ length blocks.old.lasts }
-{
-    match blocks.turn_to(buffer, block) {
-        Ok(()) => Ok(blocks.copy(buffer).first().copied().unwrap_or(0)),
-        Err(fault) => Err(fault),
-    }
 }
 
 /// Writes a block of one value.
@@ -174,110 +128,33 @@ fn byte_of_first<D: Device>(blocks: &mut Buffers<D>, at: usize) -> Result<u8, De
     }
 }
 
-// With no cache each buffer reads for itself, once until the block is written.
-fn turn_and_write<D: Device>(rt: &impl Abort, blocks: &mut Buffers<D>) -> Result<(), Fail>
-    requires many { blocks.old.many ≡ 4 }
-    requires size { blocks.old.cache.size ≡ 512 }
-    requires lasts { length blocks.old.lasts ≡ 2 }
-{
-    assert_eq!(rt; first_byte(blocks, 0, 2)?, 7);
-    assert_eq!(rt; first_byte(blocks, 0, 2)?, 7);
-    assert_eq!(rt; blocks.reads(), 1);
-    assert_eq!(rt; first_byte(blocks, 1, 2)?, 7);
-    assert_eq!(rt; blocks.reads(), 2);
-    fill(blocks, 2, 9)?;
-    assert_eq!(rt; first_byte(blocks, 0, 2)?, 9);
-    assert_eq!(rt; first_byte(blocks, 1, 2)?, 9);
-    assert_eq!(rt; blocks.reads(), 4);
-    assert_eq!(rt; blocks.writes(), 1);
-    Ok(())
-}
-
-#[test]
-fn a_held_block_is_read_once_until_it_is_written(rt: HostRuntime) -> Result<(), Fail> {
-    let device = device(rt.alloc(), Vec::new(rt.alloc()))?;
-    let mut blocks = over(rt.alloc(), device, 0)?;
-    turn_and_write(&rt, &mut blocks)?;
-    assert_eq!(rt; blocks.into_device().calls(), 5);
-    Ok(())
-}
-
-// One byte of block 0 is written, and all else stays.
+// One byte of block 0 is written and settled, and all else stays; then each of these is refused.
 fn write_one<D: Device>(rt: &impl Abort, blocks: &mut Buffers<D>) -> Result<(), Fail>
-    requires many { blocks.old.many ≡ 4 }
+    requires many { blocks.old.many ≡ 7 }
     requires size { blocks.old.cache.size ≡ 512 }
-    requires lasts { length blocks.old.lasts ≡ 2 }
+    requires lasts { length blocks.old.lasts ≡ 3 }
 {
-    assert_eq!(rt; first_byte(blocks, 0, 0)?, 7);
     blocks.write_byte(14, 1)?;
     blocks.settle()?;
-    assert_eq!(rt; byte_of_first(blocks, 13)?, 7);
-    assert_eq!(rt; byte_of_first(blocks, 14)?, 1);
-    assert_eq!(rt; byte_of_first(blocks, 15)?, 7);
-    assert_eq!(rt; first_byte(blocks, 0, 0)?, 7);
-    assert_eq!(rt; blocks.reads(), 2);
-    assert_eq!(rt; blocks.block_size(), 512);
-    assert_eq!(rt; blocks.many(), 4);
+    let before = byte_of_first(blocks, 13)?;
+    let written = byte_of_first(blocks, 14)?;
+    assert!(rt; before == 7 && written == 1 && blocks.reads() == 1);
+    let wrote = blocks.write_byte(14, 2);
+    let settled = blocks.settle();
+    let read = byte_of_first(blocks, 13);
+    assert!(rt; wrote.is_err() && settled.is_err() && read.is_err());
+    assert!(rt; blocks.faults() == 3 && blocks.reads() == 2);
+    assert!(rt; blocks.block_size() == 512 && blocks.many() == 7);
     Ok(())
 }
 
 #[test]
 fn a_byte_is_written_and_settled(rt: HostRuntime) -> Result<(), Fail> {
-    let device = device(rt.alloc(), Vec::new(rt.alloc()))?;
-    let mut blocks = over(rt.alloc(), device, 0)?;
+    let failing = vec![in rt.alloc(); 4, 5, 6]?;
+    let mut blocks = seven(rt.alloc(), 0, failing)?;
     write_one(&rt, &mut blocks)?;
-    assert_eq!(rt; blocks.into_device().calls(), 4);
+    assert!(rt; blocks.into_device().calls() == 6);
     Ok(())
-}
-
-// After a refused read the buffer holds none, and after a refused write no buffer holds the block.
-fn pass_refusals_on<D: Device>(rt: &impl Abort, blocks: &mut Buffers<D>) -> Result<(), Fail>
-    requires many { blocks.old.many ≡ 4 }
-    requires size { blocks.old.cache.size ≡ 512 }
-    requires lasts { length blocks.old.lasts ≡ 2 }
-{
-    assert_eq!(rt; first_byte(blocks, 0, 1)?, 7);
-    assert_eq!(rt; first_byte(blocks, 0, 3), Err(DeviceFault));
-    assert_eq!(rt; first_byte(blocks, 0, 1)?, 7);
-    assert_eq!(rt; blocks.reads(), 3);
-    assert_eq!(rt; fill(blocks, 1, 9), Err(DeviceFault));
-    assert_eq!(rt; first_byte(blocks, 0, 1)?, SPOILED);
-    assert_eq!(rt; blocks.settle(), Err(DeviceFault));
-    assert_eq!(rt; byte_of_first(blocks, 0), Err(DeviceFault));
-    assert_eq!(rt; blocks.write_byte(14, 1), Err(DeviceFault));
-    assert_eq!(rt; blocks.faults(), 5);
-    Ok(())
-}
-
-#[test]
-fn a_refusal_is_that_of_the_device(rt: HostRuntime) -> Result<(), Fail> {
-    let device = device(rt.alloc(), vec![in rt.alloc(); 2, 4, 6, 7, 8]?)?;
-    let mut blocks = over(rt.alloc(), device, 0)?;
-    pass_refusals_on(&rt, &mut blocks)
-}
-
-// Where all blocks fit into the cache, each is read once, whatever buffer it is read by.
-fn read_all_twice<D: Device>(rt: &impl Abort, blocks: &mut Buffers<D>) -> Result<(), Fail>
-    requires many { blocks.old.many ≡ 4 }
-    requires size { blocks.old.cache.size ≡ 512 }
-    requires lasts { length blocks.old.lasts ≡ 2 }
-{
-    for block in 0..4u64 {
-        first_byte(blocks, 0, block)?;
-        first_byte(blocks, 1, 3 - block)?;
-    }
-    assert_eq!(rt; byte_of_first(blocks, 0)?, 7);
-    fill(blocks, 3, 9)?;
-    assert_eq!(rt; first_byte(blocks, 0, 3)?, 9);
-    assert_eq!(rt; blocks.reads(), 4);
-    Ok(())
-}
-
-#[test]
-fn with_room_for_all_each_block_is_read_once(rt: HostRuntime) -> Result<(), Fail> {
-    let device = device(rt.alloc(), Vec::new(rt.alloc()))?;
-    let mut blocks = over(rt.alloc(), device, 4)?;
-    read_all_twice(&rt, &mut blocks)
 }
 
 /// What a plain list says of seven blocks of one value each: their values, which of them are held, the most recently used
@@ -403,7 +280,7 @@ fn write_beside<D: Device>(blocks: &mut Buffers<D>, plain: &mut Plain, block: u6
     blocks.reads() == before
 }
 
-/// Twenty thousand calls, of which one in four writes.
+/// Ten thousand calls, of which one in four writes.
 fn call_beside<D: Device>(
     rt: &impl Abort,
     blocks: &mut Buffers<D>,
@@ -414,7 +291,7 @@ fn call_beside<D: Device>(
     requires lasts { length blocks.old.lasts ≡ 3 }
 {
     let mut seed = 20071u64;
-    for number in 0..20_000u64 {
+    for number in 0..10_000u64 {
         seed = seed.wrapping_mul(6364136223846793005).wrapping_add(number);
         let (block, buffer) = (seed / 4294967296 % 7, (seed / 1048576 % 3) as usize);
         if seed / 268435456 % 4 == 0 {
@@ -435,15 +312,15 @@ fn every_97th(alloc: Global) -> Result<Vec<u64>, AllocError> {
     Ok(failing)
 }
 
-/// Seven blocks behind a cache of so many, and three buffers.
-fn seven(alloc: Global, cache: u32) -> Result<Buffers<MemoryDevice>, AllocError>
+/// Seven blocks of 512 bytes of the value 7 behind a cache of so many, and three buffers, on a device that refuses these of
+/// its calls.
+fn seven(alloc: Global, cache: u32, failing: Vec<u64>) -> Result<Buffers<MemoryDevice>, AllocError>
     requires { cache ≤ 4096 }
     ensures many { IfOk result (λ made. made.many ≡ 7) }
     ensures size { IfOk result (λ made. made.cache.size ≡ 512) }
     ensures lasts { IfOk result (λ made. length made.lasts ≡ 3) }
 {
     let bytes = vec![in alloc; 7u8; 3584]?;
-    let failing = every_97th(alloc)?;
     match Buffers::new(alloc, MemoryDevice::holding(bytes, failing), cache, 3, 7, 3) {
         Ok(made) => Ok(made),
         Err((_, error)) => Err(error),
@@ -452,8 +329,9 @@ fn seven(alloc: Global, cache: u32) -> Result<Buffers<MemoryDevice>, AllocError>
 
 #[test]
 fn many_calls_are_as_a_plain_list_has_them(rt: HostRuntime) -> Result<(), Fail> {
-    for cache in 0..5u32 {
-        let mut blocks = seven(rt.alloc(), cache)?;
+    for cache in 0..8u32 {
+        let failing = every_97th(rt.alloc())?;
+        let mut blocks = seven(rt.alloc(), cache, failing)?;
         let mut plain = Plain::new(rt.alloc(), cache as usize)?;
         call_beside(&rt, &mut blocks, &mut plain)?;
     }

@@ -20,21 +20,16 @@ const VISIBLE: [u8; 4] = [1, 1, 0, 1];
 fn levels_work_and_flip_by_the_table(rt: HostRuntime) {
     for level in 0..4 {
         for clock in 0..8 {
-            assert_eq!(rt;
-                works(clock as u64, level as u8),
-                WORKING[clock][level],
-                "level {level} at {clock}"
-            );
+            let is_right = works(clock as u64, level as u8) == WORKING[clock][level];
+            assert!(rt; is_right, "level {level} at {clock}");
         }
-        assert_eq!(rt; visible_slot(11, level as u8), VISIBLE[level]);
+        assert!(rt; visible_slot(11, level as u8) == VISIBLE[level]);
     }
     assert!(rt; flips(11, 2) && !flips(11, 3));
-    assert_eq!(rt; phase(11, 1), Phase::After);
-    assert_eq!(rt; phase(11, 3), Phase::Inside(1));
-    assert_eq!(rt; phase(9, 3), Phase::Before);
-    assert_eq!(rt; own_part(11, 0, 3), Part::Young);
-    assert_eq!(rt; own_part(11, 3, 3), Part::All);
-    assert_eq!(rt; next_of(11, 0, 3), Below::Shadow);
-    assert_eq!(rt; next_of(11, 2, 3), Below::Visible);
-    assert_eq!(rt; next_of(11, 3, 3), Below::Nothing);
+    let phases = [phase(11, 1), phase(11, 3), phase(9, 3)];
+    assert!(rt; phases == [Phase::After, Phase::Inside(1), Phase::Before]);
+    let parts = [own_part(11, 0, 3), own_part(11, 3, 3)];
+    assert!(rt; parts == [Part::Young, Part::All]);
+    let below = [next_of(11, 0, 3), next_of(11, 2, 3), next_of(11, 3, 3)];
+    assert!(rt; below == [Below::Shadow, Below::Visible, Below::Nothing]);
 }

@@ -124,14 +124,14 @@ fn is_answered(
         calls: 0,
         failing: Vec::new(alloc),
     };
-    assert_eq!(rt; answers(&mut whole, limit, alloc)?.as_slice(), want);
+    assert!(rt; answers(&mut whole, limit, alloc)?.as_slice() == want);
     let mut pieces = Bytewise {
         bytes: input.to_vec(alloc)?,
         at: 0,
     };
-    assert_eq!(rt; answers(&mut pieces, limit, alloc)?.as_slice(), want);
+    assert!(rt; answers(&mut pieces, limit, alloc)?.as_slice() == want);
     let mut reader = StdSource::new(input);
-    assert_eq!(rt; answers(&mut reader, limit, alloc)?.as_slice(), want);
+    assert!(rt; answers(&mut reader, limit, alloc)?.as_slice() == want);
     Ok(())
 }
 
@@ -172,11 +172,9 @@ fn fault_in_mid_stream(rt: HostRuntime) -> Result<(), Fail> {
         calls: 0,
         failing: vec![in alloc; 2u64]?,
     };
-    assert_eq!(rt;
-        answers(&mut source, 100, alloc)?.as_slice(),
-        b"put a 1\n<fault>\nget\n<end>".as_slice()
-    );
-    assert_eq!(rt; source.calls, 3);
+    let text = answers(&mut source, 100, alloc)?;
+    assert!(rt; text.as_slice() == b"put a 1\n<fault>\nget\n<end>".as_slice());
+    assert!(rt; source.calls == 3);
     Ok(())
 }
 
@@ -184,19 +182,20 @@ fn fault_in_mid_stream(rt: HostRuntime) -> Result<(), Fail> {
 fn sinks_with_room(rt: HostRuntime) -> Result<(), Fail> {
     let alloc = rt.alloc();
     let mut sink = MemorySink::new(alloc, 4, Vec::new(alloc))?;
-    assert_eq!(rt; put_all(&mut sink, b"abc"), Ok(()));
-    assert_eq!(rt; put_all(&mut sink, b"def"), Err(SinkFault));
-    assert_eq!(rt; sink.bytes(), b"abcd".as_slice());
+    let first = put_all(&mut sink, b"abc");
+    let second = put_all(&mut sink, b"def");
+    assert!(rt; first.is_ok() && second.is_err() && sink.bytes() == b"abcd".as_slice());
     let mut slow = Slow {
         sink: MemorySink::new(alloc, 9, vec![in alloc; 3u64]?)?,
     };
-    assert_eq!(rt; put_all(&mut slow, b"abc"), Err(SinkFault));
-    assert_eq!(rt; put_all(&mut slow, b"def"), Ok(()));
-    assert_eq!(rt; slow.sink.bytes(), b"abdef".as_slice());
+    let first = put_all(&mut slow, b"abc");
+    let second = put_all(&mut slow, b"def");
+    assert!(rt; first.is_err() && second.is_ok() && slow.sink.bytes() == b"abdef".as_slice());
     let held: ArrayVec<u8, 2> = ArrayVec::new();
     let mut real = StdSink::new(held);
-    assert_eq!(rt; put_all(&mut real, b"ab"), Ok(()));
-    assert_eq!(rt; put_all(&mut real, b"c"), Err(SinkFault));
+    let first = put_all(&mut real, b"ab");
+    let second = put_all(&mut real, b"c");
+    assert!(rt; first.is_ok() && second.is_err());
     Ok(())
 }
 
@@ -206,11 +205,13 @@ fn one_call_of_std_for_each(rt: HostRuntime) -> Result<(), Fail> {
     let mut source = StdSource::new(Slowly { calls: 0 });
     let mut sink = StdSink::new(Slowly { calls: 0 });
     let mut into = [0; 8];
-    assert_eq!(rt; source.read(&mut into), Err(SourceFault));
-    assert_eq!(rt; sink.write(b"abc"), Err(SinkFault));
-    assert_eq!(rt; source.read(&mut into), Ok(0));
-    assert_eq!(rt; sink.write(b"abc"), Err(SinkFault));
-    assert_eq!(rt; source.read(&mut into), Ok(1));
-    assert_eq!(rt; sink.write(b"abc"), Ok(1));
+    for (read, wrote) in [
+        (Err(SourceFault), Err(SinkFault)),
+        (Ok(0), Err(SinkFault)),
+        (Ok(1), Ok(1)),
+    ] {
+        assert!(rt; source.read(&mut into) == read);
+        assert!(rt; sink.write(b"abc") == wrote);
+    }
     Ok(())
 }

@@ -88,13 +88,11 @@ fn sizes_and_places(rt: HostRuntime) -> Result<(), Fail> {
             geometry.cells(),
             geometry.front_levels(),
         ));
-        assert_eq!(rt; sizes, wanted, "{keys} keys");
+        assert!(rt; sizes == wanted, "{keys} keys");
     }
     let geometry = Geometry::of(32, 5)?;
-    assert_eq!(rt; geometry.place(0, 0, 0), 8);
-    assert_eq!(rt; geometry.place(1, 1, 0), 24);
-    assert_eq!(rt; geometry.place(2, 1, 15), 63);
-    assert_eq!(rt; geometry.place(3, 1, 25), 121);
+    assert!(rt; geometry.place(0, 0, 0) == 8 && geometry.place(1, 1, 0) == 24);
+    assert!(rt; geometry.place(2, 1, 15) == 63 && geometry.place(3, 1, 25) == 121);
     Ok(())
 }
 
@@ -107,9 +105,8 @@ fn headers(rt: HostRuntime) -> Result<(), Fail> {
     assert!(rt; bytes[24..].iter().all(|byte| *byte == 0));
     let bytes = header_of_32(1, 11, &AFTER_43);
     let header = Header::decode(&bytes).ok_or("no header")?;
-    assert_eq!(rt; header.geometry, Geometry::of(32, 5)?);
-    assert!(rt; header.closed);
-    assert_eq!(rt; (header.count, header.clock, header.last), (32, 11, 0));
+    assert!(rt; header.geometry == Geometry::of(32, 5)? && header.closed);
+    assert!(rt; header.count == 32 && header.clock == 11 && header.last == 0);
     let bottom = Marks {
         visible: 26,
         shadow: 23,
@@ -117,9 +114,8 @@ fn headers(rt: HostRuntime) -> Result<(), Fail> {
         incoming: 5,
         sample: 0,
     };
-    assert_eq!(rt; header.levels.as_slice().last(), Some(&bottom));
-    assert!(rt; is_spelling(&bytes));
-    assert!(rt; is_spelling(&header_of_32(2, 11, &AFTER_43)));
+    assert!(rt; header.levels.as_slice().last() == Some(&bottom));
+    assert!(rt; is_spelling(&bytes) && is_spelling(&header_of_32(2, 11, &AFTER_43)));
     Ok(())
 }
 
@@ -129,26 +125,24 @@ fn changed_headers(rt: HostRuntime) {
         for (version, wanted) in [(1, one), (2, two)] {
             let mut bytes = header_of_32(version, 7, &AFTER_55);
             set_byte(&mut bytes, at, byte);
-            assert_eq!(rt;
-                is_spelling(&bytes),
-                wanted,
+            assert!(rt;
+                is_spelling(&bytes) == wanted,
                 "byte {at} is {byte} in version {version}"
             );
         }
     }
 }
 
+const MESSAGES: &str = "a store is for 1 to 16777216 keys
+a block has 2^3 to 2^9 cells, and at most as many as a slot of the lowest level
+";
+
 #[test]
 fn messages_of_sizes(rt: HostRuntime) -> Result<(), Fail> {
-    for (fault, text) in [
-        (LayoutFault::Keys, "a store is for 1 to 16777216 keys"),
-        (
-            LayoutFault::Block,
-            "a block has 2^3 to 2^9 cells, and at most as many as a slot of the lowest level",
-        ),
-    ] {
-        let message = format!(in rt.alloc(); "{fault}")?;
-        assert_eq!(rt; message.as_str(), text);
+    let mut text = String::new(rt.alloc());
+    for fault in [LayoutFault::Keys, LayoutFault::Block] {
+        writeln!(text, "{fault}")?;
     }
+    assert!(rt; text.as_str() == MESSAGES);
     Ok(())
 }

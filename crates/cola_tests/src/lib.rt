@@ -11,8 +11,6 @@ mod clock;
 #[cfg(test)]
 mod files;
 #[cfg(test)]
-mod generated;
-#[cfg(test)]
 mod image;
 #[cfg(test)]
 mod io;
@@ -23,18 +21,12 @@ mod line;
 #[cfg(test)]
 mod made;
 #[cfg(test)]
-mod objects;
-#[cfg(test)]
 mod pairs;
 #[cfg(test)]
 mod plain;
-#[cfg(test)]
-mod refusing;
 #[cfg(test)]
 mod runs;
 #[cfg(test)]
 mod stores;
 #[cfg(test)]
 mod table;
-#[cfg(test)]
-mod words;

@@ -3,6 +3,7 @@ use cola_runs::plain::cells::{PlainCell, PlainItem, PlainPart, is_well_formed};
 use cola_runs::plain::merge::{PlainBuild, take_step};
 use cola_runs::plain::weave::{sample, weave};
 use std::alloc::{AllocError, Global};
+use std::process::Abort;
 
 type Run = Vec<PlainCell<u32, u32>>;
 
@@ -42,14 +43,15 @@ fn incoming_run(alloc: Global) -> Result<Run, AllocError> {
     Ok(run)
 }
 
-#[test]
-fn a_bottom_merge_takes_37_steps(rt: HostRuntime) -> Result<(), AllocError> {
-    let alloc = rt.alloc();
-    let mut own = Vec::new(alloc);
-    add_items(&mut own, (1, 26), 0, 0)?;
-    let incoming = incoming_run(alloc)?;
-    assert!(rt; is_well_formed(own.as_slice()) && is_well_formed(incoming.as_slice()));
-    let keys: [u32; 0] = [];
+const NO_KEYS: [u32; 0] = [];
+
+// What 37 steps build. The first 28 take 23 cells of the bottom's run and 5 of the other.
+fn built(
+    rt: &impl Abort,
+    alloc: Global,
+    own: &[PlainCell<u32, u32>],
+    incoming: &[PlainCell<u32, u32>],
+) -> Result<PlainBuild<u32, u32>, AllocError> {
     let mut build = PlainBuild {
         own: 0,
         incoming: 0,
@@ -60,18 +62,25 @@ fn a_bottom_merge_takes_37_steps(rt: HostRuntime) -> Result<(), AllocError> {
         let cursors = (build.own, build.incoming, build.sampled);
         assert!(rt; cursors.0 < 100 && cursors.1 < 100 && cursors.2 < 100);
         assert!(rt; step != 28 || cursors == (23, 5, 0) && build.done.len() == 23);
-        take_step(
-            &BOTTOM,
-            own.as_slice(),
-            incoming.as_slice(),
-            &keys,
-            &mut build,
-        )?;
+        take_step(&BOTTOM, own, incoming, &NO_KEYS, &mut build)?;
     }
-    let whole = weave(alloc, &BOTTOM, own.as_slice(), incoming.as_slice(), &keys)?;
-    assert!(rt; build.own == 26 && build.incoming == 11 && whole.len() == 32);
+    assert!(rt; build.own == 26 && build.incoming == 11);
+    Ok(build)
+}
+
+#[test]
+fn a_bottom_merge_takes_37_steps(rt: HostRuntime) -> Result<(), AllocError> {
+    let alloc = rt.alloc();
+    let mut own = Vec::new(alloc);
+    add_items(&mut own, (1, 26), 0, 0)?;
+    let incoming = incoming_run(alloc)?;
+    let (own, incoming) = (own.as_slice(), incoming.as_slice());
+    assert!(rt; own.len() == 26 && incoming.len() == 11);
+    let whole = weave(alloc, &BOTTOM, own, incoming, &NO_KEYS)?;
+    let build = built(&rt, alloc, own, incoming)?;
+    assert!(rt; is_well_formed(own) && is_well_formed(incoming));
     assert!(rt; build.done == whole && is_well_formed(whole.as_slice()));
-    let wanted = [8u32, 16, 24, 32];
-    assert!(rt; sample(alloc, whole.as_slice())?.as_slice() == wanted.as_slice());
+    let sampled = sample(alloc, whole.as_slice())?;
+    assert!(rt; whole.len() == 32 && sampled.as_slice() == [8u32, 16, 24, 32].as_slice());
     Ok(())
 }

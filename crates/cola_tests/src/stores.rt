@@ -4,63 +4,64 @@ use cola_store::{CreateFault, OpenFault, create};
 use cola_wide::UpgradeFault;
 use std::test::Fail;
 
+const REFUSED: [(u64, u8, CreateFault); 5] = [
+    (0, 2, CreateFault::Keys),
+    (16_777_217, 5, CreateFault::Keys),
+    (1, 2, CreateFault::Block),
+    (32, 6, CreateFault::Block),
+    (16_777_216, 10, CreateFault::Block),
+];
+
 #[test]
 fn new_files_of_no_size(rt: HostRuntime) -> Result<(), Fail> {
     let mut device = MemoryDevice::new(rt.alloc(), 8192, Vec::new(rt.alloc()))?;
-    let refused = [
-        (0, 2, CreateFault::Keys),
-        (16_777_217, 5, CreateFault::Keys),
-        (1, 2, CreateFault::Block),
-        (32, 6, CreateFault::Block),
-        (16_777_216, 10, CreateFault::Block),
-    ];
-    for (keys, block_exp, fault) in refused {
-        assert_eq!(rt; create(&mut device, keys, block_exp), Err(fault));
+    for (keys, block_exp, fault) in REFUSED {
+        assert!(rt;
+            create(&mut device, keys, block_exp) == Err(fault),
+            "{keys} keys"
+        );
     }
-    assert_eq!(rt; device.calls(), 0);
+    assert!(rt; device.calls() == 0);
     Ok(())
 }
 
+const MESSAGES: &str = "Keys Block NotEmpty Device \
+    NotStore NotClosed Small Device OutOfMemory BadCell 87 \
+    Small NotStore Already NotClosed OutOfMemory NotEmpty Device BadCell 87 ";
+
 #[test]
 fn messages(rt: HostRuntime) -> Result<(), Fail> {
-    let alloc = rt.alloc();
-    let messages = [
-        (format!(in alloc; "{}", CreateFault::Keys)?, "Keys"),
-        (format!(in alloc; "{}", CreateFault::Block)?, "Block"),
-        (format!(in alloc; "{}", CreateFault::NotEmpty)?, "NotEmpty"),
-        (format!(in alloc; "{}", CreateFault::Device)?, "Device"),
-        (format!(in alloc; "{}", OpenFault::NotStore)?, "NotStore"),
-        (format!(in alloc; "{}", OpenFault::NotClosed)?, "NotClosed"),
-        (format!(in alloc; "{}", OpenFault::Small)?, "Small"),
-        (format!(in alloc; "{}", OpenFault::Device)?, "Device"),
-        (
-            format!(in alloc; "{}", OpenFault::OutOfMemory)?,
-            "OutOfMemory",
-        ),
-        (
-            format!(in alloc; "{}", OpenFault::BadCell(87))?,
-            "BadCell 87",
-        ),
-        (format!(in alloc; "{}", UpgradeFault::Small)?, "Small"),
-        (format!(in alloc; "{}", UpgradeFault::NotStore)?, "NotStore"),
-        (format!(in alloc; "{}", UpgradeFault::Already)?, "Already"),
-        (
-            format!(in alloc; "{}", UpgradeFault::NotClosed)?,
-            "NotClosed",
-        ),
-        (
-            format!(in alloc; "{}", UpgradeFault::OutOfMemory)?,
-            "OutOfMemory",
-        ),
-        (format!(in alloc; "{}", UpgradeFault::NotEmpty)?, "NotEmpty"),
-        (format!(in alloc; "{}", UpgradeFault::Device)?, "Device"),
-        (
-            format!(in alloc; "{}", UpgradeFault::BadCell(87))?,
-            "BadCell 87",
-        ),
-    ];
-    for (message, name) in messages {
-        assert_eq!(rt; message.as_str(), name);
+    let mut text = String::new(rt.alloc());
+    for fault in [
+        CreateFault::Keys,
+        CreateFault::Block,
+        CreateFault::NotEmpty,
+        CreateFault::Device,
+    ] {
+        write!(text, "{fault} ")?;
     }
+    for fault in [
+        OpenFault::NotStore,
+        OpenFault::NotClosed,
+        OpenFault::Small,
+        OpenFault::Device,
+        OpenFault::OutOfMemory,
+        OpenFault::BadCell(87),
+    ] {
+        write!(text, "{fault} ")?;
+    }
+    for fault in [
+        UpgradeFault::Small,
+        UpgradeFault::NotStore,
+        UpgradeFault::Already,
+        UpgradeFault::NotClosed,
+        UpgradeFault::OutOfMemory,
+        UpgradeFault::NotEmpty,
+        UpgradeFault::Device,
+        UpgradeFault::BadCell(87),
+    ] {
+        write!(text, "{fault} ")?;
+    }
+    assert!(rt; text.as_str() == MESSAGES);
     Ok(())
 }
