@@ -36,7 +36,7 @@ struct Kind {
     limit: usize,
     /// Whether puts take stamps, as in files of version 2.
     stamped: bool,
-    mix: [Ask; 16],
+    mix: &'static [Ask; 16],
 }
 
 /// A session in memory, or over files of version 1.
@@ -54,7 +54,7 @@ fn plainly(
         run,
         limit,
         stamped: false,
-        mix: WITHOUT_STAMPS,
+        mix: &WITHOUT_STAMPS,
     }
 }
 
@@ -73,7 +73,7 @@ fn stamped(
         run,
         limit,
         stamped: true,
-        mix: WITH_STAMPS,
+        mix: &WITH_STAMPS,
     }
 }
 
@@ -99,7 +99,7 @@ fn kinds() -> [Kind; 11] {
     let large_4 = "create F --keys 512 --block 3 --version 2";
     let failing = Home::FailingFile;
     let mut mostly = stamped("stamps", Home::File, large_2, "run F --cache 1", 512);
-    mostly.mix = MOSTLY_STAMPS;
+    mostly.mix = &MOSTLY_STAMPS;
     [
         plainly("memory, roomy", Home::Memory, "", "mem 512", 512),
         plainly("memory, full", Home::Memory, "", "mem 150", 150),
@@ -225,7 +225,7 @@ fn holds(
 /// Compares a session in which nothing fails, and then the map that its file holds.
 fn serves_alike(alloc: Global, kind: &Kind, count: u32, number: u32) -> Result<Found, AllocError> {
     let mut talk = Talk::new(alloc, kind.shape(), number);
-    talk.make(alloc, &kind.mix, count)?;
+    talk.make(alloc, kind.mix, count)?;
     let device = new_file(alloc, kind)?;
     let ended = simple_session(alloc, kind.run, &talk.lines, device)?;
     let found = compare(alloc, &ended, &talk.replies, 0)?;
@@ -265,7 +265,7 @@ fn serves_with_faults(
 ) -> Result<(Found, u64), AllocError> {
     let shape = kind.shape();
     let mut talk = Talk::new(alloc, kind.shape(), number);
-    talk.make(alloc, &kind.mix, count)?;
+    talk.make(alloc, kind.mix, count)?;
     let bytes = new_file(alloc, kind)?.device.into_bytes();
     let device = device_of(alloc, bytes, 0, failing_calls(alloc, number)?)?;
     let ended = simple_session(alloc, kind.run, &talk.lines, device)?;
