@@ -1,5 +1,5 @@
 -- A store that is closed has a settled device, but behind an opening that met a fault.
-use Rattle.std.proofs.Common.{◌≡◌, ℕ, Bool, true, false, List, [], ◌∷◌, Option, Some, None, Result, Ok, Err, sym, subst, arith}
+use Rattle.std.proofs.Common.{◌≡◌, ℕ, Bool, false, List, [], ◌∷◌, Option, Some, None, Result, Ok, Err, sym, subst, arith}
 use Rattle.std.proofs.lemmas.Bool.{false≢true}
 use Rattle.cola_device.specs.declared.device.Device as device
 use Rattle.cola_device.specs.Settling.{IsSettled}

@@ -1,0 +1,203 @@
+//! The definitions of a session taken apart in plain terms, with worked examples. Each function does nothing: its clauses are the law.
+ghost use Rattle.std.specs.Prelude.{◌≡◌, ◌⊎◌, ℕ, ◌+◌, ◌-◌, ◌^◌, ◌≤◌, ◌<◌, min, Bool, true, false, List, [], ◌∷◌, ◌++◌, length, take, drop, All, Option, Some, None, Err};
+ghost use Rattle.std.specs.List.{flat_map};
+ghost use Rattle.std.specs.Io.KnownBytes.{IsAtEnd};
+ghost use Rattle.cola_outside.specs.Faults.{Rose};
+ghost use Rattle.cola_outside.specs.Told.{Both};
+ghost use Rattle.cola_device.specs.declared.counts.Counts.{Counts};
+ghost use Rattle.cola_device.specs.Settling.{IsSettled};
+ghost use Rattle.cola_io.specs.Counted.{after_fault};
+ghost use Rattle.cola_io.specs.Law.{all_lines, all_ended_lines};
+ghost use Rattle.cola_io.specs.Reads.{Read, WasRead, GaveSome, bytes_read, met_end, was_refused};
+ghost use Rattle.cola_io.specs.Streams.{Taken, Appended};
+ghost use Rattle.cola_layout.specs.Header.{Fields};
+ghost use Rattle.cola_image.specs.Standing.{HeaderStandsFor, with_state};
+ghost use Rattle.cola_spec.specs.Bounds.{request_bound};
+ghost use Rattle.cola_spec.specs.Command.{Close, Get, Range, Reopen, Scan, line_requests};
+ghost use Rattle.cola_spec.specs.Lines.{Line, Text};
+ghost use Rattle.cola_spec.specs.Map.{Map};
+ghost use Rattle.cola_spec.specs.Machine as machine;
+ghost use Rattle.cola_spec.specs.Machine.{FaultedStep, PlainStep, Run, State, Step, Turn, kind_of, ticks_of, turns_text};
+ghost use Rattle.cola_spec.specs.Reply as reply;
+ghost use Rattle.cola_spec.specs.Reply.{Reply};
+ghost use Rattle.cola_table.specs.Replies.{turn_of};
+ghost use Rattle.cola_store.specs.Create.{Made, WasNotEmpty, DeviceFailed, CountsOneWrite, file_size};
+ghost use Rattle.cola_store.specs.Sessions.{IsStoreOpened, OpensStore};
+ghost use Rattle.cola_store.specs.Store.{Stored};
+ghost use Rattle.cola_store.specs.declared.fault.OpenFault.{OpenFault};
+ghost use Rattle.cola_store.specs.declared.fault.OpenFault.TheVariants as fault;
+ghost use Rattle.cola_cell.specs.declared.format.Format.{Format};
+ghost use Rattle.cola_words.specs.declared.mode.Mode.TheVariants.{Mem, Create, Run as RunMode, Gen, Upgrade};
+ghost use Rattle.cola_command.specs.declared.place.Place.TheVariants as place;
+ghost use Rattle.cola_command.specs.Ends.{Ends, Replied, RepliedFront};
+ghost use Rattle.cola_command.specs.File.{Sizes, IsOfSizes, StandsBut, shape, sizes_in};
+ghost use Rattle.cola_command.specs.Headline.{AreAsked, CarriedOut, CarriesAll, CarriesFront, EndsAnyhow, EndsIll, EndsWell, FileEnds, IsLeft, IsLeftWhole, Known, NotOpened, WroteAll, WroteSome, asked, last_close, refusal_status};
+ghost use Rattle.cola_command.specs.Headline as file;
+ghost use Rattle.cola_command.specs.Memory.{AllAnswered, AreFirstLines, ReadFor, StepsWithin, lines_bound, replies};
+ghost use Rattle.cola_command.specs.Memory as memory;
+ghost use Rattle.cola_command.specs.RunTransfers.{AskNoRows, FewTransfers, example, example_sizes};
+ghost use Rattle.cola_command.specs.Serves.{CreateEnds, Serves, UpgradeEnds};
+ghost use Rattle.cola_command.specs.Turns.{FaultsOver, cut_after};
+ghost use Rattle.cola_command.specs.Workload.{EndsOnEmpty, FaultsCaused, GenEnds};
+
+use cola_device::Device;
+use cola_io::{Sink, Source};
+use cola_store::Store;
+use cola_table::Table;
+
+/// All lines that have ended are answered: with a line that ended and no answer they are not, nor with two lines and one
+/// answer; a line that has not ended needs none.
+pub fn all_answered_is_no_line_ahead()
+    ensures none { AllAnswered [] (97 ∷ 10 ∷ []) → ⊥ }
+    ensures one_of_two { AllAnswered (Text (97 ∷ []) ∷ []) (97 ∷ 10 ∷ 98 ∷ 10 ∷ 99 ∷ []) → ⊥ }
+    ensures pending { AllAnswered (Text (97 ∷ []) ∷ []) (97 ∷ 10 ∷ 98 ∷ []) }
+{}
+
+/// The reads for lines: each asks for 512 bytes or for what is left of 2^40, while no line that has ended is unanswered and
+/// behind reads that gave bytes alone; the source lost the bytes that they gave, and is at its end where the last met it.
+pub fn reads_are_for_lines<S: Source>()
+    ensures last { (answered : List Line) (source source' : S) (read : Read) (earlier : List Read) → ReadFor S.Source answered source (read ∷ earlier) source' →
+        (length (all_ended_lines (bytes_read earlier)) ≤ length answered) × ((read.asked ≡ min 512 (2 ^ 40 - length (bytes_read earlier))) × ((length (bytes_read earlier) < 2 ^ 40) × GaveSome earlier)) }
+    ensures reads { (answered : List Line) (source source' : S) (reads : List Read) → ReadFor S.Source answered source reads source' →
+        WasRead S.Source source reads source' × (Taken (bytes_read reads) (S.left source) (S.left source') × (met_end reads ≡ true → IsAtEnd (S.left source'))) }
+{}
+
+/// Where a reply was not written whole, the texts of the turns of all lines before the last were, and of all turns some front.
+pub fn fronts_have_all_before_the_last()
+    ensures memory { (keys : ℕ) (before : List Line) (last : Line) (written written' : Option (List ℕ)) → memory.WroteFront keys before last written written' →
+        (size : ℕ) × ((length (replies keys before) ≤ size) × Appended (take size (replies keys (before ++ last ∷ []))) written written') }
+    ensures file { (cost : Bool) (before : List Line) (turns : List Turn) (written written' : Option (List ℕ)) → file.WroteFront cost before turns written written' →
+        (earlier : List Turn) × ((late : List Turn) × ((turns ≡ earlier ++ late) × (AreAsked before (asked earlier) × ((size : ℕ) × ((length (turns_text cost earlier) ≤ size) × Appended (take size (turns_text cost turns)) written written'))))) }
+{}
+
+/// The reads and writes of the worked turns, of two stores in a file of 256 cells in blocks of 8, with 8 levels: 272 writes
+/// for each store; 14 reads for the mutation of each, four times the blocks, 8 for each search, and 12 more; behind a cache for
+/// the file, 268 for each; and one read more for an opening that found no memory.
+pub fn transfers_of_turns()
+    ensures writes { (cache : ℕ) (before now : Counts) → FewTransfers example_sizes cache example before now → now.writes ≤ before.writes + 544 }
+    ensures reads { (cache : ℕ) (before now : Counts) → FewTransfers example_sizes cache example before now → now.reads ≤ before.reads + 2132 }
+    ensures reads_cached { (before now : Counts) → FewTransfers example_sizes 256 example before now → now.reads ≤ before.reads + 536 }
+    ensures short_writes { (cache : ℕ) (before now : Counts) → FewTransfers example_sizes cache (turn_of Reopen (reply.Refused reply.Memory) 0 ∷ []) before now → now.writes ≤ before.writes + 268 }
+    ensures short_reads { (cache : ℕ) (before now : Counts) → FewTransfers example_sizes cache (turn_of Reopen (reply.Refused reply.Memory) 0 ∷ []) before now → now.reads ≤ before.reads + 1037 }
+    ensures short_cached { (before now : Counts) → FewTransfers example_sizes 256 (turn_of Reopen (reply.Refused reply.Memory) 0 ∷ []) before now → now.reads ≤ before.reads + 269 }
+    ensures range_asks_rows { AskNoRows (turn_of (Range [] []) (reply.Rows []) 0 ∷ []) → ⊥ }
+    ensures scan_asks_rows { AskNoRows (turn_of (Scan [] 1) (reply.Rows []) 0 ∷ []) → ⊥ }
+    ensures get_asks_none { AskNoRows (turn_of (Get []) (reply.Got None) 0 ∷ []) }
+{}
+
+/// What was carried out over a file, whatever is known of it.
+pub fn carried_out<D: Device>()
+    ensures settled { (cache steps steps' : ℕ) (device device' : D) (known : Option Known) (lines : List Line) (turns : List Turn) (answer : Reply) → CarriedOut D.Device cache device device' steps steps' IsLeft known lines turns answer →
+        kind_of answer ≡ PlainStep → cut_after turns false ≡ false → IsSettled D.Device device' }
+    ensures opened { (cache steps steps' : ℕ) (device device' : D) (known : Option Known) (lines : List Line) (turns : List Turn) (answer : Reply) → CarriedOut D.Device cache device device' steps steps' IsLeft known lines turns answer →
+        (store : Stored D) × IsStoreOpened D.Device device cache store }
+    ensures asks { (cache steps steps' : ℕ) (device device' : D) (known : Option Known) (lines : List Line) (turns : List Turn) (answer : Reply) → CarriedOut D.Device cache device device' steps steps' IsLeft known lines turns answer → AreAsked lines (asked turns) }
+    ensures counted { (cache steps steps' : ℕ) (device device' : D) (known : Option Known) (lines : List Line) (turns : List Turn) (answer : Reply) → CarriedOut D.Device cache device device' steps steps' IsLeft known lines turns answer → steps' ≡ steps + ticks_of turns }
+    ensures faults { (cache steps steps' : ℕ) (device device' : D) (known : Option Known) (lines : List Line) (turns : List Turn) (answer : Reply) → CarriedOut D.Device cache device device' steps steps' IsLeft known lines turns answer →
+        FaultsOver (turns ++ turn_of Close answer 0 ∷ []) (D.counts device).faults (D.counts device').faults }
+    ensures kept { (cache steps steps' : ℕ) (device device' : D) (known : Option Known) (lines : List Line) (turns : List Turn) (answer : Reply) → CarriedOut D.Device cache device device' steps steps' IsLeft known lines turns answer → D.kept device' ≡ D.kept device }
+    ensures within { (cache steps steps' : ℕ) (device device' : D) (known : Option Known) (lines : List Line) (turns : List Turn) (answer : Reply) (sizes : Sizes) → CarriedOut D.Device cache device device' steps steps' IsLeft known lines turns answer →
+        IsOfSizes D.Device sizes (place.Closed device) → All (λ (turn : Turn). turn.ticks ≤ request_bound (sizes.bottom + 1) turn.request) turns }
+    ensures behind { (cache steps steps' : ℕ) (device device' : D) (known : Option Known) (lines : List Line) (turns : List Turn) (answer : Reply) (sizes : Sizes) → CarriedOut D.Device cache device device' steps steps' IsLeft known lines turns answer →
+        IsOfSizes D.Device sizes (place.Closed device) →
+        Both (D.bytes device) (D.bytes device') (λ before now. (length now ≡ length before) × (drop (file_size sizes.format sizes.bottom) now ≡ drop (file_size sizes.format sizes.bottom) before)) }
+    ensures runs { (cache steps steps' : ℕ) (device device' : D) (known : Known) (lines : List Line) (turns : List Turn) (answer : Reply) → CarriedOut D.Device cache device device' steps steps' IsLeft (Some known) lines turns answer →
+        (asked turns ≡ flat_map (line_requests (shape known.sizes)) lines)
+        × ((last : State) × (Run (shape known.sizes) (machine.Open known.map) turns last × ((end : State) × (Step (shape known.sizes) last (turn_of Close answer 0) end × IsLeft known.sizes end (D.bytes device'))))) }
+    ensures few { (cache steps steps' : ℕ) (device device' : D) (known : Known) (lines : List Line) (turns : List Turn) (answer : Reply) → CarriedOut D.Device cache device device' steps steps' IsLeft (Some known) lines turns answer →
+        (Rose (D.counts device).faults (D.counts device').faults → ⊥) → length turns ≤ 2 ^ 40 → FewTransfers known.sizes cache turns (D.counts device) (D.counts device') }
+{}
+
+/// What is left of a file at a state: nothing is said of one whose closing met a fault, and a closed one stands for the map
+/// but for the state byte, which is the state's, and 0 in one that is left whole. An open store is not left.
+pub fn files_are_left()
+    ensures open { (sizes : Sizes) (m : Map) (told : Option (List ℕ)) → (IsLeft sizes (machine.Open m) told → ⊥) × (IsLeftWhole sizes (machine.Open m) told → ⊥) }
+    ensures closing { (sizes : Sizes) (m : Map) (told : Option (List ℕ)) → IsLeftWhole sizes (machine.Closing m) told → ⊥ }
+    ensures untold { (sizes : Sizes) (m : Map) (byte : ℕ) → (IsLeft sizes (machine.Closed m byte) None → ⊥) × (IsLeftWhole sizes (machine.Closed m byte) None → ⊥) }
+    ensures closed { (sizes : Sizes) (m : Map) (byte : ℕ) (bytes : List ℕ) → IsLeft sizes (machine.Closed m byte) (Some bytes) →
+        (header : Fields) × (HeaderStandsFor header (with_state 0 bytes) m × ((sizes_in header ≡ sizes) × ((state : ℕ) × ((with_state state bytes ≡ bytes) × (byte ≡ min state 255))))) }
+    ensures whole { (sizes : Sizes) (m : Map) (bytes : List ℕ) → IsLeftWhole sizes (machine.Closed m 0) (Some bytes) → (header : Fields) × (HeaderStandsFor header bytes m × (sizes_in header ≡ sizes)) }
+    ensures marked { (sizes : Sizes) (m : Map) (byte : ℕ) (told : Option (List ℕ)) → IsLeftWhole sizes (machine.Closed m (byte + 1)) told → ⊥ }
+{}
+
+/// The status of a file that was not opened, by the refusal; nothing was read, written or counted then.
+pub fn refusals_have_statuses<S: Source, K: Sink, D: Device>()
+    ensures memory { refusal_status fault.OutOfMemory ≡ 1 }
+    ensures device { refusal_status fault.Device ≡ 5 }
+    ensures no_store { refusal_status fault.NotStore ≡ 6 }
+    ensures small { refusal_status fault.Small ≡ 6 }
+    ensures in_use { refusal_status fault.NotClosed ≡ 7 }
+    ensures bad_cell { (cell : ℕ) → refusal_status (fault.BadCell cell) ≡ 10 }
+    ensures untouched { (cache steps steps' : ℕ) (cost : Bool) (source source' : S) (sink sink' : K) (device device' : D) (why : OpenFault) → NotOpened S.Source K.Sink D.Device cache cost source source' sink sink' device device' steps steps' why →
+        OpensStore D.Device device cache (Err (device', why)) × ((D.kept device' ≡ D.kept device) × ((source' ≡ source) × ((sink' ≡ sink) × (steps' ≡ steps)))) }
+{}
+
+/// The statuses of a session over a file: by what was read, what was carried out, and which counts of faults rose.
+pub fn file_sessions_end<S: Source, K: Sink, D: Device>()
+    ensures status_0 { (cache steps steps' : ℕ) (cost : Bool) (source source' : S) (sink sink' : K) (device device' : D) → FileEnds S.Source K.Sink D.Device cache cost source source' sink sink' device device' steps steps' 0 →
+        (reads : List Read) × (ReadFor S.Source (all_lines (bytes_read reads)) source reads source' × ((met_end reads ≡ true) × ((length (bytes_read reads) < 2 ^ 40)
+        × (CarriesAll S.Source K.Sink D.Device cache cost source source' sink sink' device device' steps steps' IsLeftWhole EndsWell (all_lines (bytes_read reads)) × ((S.faults source' ≡ S.faults source) × (K.faults sink' ≡ K.faults sink)))))) }
+    ensures status_3 { (cache steps steps' : ℕ) (cost : Bool) (source source' : S) (sink sink' : K) (device device' : D) → FileEnds S.Source K.Sink D.Device cache cost source source' sink sink' device device' steps steps' 3 →
+        (reads : List Read) × (ReadFor S.Source (all_ended_lines (bytes_read reads)) source reads source' × ((was_refused reads ≡ true) × ((length (bytes_read reads) < 2 ^ 40)
+        × (CarriesAll S.Source K.Sink D.Device cache cost source source' sink sink' device device' steps steps' IsLeft EndsAnyhow (all_ended_lines (bytes_read reads)) × ((S.faults source' ≡ after_fault (S.faults source)) × (K.faults sink' ≡ K.faults sink)))))) }
+    ensures status_4 { (cache steps steps' : ℕ) (cost : Bool) (source source' : S) (sink sink' : K) (device device' : D) → FileEnds S.Source K.Sink D.Device cache cost source source' sink sink' device device' steps steps' 4 →
+        (reads : List Read) × ((before : List Line) × ((last : Line) × (AreFirstLines (before ++ last ∷ []) reads × (ReadFor S.Source before source reads source' × ((was_refused reads ≡ false) × ((length (bytes_read reads) ≤ 2 ^ 40)
+        × (CarriesFront S.Source K.Sink D.Device cache cost source source' sink sink' device device' steps steps' before last × ((S.faults source' ≡ S.faults source) × (K.faults sink' ≡ after_fault (K.faults sink)))))))))) }
+    ensures status_5 { (cache steps steps' : ℕ) (cost : Bool) (source source' : S) (sink sink' : K) (device device' : D) → FileEnds S.Source K.Sink D.Device cache cost source source' sink sink' device device' steps steps' 5 →
+        NotOpened S.Source K.Sink D.Device cache cost source source' sink sink' device device' steps steps' fault.Device
+        ⊎ ((reads : List Read) × (ReadFor S.Source (all_lines (bytes_read reads)) source reads source' × ((met_end reads ≡ true) × ((length (bytes_read reads) < 2 ^ 40)
+        × (CarriesAll S.Source K.Sink D.Device cache cost source source' sink sink' device device' steps steps' IsLeft EndsIll (all_lines (bytes_read reads)) × ((S.faults source' ≡ S.faults source) × (K.faults sink' ≡ K.faults sink))))))) }
+    ensures status_9 { (cache steps steps' : ℕ) (cost : Bool) (source source' : S) (sink sink' : K) (device device' : D) → FileEnds S.Source K.Sink D.Device cache cost source source' sink sink' device device' steps steps' 9 →
+        (reads : List Read) × (ReadFor S.Source (all_ended_lines (bytes_read reads)) source reads source' × ((was_refused reads ≡ false) × ((length (bytes_read reads) ≡ 2 ^ 40)
+        × (CarriesAll S.Source K.Sink D.Device cache cost source source' sink sink' device device' steps steps' IsLeft EndsAnyhow (all_ended_lines (bytes_read reads)) × ((S.faults source' ≡ S.faults source) × (K.faults sink' ≡ K.faults sink)))))) }
+    ensures front { (cache steps steps' : ℕ) (cost : Bool) (source source' : S) (sink sink' : K) (device device' : D) (before : List Line) (last : Line) →
+        CarriesFront S.Source K.Sink D.Device cache cost source source' sink sink' device device' steps steps' before last → (turns : List Turn) × ((answer : Reply) × (CarriedOut D.Device cache device device' steps steps' IsLeft None (before ++ last ∷ []) turns answer × file.WroteFront cost before turns (K.written sink) (K.written sink'))) }
+    ensures well { (cache steps steps' : ℕ) (cost : Bool) (source source' : S) (sink sink' : K) (device device' : D) (lines : List Line) →
+        CarriesAll S.Source K.Sink D.Device cache cost source source' sink sink' device device' steps steps' IsLeftWhole EndsWell lines → (turns : List Turn) × ((answer : Reply) × (CarriedOut D.Device cache device device' steps steps' IsLeftWhole None lines turns answer × (Appended (turns_text cost turns) (K.written sink) (K.written sink') × ((kind_of answer ≡ PlainStep) × (cut_after turns false ≡ false))))) }
+    ensures ill { (cache steps steps' : ℕ) (cost : Bool) (source source' : S) (sink sink' : K) (device device' : D) (lines : List Line) →
+        CarriesAll S.Source K.Sink D.Device cache cost source source' sink sink' device device' steps steps' IsLeft EndsIll lines → (turns : List Turn) × ((answer : Reply) × (CarriedOut D.Device cache device device' steps steps' IsLeft None lines turns answer × (Appended (turns_text cost turns) (K.written sink) (K.written sink') × ((kind_of answer ≡ FaultedStep) ⊎ (cut_after turns false ≡ true))))) }
+{}
+
+/// The statuses of a session in memory, likewise.
+pub fn memory_sessions_end<S: Source, K: Sink>()
+    ensures status_0 { (keys steps steps' : ℕ) (source source' : S) (sink sink' : K) → Ends S.Source K.Sink keys source source' sink sink' steps steps' 0 →
+        (reads : List Read) × (ReadFor S.Source (all_lines (bytes_read reads)) source reads source' × ((met_end reads ≡ true) × ((length (bytes_read reads) < 2 ^ 40)
+        × ((Appended (replies keys (all_lines (bytes_read reads))) (K.written sink) (K.written sink') × ((steps ≤ steps') × (steps' ≤ steps + lines_bound keys (all_lines (bytes_read reads))))) × ((S.faults source' ≡ S.faults source) × (K.faults sink' ≡ K.faults sink)))))) }
+    ensures status_1 { (keys steps steps' : ℕ) (source source' : S) (sink sink' : K) → Ends S.Source K.Sink keys source source' sink sink' steps steps' 1 → (source' ≡ source) × ((sink' ≡ sink) × (steps' ≡ steps)) }
+    ensures status_3 { (keys steps steps' : ℕ) (source source' : S) (sink sink' : K) → Ends S.Source K.Sink keys source source' sink sink' steps steps' 3 →
+        (reads : List Read) × (ReadFor S.Source (all_ended_lines (bytes_read reads)) source reads source' × ((was_refused reads ≡ true) × ((length (bytes_read reads) < 2 ^ 40)
+        × ((Appended (replies keys (all_ended_lines (bytes_read reads))) (K.written sink) (K.written sink') × ((steps ≤ steps') × (steps' ≤ steps + lines_bound keys (all_ended_lines (bytes_read reads))))) × ((S.faults source' ≡ after_fault (S.faults source)) × (K.faults sink' ≡ K.faults sink)))))) }
+    ensures status_4 { (keys steps steps' : ℕ) (source source' : S) (sink sink' : K) → Ends S.Source K.Sink keys source source' sink sink' steps steps' 4 →
+        (reads : List Read) × ((before : List Line) × ((last : Line) × (AreFirstLines (before ++ last ∷ []) reads × (ReadFor S.Source before source reads source' × ((was_refused reads ≡ false) × ((length (bytes_read reads) ≤ 2 ^ 40)
+        × ((memory.WroteFront keys before last (K.written sink) (K.written sink') × ((steps ≤ steps') × (steps' ≤ steps + lines_bound keys (before ++ last ∷ [])))) × ((S.faults source' ≡ S.faults source) × (K.faults sink' ≡ after_fault (K.faults sink)))))))))) }
+    ensures status_9 { (keys steps steps' : ℕ) (source source' : S) (sink sink' : K) → Ends S.Source K.Sink keys source source' sink sink' steps steps' 9 →
+        (reads : List Read) × (ReadFor S.Source (all_ended_lines (bytes_read reads)) source reads source' × ((was_refused reads ≡ false) × ((length (bytes_read reads) ≡ 2 ^ 40)
+        × ((Appended (replies keys (all_ended_lines (bytes_read reads))) (K.written sink) (K.written sink') × ((steps ≤ steps') × (steps' ≤ steps + lines_bound keys (all_ended_lines (bytes_read reads))))) × ((S.faults source' ≡ S.faults source) × (K.faults sink' ≡ K.faults sink)))))) }
+    ensures no_other { (keys status steps steps' : ℕ) (source source' : S) (sink sink' : K) → Ends S.Source K.Sink keys source source' sink sink' steps steps' status → (status ≡ 0) ⊎ ((status ≡ 1) ⊎ ((status ≡ 3) ⊎ ((status ≡ 4) ⊎ (status ≡ 9)))) }
+{}
+
+/// What each mode answers, and what it leaves alone.
+pub fn modes_are_served<S: Source, K: Sink, D: Device>()
+    ensures none { (source source' : S) (sink sink' : K) (device device' second second' : D) (steps steps' status : ℕ) → Serves S.Source K.Sink D.Device ⟦<Store<D> as Table>⟧ source source' sink sink' device device' second second' steps steps' status None →
+        (status ≡ 2) × ((source' ≡ source) × ((sink' ≡ sink) × ((device' ≡ device) × ((second' ≡ second) × (steps' ≡ steps))))) }
+    ensures mirror { (source source' : S) (sink sink' : K) (device device' second second' : D) (steps steps' status cache other : ℕ) (cost : Bool) → Serves S.Source K.Sink D.Device ⟦<Store<D> as Table>⟧ source source' sink sink' device device' second second' steps steps' status (Some (RunMode cache cost (Some other))) →
+        (status ≡ 2) × ((source' ≡ source) × ((sink' ≡ sink) × ((device' ≡ device) × ((second' ≡ second) × (steps' ≡ steps))))) }
+    ensures memory { (source source' : S) (sink sink' : K) (device device' second second' : D) (steps steps' status keys : ℕ) → Serves S.Source K.Sink D.Device ⟦<Store<D> as Table>⟧ source source' sink sink' device device' second second' steps steps' status (Some (Mem keys)) →
+        Ends S.Source K.Sink keys source source' sink sink' steps steps' status × ((device' ≡ device) × (second' ≡ second)) }
+    ensures file { (source source' : S) (sink sink' : K) (device device' second second' : D) (steps steps' status cache : ℕ) (cost : Bool) → Serves S.Source K.Sink D.Device ⟦<Store<D> as Table>⟧ source source' sink sink' device device' second second' steps steps' status (Some (RunMode cache cost None)) →
+        FileEnds S.Source K.Sink D.Device cache cost source source' sink sink' device device' steps steps' status × (second' ≡ second) }
+    ensures made { (source source' : S) (sink sink' : K) (device device' second second' : D) (steps steps' status keys block_exp : ℕ) (format : Format) → Serves S.Source K.Sink D.Device ⟦<Store<D> as Table>⟧ source source' sink sink' device device' second second' steps steps' status (Some (Create keys block_exp format)) →
+        CreateEnds D.Device format keys block_exp device device' status × ((D.kept device' ≡ D.kept device) × (CountsOneWrite (D.counts device) (D.counts device') × ((source' ≡ source) × ((sink' ≡ sink) × ((second' ≡ second) × (steps' ≡ steps)))))) }
+    ensures workload { (source source' : S) (sink sink' : K) (device device' second second' : D) (steps steps' status keys : ℕ) → Serves S.Source K.Sink D.Device ⟦<Store<D> as Table>⟧ source source' sink sink' device device' second second' steps steps' status (Some (Gen keys)) →
+        GenEnds K.Sink D.Device ⟦<Store<D> as Table>⟧ keys device device' sink sink' steps steps' status × ((status ≡ 5 → Rose (D.counts device).faults (D.counts device').faults) × ((D.kept device' ≡ D.kept device) × ((source' ≡ source) × (second' ≡ second)))) }
+    ensures upgraded { (source source' : S) (sink sink' : K) (device device' second second' : D) (steps steps' status : ℕ) → Serves S.Source K.Sink D.Device ⟦<Store<D> as Table>⟧ source source' sink sink' device device' second second' steps steps' status (Some Upgrade) →
+        UpgradeEnds D.Device device device' second second' status × ((D.bytes device' ≡ D.bytes device) × (((D.counts device').writes ≡ (D.counts device).writes) × ((D.kept device' ≡ D.kept device) × ((D.kept second' ≡ D.kept second) × ((source' ≡ source) × ((sink' ≡ sink) × (steps' ≡ steps))))))) }
+{}
+
+/// The statuses of making a file, by what it leaves.
+pub fn new_files_end<D: Device>()
+    ensures status_0 { (format : Format) (keys block_exp : ℕ) (device device' : D) → CreateEnds D.Device format keys block_exp device device' 0 → Made D.Device format keys block_exp device device' }
+    ensures status_5 { (format : Format) (keys block_exp : ℕ) (device device' : D) → CreateEnds D.Device format keys block_exp device device' 5 → DeviceFailed D.Device format keys block_exp device device' }
+    ensures status_8 { (format : Format) (keys block_exp : ℕ) (device device' : D) → CreateEnds D.Device format keys block_exp device device' 8 → WasNotEmpty D.Device format keys block_exp device device' }
+    ensures no_other { (format : Format) (keys block_exp status : ℕ) (device device' : D) → CreateEnds D.Device format keys block_exp device device' status → (status ≡ 0) ⊎ ((status ≡ 5) ⊎ (status ≡ 8)) }
+{}
