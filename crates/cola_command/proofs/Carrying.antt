@@ -1,6 +1,6 @@
 -- Lines that are carried out one after another: what one more line makes of it.
 use Rattle.std.proofs.Common.{◌≡◌, ℕ, ◌+◌, ◌≤◌, Bool, List, [], ◌∷◌, ◌++◌, length, take, All, Option, Some, None, Result, Ok, Err, refl, sym, ap, ◌∙◌, subst, append-nil, append_assoc, arith}
-use Rattle.std.specs.Prelude.{IfSome}
+use Rattle.std.specs.Prelude.{IfSome, false, true, is_err}
 use Rattle.std.specs.List.{flat_map, slice_index_or}
 use Rattle.std.proofs.lemmas.List.{map-append}
 use Rattle.std.proofs.lemmas.List.Elements.{All-nil, All-append}
@@ -12,6 +12,7 @@ use Rattle.cola_device.specs.declared.device.Device as device
 use Rattle.cola_io.specs.Streams.{Appended}
 use Rattle.cola_io.specs.Counted.{CountsFaults, after_fault}
 use Rattle.cola_io.specs.declared.sink.Sink as sink
+use Rattle.cola_io.specs.declared.sink.SinkFault.{SinkFault}
 use Rattle.cola_io.proofs.StreamLemmas.{Appended-none, Appended-then}
 use Rattle.cola_layout.proofs.Powers.{power-le}
 use Rattle.cola_spec.specs.Map.{Shape, empty_map}
@@ -29,7 +30,7 @@ use Rattle.cola_command.specs.declared.place.Place.{Place}
 use Rattle.cola_command.specs.declared.place.Place.TheVariants as place
 use Rattle.cola_store.specs.Store.{Stored}
 use Rattle.cola_command.specs.File.{Sizes, shape, KeepsBehind, device_of, depth_of, format_of, faults_of, IsOfSizes}
-use Rattle.cola_command.specs.Turns.{FaultsOver, cut_after, cut_by_request, Carried, SameTerms}
+use Rattle.cola_command.specs.Turns.{FaultsOver, cut_after, cut_by_request, Carried, SameTerms, LineLeads, LinesLead}
 use Rattle.cola_command.specs.Headline.{Known, asked, AreAsked}
 use Rattle.cola_command.specs.Moves.{AreFew, AllMove}
 use Rattle.cola_command.proofs.CutOff.{quiet-run}
@@ -104,6 +105,12 @@ module _ {D : Type 0} (d : device.Ghosts D) where
   bound-is sizes (place.Closing closing) is request = least-bound (sizes.bottom + 1) request
   bound-is sizes (place.Closed device) is request = least-bound (sizes.bottom + 1) request
 
+  -- so is the format of lines, where it was that of the file before
+  pub format-kept : (sizes : Sizes) (now : Place D d) (last : Format) → IsOfSizes d sizes now → last ≡ sizes.format → format_of now last ≡ sizes.format
+  format-kept sizes (place.Open store) last is before = ap (λ (s : Sizes). s.format) is.sizes_are
+  format-kept sizes (place.Closing closing) last is before = before
+  format-kept sizes (place.Closed device) last is before = before
+
   within-is : (sizes : Sizes) (old : Place D d) (turns : List Turn) → IsOfSizes d sizes old → All (λ (turn : Turn). turn.ticks ≤ request_bound (depth_of old) turn.request) turns → All (λ (turn : Turn). turn.ticks ≤ request_bound (sizes.bottom + 1) turn.request) turns
   within-is sizes old turns is within = λ k x below. let turn = slice_index_or turns k x in let w = within k x below in let b = bound-is sizes old is turn.request in omega (arith, w, b)
 
@@ -123,19 +130,31 @@ module _ {D : Type 0} (d : device.Ghosts D) (first : Session D d) (steps : ℕ) 
     cache_is = refl;
     cost_is = refl;
     settled = λ at. at;
-    sized = λ sizes of. record { of_sizes = of; within = All-nil _; behind = both-same sizes (d.bytes (device_of first.place)) };
+    sized = λ sizes of format. record { format_is = format; asks = refl; of_sizes = of; within = All-nil _; behind = both-same sizes (d.bytes (device_of first.place)) };
     runs = runs-none known begins;
   }
 
+-- the lines of a session, and one more
+module _ {D K : Type 0} (d : device.Ghosts D) (t : table.Ghosts (Stored D) Cursor) (k : sink.Ghosts K) (line : Line) (b : List Turn) (mid new : Session D d) (sink' sink'' : K) (one : LineLeads d t k line false b mid new sink' sink'') where
+  leads-then : (lines : List Line) (a : List Turn) (old : Session D d) (sink : K) → LinesLead d t k lines a old mid sink sink' → LinesLead d t k (lines ++ line ∷ []) (a ++ b) old new sink sink''
+  leads-then [] a old sink (none, (same, same_sink)) =
+      (new, (sink'', (b, ([], (ap (λ (x : List Turn). x ++ b) none ∙ sym (append-nil b), (subst (λ (s : K). LineLeads d t k line false b old new s sink'') same_sink (subst (λ (s : Session D d). LineLeads d t k line false b s new sink' sink'') same one), (refl, (refl, refl))))))))
+  leads-then (first ∷ lines) a old sink (next, (between, (now, (rest, (whole, (led, more)))))) =
+      (next, (between, (now, (rest ++ b, (ap (λ (x : List Turn). x ++ b) whole ∙ append_assoc now rest b, (led, leads-then lines rest next between more))))))
+
 -- One more line
-module _ {D K A E : Type 0} (t : table.Ghosts (Stored D) Cursor) (d : device.Ghosts D) (k : sink.Ghosts K) (means : Means d.bytes d.counts t) (first mid now : Session D d) (few : AreFew d mid.place) (sink' sink'' : K) (steps steps' steps'' : ℕ) (line : Line) (result : Result A E) (lines : List Line) where
+module _ {D K : Type 0} (t : table.Ghosts (Stored D) Cursor) (d : device.Ghosts D) (k : sink.Ghosts K) (means : Means d.bytes d.counts t) (first mid now : Session D d) (few : AreFew d mid.place) (sink' sink'' : K) (steps steps' steps'' : ℕ) (line : Line) (result : Result (Unit {0}) SinkFault) (lines : List Line) where
   abbrev IsCarried : State → List Turn → Type 0
   IsCarried state more = Carried t d k state line result mid now sink' sink'' steps' steps'' more
 
   module _ (turns more : List Turn) where
     -- of a file of known sizes
-    sized-then : (sizes : Sizes) (state : State) → IsCarried state more → StillOf d first mid sizes turns → StillOf d first now sizes (turns ++ more)
-    sized-then sizes state c so_far = record {
+    sized-then : (sizes : Sizes) (state : State) → IsCarried state more → SameTerms mid now → StillOf d first mid sizes lines turns → StillOf d first now sizes (lines ++ line ∷ []) (turns ++ more)
+    sized-then sizes state c same so_far = record {
+      format_is = format-kept d sizes now.place now.format (c.keeps.sizes sizes so_far.of_sizes) (same.format_is ∙ so_far.format_is);
+      asks =
+          let line-asks : asked more ≡ line_requests (shape sizes) line = c.asks sizes.keys ∙ ap (λ f. line_requests (shape_of f sizes.keys) line) so_far.format_is in
+          asked-append turns more ∙ ap (λ a. a ++ asked more) so_far.asks ∙ ap (λ a. flat_map (line_requests (shape sizes)) lines ++ a) line-asks ∙ sym (flat-last (line_requests (shape sizes)) lines line);
       of_sizes = c.keeps.sizes sizes so_far.of_sizes;
       within = All-append (λ (turn : Turn). turn.ticks ≤ request_bound (sizes.bottom + 1) turn.request) turns more so_far.within (within-is d sizes mid.place more so_far.of_sizes c.within);
       behind = both-then sizes (d.bytes (device_of first.place)) (d.bytes (device_of mid.place)) (d.bytes (device_of now.place)) so_far.behind (c.keeps.behind sizes so_far.of_sizes);
@@ -167,7 +186,7 @@ module _ {D K A E : Type 0} (t : table.Ghosts (Stored D) Cursor) (d : device.Gho
       cache_is = same.cache_is ∙ so_far.cache_is;
       cost_is = same.cost_is ∙ so_far.cost_is;
       settled = λ begins. subst (λ (b : Bool). IsSettledAt d now.place b) (sym c.cut_off) (line-settles t d k mid.cache result mid.place sink' now.place sink'' mid.cut_off (so_far.settled begins) more c.cause);
-      sized = λ sizes of. sized-then sizes state c (so_far.sized sizes of);
+      sized = λ sizes of format. sized-then sizes state c same (so_far.sized sizes of format);
       runs = runs;
     }
 
@@ -175,17 +194,31 @@ module _ {D K A E : Type 0} (t : table.Ghosts (Stored D) Cursor) (d : device.Gho
   record Then (known : Option Known) (turns : List Turn) : Type 0 where
     more : List Turn
     wrote : Wrote (turns_text mid.cost more) result (k.written sink') (k.written sink'')
+    leads : (failed : Bool) → is_err result ≡ failed → LineLeads d t k line failed more mid now sink' sink''
     so_far : SoFar d first now steps steps'' known (lines ++ line ∷ []) (turns ++ more)
+
+  line-leads : (state : State) (more : List Turn) → IsCarried state more → SameTerms mid now → (failed : Bool) → is_err result ≡ failed → LineLeads d t k line failed more mid now sink' sink''
+  line-leads state more c same failed is = record {
+    asks = c.asks;
+    result = result;
+    failed_is = is;
+    wrote = c.wrote;
+    within = c.within;
+    faults = c.faults;
+    cause = c.cause;
+    keeps = c.keeps;
+    terms = same;
+  }
 
   then-line : ((state : State) → (more : List Turn) × IsCarried state more) → SameTerms mid now → (known : Option Known) (turns : List Turn) → SoFar d first mid steps steps' known lines turns → Then known turns
   then-line carried same None turns so_far =
       let state = machine.Open empty_map in
       let one = carried state in
-      record { more = one.0; wrote = one.1.wrote; so_far = so-far-then turns one.0 None state so_far one.1 same tt }
+      record { more = one.0; wrote = one.1.wrote; leads = line-leads state one.0 one.1 same; so_far = so-far-then turns one.0 None state so_far one.1 same tt }
   then-line carried same (Some known) turns so_far =
       let state = so_far.runs.runs.last in
       let one = carried state in
-      record { more = one.0; wrote = one.1.wrote; so_far = so-far-then turns one.0 (Some known) state so_far one.1 same (runs-then turns one.0 known so_far.runs so_far.cache_is one.1) }
+      record { more = one.0; wrote = one.1.wrote; leads = line-leads state one.0 one.1 same; so_far = so-far-then turns one.0 (Some known) state so_far one.1 same (runs-then turns one.0 known so_far.runs so_far.cache_is one.1) }
 
 text-then : (cost cost' : Bool) (turns more : List Turn) → cost' ≡ cost → turns_text cost turns ++ turns_text cost' more ≡ turns_text cost (turns ++ more)
 text-then cost cost' turns more same = ap (λ c. turns_text cost turns ++ turns_text c more) same ∙ sym (flat_map-append (turn_text cost) turns more)
@@ -197,27 +230,28 @@ counts-ok result done before now is counts = subst (λ r. CountsFaults r before 
 pub counts-err : {A E : Type 0} (result : Result A E) (failed : E) (before now : ℕ) → result ≡ Err failed → CountsFaults result before now → now ≡ after_fault before
 counts-err result failed before now is counts = subst (λ r. CountsFaults r before now) is counts
 
-module _ {D K : Type 0} (d : device.Ghosts D) (k : sink.Ghosts K) (first : Session D d) (sink : K) (steps : ℕ) where
+module _ {D K : Type 0} (t : table.Ghosts (Stored D) Cursor) (d : device.Ghosts D) (k : sink.Ghosts K) (first : Session D d) (sink : K) (steps : ℕ) where
   -- nothing is written at the beginning
-  pub whole-none : WholeSoFar k d first first sink sink steps steps []
-  whole-none known begins = record { turns = []; so_far = so-far-none d first steps known begins; wrote = Appended-none (k.written sink) }
+  pub whole-none : WholeSoFar k d t first first sink sink steps steps []
+  whole-none known begins = record { turns = []; so_far = so-far-none d first steps known begins; led = (refl, (refl, refl)); wrote = Appended-none (k.written sink) }
 
-module _ {D K A E : Type 0} (t : table.Ghosts (Stored D) Cursor) (d : device.Ghosts D) (k : sink.Ghosts K) (means : Means d.bytes d.counts t) (first mid now : Session D d) (few : AreFew d mid.place) (sink sink' sink'' : K) (steps steps' steps'' : ℕ) (line : Line) (lines : List Line) (result : Result A E) (before : WholeSoFar k d first mid sink sink' steps steps' lines) (same : SameTerms mid now)
+module _ {D K : Type 0} (t : table.Ghosts (Stored D) Cursor) (d : device.Ghosts D) (k : sink.Ghosts K) (means : Means d.bytes d.counts t) (first mid now : Session D d) (few : AreFew d mid.place) (sink sink' sink'' : K) (steps steps' steps'' : ℕ) (line : Line) (lines : List Line) (result : Result (Unit {0}) SinkFault) (before : WholeSoFar k d t first mid sink sink' steps steps' lines) (same : SameTerms mid now)
     (carried : (state : State) → (more : List Turn) × Carried t d k state line result mid now sink' sink'' steps' steps'' more) where
   -- the line was carried out, and its reply written
-  pub whole-then : (done : A) → result ≡ Ok done → WholeSoFar k d first now sink sink'' steps steps'' (lines ++ line ∷ [])
+  pub whole-then : (done : Unit {0}) → result ≡ Ok done → WholeSoFar k d t first now sink sink'' steps steps'' (lines ++ line ∷ [])
   whole-then done is known begins =
       let old = before known begins in
       let one = then-line t d k means first mid now few sink' sink'' steps steps' steps'' line result lines carried same known old.turns old.so_far in
       record {
         turns = old.turns ++ one.more;
         so_far = one.so_far;
+        led = leads-then d t k line one.more mid now sink' sink'' (one.leads false (ap is_err is)) lines old.turns first sink old.led;
         wrote = subst (λ text. Appended text (k.written sink) (k.written sink'')) (text-then first.cost mid.cost old.turns one.more old.so_far.cost_is)
             (Appended-then (turns_text first.cost old.turns) (turns_text mid.cost one.more) (k.written sink) (k.written sink') (k.written sink'') old.wrote (subst (λ r. Wrote (turns_text mid.cost one.more) r (k.written sink') (k.written sink'')) is one.wrote));
       }
 
   -- the line was carried out, and some front of its reply written
-  pub front-then : (failed : E) → result ≡ Err failed → FrontSoFar k d first now sink sink'' steps steps'' lines line
+  pub front-then : (failed : SinkFault) → result ≡ Err failed → FrontSoFar k d t first now sink sink'' steps steps'' lines line
   front-then failed is known begins =
       let old = before known begins in
       let one = then-line t d k means first mid now few sink' sink'' steps steps' steps'' line result lines carried same known old.turns old.so_far in
@@ -226,6 +260,7 @@ module _ {D K A E : Type 0} (t : table.Ghosts (Stored D) Cursor) (d : device.Gho
       record {
         turns = old.turns ++ one.more;
         so_far = one.so_far;
+        led = record { earlier = old.turns; late = one.more; are = refl; mid = mid; between = sink'; led = old.led; in_last = one.leads true (ap is_err is) };
         wrote = record {
           earlier = old.turns;
           late = one.more;

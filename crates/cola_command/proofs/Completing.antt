@@ -19,6 +19,9 @@ use Rattle.cola_spec.specs.Reply as reply
 use Rattle.cola_spec.specs.Reply.{Reply}
 use Rattle.cola_spec.specs.Machine.{State, Open, Turn, Kind, PlainStep, FaultedStep, ShortStep, StepOf, Run, kind_of, faulted_steps}
 use Rattle.cola_image.specs.Standing.{FileStandsFor}
+use Rattle.cola_store.specs.Store.{Stored}
+use Rattle.cola_table.specs.declared.table.Table as table
+use Rattle.cola_cursor.specs.declared.cursor.Cursor.{Cursor}
 use Rattle.cola_store.specs.declared.fault.OpenFault.{OpenFault}
 use Rattle.cola_store.specs.declared.fault.OpenFault.TheVariants as fault
 use Rattle.cola_store.specs.Sessions.{MetFault}
@@ -121,14 +124,14 @@ stands-sized m (Some bytes) (header, stands) = (sizes_in header, record { header
 
 -- Completeness
 
-module _ {S K D : Type 0} (g : source.Ghosts S) (h : sink.Ghosts K) (d : device.Ghosts D) (cache : ℕ) (cost : Bool) (m : Map) (source source' : S) (sink sink' : K) (device device' : D) (steps steps' : ℕ) where
+module _ {S K D : Type 0} (g : source.Ghosts S) (h : sink.Ghosts K) (d : device.Ghosts D) (t : table.Ghosts (Stored D) Cursor) (cache : ℕ) (cost : Bool) (m : Map) (source source' : S) (sink sink' : K) (device device' : D) (steps steps' : ℕ) where
   -- the session from the map that the file stood for
-  from-map : (lines : List Line) → IsSomeAnd (d.bytes device) (λ bytes. FileStandsFor bytes m) → Whole h d cache cost sink sink' device device' steps steps' IsLeftWhole EndsWell lines
-      → (sizes : Sizes) × (IsSomeAnd (d.bytes device) (StandsAs sizes m) × WroteAll h d cache cost sink sink' device device' steps steps' IsLeftWhole EndsWell (Some (record { sizes = sizes; map = m })) lines)
+  from-map : (lines : List Line) → IsSomeAnd (d.bytes device) (λ bytes. FileStandsFor bytes m) → Whole h d t cache cost sink sink' device device' steps steps' IsLeftWhole EndsWell lines
+      → (sizes : Sizes) × (IsSomeAnd (d.bytes device) (StandsAs sizes m) × WroteAll h d t cache cost sink sink' device device' steps steps' IsLeftWhole EndsWell (Some (record { sizes = sizes; map = m })) lines)
   from-map lines stands whole = let stood = stands-sized m (d.bytes device) stands in (stood.0, (stood.1, whole (Some (record { sizes = stood.0; map = m })) stood.1))
 
   -- all lines were answered plainly, and the file stands for the last map
-  plainly : (lines : List Line) → IsSomeAnd (d.bytes device) (λ bytes. FileStandsFor bytes m) → (Rose (d.counts device).faults (d.counts device').faults → ⊥) → Whole h d cache cost sink sink' device device' steps steps' IsLeftWhole EndsWell lines → AnsweredPlainly h d cost m sink sink' device device' lines
+  plainly : (lines : List Line) → IsSomeAnd (d.bytes device) (λ bytes. FileStandsFor bytes m) → (Rose (d.counts device).faults (d.counts device').faults → ⊥) → Whole h d t cache cost sink sink' device device' steps steps' IsLeftWhole EndsWell lines → AnsweredPlainly h d cost m sink sink' device device' lines
   plainly lines stands calm whole =
       let session = from-map lines stands whole in
       let all = session.1.1 in
@@ -155,7 +158,7 @@ module _ {S K D : Type 0} (g : source.Ghosts S) (h : sink.Ghosts K) (d : device.
   no-memory why (inl none) calm = none
   no-memory why (inr met) calm = absurd (calm met.1)
 
-  pub completes : (status : ℕ) → FileEnds g h d cache cost source source' sink sink' device device' steps steps' status → NothingFails g h d m source source' sink sink' device device' → Completes g h d cache cost m source source' sink sink' device device' steps steps' status
+  pub completes : (status : ℕ) → FileEnds g h d t cache cost source source' sink sink' device device' steps steps' status → NothingFails g h d m source source' sink sink' device device' → Completes g h d cache cost m source source' sink sink' device device' steps steps' status
   completes status (Unopened why is refused) sound =
       let none : why ≡ fault.OutOfMemory = no-memory why (opens-to d cache device m (Err (device', why)) sound.stands refused.refused) sound.device_answers in
       OutOfMemory (is ∙ ap refusal_status none) (subst (λ (f : OpenFault). NotOpened g h d cache cost source source' sink sink' device device' steps steps' f) none refused)
@@ -172,7 +175,7 @@ module _ {S K D : Type 0} (g : source.Ghosts S) (h : sink.Ghosts K) (d : device.
   -- Reads and writes
 
   few-for : (reads : List Read) (lines : List Line) → lines ≡ all_lines (bytes_read reads) → length (bytes_read reads) < input_limit → IsSomeAnd (d.bytes device) (λ bytes. FileStandsFor bytes m) → (Rose (d.counts device).faults (d.counts device').faults → ⊥)
-      → Whole h d cache cost sink sink' device device' steps steps' IsLeftWhole EndsWell lines → TransferredFew h d cost m sink sink' device device' cache lines
+      → Whole h d t cache cost sink sink' device device' steps steps' IsLeftWhole EndsWell lines → TransferredFew h d cost m sink sink' device device' cache lines
   few-for reads lines all fewer stands calm whole =
       let session = from-map lines stands whole in
       let one = session.1.1 in
@@ -186,7 +189,7 @@ module _ {S K D : Type 0} (g : source.Ghosts S) (h : sink.Ghosts K) (d : device.
         few = runs.few calm (turns-few (shape session.0) one.turns lines (bytes_read reads) input_limit runs.asks all fewer);
       }
 
-  pub transfers-few : FileEnds g h d cache cost source source' sink sink' device device' steps steps' 0 → IsSomeAnd (d.bytes device) (λ bytes. FileStandsFor bytes m) → (Rose (d.counts device).faults (d.counts device').faults → ⊥)
+  pub transfers-few : FileEnds g h d t cache cost source source' sink sink' device device' steps steps' 0 → IsSomeAnd (d.bytes device) (λ bytes. FileStandsFor bytes m) → (Rose (d.counts device).faults (d.counts device').faults → ⊥)
       → ReadToEnd g h source source' sink sink' (TransferredFew h d cost m sink sink' device device' cache)
   transfers-few (Unopened why is refused) stands calm =
       let none : why ≡ fault.OutOfMemory = no-memory why (opens-to d cache device m (Err (device', why)) stands refused.refused) calm in

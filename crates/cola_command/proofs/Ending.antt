@@ -19,6 +19,9 @@ use Rattle.cola_spec.specs.Machine as machine
 use Rattle.cola_spec.specs.Machine.{State, Turn, PlainStep, FaultedStep, kind_of, turns_text, ticks_of, faulted_one, faulted_steps}
 use Rattle.cola_image.specs.Standing.{HeaderStandsFor, with_state}
 use Rattle.cola_store.specs.declared.closing.Closing.{Closing}
+use Rattle.cola_store.specs.Store.{Stored}
+use Rattle.cola_table.specs.declared.table.Table as table
+use Rattle.cola_cursor.specs.declared.cursor.Cursor.{Cursor}
 use Rattle.cola_command.specs.declared.file.Session.{Session}
 use Rattle.cola_command.specs.declared.place.Place.{Place}
 use Rattle.cola_command.specs.declared.place.Place.TheVariants as place
@@ -134,6 +137,12 @@ module _ {D : Type 0} (d : device.Ghosts D) where
   never-faulted answer new (inl (kind, (now, is))) calm = is ∙ ap (λ (p : Place D d). place.Closed (device_of p)) (sym is)
   never-faulted answer new (inr (kind, (closing, is))) calm = absurd (calm kind)
 
+  -- an attempt to close that met no fault leaves the store closed on the device
+  pub closed-at-end : (old : Place D d) (answer : Reply) (new : Place D d) (now : D) → CloseCause d old answer new → now ≡ device_of new → kind_of answer ≡ PlainStep → CloseCause d old answer (place.Closed now)
+  closed-at-end old answer new now cause is plain =
+      let said = never-faulted answer new (says old answer new cause) (λ faulted. plain-is-not-faulted (sym plain ∙ faulted)) in
+      subst (λ (p : Place D d). CloseCause d old answer p) (said ∙ ap (λ (x : D). place.Closed x) (sym is)) cause
+
   -- no attempt to close is short of memory
   never-short : (old : Place D d) (answer : Reply) (new : Place D d) → CloseCause d old answer new → short answer ≡ 0
   never-short (place.Open store) answer new (Ok now, (closes, (answered, is))) = ap short answered
@@ -151,6 +160,9 @@ module _ {D : Type 0} (d : device.Ghosts D) (device : D) (cache : ℕ) (cost : B
     (opens : TurnFacts d Reopen (place.Closed device) (reply.Opened begun.store.count) (place.Open begun.store)) where
   first-sizes : (sizes : Sizes) → IsOfSizes d sizes (place.Closed device) → IsOfSizes d sizes first.place
   first-sizes sizes of = subst (λ (p : Place D d). IsOfSizes d sizes p) (sym begun.place_is) (opens.keeps.sizes sizes of)
+
+  first-format : (sizes : Sizes) → IsOfSizes d sizes (place.Closed device) → format_of first.place first.format ≡ sizes.format
+  first-format sizes of = ap (λ (p : Place D d). format_of p first.format) begun.place_is ∙ ap (λ (s : Sizes). s.format) (opens.keeps.sizes sizes of).sizes_are
 
   begins : (known : Option Known) → IsKnown known (d.bytes device) → BeginsAt d first known
   begins None is = tt
@@ -220,8 +232,9 @@ module _ {D : Type 0} (d : device.Ghosts D) (device : D) (cache : ℕ) (cost : B
           let close = close-step known lines turns r in
           record { asks = r.asks; last = r.runs.last; run = r.runs.run; end = close.next; close = close.step; left = left known lines turns r cut; few = few-at-end known lines turns r over }
 
-      stays-within : (sizes : Sizes) → IsOfSizes d sizes (place.Closed device) → StillOf d first last sizes turns → StaysWithin d cache device device' steps steps' sizes turns
+      stays-within : (sizes : Sizes) → IsOfSizes d sizes (place.Closed device) → StillOf d first last sizes lines turns → StaysWithin d cache device device' steps steps' sizes lines turns
       stays-within sizes of still = record {
+        asks = still.asks;
         within = still.within;
         behind =
             let start = subst (λ (p : Place D d). Both-with sizes (d.bytes device) (d.bytes (device_of p))) (sym begun.place_is) (opens.keeps.behind sizes of) in
@@ -242,17 +255,17 @@ module _ {D : Type 0} (d : device.Ghosts D) (device : D) (cache : ℕ) (cost : B
             faults = over;
             kept = kept ∙ so_far.kept ∙ kept_first;
             settled = λ well. settled-at-end well.0 (sym cut ∙ well.1) (so_far.settled (subst (λ (p : Place D d). IsSettledAt d p first.cut_off) (sym begun.place_is) tt));
-            sized = λ sizes of. stays-within sizes of (so_far.sized sizes (first-sizes sizes of));
+            sized = λ sizes of. stays-within sizes of (so_far.sized sizes (first-sizes sizes of) (first-format sizes of));
             runs = runs-to-end known cut over so_far.runs;
           }
 
     -- What the lines so far become
-    module _ {K : Type 0} (h : sink.Ghosts K) (sink sink' : K) where
+    module _ {K : Type 0} (h : sink.Ghosts K) (t : table.Ghosts (Stored D) Cursor) (sink sink' : K) where
       cut-is : (known : Option Known) (lines : List Line) (turns : List Turn) → SoFar d first last steps steps' known lines turns → cut_after turns false ≡ last.cut_off
       cut-is known lines turns so_far = ap (cut_after turns) (sym begun.none_cut) ∙ sym so_far.cut_off
 
       to-whole : (Left : Sizes → State → Option (List ℕ) → Type 0) (Ends : List Turn → Reply → Type 0) → Leaves Left → ((turns : List Turn) → cut_after turns false ≡ last.cut_off → Ends turns ended.answer) → (lines : List Line)
-          → WholeSoFar h d first last sink sink' steps steps' lines → Whole h d cache cost sink sink' device device' steps steps' Left Ends lines
+          → WholeSoFar h d t first last sink sink' steps steps' lines → Whole h d t cache cost sink sink' device device' steps steps' Left Ends lines
       to-whole Left Ends left ends lines so_far known is =
           let s = so_far known (begins known is) in
           let cut = cut-is known lines s.turns s.so_far in
@@ -260,11 +273,12 @@ module _ {D : Type 0} (d : device.Ghosts D) (device : D) (cache : ℕ) (cost : B
             turns = s.turns;
             answer = ended.answer;
             carried = carried-out Left left lines s.turns known s.so_far cut;
+            led = record { first = first; begun = begun; last = last; led = s.led; place = ended.place; close = ended.cause; device_is = ended.device_is };
             wrote = subst (λ c. Appended (turns_text c s.turns) (h.written sink) (h.written sink')) begun.cost_is s.wrote;
             ends = ends s.turns cut;
           }
 
-      to-front : (before : List Line) (line : Line) → FrontSoFar h d first last sink sink' steps steps' before line → Front h d cache cost sink sink' device device' steps steps' before line
+      to-front : (before : List Line) (line : Line) → FrontSoFar h d t first last sink sink' steps steps' before line → Front h d t cache cost sink sink' device device' steps steps' before line
       to-front before line so_far known is =
           let s = so_far known (begins known is) in
           let cut = cut-is known (before ++ line ∷ []) s.turns s.so_far in
@@ -272,30 +286,31 @@ module _ {D : Type 0} (d : device.Ghosts D) (device : D) (cache : ℕ) (cost : B
             turns = s.turns;
             answer = ended.answer;
             carried = carried-out IsLeft leaves (before ++ line ∷ []) s.turns known s.so_far cut;
+            led = record { first = first; begun = begun; last = last; led = s.led; place = ended.place; close = ended.cause; device_is = ended.device_is };
             wrote = subst (λ c. WroteFront c before s.turns (h.written sink) (h.written sink')) begun.cost_is s.wrote;
           }
 
-      to-any : (lines : List Line) → WholeSoFar h d first last sink sink' steps steps' lines → Whole h d cache cost sink sink' device device' steps steps' IsLeft EndsAnyhow lines
+      to-any : (lines : List Line) → WholeSoFar h d t first last sink sink' steps steps' lines → Whole h d t cache cost sink sink' device device' steps steps' IsLeft EndsAnyhow lines
       to-any = to-whole IsLeft EndsAnyhow leaves (λ turns cut. tt)
 
-      to-well : closed ≡ true → last.cut_off ≡ false → (lines : List Line) → WholeSoFar h d first last sink sink' steps steps' lines → Whole h d cache cost sink sink' device device' steps steps' IsLeftWhole EndsWell lines
+      to-well : closed ≡ true → last.cut_off ≡ false → (lines : List Line) → WholeSoFar h d t first last sink sink' steps steps' lines → Whole h d t cache cost sink sink' device device' steps steps' IsLeftWhole EndsWell lines
       to-well is_whole none = to-whole IsLeftWhole EndsWell (leaves-whole is_whole none) (λ turns cut. (plain-where d ended.answer ended.place said (sym ended.closed_is ∙ is_whole), cut ∙ none))
 
-      to-ill : (closed ≡ false) ⊎ (last.cut_off ≡ true) → (lines : List Line) → WholeSoFar h d first last sink sink' steps steps' lines → Whole h d cache cost sink sink' device device' steps steps' IsLeft EndsIll lines
+      to-ill : (closed ≡ false) ⊎ (last.cut_off ≡ true) → (lines : List Line) → WholeSoFar h d t first last sink sink' steps steps' lines → Whole h d t cache cost sink sink' device device' steps steps' IsLeft EndsIll lines
       to-ill (inl opening) = to-whole IsLeft EndsIll leaves (λ turns cut. inl (faulted-where d ended.answer ended.place said (sym ended.closed_is ∙ opening)))
       to-ill (inr cut_off) = to-whole IsLeft EndsIll leaves (λ turns cut. inr (cut ∙ cut_off))
 
       -- The status
       module _ {S : Type 0} (g : source.Ghosts S) (source source' : S) where
         abbrev pub Ends' : ℕ → Type 0
-        Ends' status = FileEnds g h d cache cost source source' sink sink' device device' steps steps' status
+        Ends' status = FileEnds g h d t cache cost source source' sink sink' device device' steps steps' status
 
-        read-end : (status : ℕ) (cut_off whole : Bool) → last.cut_off ≡ cut_off → closed ≡ whole → status ≡ end_status 0 cut_off whole → ReadToEnd g h source source' sink sink' (WholeSoFar h d first last sink sink' steps steps') → Ends' status
+        read-end : (status : ℕ) (cut_off whole : Bool) → last.cut_off ≡ cut_off → closed ≡ whole → status ≡ end_status 0 cut_off whole → ReadToEnd g h source source' sink sink' (WholeSoFar h d t first last sink sink' steps steps') → Ends' status
         read-end status true whole cut is status_is r = Status5 status_is (with-carried g h source source' sink sink' _ _ (to-ill (inr cut)) r)
         read-end status false false cut is status_is r = Status5 status_is (with-carried g h source source' sink sink' _ _ (to-ill (inl is)) r)
         read-end status false true cut is status_is r = Status0 status_is (with-carried g h source source' sink sink' _ _ (to-well is cut) r)
 
-        pub ends : (status status' : ℕ) → LinesEnd g h d first last source source' sink sink' steps steps' status → status' ≡ end_status status last.cut_off closed → Ends' status'
+        pub ends : (status status' : ℕ) → LinesEnd g h d t first last source source' sink sink' steps steps' status → status' ≡ end_status status last.cut_off closed → Ends' status'
         ends status status' (Lines0 none r) is = read-end status' last.cut_off closed refl refl (is ∙ ap (λ n. end_status n last.cut_off closed) none) r
         ends status status' (Lines3 three r) is = Status3 (is ∙ ap (λ n. end_status n last.cut_off closed) three) (record {
           reads = r.reads;
@@ -333,10 +348,10 @@ module _ {D : Type 0} (d : device.Ghosts D) (device : D) (cache : ℕ) (cost : B
         })
 
 -- a session that begins with an opening, carries out the lines of a source and is ended
-pub serves : {S K D : Type 0} (g : source.Ghosts S) (h : sink.Ghosts K) (d : device.Ghosts D) (cache : ℕ) (cost : Bool) (source source' : S) (sink sink' : K) (device device' : D) (steps steps' status status' : ℕ) (first last : Session D d)
-    → Begun d device cache cost first → d.kept (device_of first.place) ≡ d.kept device → LinesEnd g h d first last source source' sink sink' steps steps' status → EndsAfter d last status device' status'
-    → FileEnds g h d cache cost source source' sink sink' device device' steps steps' status'
-serves {D} g h d cache cost source source' sink sink' device device' steps steps' status status' first last begun kept_first lines after =
+pub serves : {S K D : Type 0} (g : source.Ghosts S) (h : sink.Ghosts K) (d : device.Ghosts D) (t : table.Ghosts (Stored D) Cursor) (cache : ℕ) (cost : Bool) (source source' : S) (sink sink' : K) (device device' : D) (steps steps' status status' : ℕ) (first last : Session D d)
+    → Begun d device cache cost first → d.kept (device_of first.place) ≡ d.kept device → LinesEnd g h d t first last source source' sink sink' steps steps' status → EndsAfter d last status device' status'
+    → FileEnds g h d t cache cost source source' sink sink' device device' steps steps' status'
+serves {D} g h d t cache cost source source' sink sink' device device' steps steps' status status' first last begun kept_first lines after =
     let opened = open-facts d cache (place.Closed device) (reply.Opened begun.store.count) (place.Open begun.store) (Ok begun.store, (begun.opened, (refl, refl))) (sym (ap (λ (p : Place D d). d.kept (device_of p)) begun.place_is) ∙ kept_first) in
     let closed = close-facts d last.place after.ended.answer after.ended.place after.ended.cause (ap d.kept (sym after.ended.device_is) ∙ after.kept) in
-    ends d device cache cost first begun opened device' after.closed last after.ended closed steps steps' after.kept after.few kept_first h sink sink' g source source' status status' lines after.status_is
+    ends d device cache cost first begun opened device' after.closed last after.ended closed steps steps' after.kept after.few kept_first h t sink sink' g source source' status status' lines after.status_is

@@ -18,6 +18,8 @@ use Rattle.cola_spec.specs.Machine as machine
 use Rattle.cola_spec.specs.Machine.{State, Turn, PlainStep, FaultedStep, kind_of, Step, Run, turns_text, ticks_of}
 use Rattle.cola_spec.specs.Bounds.{request_bound}
 use Rattle.cola_table.specs.Replies.{turn_of}
+use Rattle.cola_table.specs.declared.table.Table as table
+use Rattle.cola_cursor.specs.declared.cursor.Cursor.{Cursor}
 use Rattle.cola_table.specs.Terms.{shape_of}
 use Rattle.cola_image.specs.Standing.{HeaderStandsFor}
 use Rattle.cola_store.specs.declared.fault.OpenFault.{OpenFault}
@@ -27,7 +29,7 @@ use Rattle.cola_store.specs.Store.{Stored}
 use Rattle.cola_store.specs.Sessions.{OpensStore, IsStoreOpened}
 use Rattle.cola_command.specs.File.{Sizes, shape, sizes_in, KeepsBehind, StandsBut, IsOfSizes}
 use Rattle.cola_command.specs.RunTransfers.{FewTransfers}
-use Rattle.cola_command.specs.Turns.{FaultsOver, cut_after}
+use Rattle.cola_command.specs.Turns.{FaultsOver, cut_after, LinesLead, FrontLeads, WasLed}
 use Rattle.cola_command.specs.Memory.{input_limit}
 use Rattle.cola_command.specs.Ends.{ReadToEnd, SourceFailed, SinkFailed, Spent}
 
@@ -93,8 +95,9 @@ EndsAnyhow turns answer = ⊤
 -- What was carried out
 
 module _ {D : Type 0} (d : device.Ghosts D) (cache : ℕ) (device device' : D) (steps steps' : ℕ) where
-  -- of a file of these sizes: each turn is within the bound of its request, and the bytes stay in number, and behind the cells
-  pub record StaysWithin (sizes : Sizes) (turns : List Turn) : Type 0 where
+  -- of a file of these sizes: the turns are those of the lines in its format, each is within the bound of its request, and the bytes stay in number, and behind the cells
+  pub record StaysWithin (sizes : Sizes) (lines : List Line) (turns : List Turn) : Type 0 where
+    pub asks : asked turns ≡ flat_map (line_requests (shape sizes)) lines
     pub within : All (λ (turn : Turn). turn.ticks ≤ request_bound (sizes.bottom + 1) turn.request) turns
     pub behind : Both (d.bytes device) (d.bytes device') (KeepsBehind sizes)
 
@@ -118,7 +121,7 @@ module _ {D : Type 0} (d : device.Ghosts D) (cache : ℕ) (device device' : D) (
       pub faults : FaultsOver (turns ++ last_close answer ∷ []) (d.counts device).faults (d.counts device').faults
       pub kept : d.kept device' ≡ d.kept device
       pub settled : EndsWell turns answer → IsSettled d device'
-      pub sized : (sizes : Sizes) → IsOfSizes d sizes (place.Closed device) → StaysWithin sizes turns
+      pub sized : (sizes : Sizes) → IsOfSizes d sizes (place.Closed device) → StaysWithin sizes lines turns
       pub runs : IfSome known (λ known. RunsToEnd known lines turns answer)
 
 -- all replies were written to the lines before the last one, of which the turns are the earlier ones, and some front of those to the last
@@ -142,12 +145,13 @@ refusal_status fault.Small = 6
 refusal_status fault.NotClosed = 7
 refusal_status (fault.BadCell cell) = 10
 
-module _ {K D : Type 0} (h : sink.Ghosts K) (d : device.Ghosts D) (cache : ℕ) (cost : Bool) (sink sink' : K) (device device' : D) (steps steps' : ℕ) where
-  -- lines were carried out by turns, and the texts of their replies were written
+module _ {K D : Type 0} (h : sink.Ghosts K) (d : device.Ghosts D) (t : table.Ghosts (Stored D) Cursor) (cache : ℕ) (cost : Bool) (sink sink' : K) (device device' : D) (steps steps' : ℕ) where
+  -- lines were carried out by turns, in sessions that led from one to the next, and the texts of their replies were written
   pub record WroteAll (Left : Sizes → State → Option (List ℕ) → Type 0) (Ends : List Turn → Reply → Type 0) (known : Option Known) (lines : List Line) : Type 0 where
     pub turns : List Turn
     pub answer : Reply
     pub carried : CarriedOut d cache device device' steps steps' Left known lines turns answer
+    pub led : WasLed d device device' cache cost (λ old new. LinesLead d t h lines turns old new sink sink') answer
     pub wrote : Appended (turns_text cost turns) (h.written sink) (h.written sink')
     pub ends : Ends turns answer
 
@@ -156,6 +160,7 @@ module _ {K D : Type 0} (h : sink.Ghosts K) (d : device.Ghosts D) (cache : ℕ) 
     pub turns : List Turn
     pub answer : Reply
     pub carried : CarriedOut d cache device device' steps steps' IsLeft known (before ++ last ∷ []) turns answer
+    pub led : WasLed d device device' cache cost (λ old new. FrontLeads d t h before last turns old new sink sink') answer
     pub wrote : WroteFront cost before turns (h.written sink) (h.written sink')
 
   -- whatever is known of the file
@@ -174,17 +179,18 @@ module _ {S K D : Type 0} (g : source.Ghosts S) (h : sink.Ghosts K) (d : device.
     pub sink_stays : sink' ≡ sink
     pub steps_stay : steps' ≡ steps
 
+module _ {S K D : Type 0} (g : source.Ghosts S) (h : sink.Ghosts K) (d : device.Ghosts D) (t : table.Ghosts (Stored D) Cursor) (cache : ℕ) (cost : Bool) (source source' : S) (sink sink' : K) (device device' : D) (steps steps' : ℕ) where
   -- every line was carried out, and what is left of the file and how it ended are these
   abbrev pub CarriesAll : (Sizes → State → Option (List ℕ) → Type 0) → (List Turn → Reply → Type 0) → List Line → Type 0
-  CarriesAll = Whole h d cache cost sink sink' device device' steps steps'
+  CarriesAll = Whole h d t cache cost sink sink' device device' steps steps'
 
   -- and in the last one the sink failed
   abbrev pub CarriesFront : List Line → Line → Type 0
-  CarriesFront = Front h d cache cost sink sink' device device' steps steps'
+  CarriesFront = Front h d t cache cost sink sink' device device' steps steps'
 
   -- how a session over the file of a device ends, by its status: 1, 5, 6, 7 or 10 where the file was not opened; 0 or 5 where the end of the source was met; 3 where it failed; 4 where the sink did; and 9 where all bytes that may be taken were
   pub data FileEnds (status : ℕ) : Type 0 where
-    Unopened : (why : OpenFault) → status ≡ refusal_status why → NotOpened why → FileEnds status
+    Unopened : (why : OpenFault) → status ≡ refusal_status why → NotOpened g h d cache cost source source' sink sink' device device' steps steps' why → FileEnds status
     Status0 : status ≡ 0 → ReadToEnd g h source source' sink sink' (CarriesAll IsLeftWhole EndsWell) → FileEnds status
     Status3 : status ≡ 3 → SourceFailed g h source source' sink sink' (CarriesAll IsLeft EndsAnyhow) → FileEnds status
     Status4 : status ≡ 4 → SinkFailed g h source source' sink sink' CarriesFront → FileEnds status

@@ -71,7 +71,7 @@ module _ {S K D : Type 0} (g : source.Ghosts S) (h : sink.Ghosts K) (d : device.
 
   -- a session over the file of the first device, which alone is called
   pub record ServedFile (cache : ℕ) (cost : Bool) : Type 0 where
-    pub ends : FileEnds g h d cache cost source source' sink sink' device device' steps steps' status
+    pub ends : FileEnds g h d t cache cost source source' sink sink' device device' steps steps' status
     pub second_stays : second' ≡ second
 
   -- the stated workload was carried out on a new file of the first device, or was ended by a refusal; that device and the sink alone were called

@@ -1,8 +1,9 @@
 -- What a session over a file answers to a line, on every device and every file: the cause of each reply, what stays, and the step of the session machine that it is where the file stands for a map.
-use Rattle.std.specs.Prelude.{◌≡◌, ℕ, ◌+◌, ◌≤◌, Bool, true, false, List, [], ◌∷◌, map, All, Option, Some, None, Result, Ok, Err}
+use Rattle.std.specs.Prelude.{◌≡◌, ℕ, ◌+◌, ◌≤◌, Bool, true, false, List, [], ◌∷◌, ◌++◌, map, All, Option, Some, None, Result, Ok, Err, is_err}
 use Rattle.cola_outside.specs.Told.{Both}
 use Rattle.cola_device.specs.declared.device.Device as device
 use Rattle.cola_io.specs.declared.sink.Sink as sink
+use Rattle.cola_io.specs.declared.sink.SinkFault.{SinkFault}
 use Rattle.cola_spec.specs.Lines.{Line}
 use Rattle.cola_spec.specs.Command.{Command, line_requests}
 use Rattle.cola_spec.specs.Reply as reply
@@ -164,6 +165,37 @@ pub record SameTerms {D : Type 0} {d : device.Ghosts D} (old new : Session D d) 
   pub cost_is : new.cost ≡ old.cost
   pub format_is : new.format ≡ format_of old.place old.format
 
+-- Lines one after another
+
+module _ {D K : Type 0} (d : device.Ghosts D) (t : table.Ghosts (Stored D) Cursor) (k : sink.Ghosts K) where
+  -- a line led from one session to the next: it was asked, by the format of the store, each reply has its cause, and its text was written, or some front of it where the sink failed
+  pub record LineLeads (line : Line) (failed : Bool) (turns : List Turn) (old new : Session D d) (sink sink' : K) : Type 0 where
+    pub asks : (keys : ℕ) → map (λ (turn : Turn). turn.request) turns ≡ line_requests (shape_of (format_of old.place old.format) keys) line
+    pub result : Result (Unit {0}) SinkFault
+    pub failed_is : is_err result ≡ failed
+    pub wrote : Wrote (turns_text old.cost turns) result (k.written sink) (k.written sink')
+    pub within : All (λ (turn : Turn). turn.ticks ≤ request_bound (depth_of old.place) turn.request) turns
+    pub faults : FaultsOver turns (faults_of d old.place) (faults_of d new.place)
+    pub cause : CausedBy t d k old.cache result old.place sink turns new.place sink'
+    pub keeps : Keeps d old.place new.place
+    pub terms : SameTerms old new
+
+  -- lines led from one session to another, one after the other, and each reply was written
+  abbrev pub LinesLead : List Line → List Turn → Session D d → Session D d → K → K → Type 0
+  LinesLead [] turns old new sink sink' = (turns ≡ []) × ((new ≡ old) × (sink' ≡ sink))
+  LinesLead (line ∷ lines) turns old new sink sink' =
+      (mid : Session D d) × ((between : K) × ((now : List Turn) × ((rest : List Turn) × ((turns ≡ now ++ rest) × (LineLeads line false now old mid sink between × LinesLead lines rest mid new between sink')))))
+
+  -- lines did, and then one more, in whose reply the sink failed
+  pub record FrontLeads (before : List Line) (last : Line) (turns : List Turn) (old new : Session D d) (sink sink' : K) : Type 0 where
+    pub earlier : List Turn
+    pub late : List Turn
+    pub are : turns ≡ earlier ++ late
+    pub mid : Session D d
+    pub between : K
+    pub led : LinesLead before earlier old mid sink between
+    pub in_last : LineLeads last true late mid new between sink'
+
 -- Beginning and ending
 
 module _ {D : Type 0} (d : device.Ghosts D) (before : D) (cache : ℕ) (cost : Bool) where
@@ -191,6 +223,16 @@ abbrev pub is_closed : {D : Type 0} {d : device.Ghosts D} → Place D d → Bool
 is_closed (place.Open store) = false
 is_closed (place.Closing closing) = false
 is_closed (place.Closed now) = true
+
+-- the sessions of lines: the first is the one that the opening gave, the lines led from it to the last, and that one was closed once more, with this answer, and gave the device
+pub record WasLed {D : Type 0} (d : device.Ghosts D) (device device' : D) (cache : ℕ) (cost : Bool) (Led : Session D d → Session D d → Type 0) (answer : Reply) : Type 0 where
+  pub first : Session D d
+  pub begun : Begun d device cache cost first
+  pub last : Session D d
+  pub led : Led first last
+  pub place : Place D d
+  pub close : CloseCause d last.place answer place
+  pub device_is : device' ≡ device_of place
 
 -- a session ends: `close` is answered once more, with no reply, and the device comes back with whether the store is closed
 pub record Ended {D : Type 0} (d : device.Ghosts D) (old : Session D d) (device : D) (closed : Bool) : Type 0 where

@@ -30,14 +30,18 @@ ghost use Rattle.cola_cell.specs.declared.format.Format.{Format};
 ghost use Rattle.cola_words.specs.declared.mode.Mode.TheVariants.{Mem, Create, Run as RunMode, Gen, Upgrade};
 ghost use Rattle.cola_command.specs.declared.place.Place.TheVariants as place;
 ghost use Rattle.cola_command.specs.Ends.{Ends, Replied, RepliedFront};
-ghost use Rattle.cola_command.specs.File.{Sizes, IsOfSizes, StandsBut, shape, sizes_in};
+ghost use Rattle.cola_command.specs.File.{Sizes, IsOfSizes, depth_of, device_of, format_of, shape, sizes_in};
 ghost use Rattle.cola_command.specs.Headline.{AreAsked, CarriedOut, CarriesAll, CarriesFront, EndsAnyhow, EndsIll, EndsWell, FileEnds, IsLeft, IsLeftWhole, Known, NotOpened, WroteAll, WroteSome, asked, last_close, refusal_status};
 ghost use Rattle.cola_command.specs.Headline as file;
 ghost use Rattle.cola_command.specs.Memory.{AllAnswered, AreFirstLines, ReadFor, StepsWithin, lines_bound, replies};
 ghost use Rattle.cola_command.specs.Memory as memory;
 ghost use Rattle.cola_command.specs.RunTransfers.{AskNoRows, FewTransfers, example, example_sizes};
 ghost use Rattle.cola_command.specs.Serves.{CreateEnds, Serves, UpgradeEnds};
-ghost use Rattle.cola_command.specs.Turns.{FaultsOver, cut_after};
+ghost use Rattle.cola_command.specs.Turns.{Begun, CloseCause, FaultsOver, LineLeads, LinesLead, OpenCause, cut_after};
+ghost use Rattle.cola_command.specs.declared.file.Session.{Session};
+ghost use Rattle.cola_command.specs.declared.place.Place.{Place};
+ghost use Rattle.cola_table.specs.Terms.{shape_of};
+ghost use Rattle.cola_store.specs.Calls.{AnswersTurn};
 ghost use Rattle.cola_command.specs.Workload.{EndsOnEmpty, FaultsCaused, GenEnds};
 
 use cola_device::Device;
@@ -97,7 +101,7 @@ pub fn carried_out<D: Device>()
         FaultsOver (turns ++ turn_of Close answer 0 ∷ []) (D.counts device).faults (D.counts device').faults }
     ensures kept { (cache steps steps' : ℕ) (device device' : D) (known : Option Known) (lines : List Line) (turns : List Turn) (answer : Reply) → CarriedOut D.Device cache device device' steps steps' IsLeft known lines turns answer → D.kept device' ≡ D.kept device }
     ensures within { (cache steps steps' : ℕ) (device device' : D) (known : Option Known) (lines : List Line) (turns : List Turn) (answer : Reply) (sizes : Sizes) → CarriedOut D.Device cache device device' steps steps' IsLeft known lines turns answer →
-        IsOfSizes D.Device sizes (place.Closed device) → All (λ (turn : Turn). turn.ticks ≤ request_bound (sizes.bottom + 1) turn.request) turns }
+        IsOfSizes D.Device sizes (place.Closed device) → (asked turns ≡ flat_map (line_requests (shape sizes)) lines) × All (λ (turn : Turn). turn.ticks ≤ request_bound (sizes.bottom + 1) turn.request) turns }
     ensures behind { (cache steps steps' : ℕ) (device device' : D) (known : Option Known) (lines : List Line) (turns : List Turn) (answer : Reply) (sizes : Sizes) → CarriedOut D.Device cache device device' steps steps' IsLeft known lines turns answer →
         IsOfSizes D.Device sizes (place.Closed device) →
         Both (D.bytes device) (D.bytes device') (λ before now. (length now ≡ length before) × (drop (file_size sizes.format sizes.bottom) now ≡ drop (file_size sizes.format sizes.bottom) before)) }
@@ -134,28 +138,64 @@ pub fn refusals_have_statuses<S: Source, K: Sink, D: Device>()
 
 /// The statuses of a session over a file: by what was read, what was carried out, and which counts of faults rose.
 pub fn file_sessions_end<S: Source, K: Sink, D: Device>()
-    ensures status_0 { (cache steps steps' : ℕ) (cost : Bool) (source source' : S) (sink sink' : K) (device device' : D) → FileEnds S.Source K.Sink D.Device cache cost source source' sink sink' device device' steps steps' 0 →
+    ensures status_0 { (cache steps steps' : ℕ) (cost : Bool) (source source' : S) (sink sink' : K) (device device' : D) → FileEnds S.Source K.Sink D.Device ⟦<Store<D> as Table>⟧ cache cost source source' sink sink' device device' steps steps' 0 →
         (reads : List Read) × (ReadFor S.Source (all_lines (bytes_read reads)) source reads source' × ((met_end reads ≡ true) × ((length (bytes_read reads) < 2 ^ 40)
-        × (CarriesAll S.Source K.Sink D.Device cache cost source source' sink sink' device device' steps steps' IsLeftWhole EndsWell (all_lines (bytes_read reads)) × ((S.faults source' ≡ S.faults source) × (K.faults sink' ≡ K.faults sink)))))) }
-    ensures status_3 { (cache steps steps' : ℕ) (cost : Bool) (source source' : S) (sink sink' : K) (device device' : D) → FileEnds S.Source K.Sink D.Device cache cost source source' sink sink' device device' steps steps' 3 →
+        × (CarriesAll S.Source K.Sink D.Device ⟦<Store<D> as Table>⟧ cache cost source source' sink sink' device device' steps steps' IsLeftWhole EndsWell (all_lines (bytes_read reads)) × ((S.faults source' ≡ S.faults source) × (K.faults sink' ≡ K.faults sink)))))) }
+    ensures status_3 { (cache steps steps' : ℕ) (cost : Bool) (source source' : S) (sink sink' : K) (device device' : D) → FileEnds S.Source K.Sink D.Device ⟦<Store<D> as Table>⟧ cache cost source source' sink sink' device device' steps steps' 3 →
         (reads : List Read) × (ReadFor S.Source (all_ended_lines (bytes_read reads)) source reads source' × ((was_refused reads ≡ true) × ((length (bytes_read reads) < 2 ^ 40)
-        × (CarriesAll S.Source K.Sink D.Device cache cost source source' sink sink' device device' steps steps' IsLeft EndsAnyhow (all_ended_lines (bytes_read reads)) × ((S.faults source' ≡ after_fault (S.faults source)) × (K.faults sink' ≡ K.faults sink)))))) }
-    ensures status_4 { (cache steps steps' : ℕ) (cost : Bool) (source source' : S) (sink sink' : K) (device device' : D) → FileEnds S.Source K.Sink D.Device cache cost source source' sink sink' device device' steps steps' 4 →
+        × (CarriesAll S.Source K.Sink D.Device ⟦<Store<D> as Table>⟧ cache cost source source' sink sink' device device' steps steps' IsLeft EndsAnyhow (all_ended_lines (bytes_read reads)) × ((S.faults source' ≡ after_fault (S.faults source)) × (K.faults sink' ≡ K.faults sink)))))) }
+    ensures status_4 { (cache steps steps' : ℕ) (cost : Bool) (source source' : S) (sink sink' : K) (device device' : D) → FileEnds S.Source K.Sink D.Device ⟦<Store<D> as Table>⟧ cache cost source source' sink sink' device device' steps steps' 4 →
         (reads : List Read) × ((before : List Line) × ((last : Line) × (AreFirstLines (before ++ last ∷ []) reads × (ReadFor S.Source before source reads source' × ((was_refused reads ≡ false) × ((length (bytes_read reads) ≤ 2 ^ 40)
-        × (CarriesFront S.Source K.Sink D.Device cache cost source source' sink sink' device device' steps steps' before last × ((S.faults source' ≡ S.faults source) × (K.faults sink' ≡ after_fault (K.faults sink)))))))))) }
-    ensures status_5 { (cache steps steps' : ℕ) (cost : Bool) (source source' : S) (sink sink' : K) (device device' : D) → FileEnds S.Source K.Sink D.Device cache cost source source' sink sink' device device' steps steps' 5 →
+        × (CarriesFront S.Source K.Sink D.Device ⟦<Store<D> as Table>⟧ cache cost source source' sink sink' device device' steps steps' before last × ((S.faults source' ≡ S.faults source) × (K.faults sink' ≡ after_fault (K.faults sink)))))))))) }
+    ensures status_5 { (cache steps steps' : ℕ) (cost : Bool) (source source' : S) (sink sink' : K) (device device' : D) → FileEnds S.Source K.Sink D.Device ⟦<Store<D> as Table>⟧ cache cost source source' sink sink' device device' steps steps' 5 →
         NotOpened S.Source K.Sink D.Device cache cost source source' sink sink' device device' steps steps' fault.Device
         ⊎ ((reads : List Read) × (ReadFor S.Source (all_lines (bytes_read reads)) source reads source' × ((met_end reads ≡ true) × ((length (bytes_read reads) < 2 ^ 40)
-        × (CarriesAll S.Source K.Sink D.Device cache cost source source' sink sink' device device' steps steps' IsLeft EndsIll (all_lines (bytes_read reads)) × ((S.faults source' ≡ S.faults source) × (K.faults sink' ≡ K.faults sink))))))) }
-    ensures status_9 { (cache steps steps' : ℕ) (cost : Bool) (source source' : S) (sink sink' : K) (device device' : D) → FileEnds S.Source K.Sink D.Device cache cost source source' sink sink' device device' steps steps' 9 →
+        × (CarriesAll S.Source K.Sink D.Device ⟦<Store<D> as Table>⟧ cache cost source source' sink sink' device device' steps steps' IsLeft EndsIll (all_lines (bytes_read reads)) × ((S.faults source' ≡ S.faults source) × (K.faults sink' ≡ K.faults sink))))))) }
+    ensures status_9 { (cache steps steps' : ℕ) (cost : Bool) (source source' : S) (sink sink' : K) (device device' : D) → FileEnds S.Source K.Sink D.Device ⟦<Store<D> as Table>⟧ cache cost source source' sink sink' device device' steps steps' 9 →
         (reads : List Read) × (ReadFor S.Source (all_ended_lines (bytes_read reads)) source reads source' × ((was_refused reads ≡ false) × ((length (bytes_read reads) ≡ 2 ^ 40)
-        × (CarriesAll S.Source K.Sink D.Device cache cost source source' sink sink' device device' steps steps' IsLeft EndsAnyhow (all_ended_lines (bytes_read reads)) × ((S.faults source' ≡ S.faults source) × (K.faults sink' ≡ K.faults sink)))))) }
+        × (CarriesAll S.Source K.Sink D.Device ⟦<Store<D> as Table>⟧ cache cost source source' sink sink' device device' steps steps' IsLeft EndsAnyhow (all_ended_lines (bytes_read reads)) × ((S.faults source' ≡ S.faults source) × (K.faults sink' ≡ K.faults sink)))))) }
     ensures front { (cache steps steps' : ℕ) (cost : Bool) (source source' : S) (sink sink' : K) (device device' : D) (before : List Line) (last : Line) →
-        CarriesFront S.Source K.Sink D.Device cache cost source source' sink sink' device device' steps steps' before last → (turns : List Turn) × ((answer : Reply) × (CarriedOut D.Device cache device device' steps steps' IsLeft None (before ++ last ∷ []) turns answer × file.WroteFront cost before turns (K.written sink) (K.written sink'))) }
+        CarriesFront S.Source K.Sink D.Device ⟦<Store<D> as Table>⟧ cache cost source source' sink sink' device device' steps steps' before last → (turns : List Turn) × ((answer : Reply) × (CarriedOut D.Device cache device device' steps steps' IsLeft None (before ++ last ∷ []) turns answer × file.WroteFront cost before turns (K.written sink) (K.written sink'))) }
     ensures well { (cache steps steps' : ℕ) (cost : Bool) (source source' : S) (sink sink' : K) (device device' : D) (lines : List Line) →
-        CarriesAll S.Source K.Sink D.Device cache cost source source' sink sink' device device' steps steps' IsLeftWhole EndsWell lines → (turns : List Turn) × ((answer : Reply) × (CarriedOut D.Device cache device device' steps steps' IsLeftWhole None lines turns answer × (Appended (turns_text cost turns) (K.written sink) (K.written sink') × ((kind_of answer ≡ PlainStep) × (cut_after turns false ≡ false))))) }
+        CarriesAll S.Source K.Sink D.Device ⟦<Store<D> as Table>⟧ cache cost source source' sink sink' device device' steps steps' IsLeftWhole EndsWell lines → (turns : List Turn) × ((answer : Reply) × (CarriedOut D.Device cache device device' steps steps' IsLeftWhole None lines turns answer × (Appended (turns_text cost turns) (K.written sink) (K.written sink') × ((kind_of answer ≡ PlainStep) × (cut_after turns false ≡ false))))) }
     ensures ill { (cache steps steps' : ℕ) (cost : Bool) (source source' : S) (sink sink' : K) (device device' : D) (lines : List Line) →
-        CarriesAll S.Source K.Sink D.Device cache cost source source' sink sink' device device' steps steps' IsLeft EndsIll lines → (turns : List Turn) × ((answer : Reply) × (CarriedOut D.Device cache device device' steps steps' IsLeft None lines turns answer × (Appended (turns_text cost turns) (K.written sink) (K.written sink') × ((kind_of answer ≡ FaultedStep) ⊎ (cut_after turns false ≡ true))))) }
+        CarriesAll S.Source K.Sink D.Device ⟦<Store<D> as Table>⟧ cache cost source source' sink sink' device device' steps steps' IsLeft EndsIll lines → (turns : List Turn) × ((answer : Reply) × (CarriedOut D.Device cache device device' steps steps' IsLeft None lines turns answer × (Appended (turns_text cost turns) (K.written sink) (K.written sink') × ((kind_of answer ≡ FaultedStep) ⊎ (cut_after turns false ≡ true))))) }
+{}
+
+/// The sessions behind a status: the first is the one that the opening of the file gave, each line led to the next session,
+/// and the last one was closed once more. Where that was answered by no fault, the store is closed on the device that is given.
+pub fn sessions_are_led<S: Source, K: Sink, D: Device>()
+    ensures well { (cache steps steps' : ℕ) (cost : Bool) (source source' : S) (sink sink' : K) (device device' : D) (lines : List Line) →
+        CarriesAll S.Source K.Sink D.Device ⟦<Store<D> as Table>⟧ cache cost source source' sink sink' device device' steps steps' IsLeftWhole EndsWell lines →
+        (turns : List Turn) × ((answer : Reply) × ((first : Session D D.Device) × ((last : Session D D.Device) × (Begun D.Device device cache cost first × (LinesLead D.Device ⟦<Store<D> as Table>⟧ K.Sink lines turns first last sink sink' × CloseCause D.Device last.place answer (place.Closed device')))))) }
+    ensures anyhow { (cache steps steps' : ℕ) (cost : Bool) (source source' : S) (sink sink' : K) (device device' : D) (lines : List Line) →
+        CarriesAll S.Source K.Sink D.Device ⟦<Store<D> as Table>⟧ cache cost source source' sink sink' device device' steps steps' IsLeft EndsAnyhow lines →
+        (turns : List Turn) × ((answer : Reply) × ((first : Session D D.Device) × ((last : Session D D.Device) × ((place : Place D D.Device) × (Begun D.Device device cache cost first × (LinesLead D.Device ⟦<Store<D> as Table>⟧ K.Sink lines turns first last sink sink' × (CloseCause D.Device last.place answer place × (device' ≡ device_of place)))))))) }
+    ensures front { (cache steps steps' : ℕ) (cost : Bool) (source source' : S) (sink sink' : K) (device device' : D) (before : List Line) (line : Line) →
+        CarriesFront S.Source K.Sink D.Device ⟦<Store<D> as Table>⟧ cache cost source source' sink sink' device device' steps steps' before line →
+        (answer : Reply) × ((first : Session D D.Device) × ((mid : Session D D.Device) × ((last : Session D D.Device) × ((place : Place D D.Device) × (Begun D.Device device cache cost first × ((between : K) × ((earlier : List Turn) × ((late : List Turn)
+        × (LinesLead D.Device ⟦<Store<D> as Table>⟧ K.Sink before earlier first mid sink between × (LineLeads D.Device ⟦<Store<D> as Table>⟧ K.Sink line true late mid last between sink' × (CloseCause D.Device last.place answer place × (device' ≡ device_of place)))))))))))) }
+{}
+
+/// One line, from one session to the next: what it asks by the format of the store, the cause of each reply, and what stays.
+pub fn lines_have_causes<K: Sink, D: Device>()
+    ensures asks { (line : Line) (failed : Bool) (turns : List Turn) (old new : Session D D.Device) (sink sink' : K) (keys : ℕ) → LineLeads D.Device ⟦<Store<D> as Table>⟧ K.Sink line failed turns old new sink sink' →
+        asked turns ≡ line_requests (shape_of (format_of old.place old.format) keys) line }
+    ensures within { (line : Line) (failed : Bool) (turns : List Turn) (old new : Session D D.Device) (sink sink' : K) → LineLeads D.Device ⟦<Store<D> as Table>⟧ K.Sink line failed turns old new sink sink' →
+        All (λ (turn : Turn). turn.ticks ≤ request_bound (depth_of old.place) turn.request) turns }
+    ensures faults { (line : Line) (failed : Bool) (turns : List Turn) (old new : Session D D.Device) (sink sink' : K) → LineLeads D.Device ⟦<Store<D> as Table>⟧ K.Sink line failed turns old new sink sink' →
+        FaultsOver turns (D.counts (device_of old.place)).faults (D.counts (device_of new.place)).faults }
+    ensures bad { (line : Line) (failed : Bool) (answer : Reply) (ticks : ℕ) (old new : Session D D.Device) (sink sink' : K) → LineLeads D.Device ⟦<Store<D> as Table>⟧ K.Sink line failed (record { request = None; answer = answer; ticks = ticks } ∷ []) old new sink sink' →
+        (answer ≡ reply.Bad) × (new.place ≡ old.place) }
+    ensures answered { (line : Line) (failed : Bool) (key : List ℕ) (answer : Reply) (ticks : ℕ) (old new : Session D D.Device) (sink sink' : K) (store : Stored D) → old.place ≡ place.Open store →
+        LineLeads D.Device ⟦<Store<D> as Table>⟧ K.Sink line failed (turn_of (Get key) answer ticks ∷ []) old new sink sink' →
+        (after : Stored D) × (AnswersTurn D.bytes D.counts store (turn_of (Get key) answer ticks) after × (new.place ≡ place.Open after)) }
+    ensures closes { (line : Line) (failed : Bool) (answer : Reply) (ticks : ℕ) (old new : Session D D.Device) (sink sink' : K) → LineLeads D.Device ⟦<Store<D> as Table>⟧ K.Sink line failed (turn_of Close answer ticks ∷ []) old new sink sink' →
+        CloseCause D.Device old.place answer new.place }
+    ensures opens { (line : Line) (failed : Bool) (answer : Reply) (ticks : ℕ) (old new : Session D D.Device) (sink sink' : K) → LineLeads D.Device ⟦<Store<D> as Table>⟧ K.Sink line failed (turn_of Reopen answer ticks ∷ []) old new sink sink' →
+        OpenCause D.Device old.cache old.place answer new.place }
+    ensures terms { (line : Line) (failed : Bool) (turns : List Turn) (old new : Session D D.Device) (sink sink' : K) → LineLeads D.Device ⟦<Store<D> as Table>⟧ K.Sink line failed turns old new sink sink' →
+        (new.cache ≡ old.cache) × ((new.cost ≡ old.cost) × (new.format ≡ format_of old.place old.format)) }
 {}
 
 /// The statuses of a session in memory, likewise.
@@ -185,7 +225,7 @@ pub fn modes_are_served<S: Source, K: Sink, D: Device>()
     ensures memory { (source source' : S) (sink sink' : K) (device device' second second' : D) (steps steps' status keys : ℕ) → Serves S.Source K.Sink D.Device ⟦<Store<D> as Table>⟧ source source' sink sink' device device' second second' steps steps' status (Some (Mem keys)) →
         Ends S.Source K.Sink keys source source' sink sink' steps steps' status × ((device' ≡ device) × (second' ≡ second)) }
     ensures file { (source source' : S) (sink sink' : K) (device device' second second' : D) (steps steps' status cache : ℕ) (cost : Bool) → Serves S.Source K.Sink D.Device ⟦<Store<D> as Table>⟧ source source' sink sink' device device' second second' steps steps' status (Some (RunMode cache cost None)) →
-        FileEnds S.Source K.Sink D.Device cache cost source source' sink sink' device device' steps steps' status × (second' ≡ second) }
+        FileEnds S.Source K.Sink D.Device ⟦<Store<D> as Table>⟧ cache cost source source' sink sink' device device' steps steps' status × (second' ≡ second) }
     ensures made { (source source' : S) (sink sink' : K) (device device' second second' : D) (steps steps' status keys block_exp : ℕ) (format : Format) → Serves S.Source K.Sink D.Device ⟦<Store<D> as Table>⟧ source source' sink sink' device device' second second' steps steps' status (Some (Create keys block_exp format)) →
         CreateEnds D.Device format keys block_exp device device' status × ((D.kept device' ≡ D.kept device) × (CountsOneWrite (D.counts device) (D.counts device') × ((source' ≡ source) × ((sink' ≡ sink) × ((second' ≡ second) × (steps' ≡ steps)))))) }
     ensures workload { (source source' : S) (sink sink' : K) (device device' second second' : D) (steps steps' status keys : ℕ) → Serves S.Source K.Sink D.Device ⟦<Store<D> as Table>⟧ source source' sink sink' device device' second second' steps steps' status (Some (Gen keys)) →

@@ -8,7 +8,8 @@ use crate::reading::{INPUT_LIMIT, text_of};
 use cola_device::Device;
 use cola_io::{LineReader, Next, Sink, Source};
 use cola_outside::Steps;
-use cola_store::OpenFault;
+use cola_store::{OpenFault, Store};
+use cola_table::Table;
 use std::alloc::Global;
 use std::sync::ledger::Ledger;
 
@@ -21,7 +22,7 @@ fn serve_lines<S: Source, K: Sink, D: Device, L: Ledger>(
     sink: &mut K,
     steps: &mut Steps<L>,
 ) -> (Session<D>, u8)
-    ensures { LinesEnd S.Source K.Sink D.Device session result.0 source.old source.new sink.old sink.new steps.old steps.new result.1 }
+    ensures { LinesEnd S.Source K.Sink D.Device ⟦<Store<D> as Table>⟧ session result.0 source.old source.new sink.old sink.new steps.old steps.new result.1 }
 {
     let mut session = session;
     let mut reader = LineReader::new(INPUT_LIMIT);
@@ -90,7 +91,7 @@ pub(crate) fn serve_file<S: Source, K: Sink, D: Device, L: Ledger>(
     steps: &mut Steps<L>,
 ) -> (D, u8)
     requires { cache ≤ 4096 }
-    ensures { FileEnds S.Source K.Sink D.Device cache cost source.old source.new sink.old sink.new device result.0 steps.old steps.new result.1 }
+    ensures { FileEnds S.Source K.Sink D.Device ⟦<Store<D> as Table>⟧ cache cost source.old source.new sink.old sink.new device result.0 steps.old steps.new result.1 }
 {
     match Session::begin(alloc, device, cache, cost, steps) {
         Ok(session) => {

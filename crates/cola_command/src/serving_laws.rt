@@ -16,13 +16,15 @@ ghost use Rattle.cola_command.specs.HeadlineLaws.{NothingFails, TransferredFew, 
 
 use cola_device::Device;
 use cola_io::{Sink, Source};
+use cola_store::Store;
+use cola_table::Table;
 
 /// Completeness: over a file that stands for a map and a source that tells fewer than 2^40 bytes, with no fault of the
 /// source, the sink or the device, a session ends with status 0, and every line is answered as by the map, but that an
 /// opening may find no memory; or with status 1, where there was no memory for its store.
 pub fn file_sessions_complete<S: Source, K: Sink, D: Device>()
     ensures { (cache status steps steps' : ℕ) (cost : Bool) (m : Map) (source source' : S) (sink sink' : K) (device device' : D) →
-        FileEnds S.Source K.Sink D.Device cache cost source source' sink sink' device device' steps steps' status →
+        FileEnds S.Source K.Sink D.Device ⟦<Store<D> as Table>⟧ cache cost source source' sink sink' device device' steps steps' status →
         NothingFails S.Source K.Sink D.Device m source source' sink sink' device device' →
         Completes S.Source K.Sink D.Device cache cost m source source' sink sink' device device' steps steps' status }
 {}
@@ -34,7 +36,7 @@ pub fn file_sessions_complete<S: Source, K: Sink, D: Device>()
 /// one for each level and 4, and one more for each opening that found no memory.
 pub fn file_sessions_transfer_few<S: Source, K: Sink, D: Device>()
     ensures { (cache steps steps' : ℕ) (cost : Bool) (m : Map) (source source' : S) (sink sink' : K) (device device' : D) →
-        FileEnds S.Source K.Sink D.Device cache cost source source' sink sink' device device' steps steps' 0 →
+        FileEnds S.Source K.Sink D.Device ⟦<Store<D> as Table>⟧ cache cost source source' sink sink' device device' steps steps' 0 →
         IsSomeAnd (D.bytes device) (λ bytes. FileStandsFor bytes m) → (Rose (D.counts device).faults (D.counts device').faults → ⊥) →
         ReadToEnd S.Source K.Sink source source' sink sink' (TransferredFew K.Sink D.Device cost m sink sink' device device' cache) }
 {}

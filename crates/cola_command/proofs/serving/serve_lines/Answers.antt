@@ -14,7 +14,7 @@ lines-init g c = record {
   told = [];
   read = subst (λ r. ReadSoFar g.S.Source c.args.source.now c.args.source.now r [] []) (sym c.new-reader.ensures) (read_none g.S.Source c.args.source.now);
   sink_faults = refl;
-  carried = whole-none g.D.Device g.K.Sink c.args.session c.args.sink.now c.args.steps.now;
+  carried = whole-none (ghosts g.row.D g.D.Device g.D.Device-dict) g.D.Device g.K.Sink c.args.session c.args.sink.now c.args.steps.now;
 }
 
 pub returns-in-End : goal.returns-in-End
