@@ -1,5 +1,5 @@
 -- Where nothing failed: the turns are plain, and their reads and writes few.
-use Rattle.std.proofs.Common.{◌≡◌, ◌⊎◌, inl, inr, ℕ, ◌+◌, ◌≤◌, ◌<◌, Bool, List, [], ◌∷◌, ◌++◌, length, Option, Some, None, Err, refl, ap, ◌∙◌, subst, arith}
+use Rattle.std.proofs.Common.{◌≡◌, ◌⊎◌, inl, inr, ℕ, zero, suc, ◌+◌, ◌≤◌, ◌<◌, Bool, List, [], ◌∷◌, ◌++◌, length, Option, Some, None, Err, refl, ap, ◌∙◌, subst, arith}
 use Rattle.std.specs.Prelude.{IsSomeAnd}
 use Rattle.std.specs.List.{flat_map, slice_split}
 use Rattle.std.proofs.lemmas.List.{length-map, length-append}
@@ -14,10 +14,10 @@ use Rattle.cola_io.specs.declared.source.Source as source
 use Rattle.cola_io.specs.declared.sink.Sink as sink
 use Rattle.cola_spec.specs.Map.{Shape, Map}
 use Rattle.cola_spec.specs.Lines.{Line, Text, TooLong, line_of, raw_lines, is_line_feed, without_empty_last}
-use Rattle.cola_spec.specs.Command.{line_requests}
+use Rattle.cola_spec.specs.Command.{Command, line_requests}
 use Rattle.cola_spec.specs.Reply as reply
 use Rattle.cola_spec.specs.Reply.{Reply}
-use Rattle.cola_spec.specs.Machine.{State, Open, Turn, Kind, PlainStep, FaultedStep, ShortStep, StepOf, Run, kind_of, faulted_steps}
+use Rattle.cola_spec.specs.Machine.{State, Open, Closing, Closed, Turn, Kind, PlainStep, FaultedStep, ShortStep, StepOf, ShortOfMemory, Run, kind_of, faulted_steps}
 use Rattle.cola_image.specs.Standing.{FileStandsFor}
 use Rattle.cola_store.specs.Store.{Stored}
 use Rattle.cola_table.specs.declared.table.Table as table
@@ -32,7 +32,6 @@ use Rattle.cola_command.specs.File.{Sizes, shape, sizes_in}
 use Rattle.cola_command.specs.Headline.{FileEnds, Unopened, Status0, Status3, Status4, Status5, Status9, StandsAs, EndsWell, IsLeftWhole, NotOpened, WroteAll, Whole, asked, last_close, refusal_status}
 use Rattle.cola_command.specs.HeadlineLaws.{PlainRun, NothingFails, AnsweredPlainly, TransferredFew, Completes, Answered, OutOfMemory}
 use Rattle.cola_command.proofs.CutOff.{not-faulted, only-reopened}
-use Rattle.cola_command.proofs.MemoryServing.{taken_of}
 use Rattle.cola_command.proofs.Carrying.{faulted-append}
 use Rattle.cola_command.proofs.Ending.{with-carried}
 use Rattle.cola_command.proofs.HeadlineLaws.{by-count, faults-rise, ill-counts}
@@ -63,6 +62,13 @@ memory-only reply.Already is = cc
 memory-only reply.Shut is = cc
 memory-only reply.Bad is = cc
 
+-- and only a closed store with the state byte 0 is
+closed-whole : (state : State) (request : Option Command) (next : State) → ShortOfMemory state request next → (m : Map) × (state ≡ Closed m 0)
+closed-whole (Open m) request next step = absurd step
+closed-whole (Closing m) request next step = absurd step
+closed-whole (Closed m zero) request next step = (m, refl)
+closed-whole (Closed m (suc byte)) request next step = absurd step
+
 -- a run without faulted turns is plain
 module _ (shape : Shape) where
   plain-turn : (state next last : State) (turn : Turn) (turns : List Turn) (kind : Kind) → kind_of turn.answer ≡ kind → StepOf shape state turn next kind → (kind ≡ FaultedStep → ⊥) → PlainRun shape next turns last → PlainRun shape state (turn ∷ turns) last
@@ -70,7 +76,7 @@ module _ (shape : Shape) where
   plain-turn state next last turn turns FaultedStep is step calm rest = absurd (calm refl)
   plain-turn state next last turn turns ShortStep is step calm rest =
       let only = only-reopened state turn.request next step in
-      inr (only.0, (memory-only turn.answer is, subst (λ (s : State). PlainRun shape s turns last) only.1.0 rest))
+      inr (only.0, (memory-only turn.answer is, (closed-whole state turn.request next step, subst (λ (s : State). PlainRun shape s turns last) only.1.0 rest)))
 
   pub plain-run : (state : State) (turns : List Turn) (last : State) → Run shape state turns last → faulted_steps turns ≡ 0 → PlainRun shape state turns last
   plain-run state [] last same none = same
@@ -170,7 +176,7 @@ module _ {S K D : Type 0} (g : source.Ghosts S) (h : sink.Ghosts K) (d : device.
       let rose = faults-rise (all.turns ++ last_close all.answer ∷ []) (d.counts device).faults (d.counts device').faults all.carried.faults in
       let some = ill-counts all.turns all.answer all.ends in
       absurd (sound.device_answers (omega (arith, rose, some)))
-  completes status (Status9 is ends) sound = absurd (omega (arith, ends.all, taken_of (bytes_read ends.reads) (g.left source) (g.left source') sound.few ends.read.took))
+  completes status (Status9 is ends) sound = absurd (omega (arith, ends.all, sound.few ends.lines ends.reads ends.read))
 
   -- Reads and writes
 

@@ -1,7 +1,6 @@
 -- A session in memory that answers line by line: what it has written so far, and how it ends.
 use Rattle.std.proofs.Common.{◌≡◌, ◌⊎◌, inl, inr, ℕ, ◌+◌, ◌<◌, Bool, true, List, [], ◌∷◌, ◌++◌, length, take, Option, Some, None, IsSomeAnd, refl, sym, ap, ◌∙◌, subst, length-append, arith}
 use Rattle.cola_io.specs.Streams.{Taken, Appended}
-use Rattle.cola_io.specs.Reads.{bytes_read}
 use Rattle.cola_io.specs.declared.source.Source as source
 use Rattle.cola_io.specs.declared.sink.Sink as sink
 use Rattle.cola_io.proofs.StreamLemmas.{Appended-none, Appended-then}
@@ -78,4 +77,4 @@ completes g h keys status steps steps' source source' sink sink' (Status0 is end
 completes g h keys status steps steps' source source' sink sink' (Status1 is ends) sound = inr is
 completes g h keys status steps steps' source source' sink sink' (Status3 is ends) sound = absurd (sound.source_answers (omega (arith, ends.source_faults)))
 completes g h keys status steps steps' source source' sink sink' (Status4 is ends) sound = absurd (sound.sink_answers (omega (arith, ends.sink_faults)))
-completes g h keys status steps steps' source source' sink sink' (Status9 is ends) sound = absurd (omega (arith, ends.all, taken_of (bytes_read ends.reads) (g.left source) (g.left source') sound.few ends.read.took))
+completes g h keys status steps steps' source source' sink sink' (Status9 is ends) sound = absurd (omega (arith, ends.all, sound.few ends.lines ends.reads ends.read))

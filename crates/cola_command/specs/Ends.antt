@@ -1,5 +1,5 @@
 -- How the lines of a session end, and how a session over a table in memory ends: its status, and what it leaves.
-use Rattle.std.specs.Prelude.{ℕ, ◌≡◌, ◌≤◌, ◌<◌, true, false, List, [], ◌∷◌, ◌++◌, length, IsSomeAnd}
+use Rattle.std.specs.Prelude.{ℕ, ◌≡◌, ◌≤◌, ◌<◌, true, false, List, [], ◌∷◌, ◌++◌, length}
 use Rattle.cola_outside.specs.Faults.{Rose}
 use Rattle.cola_io.specs.Streams.{Appended}
 use Rattle.cola_io.specs.Counted.{after_fault}
@@ -89,8 +89,8 @@ module _ {S K : Type 0} (g : source.Ghosts S) (h : sink.Ghosts K) (keys : ℕ) (
     Status4 : status ≡ 4 → SinkFailed g h source source' sink sink' (RepliedFront h keys sink sink' steps steps') → Ends status
     Status9 : status ≡ 9 → Spent g h source source' sink sink' (Replied h keys sink sink' steps steps') → Ends status
 
--- the source tells fewer bytes than may be taken, and neither it nor the sink failed
+-- fewer bytes were read than may be taken, and neither the source nor the sink failed
 pub record NothingFails {S K : Type 0} (g : source.Ghosts S) (h : sink.Ghosts K) (source source' : S) (sink sink' : K) : Type 0 where
-  pub few : IsSomeAnd (g.left source) (λ bytes. length bytes < input_limit)
+  pub few : (answered : List Line) (reads : List Read) → ReadFor g answered source reads source' → length (bytes_read reads) < input_limit
   pub source_answers : Rose (g.faults source) (g.faults source') → ⊥
   pub sink_answers : Rose (h.faults sink) (h.faults sink') → ⊥

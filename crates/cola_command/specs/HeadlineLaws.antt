@@ -4,37 +4,38 @@ use Rattle.std.specs.List.{flat_map}
 use Rattle.cola_outside.specs.Faults.{Rose}
 use Rattle.cola_device.specs.declared.device.Device as device
 use Rattle.cola_io.specs.Streams.{Appended}
+use Rattle.cola_io.specs.Reads.{Read, bytes_read}
 use Rattle.cola_io.specs.declared.source.Source as source
 use Rattle.cola_io.specs.declared.sink.Sink as sink
 use Rattle.cola_spec.specs.Map.{Shape, Map}
 use Rattle.cola_spec.specs.Lines.{Line}
 use Rattle.cola_spec.specs.Command.{Close, Reopen, line_requests}
 use Rattle.cola_spec.specs.Reply.{Refused, Memory}
-use Rattle.cola_spec.specs.Machine.{State, Open, Turn, FaultedStep, kind_of, plain_reply, plain_after, turns_text}
+use Rattle.cola_spec.specs.Machine.{State, Open, Closed, Turn, FaultedStep, kind_of, plain_reply, plain_after, turns_text}
 use Rattle.cola_spec.specs.Bounds.{request_bound}
 use Rattle.cola_spec.specs.Told.{is_costed, printed_cost}
 use Rattle.cola_image.specs.Standing.{FileStandsFor}
 use Rattle.cola_store.specs.declared.fault.OpenFault.TheVariants as fault
-use Rattle.cola_command.specs.Memory.{input_limit}
+use Rattle.cola_command.specs.Memory.{input_limit, ReadFor}
 use Rattle.cola_command.specs.File.{Sizes, shape}
 use Rattle.cola_command.specs.Ends.{ReadToEnd}
 use Rattle.cola_command.specs.RunTransfers.{FewTransfers}
 use Rattle.cola_command.specs.Headline.{StandsAs, IsLeftWhole, NotOpened, asked}
 
--- the file stands for a map, the source tells fewer bytes than may be taken, and no count of faults rose
+-- the file stands for a map, fewer bytes were read than may be taken, and no count of faults rose
 pub record NothingFails {S K D : Type 0} (g : source.Ghosts S) (h : sink.Ghosts K) (d : device.Ghosts D) (m : Map) (source source' : S) (sink sink' : K) (device device' : D) : Type 0 where
   pub stands : IsSomeAnd (d.bytes device) (λ bytes. FileStandsFor bytes m)
-  pub few : IsSomeAnd (g.left source) (λ bytes. length bytes < input_limit)
+  pub few : (answered : List Line) (reads : List Read) → ReadFor g answered source reads source' → length (bytes_read reads) < input_limit
   pub source_answers : Rose (g.faults source) (g.faults source') → ⊥
   pub sink_answers : Rose (h.faults sink) (h.faults sink') → ⊥
   pub device_answers : Rose (d.counts device).faults (d.counts device').faults → ⊥
 
--- turns from a state to a last one: each is the one plain step, or an opening that found no memory, which changes nothing
+-- turns from a state to a last one: each is the one plain step, or an opening of a closed store that found no memory, which changes nothing
 abbrev pub PlainRun : Shape → State → List Turn → State → Type 0
 PlainRun shape state [] last = last ≡ state
 PlainRun shape state (turn ∷ turns) last =
     ((turn.answer ≡ plain_reply shape state turn.request) × PlainRun shape (plain_after shape state turn.request) turns last)
-    ⊎ ((turn.request ≡ Some Reopen) × ((turn.answer ≡ Refused Memory) × PlainRun shape state turns last))
+    ⊎ ((turn.request ≡ Some Reopen) × ((turn.answer ≡ Refused Memory) × (((m : Map) × (state ≡ Closed m 0)) × PlainRun shape state turns last)))
 
 module _ {K D : Type 0} (h : sink.Ghosts K) (d : device.Ghosts D) (cost : Bool) (m : Map) (sink sink' : K) (device device' : D) where
   -- the lines were answered as by the map that the file stood for, but that an opening may have found no memory; these replies were written; and the file stands for the last map

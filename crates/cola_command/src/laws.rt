@@ -1,16 +1,22 @@
 //! What follows from how a session over a table in memory, or making a file, ends, and the numbers of a session.
-ghost use Rattle.std.specs.Prelude.{◌≡◌, ◌⊎◌, ℕ, length, IsSomeAnd};
+ghost use Rattle.std.specs.Prelude.{◌≡◌, ◌⊎◌, ℕ, ◌^◌, ◌<◌, List, length, IsSomeAnd};
 ghost use Rattle.cola_cell.specs.declared.format.Format.{Format};
 ghost use Rattle.cola_outside.specs.Faults.{Rose};
-ghost use Rattle.cola_spec.specs.Lines.{line_limit};
-ghost use Rattle.cola_command.specs.Memory.{input_limit};
+ghost use Rattle.cola_io.specs.Reads.{Read, bytes_read};
+ghost use Rattle.cola_spec.specs.Lines.{Line, line_limit};
+ghost use Rattle.cola_command.specs.Memory.{input_limit, ReadFor};
 ghost use Rattle.cola_command.specs.Ends.{Ends, NothingFails};
 ghost use Rattle.cola_command.specs.Serves.{CreateEnds};
 
 use cola_device::Device;
 use cola_io::{Sink, Source};
 
-/// Completeness: over a source that tells fewer than 2^40 bytes, with no fault of the source or the
+/// A source that tells fewer than 2^40 bytes gives fewer than 2^40.
+pub fn few_bytes_are_read<S: Source>()
+    ensures { (answered : List Line) (source source' : S) (reads : List Read) → IsSomeAnd (S.left source) (λ bytes. length bytes < 2 ^ 40) → ReadFor S.Source answered source reads source' → length (bytes_read reads) < 2 ^ 40 }
+{}
+
+/// Completeness: where fewer than 2^40 bytes were read, with no fault of the source or the
 /// sink, a session ends with status 0, or with 1 where there was no memory for its table.
 pub fn memory_sessions_complete<S: Source, K: Sink>()
     ensures { (keys status steps steps' : ℕ) (source source' : S) (sink sink' : K) → Ends S.Source K.Sink keys source source' sink sink' steps steps' status → NothingFails S.Source K.Sink source source' sink sink' → (status ≡ 0) ⊎ (status ≡ 1) }

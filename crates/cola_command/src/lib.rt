@@ -20,7 +20,7 @@ pub use definition_laws::{
     reads_are_for_lines, refusals_have_statuses, sessions_are_led, transfers_of_turns,
 };
 pub use file::Session;
-pub use laws::{memory_sessions_complete, new_files_complete, session_limits};
+pub use laws::{few_bytes_are_read, memory_sessions_complete, new_files_complete, session_limits};
 pub use place::Place;
 pub use program::{Served, serve};
 pub use serving_laws::{

@@ -19,9 +19,9 @@ use cola_io::{Sink, Source};
 use cola_store::Store;
 use cola_table::Table;
 
-/// Completeness: over a file that stands for a map and a source that tells fewer than 2^40 bytes, with no fault of the
+/// Completeness: over a file that stands for a map, where fewer than 2^40 bytes were read, with no fault of the
 /// source, the sink or the device, a session ends with status 0, and every line is answered as by the map, but that an
-/// opening may find no memory; or with status 1, where there was no memory for its store.
+/// opening of a closed store may find no memory; or with status 1, where there was no memory for its store.
 pub fn file_sessions_complete<S: Source, K: Sink, D: Device>()
     ensures { (cache status steps steps' : ℕ) (cost : Bool) (m : Map) (source source' : S) (sink sink' : K) (device device' : D) →
         FileEnds S.Source K.Sink D.Device ⟦<Store<D> as Table>⟧ cache cost source source' sink sink' device device' steps steps' status →
