@@ -31,7 +31,7 @@ use Rattle.cola_command.specs.declared.place.Place.TheVariants as place
 use Rattle.cola_store.specs.Store.{Stored}
 use Rattle.cola_command.specs.File.{Sizes, shape, KeepsBehind, device_of, depth_of, format_of, faults_of, IsOfSizes}
 use Rattle.cola_command.specs.Turns.{FaultsOver, cut_after, cut_by_request, Carried, SameTerms, LineLeads, LinesLead}
-use Rattle.cola_command.specs.Headline.{Known, asked, AreAsked}
+use Rattle.cola_command.specs.Headline.{Known, IsAtSome, asked, AreAsked}
 use Rattle.cola_command.specs.Moves.{AreFew, AllMove}
 use Rattle.cola_command.proofs.CutOff.{quiet-run}
 use Rattle.cola_command.proofs.Counting.{Means}
@@ -135,10 +135,10 @@ module _ {D : Type 0} (d : device.Ghosts D) (first : Session D d) (steps : ℕ) 
   }
 
 -- the lines of a session, and one more
-module _ {D K : Type 0} (d : device.Ghosts D) (t : table.Ghosts (Stored D) Cursor) (k : sink.Ghosts K) (line : Line) (b : List Turn) (mid new : Session D d) (sink' sink'' : K) (one : LineLeads d t k line false b mid new sink' sink'') where
-  leads-then : (lines : List Line) (a : List Turn) (old : Session D d) (sink : K) → LinesLead d t k lines a old mid sink sink' → LinesLead d t k (lines ++ line ∷ []) (a ++ b) old new sink sink''
+module _ {D K : Type 0} (d : device.Ghosts D) (t : table.Ghosts (Stored D) Cursor) (k : sink.Ghosts K) (Stands : Session D d → Type 0) (line : Line) (b : List Turn) (mid new : Session D d) (sink' sink'' : K) (one : LineLeads d t k Stands line false b mid new sink' sink'') where
+  leads-then : (lines : List Line) (a : List Turn) (old : Session D d) (sink : K) → LinesLead d t k Stands lines a old mid sink sink' → LinesLead d t k Stands (lines ++ line ∷ []) (a ++ b) old new sink sink''
   leads-then [] a old sink (none, (same, same_sink)) =
-      (new, (sink'', (b, ([], (ap (λ (x : List Turn). x ++ b) none ∙ sym (append-nil b), (subst (λ (s : K). LineLeads d t k line false b old new s sink'') same_sink (subst (λ (s : Session D d). LineLeads d t k line false b s new sink' sink'') same one), (refl, (refl, refl))))))))
+      (new, (sink'', (b, ([], (ap (λ (x : List Turn). x ++ b) none ∙ sym (append-nil b), (subst (λ (s : K). LineLeads d t k Stands line false b old new s sink'') same_sink (subst (λ (s : Session D d). LineLeads d t k Stands line false b s new sink' sink'') same one), (refl, (refl, refl))))))))
   leads-then (first ∷ lines) a old sink (next, (between, (now, (rest, (whole, (led, more)))))) =
       (next, (between, (now, (rest ++ b, (ap (λ (x : List Turn). x ++ b) whole ∙ append_assoc now rest b, (led, leads-then lines rest next between more))))))
 
@@ -194,11 +194,12 @@ module _ {D K : Type 0} (t : table.Ghosts (Stored D) Cursor) (d : device.Ghosts 
   record Then (known : Option Known) (turns : List Turn) : Type 0 where
     more : List Turn
     wrote : Wrote (turns_text mid.cost more) result (k.written sink') (k.written sink'')
-    leads : (failed : Bool) → is_err result ≡ failed → LineLeads d t k line failed more mid now sink' sink''
+    leads : (failed : Bool) → is_err result ≡ failed → LineLeads d t k (IsAtSome d known) line failed more mid now sink' sink''
     so_far : SoFar d first now steps steps'' known (lines ++ line ∷ []) (turns ++ more)
 
-  line-leads : (state : State) (more : List Turn) → IsCarried state more → SameTerms mid now → (failed : Bool) → is_err result ≡ failed → LineLeads d t k line failed more mid now sink' sink''
-  line-leads state more c same failed is = record {
+  line-leads : (known : Option Known) → IsAtSome d known mid → (state : State) (more : List Turn) → IsCarried state more → SameTerms mid now → (failed : Bool) → is_err result ≡ failed → LineLeads d t k (IsAtSome d known) line failed more mid now sink' sink''
+  line-leads known stands state more c same failed is = record {
+    stands = stands;
     asks = c.asks;
     result = result;
     failed_is = is;
@@ -214,11 +215,11 @@ module _ {D K : Type 0} (t : table.Ghosts (Stored D) Cursor) (d : device.Ghosts 
   then-line carried same None turns so_far =
       let state = machine.Open empty_map in
       let one = carried state in
-      record { more = one.0; wrote = one.1.wrote; leads = line-leads state one.0 one.1 same; so_far = so-far-then turns one.0 None state so_far one.1 same tt }
+      record { more = one.0; wrote = one.1.wrote; leads = line-leads None tt state one.0 one.1 same; so_far = so-far-then turns one.0 None state so_far one.1 same tt }
   then-line carried same (Some known) turns so_far =
       let state = so_far.runs.runs.last in
       let one = carried state in
-      record { more = one.0; wrote = one.1.wrote; leads = line-leads state one.0 one.1 same; so_far = so-far-then turns one.0 (Some known) state so_far one.1 same (runs-then turns one.0 known so_far.runs so_far.cache_is one.1) }
+      record { more = one.0; wrote = one.1.wrote; leads = line-leads (Some known) (so_far.runs.runs.last, so_far.runs.runs.at) state one.0 one.1 same; so_far = so-far-then turns one.0 (Some known) state so_far one.1 same (runs-then turns one.0 known so_far.runs so_far.cache_is one.1) }
 
 text-then : (cost cost' : Bool) (turns more : List Turn) → cost' ≡ cost → turns_text cost turns ++ turns_text cost' more ≡ turns_text cost (turns ++ more)
 text-then cost cost' turns more same = ap (λ c. turns_text cost turns ++ turns_text c more) same ∙ sym (flat_map-append (turn_text cost) turns more)
@@ -245,7 +246,7 @@ module _ {D K : Type 0} (t : table.Ghosts (Stored D) Cursor) (d : device.Ghosts 
       record {
         turns = old.turns ++ one.more;
         so_far = one.so_far;
-        led = leads-then d t k line one.more mid now sink' sink'' (one.leads false (ap is_err is)) lines old.turns first sink old.led;
+        led = leads-then d t k (IsAtSome d known) line one.more mid now sink' sink'' (one.leads false (ap is_err is)) lines old.turns first sink old.led;
         wrote = subst (λ text. Appended text (k.written sink) (k.written sink'')) (text-then first.cost mid.cost old.turns one.more old.so_far.cost_is)
             (Appended-then (turns_text first.cost old.turns) (turns_text mid.cost one.more) (k.written sink) (k.written sink') (k.written sink'') old.wrote (subst (λ r. Wrote (turns_text mid.cost one.more) r (k.written sink') (k.written sink'')) is one.wrote));
       }

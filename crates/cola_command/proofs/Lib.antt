@@ -19,3 +19,4 @@ pub mod Ending
 pub mod Completing
 pub mod Working
 pub mod OnEmpty
+pub mod Looks

@@ -25,11 +25,12 @@ use Rattle.cola_image.specs.Standing.{HeaderStandsFor}
 use Rattle.cola_store.specs.declared.fault.OpenFault.{OpenFault}
 use Rattle.cola_store.specs.declared.fault.OpenFault.TheVariants as fault
 use Rattle.cola_command.specs.declared.place.Place.TheVariants as place
+use Rattle.cola_command.specs.declared.file.Session.{Session}
 use Rattle.cola_store.specs.Store.{Stored}
 use Rattle.cola_store.specs.Sessions.{OpensStore, IsStoreOpened}
 use Rattle.cola_command.specs.File.{Sizes, shape, sizes_in, KeepsBehind, StandsBut, IsOfSizes}
 use Rattle.cola_command.specs.RunTransfers.{FewTransfers}
-use Rattle.cola_command.specs.Turns.{FaultsOver, cut_after, LinesLead, FrontLeads, WasLed}
+use Rattle.cola_command.specs.Turns.{FaultsOver, SessionAt, cut_after, LinesLead, FrontLeads, WasLed}
 use Rattle.cola_command.specs.Memory.{input_limit}
 use Rattle.cola_command.specs.Ends.{ReadToEnd, SourceFailed, SinkFailed, Spent}
 
@@ -49,6 +50,10 @@ pub record Known : Type 0 where
 -- nothing is known of a file, or it is told, and what is known of it is so
 abbrev pub IsKnown : Option Known → Option (List ℕ) → Type 0
 IsKnown known told = IfSome known (λ known. IsSomeAnd told (StandsAs known.sizes known.map))
+
+-- where the file stood for a map, a session is at a state of the session machine
+abbrev pub IsAtSome : {D : Type 0} (d : device.Ghosts D) → Option Known → Session D d → Type 0
+IsAtSome d known session = IfSome known (λ known. (state : State) × SessionAt d known.sizes session state)
 
 -- what a session leaves of a file, by its last state: closed, the file stands for the map but for its state byte, which is the state's. Of one whose close met a fault nothing is said
 abbrev pub IsLeft : Sizes → State → Option (List ℕ) → Type 0
@@ -151,7 +156,7 @@ module _ {K D : Type 0} (h : sink.Ghosts K) (d : device.Ghosts D) (t : table.Gho
     pub turns : List Turn
     pub answer : Reply
     pub carried : CarriedOut d cache device device' steps steps' Left known lines turns answer
-    pub led : WasLed d device device' cache cost (λ old new. LinesLead d t h lines turns old new sink sink') answer
+    pub led : WasLed d device device' cache cost (λ old new. LinesLead d t h (IsAtSome d known) lines turns old new sink sink') answer
     pub wrote : Appended (turns_text cost turns) (h.written sink) (h.written sink')
     pub ends : Ends turns answer
 
@@ -160,7 +165,7 @@ module _ {K D : Type 0} (h : sink.Ghosts K) (d : device.Ghosts D) (t : table.Gho
     pub turns : List Turn
     pub answer : Reply
     pub carried : CarriedOut d cache device device' steps steps' IsLeft known (before ++ last ∷ []) turns answer
-    pub led : WasLed d device device' cache cost (λ old new. FrontLeads d t h before last turns old new sink sink') answer
+    pub led : WasLed d device device' cache cost (λ old new. FrontLeads d t h (IsAtSome d known) before last turns old new sink sink') answer
     pub wrote : WroteFront cost before turns (h.written sink) (h.written sink')
 
   -- whatever is known of the file

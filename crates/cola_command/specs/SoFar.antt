@@ -22,7 +22,7 @@ use Rattle.cola_command.specs.File.{Sizes, shape, KeepsBehind, device_of, format
 use Rattle.cola_command.specs.Moves.{AreFew, AllMove}
 use Rattle.cola_command.specs.Turns.{FaultsOver, cut_after, SessionAt, RunsTo, LinesLead, FrontLeads, Ended}
 use Rattle.cola_command.specs.Ends.{ReadToEnd, SourceFailed, SinkFailed, Spent}
-use Rattle.cola_command.specs.Headline.{Known, asked, AreAsked, WroteFront}
+use Rattle.cola_command.specs.Headline.{Known, IsAtSome, asked, AreAsked, WroteFront}
 
 -- what is known of the file holds of the store at the beginning
 abbrev pub BeginsAt : {D : Type 0} (d : device.Ghosts D) → Session D d → Option Known → Type 0
@@ -67,14 +67,14 @@ module _ {K D : Type 0} (h : sink.Ghosts K) (d : device.Ghosts D) (t : table.Gho
   pub record SoFarWrote (known : Option Known) (lines : List Line) : Type 0 where
     pub turns : List Turn
     pub so_far : SoFar d first now steps steps' known lines turns
-    pub led : LinesLead d t h lines turns first now sink sink'
+    pub led : LinesLead d t h (IsAtSome d known) lines turns first now sink sink'
     pub wrote : Appended (turns_text first.cost turns) (h.written sink) (h.written sink')
 
   -- or up to some front of the last
   pub record SoFarFront (known : Option Known) (before : List Line) (last : Line) : Type 0 where
     pub turns : List Turn
     pub so_far : SoFar d first now steps steps' known (before ++ last ∷ []) turns
-    pub led : FrontLeads d t h before last turns first now sink sink'
+    pub led : FrontLeads d t h (IsAtSome d known) before last turns first now sink sink'
     pub wrote : WroteFront first.cost before turns (h.written sink) (h.written sink')
 
   abbrev pub WholeSoFar : List Line → Type 0

@@ -167,9 +167,10 @@ pub record SameTerms {D : Type 0} {d : device.Ghosts D} (old new : Session D d) 
 
 -- Lines one after another
 
-module _ {D K : Type 0} (d : device.Ghosts D) (t : table.Ghosts (Stored D) Cursor) (k : sink.Ghosts K) where
-  -- a line led from one session to the next: it was asked, by the format of the store, each reply has its cause, and its text was written, or some front of it where the sink failed
+module _ {D K : Type 0} (d : device.Ghosts D) (t : table.Ghosts (Stored D) Cursor) (k : sink.Ghosts K) (Stands : Session D d → Type 0) where
+  -- a line led from one session, which stood so, to the next: it was asked, by the format of the store, each reply has its cause, and its text was written, or some front of it where the sink failed
   pub record LineLeads (line : Line) (failed : Bool) (turns : List Turn) (old new : Session D d) (sink sink' : K) : Type 0 where
+    pub stands : Stands old
     pub asks : (keys : ℕ) → map (λ (turn : Turn). turn.request) turns ≡ line_requests (shape_of (format_of old.place old.format) keys) line
     pub result : Result (Unit {0}) SinkFault
     pub failed_is : is_err result ≡ failed

@@ -13,7 +13,7 @@ ghost use Rattle.cola_io.specs.Streams.{Taken, Appended};
 ghost use Rattle.cola_layout.specs.Header.{Fields};
 ghost use Rattle.cola_image.specs.Standing.{HeaderStandsFor, with_state};
 ghost use Rattle.cola_spec.specs.Bounds.{request_bound};
-ghost use Rattle.cola_spec.specs.Command.{Close, Get, Range, Reopen, Scan, line_requests};
+ghost use Rattle.cola_spec.specs.Command.{Close, Get, Range, Reopen, Scan, Stamp, line_requests};
 ghost use Rattle.cola_spec.specs.Lines.{Line, Text};
 ghost use Rattle.cola_spec.specs.Map.{Map};
 ghost use Rattle.cola_spec.specs.Machine as machine;
@@ -31,7 +31,7 @@ ghost use Rattle.cola_words.specs.declared.mode.Mode.TheVariants.{Mem, Create, R
 ghost use Rattle.cola_command.specs.declared.place.Place.TheVariants as place;
 ghost use Rattle.cola_command.specs.Ends.{Ends, Replied, RepliedFront};
 ghost use Rattle.cola_command.specs.File.{Sizes, IsOfSizes, depth_of, device_of, format_of, shape, sizes_in};
-ghost use Rattle.cola_command.specs.Headline.{AreAsked, CarriedOut, CarriesAll, CarriesFront, EndsAnyhow, EndsIll, EndsWell, FileEnds, IsLeft, IsLeftWhole, Known, NotOpened, WroteAll, WroteSome, asked, last_close, refusal_status};
+ghost use Rattle.cola_command.specs.Headline.{AreAsked, CarriedOut, CarriesAll, CarriesFront, EndsAnyhow, EndsIll, EndsWell, FileEnds, IsAtSome, IsKnown, IsLeft, IsLeftWhole, Known, NotOpened, WroteAll, WroteSome, asked, last_close, refusal_status};
 ghost use Rattle.cola_command.specs.Headline as file;
 ghost use Rattle.cola_command.specs.Memory.{AllAnswered, AreFirstLines, ReadFor, StepsWithin, lines_bound, replies};
 ghost use Rattle.cola_command.specs.Memory as memory;
@@ -165,37 +165,47 @@ pub fn file_sessions_end<S: Source, K: Sink, D: Device>()
 /// The sessions behind a status: the first is the one that the opening of the file gave, each line led to the next session,
 /// and the last one was closed once more. Where that was answered by no fault, the store is closed on the device that is given.
 pub fn sessions_are_led<S: Source, K: Sink, D: Device>()
-    ensures well { (cache steps steps' : ℕ) (cost : Bool) (source source' : S) (sink sink' : K) (device device' : D) (lines : List Line) →
+    ensures well { (cache steps steps' : ℕ) (cost : Bool) (source source' : S) (sink sink' : K) (device device' : D) (known : Option Known) (lines : List Line) → IsKnown known (D.bytes device) →
         CarriesAll S.Source K.Sink D.Device ⟦<Store<D> as Table>⟧ cache cost source source' sink sink' device device' steps steps' IsLeftWhole EndsWell lines →
-        (turns : List Turn) × ((answer : Reply) × ((first : Session D D.Device) × ((last : Session D D.Device) × (Begun D.Device device cache cost first × (LinesLead D.Device ⟦<Store<D> as Table>⟧ K.Sink lines turns first last sink sink' × CloseCause D.Device last.place answer (place.Closed device')))))) }
-    ensures anyhow { (cache steps steps' : ℕ) (cost : Bool) (source source' : S) (sink sink' : K) (device device' : D) (lines : List Line) →
+        (turns : List Turn) × ((answer : Reply) × ((first : Session D D.Device) × ((last : Session D D.Device) × (Begun D.Device device cache cost first × (LinesLead D.Device ⟦<Store<D> as Table>⟧ K.Sink (IsAtSome D.Device known) lines turns first last sink sink' × CloseCause D.Device last.place answer (place.Closed device')))))) }
+    ensures anyhow { (cache steps steps' : ℕ) (cost : Bool) (source source' : S) (sink sink' : K) (device device' : D) (known : Option Known) (lines : List Line) → IsKnown known (D.bytes device) →
         CarriesAll S.Source K.Sink D.Device ⟦<Store<D> as Table>⟧ cache cost source source' sink sink' device device' steps steps' IsLeft EndsAnyhow lines →
-        (turns : List Turn) × ((answer : Reply) × ((first : Session D D.Device) × ((last : Session D D.Device) × ((place : Place D D.Device) × (Begun D.Device device cache cost first × (LinesLead D.Device ⟦<Store<D> as Table>⟧ K.Sink lines turns first last sink sink' × (CloseCause D.Device last.place answer place × (device' ≡ device_of place)))))))) }
-    ensures front { (cache steps steps' : ℕ) (cost : Bool) (source source' : S) (sink sink' : K) (device device' : D) (before : List Line) (line : Line) →
+        (turns : List Turn) × ((answer : Reply) × ((first : Session D D.Device) × ((last : Session D D.Device) × ((place : Place D D.Device) × (Begun D.Device device cache cost first × (LinesLead D.Device ⟦<Store<D> as Table>⟧ K.Sink (IsAtSome D.Device known) lines turns first last sink sink' × (CloseCause D.Device last.place answer place × (device' ≡ device_of place)))))))) }
+    ensures front { (cache steps steps' : ℕ) (cost : Bool) (source source' : S) (sink sink' : K) (device device' : D) (known : Option Known) (before : List Line) (line : Line) → IsKnown known (D.bytes device) →
         CarriesFront S.Source K.Sink D.Device ⟦<Store<D> as Table>⟧ cache cost source source' sink sink' device device' steps steps' before line →
         (answer : Reply) × ((first : Session D D.Device) × ((mid : Session D D.Device) × ((last : Session D D.Device) × ((place : Place D D.Device) × (Begun D.Device device cache cost first × ((between : K) × ((earlier : List Turn) × ((late : List Turn)
-        × (LinesLead D.Device ⟦<Store<D> as Table>⟧ K.Sink before earlier first mid sink between × (LineLeads D.Device ⟦<Store<D> as Table>⟧ K.Sink line true late mid last between sink' × (CloseCause D.Device last.place answer place × (device' ≡ device_of place)))))))))))) }
+        × (LinesLead D.Device ⟦<Store<D> as Table>⟧ K.Sink (IsAtSome D.Device known) before earlier first mid sink between × (LineLeads D.Device ⟦<Store<D> as Table>⟧ K.Sink (IsAtSome D.Device known) line true late mid last between sink' × (CloseCause D.Device last.place answer place × (device' ≡ device_of place)))))))))))) }
 {}
 
 /// One line, from one session to the next: what it asks by the format of the store, the cause of each reply, and what stays.
 pub fn lines_have_causes<K: Sink, D: Device>()
-    ensures asks { (line : Line) (failed : Bool) (turns : List Turn) (old new : Session D D.Device) (sink sink' : K) (keys : ℕ) → LineLeads D.Device ⟦<Store<D> as Table>⟧ K.Sink line failed turns old new sink sink' →
+    ensures asks { (line : Line) (failed : Bool) (turns : List Turn) (old new : Session D D.Device) (sink sink' : K) (keys : ℕ) → LineLeads D.Device ⟦<Store<D> as Table>⟧ K.Sink (IsAtSome D.Device None) line failed turns old new sink sink' →
         asked turns ≡ line_requests (shape_of (format_of old.place old.format) keys) line }
-    ensures within { (line : Line) (failed : Bool) (turns : List Turn) (old new : Session D D.Device) (sink sink' : K) → LineLeads D.Device ⟦<Store<D> as Table>⟧ K.Sink line failed turns old new sink sink' →
+    ensures within { (line : Line) (failed : Bool) (turns : List Turn) (old new : Session D D.Device) (sink sink' : K) → LineLeads D.Device ⟦<Store<D> as Table>⟧ K.Sink (IsAtSome D.Device None) line failed turns old new sink sink' →
         All (λ (turn : Turn). turn.ticks ≤ request_bound (depth_of old.place) turn.request) turns }
-    ensures faults { (line : Line) (failed : Bool) (turns : List Turn) (old new : Session D D.Device) (sink sink' : K) → LineLeads D.Device ⟦<Store<D> as Table>⟧ K.Sink line failed turns old new sink sink' →
+    ensures faults { (line : Line) (failed : Bool) (turns : List Turn) (old new : Session D D.Device) (sink sink' : K) → LineLeads D.Device ⟦<Store<D> as Table>⟧ K.Sink (IsAtSome D.Device None) line failed turns old new sink sink' →
         FaultsOver turns (D.counts (device_of old.place)).faults (D.counts (device_of new.place)).faults }
-    ensures bad { (line : Line) (failed : Bool) (answer : Reply) (ticks : ℕ) (old new : Session D D.Device) (sink sink' : K) → LineLeads D.Device ⟦<Store<D> as Table>⟧ K.Sink line failed (record { request = None; answer = answer; ticks = ticks } ∷ []) old new sink sink' →
+    ensures bad { (line : Line) (failed : Bool) (answer : Reply) (ticks : ℕ) (old new : Session D D.Device) (sink sink' : K) → LineLeads D.Device ⟦<Store<D> as Table>⟧ K.Sink (IsAtSome D.Device None) line failed (record { request = None; answer = answer; ticks = ticks } ∷ []) old new sink sink' →
         (answer ≡ reply.Bad) × (new.place ≡ old.place) }
     ensures answered { (line : Line) (failed : Bool) (key : List ℕ) (answer : Reply) (ticks : ℕ) (old new : Session D D.Device) (sink sink' : K) (store : Stored D) → old.place ≡ place.Open store →
-        LineLeads D.Device ⟦<Store<D> as Table>⟧ K.Sink line failed (turn_of (Get key) answer ticks ∷ []) old new sink sink' →
+        LineLeads D.Device ⟦<Store<D> as Table>⟧ K.Sink (IsAtSome D.Device None) line failed (turn_of (Get key) answer ticks ∷ []) old new sink sink' →
         (after : Stored D) × (AnswersTurn D.bytes D.counts store (turn_of (Get key) answer ticks) after × (new.place ≡ place.Open after)) }
-    ensures closes { (line : Line) (failed : Bool) (answer : Reply) (ticks : ℕ) (old new : Session D D.Device) (sink sink' : K) → LineLeads D.Device ⟦<Store<D> as Table>⟧ K.Sink line failed (turn_of Close answer ticks ∷ []) old new sink sink' →
+    ensures closes { (line : Line) (failed : Bool) (answer : Reply) (ticks : ℕ) (old new : Session D D.Device) (sink sink' : K) → LineLeads D.Device ⟦<Store<D> as Table>⟧ K.Sink (IsAtSome D.Device None) line failed (turn_of Close answer ticks ∷ []) old new sink sink' →
         CloseCause D.Device old.place answer new.place }
-    ensures opens { (line : Line) (failed : Bool) (answer : Reply) (ticks : ℕ) (old new : Session D D.Device) (sink sink' : K) → LineLeads D.Device ⟦<Store<D> as Table>⟧ K.Sink line failed (turn_of Reopen answer ticks ∷ []) old new sink sink' →
+    ensures opens { (line : Line) (failed : Bool) (answer : Reply) (ticks : ℕ) (old new : Session D D.Device) (sink sink' : K) → LineLeads D.Device ⟦<Store<D> as Table>⟧ K.Sink (IsAtSome D.Device None) line failed (turn_of Reopen answer ticks ∷ []) old new sink sink' →
         OpenCause D.Device old.cache old.place answer new.place }
-    ensures terms { (line : Line) (failed : Bool) (turns : List Turn) (old new : Session D D.Device) (sink sink' : K) → LineLeads D.Device ⟦<Store<D> as Table>⟧ K.Sink line failed turns old new sink sink' →
+    ensures terms { (line : Line) (failed : Bool) (turns : List Turn) (old new : Session D D.Device) (sink sink' : K) → LineLeads D.Device ⟦<Store<D> as Table>⟧ K.Sink (IsAtSome D.Device None) line failed turns old new sink sink' →
         (new.cache ≡ old.cache) × ((new.cost ≡ old.cost) × (new.format ≡ format_of old.place old.format)) }
+{}
+
+/// Where the file stood for a map, a get and a stamp read at most one block for each level of it.
+pub fn look_ups_read_a_block_a_level<K: Sink, D: Device>()
+    ensures get { (known : Known) (line : Line) (failed : Bool) (key : List ℕ) (answer : Reply) (ticks : ℕ) (old new : Session D D.Device) (sink sink' : K) (store : Stored D) → old.place ≡ place.Open store →
+        LineLeads D.Device ⟦<Store<D> as Table>⟧ K.Sink (IsAtSome D.Device (Some known)) line failed (turn_of (Get key) answer ticks ∷ []) old new sink sink' →
+        (D.counts (device_of new.place)).reads ≤ (D.counts (device_of old.place)).reads + (known.sizes.bottom + 1) }
+    ensures stamp { (known : Known) (line : Line) (failed : Bool) (key : List ℕ) (answer : Reply) (ticks : ℕ) (old new : Session D D.Device) (sink sink' : K) (store : Stored D) → old.place ≡ place.Open store →
+        LineLeads D.Device ⟦<Store<D> as Table>⟧ K.Sink (IsAtSome D.Device (Some known)) line failed (turn_of (Stamp key) answer ticks ∷ []) old new sink sink' →
+        (D.counts (device_of new.place)).reads ≤ (D.counts (device_of old.place)).reads + (known.sizes.bottom + 1) }
 {}
 
 /// The statuses of a session in memory, likewise.
