@@ -208,6 +208,7 @@ module _ {D K : Type 0} (t : table.Ghosts (Stored D) Cursor) (d : device.Ghosts 
     faults = c.faults;
     cause = c.cause;
     keeps = c.keeps;
+    few = few;
     terms = same;
   }
 

@@ -273,7 +273,7 @@ module _ {D : Type 0} (d : device.Ghosts D) (device : D) (cache : ℕ) (cost : B
             turns = s.turns;
             answer = ended.answer;
             carried = carried-out Left left lines s.turns known s.so_far cut;
-            led = record { first = first; begun = begun; last = last; led = s.led; place = ended.place; close = ended.cause; device_is = ended.device_is };
+            led = record { first = first; begun = begun; last = last; led = s.led; few = few; place = ended.place; close = ended.cause; device_is = ended.device_is };
             wrote = subst (λ c. Appended (turns_text c s.turns) (h.written sink) (h.written sink')) begun.cost_is s.wrote;
             ends = ends s.turns cut;
           }
@@ -286,7 +286,7 @@ module _ {D : Type 0} (d : device.Ghosts D) (device : D) (cache : ℕ) (cost : B
             turns = s.turns;
             answer = ended.answer;
             carried = carried-out IsLeft leaves (before ++ line ∷ []) s.turns known s.so_far cut;
-            led = record { first = first; begun = begun; last = last; led = s.led; place = ended.place; close = ended.cause; device_is = ended.device_is };
+            led = record { first = first; begun = begun; last = last; led = s.led; few = few; place = ended.place; close = ended.cause; device_is = ended.device_is };
             wrote = subst (λ c. WroteFront c before s.turns (h.written sink) (h.written sink')) begun.cost_is s.wrote;
           }
 

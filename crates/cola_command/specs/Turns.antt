@@ -25,7 +25,7 @@ use Rattle.cola_store.specs.Store.{Stored}
 use Rattle.cola_store.specs.Close.{IsClosed, StillOwes}
 use Rattle.cola_store.specs.Sessions.{OpensStore, IsStoreOpened, ClosesStore}
 use Rattle.cola_command.specs.File.{Sizes, shape, KeepsBehind, device_of, depth_of, format_of, faults_of, IsOfSizes, IsAt}
-use Rattle.cola_command.specs.Moves.{KeepsCache}
+use Rattle.cola_command.specs.Moves.{KeepsCache, AreFew}
 
 -- Replies
 
@@ -168,7 +168,7 @@ pub record SameTerms {D : Type 0} {d : device.Ghosts D} (old new : Session D d) 
 -- Lines one after another
 
 module _ {D K : Type 0} (d : device.Ghosts D) (t : table.Ghosts (Stored D) Cursor) (k : sink.Ghosts K) (Stands : Session D d → Type 0) where
-  -- a line led from one session, which stood so, to the next: it was asked, by the format of the store, each reply has its cause, and its text was written, or some front of it where the sink failed
+  -- a line led from one session, which stood so, to the next: it was asked, by the format of the store, each reply has its cause, an open store's reads and writes were few, and its text was written, or some front of it where the sink failed
   pub record LineLeads (line : Line) (failed : Bool) (turns : List Turn) (old new : Session D d) (sink sink' : K) : Type 0 where
     pub stands : Stands old
     pub asks : (keys : ℕ) → map (λ (turn : Turn). turn.request) turns ≡ line_requests (shape_of (format_of old.place old.format) keys) line
@@ -179,6 +179,7 @@ module _ {D K : Type 0} (d : device.Ghosts D) (t : table.Ghosts (Stored D) Curso
     pub faults : FaultsOver turns (faults_of d old.place) (faults_of d new.place)
     pub cause : CausedBy t d k old.cache result old.place sink turns new.place sink'
     pub keeps : Keeps d old.place new.place
+    pub few : AreFew d old.place
     pub terms : SameTerms old new
 
   -- lines led from one session to another, one after the other, and each reply was written
@@ -231,6 +232,7 @@ pub record WasLed {D : Type 0} (d : device.Ghosts D) (device device' : D) (cache
   pub begun : Begun d device cache cost first
   pub last : Session D d
   pub led : Led first last
+  pub few : AreFew d last.place
   pub place : Place D d
   pub close : CloseCause d last.place answer place
   pub device_is : device' ≡ device_of place

@@ -37,11 +37,12 @@ ghost use Rattle.cola_command.specs.Memory.{AllAnswered, AreFirstLines, ReadFor,
 ghost use Rattle.cola_command.specs.Memory as memory;
 ghost use Rattle.cola_command.specs.RunTransfers.{AskNoRows, FewTransfers, example, example_sizes};
 ghost use Rattle.cola_command.specs.Serves.{CreateEnds, Serves, UpgradeEnds};
-ghost use Rattle.cola_command.specs.Turns.{Begun, CloseCause, FaultsOver, LineLeads, LinesLead, OpenCause, cut_after};
+ghost use Rattle.cola_command.specs.Turns.{Begun, CloseCause, FaultsOver, LineLeads, LinesLead, OpenCause, WasLed, cut_after};
 ghost use Rattle.cola_command.specs.declared.file.Session.{Session};
 ghost use Rattle.cola_command.specs.declared.place.Place.{Place};
 ghost use Rattle.cola_table.specs.Terms.{shape_of};
 ghost use Rattle.cola_store.specs.Calls.{AnswersTurn};
+ghost use Rattle.cola_store.specs.Transfers.{ReadsOnce};
 ghost use Rattle.cola_command.specs.Workload.{EndsOnEmpty, FaultsCaused, GenEnds};
 
 use cola_device::Device;
@@ -196,6 +197,15 @@ pub fn lines_have_causes<K: Sink, D: Device>()
         OpenCause D.Device old.cache old.place answer new.place }
     ensures terms { (line : Line) (failed : Bool) (turns : List Turn) (old new : Session D D.Device) (sink sink' : K) → LineLeads D.Device ⟦<Store<D> as Table>⟧ K.Sink (IsAtSome D.Device None) line failed turns old new sink sink' →
         (new.cache ≡ old.cache) × ((new.cost ≡ old.cost) × (new.format ≡ format_of old.place old.format)) }
+{}
+
+/// On every file, whatever it stands for, an open store behind a cache for the whole file read each block at most once since
+/// its opening, and the header, where it met no fault.
+pub fn stores_read_each_block_once<K: Sink, D: Device>()
+    ensures line { (line : Line) (failed : Bool) (turns : List Turn) (old new : Session D D.Device) (sink sink' : K) (store : Stored D) → old.place ≡ place.Open store →
+        LineLeads D.Device ⟦<Store<D> as Table>⟧ K.Sink (IsAtSome D.Device None) line failed turns old new sink sink' → ReadsOnce D.counts store }
+    ensures last { (cache : ℕ) (cost : Bool) (device device' : D) (lines : List Line) (turns : List Turn) (answer : Reply) (sink sink' : K) (store : Stored D)
+        (led : WasLed D.Device device device' cache cost (λ old new. LinesLead D.Device ⟦<Store<D> as Table>⟧ K.Sink (IsAtSome D.Device None) lines turns old new sink sink') answer) → led.last.place ≡ place.Open store → ReadsOnce D.counts store }
 {}
 
 /// Where the file stood for a map, a get and a stamp read at most one block for each level of it.

@@ -17,7 +17,8 @@ mod workload;
 pub use definition_laws::{
     all_answered_is_no_line_ahead, carried_out, file_sessions_end, files_are_left,
     fronts_have_all_before_the_last, memory_sessions_end, modes_are_served, new_files_end,
-    reads_are_for_lines, refusals_have_statuses, sessions_are_led, transfers_of_turns,
+    reads_are_for_lines, refusals_have_statuses, sessions_are_led, stores_read_each_block_once,
+    transfers_of_turns,
 };
 pub use file::Session;
 pub use laws::{few_bytes_are_read, memory_sessions_complete, new_files_complete, session_limits};
