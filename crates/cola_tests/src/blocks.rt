@@ -280,7 +280,7 @@ fn write_beside<D: Device>(blocks: &mut Buffers<D>, plain: &mut Plain, block: u6
     blocks.reads() == before
 }
 
-/// Ten thousand calls, of which one in four writes.
+/// 12,500 calls, of which one in four writes.
 fn call_beside<D: Device>(
     rt: &impl Abort,
     blocks: &mut Buffers<D>,
@@ -291,7 +291,7 @@ fn call_beside<D: Device>(
     requires lasts { length blocks.old.lasts ≡ 3 }
 {
     let mut seed = 20071u64;
-    for number in 0..10_000u64 {
+    for number in 0..12_500u64 {
         seed = seed.wrapping_mul(6364136223846793005).wrapping_add(number);
         let (block, buffer) = (seed / 4294967296 % 7, (seed / 1048576 % 3) as usize);
         if seed / 268435456 % 4 == 0 {
