@@ -187,7 +187,7 @@ module _ {D : Type 0} (bytes : D → Option (List ℕ)) (counts : D → Counts) 
     ended-calls most result rows first old walk sink answer new sink' u (inr (inr (inl cut))) = row-calls first new answer (reply.Cut rows (read_failure cut.fault)) cut.answer_is refl refl (uncounted-then first old new u (gone t means old walk (Err cut.fault) new cut.after cut.goes))
     ended-calls most result rows first old walk sink answer new sink' u (inr (inr (inr broken))) = row-calls first new answer _ broken.answer_is refl refl (uncounted-then first old new u (uncounted-none old new broken.table_stays))
 
-    rows-calls : (low : List ℕ) (high : Option (List ℕ)) (most : Option ℕ) (result : Result A E) (old : Stored D) (sink : K) (answer : Reply) (new : Stored D) (sink' : K) → RowsGiven t k low high most result old sink answer new sink' → CountsFor old new answer
+    pub rows-calls : (low : List ℕ) (high : Option (List ℕ)) (most : Option ℕ) (result : Result A E) (old : Stored D) (sink : K) (answer : Reply) (new : Stored D) (sink' : K) → RowsGiven t k low high most result old sink answer new sink' → CountsFor old new answer
     rows-calls low high most result old sink answer new sink' (inl refused) = row-calls old new answer (reply.Cut [] (read_failure refused.fault)) refused.answer_is refl refl (begun t means old low high (Err refused.fault) new refused.begins)
     rows-calls low high most result old sink answer new sink' (inr r) =
         let w = r.walked in

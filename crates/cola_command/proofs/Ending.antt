@@ -28,17 +28,19 @@ use Rattle.cola_command.specs.declared.place.Place.TheVariants as place
 use Rattle.cola_command.specs.File.{Sizes, shape, KeepsBehind, StandsBut, device_of, format_of, faults_of, IsOfSizes, IsAt}
 use Rattle.cola_command.specs.Turns.{FaultsOver, cut_after, CloseCause, StepsTo, Begun, Ended, is_closed}
 use Rattle.cola_command.specs.Ends.{ReadToEnd}
-use Rattle.cola_command.specs.Headline.{StandsAs, Known, IsKnown, IsLeft, IsLeftWhole, last_close, StaysWithin, RunsToEnd, CarriedOut, WroteFront, EndsWell, EndsIll, EndsAnyhow, Whole, Front, FileEnds, Status0, Status3, Status4, Status5, Status9}
+use Rattle.cola_command.specs.Headline.{StandsAs, Known, IsKnown, IsAtSome, IsLeft, IsLeftWhole, last_close, StaysWithin, RunsToEnd, CarriedOut, WroteFront, EndsWell, EndsIll, EndsAnyhow, Whole, Front, FileEnds, Status0, Status3, Status4, Status5, Status9}
 use Rattle.cola_command.specs.SoFar.{BeginsAt, IsSettledAt, StillOf, RunsSoFar, SoFar, WholeSoFar, FrontSoFar, LinesEnd, Lines0, Lines3, Lines4, Lines9, end_status, EndsAfter}
 use Rattle.cola_command.proofs.PlaceTurns.{TurnFacts, stands-now, close-facts}
 use Rattle.cola_command.proofs.Reopening.{open-facts}
 use Rattle.cola_command.specs.Memory.{input_limit}
-use Rattle.cola_command.specs.RunTransfers.{short, FewTransfers}
+use Rattle.cola_command.specs.RunTransfers.{short, FewTransfers, FewCachedReads}
 use Rattle.cola_command.specs.Moves.{AreFew, Moves, AllMove}
 use Rattle.cola_command.proofs.CutOff.{Safe, safe-run, safe-step, not-faulted, quiet-run}
 use Rattle.cola_command.proofs.Settling.{close-settles}
 use Rattle.cola_command.proofs.Moving.{kind-stays, closes-moves}
 use Rattle.cola_command.proofs.Transferring.{few-transfers}
+use Rattle.cola_command.proofs.Counting.{Means}
+use Rattle.cola_command.proofs.Caching.{AllCaused, lines-caused, front-caused, few-cached}
 use Rattle.cola_command.proofs.Carrying.{both-then, faults-append, faulted-append}
 use Rattle.cola_command.proofs.HeadlineLaws.{by-count, faults-rise}
 
@@ -224,6 +226,24 @@ module _ {D : Type 0} (d : device.Ghosts D) (device : D) (cache : ℕ) (cost : B
         few-transfers d known.sizes cache begun.store device last.place (last_close ended.answer) device' turns (below-last (d.counts device).faults (d.counts device').faults (faults-stay all (d.counts device).faults (d.counts device').faults none over) calm) begun.opened
         final (never-short d last.place ended.answer ended.place ended.cause) many moves
 
+    abbrev Cached : List Turn → Type 0
+    Cached turns = FaultsOver (turns ++ last_close ended.answer ∷ []) (d.counts device).faults (d.counts device').faults → (sizes : Sizes) → IsOfSizes d sizes (place.Closed device) → (Rose (d.counts device).faults (d.counts device').faults → ⊥)
+        → FewCachedReads sizes cache turns (d.counts device) (d.counts device')
+
+    -- and the reads behind a cache for the file, on every file of known sizes
+    cached-at-end : {K : Type 0} (h : sink.Ghosts K) (t : table.Ghosts (Stored D) Cursor) → Means d.bytes d.counts t → (turns : List Turn) → AllCaused t d h cache turns first.place last.place → Cached turns
+    cached-at-end h t means turns caused over sizes of calm =
+        let all = turns ++ last_close ended.answer ∷ [] in
+        let none : faulted_steps all ≡ 0 = by-count (faulted_steps all) (d.counts device).faults (d.counts device').faults (faults-rise all (d.counts device).faults (d.counts device').faults over) calm in
+        let whole = faulted-append turns (last_close ended.answer ∷ []) in
+        let before : faulted_steps turns ≡ 0 = omega (arith, none, whole) in
+        let after : faulted_one (kind_of ended.answer) + 0 ≡ 0 = omega (arith, none, whole) in
+        let fine = not-faulted (kind_of ended.answer) 0 after in
+        let close = subst (λ (x : D). CloseCause d last.place ended.answer (place.Closed x)) (sym ended.device_is)
+        (subst (λ (p : Place D d). CloseCause d last.place ended.answer p) (never-faulted d ended.answer ended.place said fine) ended.cause) in
+        few-cached t d h means sizes cache device device' begun.store last.place ended.answer turns begun.opened (opens.keeps.sizes sizes of) (subst (λ (p : Place D d). AllCaused t d h cache turns p last.place) begun.place_is caused) few close before fine
+        (below-last (d.counts device).faults (d.counts device').faults (faults-stay all (d.counts device).faults (d.counts device').faults none over) calm)
+
     module _ (Left : Sizes → State → Option (List ℕ) → Type 0) (left : Leaves Left) (lines : List Line) (turns : List Turn) where
       runs-to-end : (known : Option Known) → cut_after turns false ≡ last.cut_off → FaultsOver (turns ++ last_close ended.answer ∷ []) (d.counts device).faults (d.counts device').faults → IfSome known (λ known. RunsSoFar d first last known lines turns)
           → IfSome known (λ known. RunsToEnd d cache device device' steps steps' Left known lines turns ended.answer)
@@ -242,8 +262,8 @@ module _ {D : Type 0} (d : device.Ghosts D) (device : D) (cache : ℕ) (cost : B
             both-then sizes (d.bytes device) (d.bytes (device_of last.place)) (d.bytes device') (both-then sizes (d.bytes device) (d.bytes (device_of first.place)) (d.bytes (device_of last.place)) start still.behind) end;
       }
 
-      carried-out : (known : Option Known) (so_far : SoFar d first last steps steps' known lines turns) → cut_after turns false ≡ last.cut_off → CarriedOut d cache device device' steps steps' Left known lines turns ended.answer
-      carried-out known so_far cut =
+      carried-out : (known : Option Known) (so_far : SoFar d first last steps steps' known lines turns) → cut_after turns false ≡ last.cut_off → Cached turns → CarriedOut d cache device device' steps steps' Left known lines turns ended.answer
+      carried-out known so_far cut cached =
           let over = faults-append turns (last_close ended.answer ∷ []) (d.counts device).faults (faults_of d last.place) (d.counts device').faults
           (subst (λ n. FaultsOver turns n (faults_of d last.place)) (ap (λ (p : Place D d). faults_of d p) begun.place_is ∙ begun.opened.opened.no_fault) so_far.faults)
           (faults_of d ended.place, (closes.faults, ap (λ (x : D). (d.counts x).faults) ended.device_is)) in
@@ -256,11 +276,12 @@ module _ {D : Type 0} (d : device.Ghosts D) (device : D) (cache : ℕ) (cost : B
             kept = kept ∙ so_far.kept ∙ kept_first;
             settled = λ well. settled-at-end well.0 (sym cut ∙ well.1) (so_far.settled (subst (λ (p : Place D d). IsSettledAt d p first.cut_off) (sym begun.place_is) tt));
             sized = λ sizes of. stays-within sizes of (so_far.sized sizes (first-sizes sizes of) (first-format sizes of));
+            cached = cached over;
             runs = runs-to-end known cut over so_far.runs;
           }
 
     -- What the lines so far become
-    module _ {K : Type 0} (h : sink.Ghosts K) (t : table.Ghosts (Stored D) Cursor) (sink sink' : K) where
+    module _ {K : Type 0} (h : sink.Ghosts K) (t : table.Ghosts (Stored D) Cursor) (means : Means d.bytes d.counts t) (sink sink' : K) where
       cut-is : (known : Option Known) (lines : List Line) (turns : List Turn) → SoFar d first last steps steps' known lines turns → cut_after turns false ≡ last.cut_off
       cut-is known lines turns so_far = ap (cut_after turns) (sym begun.none_cut) ∙ sym so_far.cut_off
 
@@ -272,7 +293,7 @@ module _ {D : Type 0} (d : device.Ghosts D) (device : D) (cache : ℕ) (cost : B
           record {
             turns = s.turns;
             answer = ended.answer;
-            carried = carried-out Left left lines s.turns known s.so_far cut;
+            carried = carried-out Left left lines s.turns known s.so_far cut (cached-at-end h t means s.turns (lines-caused t d h cache (IsAtSome d known) lines s.turns first last sink sink' s.led begun.cache_is).0);
             led = record { first = first; begun = begun; last = last; led = s.led; few = few; place = ended.place; close = ended.cause; device_is = ended.device_is };
             wrote = subst (λ c. Appended (turns_text c s.turns) (h.written sink) (h.written sink')) begun.cost_is s.wrote;
             ends = ends s.turns cut;
@@ -285,7 +306,7 @@ module _ {D : Type 0} (d : device.Ghosts D) (device : D) (cache : ℕ) (cost : B
           record {
             turns = s.turns;
             answer = ended.answer;
-            carried = carried-out IsLeft leaves (before ++ line ∷ []) s.turns known s.so_far cut;
+            carried = carried-out IsLeft leaves (before ++ line ∷ []) s.turns known s.so_far cut (cached-at-end h t means s.turns (front-caused t d h cache (IsAtSome d known) before line s.turns first last sink sink' s.led begun.cache_is));
             led = record { first = first; begun = begun; last = last; led = s.led; few = few; place = ended.place; close = ended.cause; device_is = ended.device_is };
             wrote = subst (λ c. WroteFront c before s.turns (h.written sink) (h.written sink')) begun.cost_is s.wrote;
           }
@@ -348,10 +369,10 @@ module _ {D : Type 0} (d : device.Ghosts D) (device : D) (cache : ℕ) (cost : B
         })
 
 -- a session that begins with an opening, carries out the lines of a source and is ended
-pub serves : {S K D : Type 0} (g : source.Ghosts S) (h : sink.Ghosts K) (d : device.Ghosts D) (t : table.Ghosts (Stored D) Cursor) (cache : ℕ) (cost : Bool) (source source' : S) (sink sink' : K) (device device' : D) (steps steps' status status' : ℕ) (first last : Session D d)
+pub serves : {S K D : Type 0} (g : source.Ghosts S) (h : sink.Ghosts K) (d : device.Ghosts D) (t : table.Ghosts (Stored D) Cursor) (means : Means d.bytes d.counts t) (cache : ℕ) (cost : Bool) (source source' : S) (sink sink' : K) (device device' : D) (steps steps' status status' : ℕ) (first last : Session D d)
     → Begun d device cache cost first → d.kept (device_of first.place) ≡ d.kept device → LinesEnd g h d t first last source source' sink sink' steps steps' status → EndsAfter d last status device' status'
     → FileEnds g h d t cache cost source source' sink sink' device device' steps steps' status'
-serves {D} g h d t cache cost source source' sink sink' device device' steps steps' status status' first last begun kept_first lines after =
+serves {D} g h d t means cache cost source source' sink sink' device device' steps steps' status status' first last begun kept_first lines after =
     let opened = open-facts d cache (place.Closed device) (reply.Opened begun.store.count) (place.Open begun.store) (Ok begun.store, (begun.opened, (refl, refl))) (sym (ap (λ (p : Place D d). d.kept (device_of p)) begun.place_is) ∙ kept_first) in
     let closed = close-facts d last.place after.ended.answer after.ended.place after.ended.cause (ap d.kept (sym after.ended.device_is) ∙ after.kept) in
-    ends d device cache cost first begun opened device' after.closed last after.ended closed steps steps' after.kept after.few kept_first h t sink sink' g source source' status status' lines after.status_is
+    ends d device cache cost first begun opened device' after.closed last after.ended closed steps steps' after.kept after.few kept_first h t means sink sink' g source source' status status' lines after.status_is

@@ -13,6 +13,7 @@ pub mod Settling
 pub mod Counting
 pub mod Moving
 pub mod Transferring
+pub mod Caching
 pub mod Carrying
 pub mod HeadlineLaws
 pub mod Ending

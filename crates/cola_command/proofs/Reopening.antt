@@ -156,7 +156,7 @@ module _ {D : Type 0} (d : device.Ghosts D) (cache : ℕ) (before : D) where
       pair-so None P Q p q = tt
       pair-so (Some bytes) P Q p q = (p, q)
 
-  ready-sizes : (sizes : Sizes) (header : Header) (bytes : List ℕ) → HasSizes sizes bytes → WasClosed header bytes → sizes_of header.geometry ≡ sizes
+  pub ready-sizes : (sizes : Sizes) (header : Header) (bytes : List ℕ) → HasSizes sizes bytes → WasClosed header bytes → sizes_of header.geometry ≡ sizes
   ready-sizes sizes header bytes has was =
       let l = size-large (sizes_of header.geometry) in
       sizes-one (fields_of header) has.header has.state bytes (omega (arith, l, was.has.whole)) was.has.spelled has.has.spelled ∙ has.sizes_are

@@ -309,7 +309,7 @@ write-sum now before opened p p' b b' bottom few e e' close = omega (arith, few,
 read-sum : (now before opened p p' b b' l l' t t' : ℕ) → before ≤ opened + (p + 4 * b + t + (l + 3)) → p ≡ p' → b ≡ b' → l ≡ l' → t ≡ t' → now ≤ before + 0 → now ≤ opened + (p' + 4 * b' + t' + l' + 4)
 read-sum now before opened p p' b b' l l' t t' few e e' e'' e''' close = omega (arith, few, e, e', e'', e''', close)
 
-cached-sum : (now before opened b b' bottom : ℕ) → before ≤ opened + (b + 1) → b ≡ b' → now ≤ before + 0 → now ≤ opened + (b' + (bottom + 1) + 4)
+pub cached-sum : (now before opened b b' bottom : ℕ) → before ≤ opened + (b + 1) → b ≡ b' → now ≤ before + 0 → now ≤ opened + (b' + (bottom + 1) + 4)
 cached-sum now before opened b b' bottom few e close = omega (arith, few, e, close)
 
 module _ {D : Type 0} (d : device.Ghosts D) (sizes : Sizes) (cache faults : ℕ) where

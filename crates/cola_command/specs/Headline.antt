@@ -29,7 +29,7 @@ use Rattle.cola_command.specs.declared.file.Session.{Session}
 use Rattle.cola_store.specs.Store.{Stored}
 use Rattle.cola_store.specs.Sessions.{OpensStore, IsStoreOpened}
 use Rattle.cola_command.specs.File.{Sizes, shape, sizes_in, KeepsBehind, StandsBut, IsOfSizes}
-use Rattle.cola_command.specs.RunTransfers.{FewTransfers}
+use Rattle.cola_command.specs.RunTransfers.{FewTransfers, FewCachedReads}
 use Rattle.cola_command.specs.Turns.{FaultsOver, SessionAt, cut_after, LinesLead, FrontLeads, WasLed}
 use Rattle.cola_command.specs.Memory.{input_limit}
 use Rattle.cola_command.specs.Ends.{ReadToEnd, SourceFailed, SinkFailed, Spent}
@@ -117,7 +117,7 @@ module _ {D : Type 0} (d : device.Ghosts D) (cache : ℕ) (device device' : D) (
       pub left : Left known.sizes end (d.bytes device')
       pub few : (Rose (d.counts device).faults (d.counts device').faults → ⊥) → length turns ≤ input_limit → FewTransfers known.sizes cache turns (d.counts device) (d.counts device')
 
-    -- the file was opened, lines were carried out by turns, and the session was closed with this answer: the cell accesses are those of the turns; the device's count of faults rises in each faulted one and in no other, the close at the end among them; what the device keeps stays; and where the session ends well, the device settled with the bytes that it has
+    -- the file was opened, lines were carried out by turns, and the session was closed with this answer: the cell accesses are those of the turns; the device's count of faults rises in each faulted one and in no other, the close at the end among them; what the device keeps stays; where the session ends well, the device settled with the bytes that it has; and of a file of known sizes, where no fault was counted and the cache has room for it, the reads are few
     pub record CarriedOut (known : Option Known) (lines : List Line) (turns : List Turn) (answer : Reply) : Type 0 where
       pub store : Stored D
       pub opened : IsStoreOpened d device cache store
@@ -127,6 +127,7 @@ module _ {D : Type 0} (d : device.Ghosts D) (cache : ℕ) (device device' : D) (
       pub kept : d.kept device' ≡ d.kept device
       pub settled : EndsWell turns answer → IsSettled d device'
       pub sized : (sizes : Sizes) → IsOfSizes d sizes (place.Closed device) → StaysWithin sizes lines turns
+      pub cached : (sizes : Sizes) → IsOfSizes d sizes (place.Closed device) → (Rose (d.counts device).faults (d.counts device').faults → ⊥) → FewCachedReads sizes cache turns (d.counts device) (d.counts device')
       pub runs : IfSome known (λ known. RunsToEnd known lines turns answer)
 
 -- all replies were written to the lines before the last one, of which the turns are the earlier ones, and some front of those to the last

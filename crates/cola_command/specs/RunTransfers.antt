@@ -6,7 +6,7 @@ use Rattle.cola_spec.specs.Map as map
 use Rattle.cola_spec.specs.Command.{Command, Put, Del, Get, Range, Scan, Close, Reopen}
 use Rattle.cola_spec.specs.Reply as reply
 use Rattle.cola_spec.specs.Reply.{Reply}
-use Rattle.cola_spec.specs.Machine.{Turn}
+use Rattle.cola_spec.specs.Machine.{Turn, by_command}
 use Rattle.cola_table.specs.Replies.{turn_of}
 use Rattle.cola_transfers.specs.Credit.{parts}
 use Rattle.cola_command.specs.File.{Sizes}
@@ -50,6 +50,21 @@ searches (turn ∷ turns) = searched turn.answer + searches turns
 abbrev pub shorts : List Turn → ℕ
 shorts [] = 0
 shorts (turn ∷ turns) = short turn.answer + shorts turns
+
+-- the most reads of an opening that gave no store, in a file of so many levels that met no fault: one where there was no memory; where a cell was damaged, one for each level and 3; and no other comes
+abbrev pub refusal_reads : ℕ → Reply → ℕ
+refusal_reads depth (reply.Refused reply.Memory) = 1
+refusal_reads depth (reply.Failed (reply.Damaged cell)) = depth + 3
+refusal_reads depth _ = 0
+
+-- those of a request: only `open` opens
+abbrev pub request_reads : ℕ → Option Command → Reply → ℕ
+request_reads depth None answer = 0
+request_reads depth (Some command) answer = by_command command 0 (refusal_reads depth answer) 0
+
+abbrev pub refused_reads : ℕ → List Turn → ℕ
+refused_reads depth [] = 0
+refused_reads depth (turn ∷ turns) = request_reads depth turn.request turn.answer + refused_reads depth turns
 
 -- no range and no scan is asked
 abbrev pub AsksNoRows : Option Command → Type 0
@@ -106,6 +121,10 @@ module _ (sizes : Sizes) where
     pub writes : now.writes ≤ before.writes + sum_by (λ (store : List Turn). most_writes (mutations store)) (by_store turns)
     pub reads : AskNoRows turns → now.reads ≤ before.reads + sum_by (λ (store : List Turn). most_reads (mutations store) (searches store)) (by_store turns) + shorts turns
     pub reads_cached : file_blocks ≤ cache → now.reads ≤ before.reads + (sum_by (λ (store : List Turn). cached_reads) (by_store turns) + shorts turns)
+
+  -- the reads of turns on any file of these sizes, where the cache has room for it, are at most those of the stores, and of the openings that gave none
+  abbrev pub FewCachedReads : ℕ → List Turn → Counts → Counts → Type 0
+  FewCachedReads cache turns before now = file_blocks ≤ cache → now.reads ≤ before.reads + (sum_by (λ (store : List Turn). cached_reads) (by_store turns) + refused_reads levels turns)
 
 -- An example
 

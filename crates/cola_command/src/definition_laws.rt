@@ -35,7 +35,7 @@ ghost use Rattle.cola_command.specs.Headline.{AreAsked, CarriedOut, CarriesAll, 
 ghost use Rattle.cola_command.specs.Headline as file;
 ghost use Rattle.cola_command.specs.Memory.{AllAnswered, AreFirstLines, ReadFor, StepsWithin, lines_bound, replies};
 ghost use Rattle.cola_command.specs.Memory as memory;
-ghost use Rattle.cola_command.specs.RunTransfers.{AskNoRows, FewTransfers, example, example_sizes};
+ghost use Rattle.cola_command.specs.RunTransfers.{AskNoRows, FewCachedReads, FewTransfers, example, example_sizes};
 ghost use Rattle.cola_command.specs.Serves.{CreateEnds, Serves, UpgradeEnds};
 ghost use Rattle.cola_command.specs.Turns.{Begun, CloseCause, FaultsOver, LineLeads, LinesLead, OpenCause, WasLed, cut_after};
 ghost use Rattle.cola_command.specs.declared.file.Session.{Session};
@@ -77,7 +77,8 @@ pub fn fronts_have_all_before_the_last()
 
 /// The reads and writes of the worked turns, of two stores in a file of 256 cells in blocks of 8, with 8 levels: 272 writes
 /// for each store; 14 reads for the mutation of each, four times the blocks, 8 for each search, and 12 more; behind a cache for
-/// the file, 268 for each; and one read more for an opening that found no memory.
+/// the file, 268 for each; and one read more for an opening that found no memory. Behind that cache the reads of any file of
+/// these sizes are those, and 11 more for an opening that met a damaged cell; a get that met one adds none.
 pub fn transfers_of_turns()
     ensures writes { (cache : ℕ) (before now : Counts) → FewTransfers example_sizes cache example before now → now.writes ≤ before.writes + 544 }
     ensures reads { (cache : ℕ) (before now : Counts) → FewTransfers example_sizes cache example before now → now.reads ≤ before.reads + 2132 }
@@ -85,6 +86,10 @@ pub fn transfers_of_turns()
     ensures short_writes { (cache : ℕ) (before now : Counts) → FewTransfers example_sizes cache (turn_of Reopen (reply.Refused reply.Memory) 0 ∷ []) before now → now.writes ≤ before.writes + 268 }
     ensures short_reads { (cache : ℕ) (before now : Counts) → FewTransfers example_sizes cache (turn_of Reopen (reply.Refused reply.Memory) 0 ∷ []) before now → now.reads ≤ before.reads + 1037 }
     ensures short_cached { (before now : Counts) → FewTransfers example_sizes 256 (turn_of Reopen (reply.Refused reply.Memory) 0 ∷ []) before now → now.reads ≤ before.reads + 269 }
+    ensures sized { (before now : Counts) → FewCachedReads example_sizes 256 example before now → now.reads ≤ before.reads + 536 }
+    ensures sized_short { (before now : Counts) → FewCachedReads example_sizes 256 (turn_of Reopen (reply.Refused reply.Memory) 0 ∷ []) before now → now.reads ≤ before.reads + 269 }
+    ensures sized_damaged { (before now : Counts) → FewCachedReads example_sizes 256 (turn_of Reopen (reply.Failed (reply.Damaged 3)) 0 ∷ []) before now → now.reads ≤ before.reads + 279 }
+    ensures sized_get { (before now : Counts) → FewCachedReads example_sizes 256 (turn_of (Get []) (reply.Failed (reply.Damaged 3)) 0 ∷ []) before now → now.reads ≤ before.reads + 268 }
     ensures range_asks_rows { AskNoRows (turn_of (Range [] []) (reply.Rows []) 0 ∷ []) → ⊥ }
     ensures scan_asks_rows { AskNoRows (turn_of (Scan [] 1) (reply.Rows []) 0 ∷ []) → ⊥ }
     ensures get_asks_none { AskNoRows (turn_of (Get []) (reply.Got None) 0 ∷ []) }
@@ -106,6 +111,8 @@ pub fn carried_out<D: Device>()
     ensures behind { (cache steps steps' : ℕ) (device device' : D) (known : Option Known) (lines : List Line) (turns : List Turn) (answer : Reply) (sizes : Sizes) → CarriedOut D.Device cache device device' steps steps' IsLeft known lines turns answer →
         IsOfSizes D.Device sizes (place.Closed device) →
         Both (D.bytes device) (D.bytes device') (λ before now. (length now ≡ length before) × (drop (file_size sizes.format sizes.bottom) now ≡ drop (file_size sizes.format sizes.bottom) before)) }
+    ensures cached { (cache steps steps' : ℕ) (device device' : D) (known : Option Known) (lines : List Line) (turns : List Turn) (answer : Reply) (sizes : Sizes) → CarriedOut D.Device cache device device' steps steps' IsLeft known lines turns answer →
+        IsOfSizes D.Device sizes (place.Closed device) → (Rose (D.counts device).faults (D.counts device').faults → ⊥) → FewCachedReads sizes cache turns (D.counts device) (D.counts device') }
     ensures runs { (cache steps steps' : ℕ) (device device' : D) (known : Known) (lines : List Line) (turns : List Turn) (answer : Reply) → CarriedOut D.Device cache device device' steps steps' IsLeft (Some known) lines turns answer →
         (asked turns ≡ flat_map (line_requests (shape known.sizes)) lines)
         × ((last : State) × (Run (shape known.sizes) (machine.Open known.map) turns last × ((end : State) × (Step (shape known.sizes) last (turn_of Close answer 0) end × IsLeft known.sizes end (D.bytes device'))))) }

@@ -8,7 +8,7 @@ use Rattle.cola_command.proofs.serving.serve_file.Goals as goal
 pub returns-in-Ok : goal.returns-in-Ok
 returns-in-Ok g c =
     let after = c.serve_lines-session in
-    serves g.S.Source g.K.Sink g.D.Device (ghosts g.row.D g.D.Device g.D.Device-dict) c.args.cache c.args.cost c.args.source.now after.new.source c.args.sink.now after.new.sink c.args.device c.end_session.result.0 c.args.steps.now after.new.steps after.result.1 c.end_session.result.1
+    serves g.S.Source g.K.Sink g.D.Device (ghosts g.row.D g.D.Device g.D.Device-dict) (record { answers = λ old turn new a. a; begins = λ old low high result new b. b; goes = λ old walk result new after g. g }) c.args.cache c.args.cost c.args.source.now after.new.source c.args.sink.now after.new.sink c.args.device c.end_session.result.0 c.args.steps.now after.new.steps after.result.1 c.end_session.result.1
     c.in-Ok.session after.result.0 c.in-Ok.ensures.begins c.in-Ok.ensures.kept
     (subst (λ n. LinesEnd g.S.Source g.K.Sink g.D.Device (ghosts g.row.D g.D.Device g.D.Device-dict) c.in-Ok.session after.result.0 c.args.source.now after.new.source c.args.sink.now after.new.sink n after.new.steps after.result.1) c.begin.ensures.no_tick after.ensures)
     c.end_session.ensures
