@@ -2,7 +2,8 @@
 use Rattle.std.proofs.Common.{◌≡◌, true, false, [], ◌∷◌, Some, None, refl, codes}
 use Rattle.cola_cell.specs.declared.format.Format.TheVariants.{One, Two}
 use Rattle.cola_words.specs.declared.mode.Mode.TheVariants.{Mem, Create, Run, Gen, Upgrade, Check, Load, Grow, Rebuild}
-use Rattle.cola_words.specs.Modes.{mode_of}
+use Rattle.cola_words.specs.declared.mode.Opening.TheVariants.{Existing, Made}
+use Rattle.cola_words.specs.Modes.{mode_of, files_of}
 
 mem_least : mode_of (codes "mem" ∷ codes "1" ∷ []) ≡ Some (Mem 1)
 mem_least = refl
@@ -195,3 +196,36 @@ abbreviated = refl
 
 no_mode : mode_of (codes "serve" ∷ codes "F" ∷ []) ≡ None
 no_mode = refl
+
+mem_files : files_of (codes "mem" ∷ codes "4" ∷ []) ≡ (None, None)
+mem_files = refl
+
+create_files : files_of (codes "create" ∷ codes "F" ∷ codes "--keys" ∷ codes "32" ∷ []) ≡ (Some (Made 1), None)
+create_files = refl
+
+run_files : files_of (codes "run" ∷ codes "F" ∷ []) ≡ (Some (Existing 1), None)
+run_files = refl
+
+mirror_files : files_of (codes "run" ∷ codes "F" ∷ codes "--cost" ∷ codes "--mirror" ∷ codes "G" ∷ []) ≡ (Some (Existing 1), Some (Existing 4))
+mirror_files = refl
+
+gen_files : files_of (codes "gen" ∷ codes "F" ∷ codes "--keys" ∷ codes "8" ∷ []) ≡ (Some (Made 1), None)
+gen_files = refl
+
+upgrade_files : files_of (codes "upgrade" ∷ codes "F" ∷ codes "G" ∷ []) ≡ (Some (Existing 1), Some (Made 2))
+upgrade_files = refl
+
+check_files : files_of (codes "check" ∷ codes "F" ∷ []) ≡ (Some (Existing 1), None)
+check_files = refl
+
+load_files : files_of (codes "load" ∷ codes "F" ∷ codes "--keys" ∷ codes "512" ∷ []) ≡ (Some (Made 1), None)
+load_files = refl
+
+grow_files : files_of (codes "grow" ∷ codes "F" ∷ codes "G" ∷ codes "--keys" ∷ codes "512" ∷ []) ≡ (Some (Existing 1), Some (Made 2))
+grow_files = refl
+
+rebuild_files : files_of (codes "rebuild" ∷ codes "F" ∷ codes "G" ∷ []) ≡ (Some (Existing 1), Some (Made 2))
+rebuild_files = refl
+
+no_files : files_of (codes "create" ∷ codes "F" ∷ []) ≡ (None, None)
+no_files = refl

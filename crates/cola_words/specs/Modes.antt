@@ -5,6 +5,8 @@ use Rattle.cola_words.specs.declared.options.Options.{Options}
 use Rattle.cola_words.specs.declared.options.NewFile.{NewFile}
 use Rattle.cola_words.specs.declared.mode.Mode.{Mode}
 use Rattle.cola_words.specs.declared.mode.Mode.TheVariants.{Mem, Create, Run, Gen, Upgrade, Check, Load, Grow, Rebuild}
+use Rattle.cola_words.specs.declared.mode.Opening.{Opening}
+use Rattle.cola_words.specs.declared.mode.Opening.TheVariants.{Existing, Made}
 use Rattle.cola_words.specs.Options.{is_path, number_in, options_in}
 use Rattle.cola_words.specs.Sizes.{SuitStore, new_file_of}
 
@@ -113,3 +115,31 @@ HasSizes (Run cache cost mirror) = cache ≤ 4096
 HasSizes Upgrade = ⊤
 HasSizes Check = ⊤
 HasSizes Rebuild = ⊤
+
+-- how a mode opens its first file, which the second word names: one that is there, or one that is made where it is not
+abbrev pub first_opening : Mode → Option Opening
+first_opening (Mem keys) = None
+first_opening (Create keys block_exp format) = Some (Made 1)
+first_opening (Run cache cost mirror) = Some (Existing 1)
+first_opening (Gen keys) = Some (Made 1)
+first_opening Upgrade = Some (Existing 1)
+first_opening Check = Some (Existing 1)
+first_opening (Load keys block_exp format) = Some (Made 1)
+first_opening (Grow keys block_exp) = Some (Existing 1)
+first_opening Rebuild = Some (Existing 1)
+
+-- and its second one: the mirror's other, or the file that is written, which the third word names
+abbrev pub second_opening : Mode → Option Opening
+second_opening (Mem keys) = None
+second_opening (Create keys block_exp format) = None
+second_opening (Run cache cost mirror) = option_map Existing mirror
+second_opening (Gen keys) = None
+second_opening Upgrade = Some (Made 2)
+second_opening Check = None
+second_opening (Load keys block_exp format) = None
+second_opening (Grow keys block_exp) = Some (Made 2)
+second_opening Rebuild = Some (Made 2)
+
+-- the files of all words: none where they name no mode
+abbrev pub files_of : List (List ℕ) → Option Opening × Option Opening
+files_of words = (option_and_then first_opening (mode_of words), option_and_then second_opening (mode_of words))

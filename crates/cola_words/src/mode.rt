@@ -46,3 +46,12 @@ pub enum Mode {
     /// `rebuild FILE TO`: a lost side of a mirror, made equal again.
     Rebuild,
 }
+
+/// How a mode opens a file that its words name, with the place of the name among the words.
+#[derive(Clone, Copy, Debug, PartialEq, Eq, Drop)]
+pub enum Opening {
+    /// The file has to be there.
+    Existing(u8),
+    /// The file is made where it is not there.
+    Made(u8),
+}
