@@ -21,3 +21,4 @@ pub mod Completing
 pub mod Working
 pub mod OnEmpty
 pub mod Looks
+pub mod Known

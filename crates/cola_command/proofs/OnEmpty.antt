@@ -38,7 +38,8 @@ use Rattle.cola_store.specs.Create.{Created, Made, IsNewFile, Suits, file_size, 
 use Rattle.cola_store.specs.Open.{Opens, IsNoStore, IsInUse, IsSmall, HasBadCell, IsReady}
 use Rattle.cola_store.specs.Sessions.{IsStoreOpened, IsStoreClosed}
 use Rattle.cola_store.specs.Store.{Stored, Holds, geometry_of, kept_of}
-use Rattle.cola_command.specs.Workload.{no_tally, workload_line, right_line, making_status, opening_status, filling_status, asking_status, LineEnds, Filled, Asked, WasFilled, WasAsked, FillingRefused, AskingRefused, AskEnds, GenEnds, IsFileOfOdd, EndsOnEmpty, FaultsCaused}
+use Rattle.cola_command.specs.Headline.{refusal_status}
+use Rattle.cola_command.specs.Workload.{no_tally, workload_line, right_line, making_status, filling_status, asking_status, LineEnds, Filled, Asked, WasFilled, WasAsked, FillingRefused, AskingRefused, AskEnds, GenEnds, IsFileOfOdd, EndsOnEmpty, FaultsCaused}
 use Rattle.cola_command.specs.Workload.LineEnds.{WroteLine, WroteFront}
 use Rattle.cola_command.specs.Workload.FillingRefused.{NotMade, NotOpened, NotFilled, NotClosed}
 use Rattle.cola_command.specs.Workload.AskingRefused.{NotReopened, NotAsked, NotClosedAgain}
@@ -99,7 +100,7 @@ kept-many {A = A} bytes counts kept a b e =
 
 -- ---- what an opening of a file that stands for a map answers
 
-only-two : {D : Type 0} (d : device.Ghosts D) (before now : D) (m : Map) (fault : OpenFault) → IsSomeAnd (d.bytes before) (λ bytes. FileStandsFor bytes m) → Opens d before 0 (Err (now, fault)) → (opening_status fault ≡ 1) ⊎ (opening_status fault ≡ 5)
+only-two : {D : Type 0} (d : device.Ghosts D) (before now : D) (m : Map) (fault : OpenFault) → IsSomeAnd (d.bytes before) (λ bytes. FileStandsFor bytes m) → Opens d before 0 (Err (now, fault)) → (refusal_status fault ≡ 1) ⊎ (refusal_status fault ≡ 5)
 only-two d before now m open_fault.NotStore file is = absurd (refute (d.bytes before) (λ bytes. FileStandsFor bytes m) IsNoStore (not-no_store m) file is.why_is)
 only-two d before now m open_fault.NotClosed file is = absurd (refute (d.bytes before) (λ bytes. FileStandsFor bytes m) IsInUse (not-in_use m) file is.why_is)
 only-two d before now m open_fault.Small file is = absurd (refute (d.bytes before) (λ bytes. FileStandsFor bytes m) IsSmall (not-small m) file is.why_is)
@@ -181,7 +182,7 @@ module _ {K D : Type 0} (k : sink.Ghosts K) (d : device.Ghosts D) (t : table.Gho
       → FillingRefused d t keys before now steps steps' status → EndsOnEmpty k keys sink sink' told status
   fill-refused before now steps steps' status sink sink' told empty suits (NotMade fault is created count) = DeviceFailed (is ∙ unmade before now fault empty suits created)
   fill-refused before now steps steps' status sink sink' told empty suits (NotOpened fault made_on is file opened count) =
-      one-or-five sink sink' told status (opening_status fault) is (only-two d made_on now empty_map fault (new-file before made_on empty file) opened)
+      one-or-five sink sink' told status (refusal_status fault) is (only-two d made_on now empty_map fault (new-file before made_on empty file) opened)
   fill-refused before now steps steps' status sink sink' told empty suits (NotFilled fault made_on last is file was closed count) = DeviceFailed (is ∙ unfilled before made_on steps fault last empty file was)
   fill-refused before now steps steps' status sink sink' told empty suits (NotClosed made_on last is file was closed count) = DeviceFailed is
 
@@ -196,7 +197,7 @@ module _ {K D : Type 0} (k : sink.Ghosts K) (d : device.Ghosts D) (t : table.Gho
 
     ask-refused : (now : D) (tally : Tally) (steps steps' status : ℕ) (sink sink' : K) (told : Option (List ℕ)) → AskingRefused d t keys between now tally steps steps' status → EndsOnEmpty k keys sink sink' told status
     ask-refused now tally steps steps' status sink sink' told (NotReopened fault is opened count) =
-        one-or-five sink sink' told status (opening_status fault) is (only-two d between now m fault file opened)
+        one-or-five sink sink' told status (refusal_status fault) is (only-two d between now m fault file opened)
     ask-refused now tally steps steps' status sink sink' told (NotAsked fault last is was closed count) = DeviceFailed (is ∙ unasked tally steps fault last was)
     ask-refused now tally steps steps' status sink sink' told (NotClosedAgain last is was closed count) = DeviceFailed is
 

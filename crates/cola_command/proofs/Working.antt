@@ -28,7 +28,8 @@ use Rattle.cola_store.specs.declared.fault.OpenFault.TheVariants as open_fault
 use Rattle.cola_store.specs.Create.{Created}
 use Rattle.cola_store.specs.Open.{Opens}
 use Rattle.cola_store.specs.Store.{Stored}
-use Rattle.cola_command.specs.Workload.{LineEnds, Fills, Asks, FillEnds, AskEnds, GenEnds, making_status, opening_status, filling_status, asking_status}
+use Rattle.cola_command.specs.Headline.{refusal_status}
+use Rattle.cola_command.specs.Workload.{LineEnds, Fills, Asks, FillEnds, AskEnds, GenEnds, making_status, filling_status, asking_status}
 use Rattle.cola_command.specs.Workload.LineEnds.{WroteLine, WroteFront}
 use Rattle.cola_command.specs.Workload.GenEnds.{FillDone}
 
@@ -57,7 +58,7 @@ made-cause d keys before now create.Block is e = absurd (omega (arith, e))
 made-cause d keys before now create.NotEmpty is e = absurd (omega (arith, e))
 made-cause d keys before now create.Device is e = is.cause
 
-pub opened-cause : {D : Type 0} (d : device.Ghosts D) (before now : D) (fault : OpenFault) → Opens d before 0 (Err (now, fault)) → opening_status fault ≡ 5 → Rose (d.counts before).faults (d.counts now).faults
+pub opened-cause : {D : Type 0} (d : device.Ghosts D) (before now : D) (fault : OpenFault) → Opens d before 0 (Err (now, fault)) → refusal_status fault ≡ 5 → Rose (d.counts before).faults (d.counts now).faults
 opened-cause d before now open_fault.NotStore is e = absurd (omega (arith, e))
 opened-cause d before now open_fault.NotClosed is e = absurd (omega (arith, e))
 opened-cause d before now open_fault.Small is e = absurd (omega (arith, e))

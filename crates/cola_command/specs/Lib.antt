@@ -8,4 +8,5 @@ pub mod Headline
 pub mod HeadlineLaws
 pub mod SoFar
 pub mod Workload
+pub mod Statuses
 pub mod Serves

@@ -26,11 +26,11 @@ use Rattle.cola_store.specs.declared.closing.Closing.{Closing}
 use Rattle.cola_store.specs.declared.fault.CreateFault.{CreateFault}
 use Rattle.cola_store.specs.declared.fault.CreateFault.TheVariants as create
 use Rattle.cola_store.specs.declared.fault.OpenFault.{OpenFault}
-use Rattle.cola_store.specs.declared.fault.OpenFault.TheVariants as open_fault
 use Rattle.cola_store.specs.Create.{Created, Made, Suits, file_size}
 use Rattle.cola_store.specs.Close.{IsClosed, StillOwes}
 use Rattle.cola_store.specs.Sessions.{OpensStore, IsStoreOpened, ClosesStore, IsStoreClosed, IsStoreOwed}
 use Rattle.cola_store.specs.Store.{Stored}
+use Rattle.cola_command.specs.Headline.{refusal_status}
 
 -- The line
 
@@ -48,7 +48,7 @@ abbrev pub right_line : ℕ → List ℕ
 right_line keys =
     workload_line (record { fresh = made keys; gone = evens (made keys); wrong = 0; over = 0 }) (made keys - evens (made keys))
 
--- Statuses of refusals
+-- Statuses of refusals, beside that of an opening
 
 -- the file was not made: the device failed, or had bytes
 abbrev pub making_status : CreateFault → ℕ
@@ -56,15 +56,6 @@ making_status create.Keys = 2
 making_status create.Block = 2
 making_status create.NotEmpty = 8
 making_status create.Device = 5
-
--- it was not opened
-abbrev pub opening_status : OpenFault → ℕ
-opening_status open_fault.NotStore = 6
-opening_status open_fault.NotClosed = 7
-opening_status open_fault.Small = 6
-opening_status open_fault.Device = 5
-opening_status open_fault.OutOfMemory = 1
-opening_status (open_fault.BadCell cell) = 10
 
 -- a put or a delete was refused
 abbrev pub filling_status : PutFault → ℕ
@@ -156,14 +147,14 @@ module _ {D : Type 0} (d : device.Ghosts D) (t : table.Ghosts (Stored D) Cursor)
   -- a call was refused before the file was filled and closed: what is done then, and the status
   pub data FillingRefused (before now : D) (steps steps' status : ℕ) : Type 0 where
     NotMade : (fault : CreateFault) → status ≡ making_status fault → Created d One keys 5 before now (Err fault) → steps' ≡ steps → FillingRefused before now steps steps' status
-    NotOpened : (fault : OpenFault) (made_on : D) → status ≡ opening_status fault → Made d One keys 5 before made_on → OpensStore d made_on 0 (Err (now, fault)) → steps' ≡ steps → FillingRefused before now steps steps' status
+    NotOpened : (fault : OpenFault) (made_on : D) → status ≡ refusal_status fault → Made d One keys 5 before made_on → OpensStore d made_on 0 (Err (now, fault)) → steps' ≡ steps → FillingRefused before now steps steps' status
     NotFilled : (fault : PutFault) (made_on : D) (last : State (Stored D)) → status ≡ filling_status fault → Made d One keys 5 before made_on → Filled made_on steps (Err fault) last → ClosedOnce d last.table now → steps' ≡ last.steps
         → FillingRefused before now steps steps' status
     NotClosed : (made_on : D) (last : State (Stored D)) → status ≡ 5 → Made d One keys 5 before made_on → Filled made_on steps (Ok tt) last → ClosedLate d last.table now → steps' ≡ last.steps → FillingRefused before now steps steps' status
 
   -- a call was refused after that: what is done then, and the status
   pub data AskingRefused (before now : D) (tally : Tally) (steps steps' status : ℕ) : Type 0 where
-    NotReopened : (fault : OpenFault) → status ≡ opening_status fault → OpensStore d before 0 (Err (now, fault)) → steps' ≡ steps → AskingRefused before now tally steps steps' status
+    NotReopened : (fault : OpenFault) → status ≡ refusal_status fault → OpensStore d before 0 (Err (now, fault)) → steps' ≡ steps → AskingRefused before now tally steps steps' status
     NotAsked : (fault : ReadFault) (last : State (Stored D)) → status ≡ asking_status fault → Asked before tally steps (Err fault) last → ClosedOnce d last.table now → steps' ≡ last.steps → AskingRefused before now tally steps steps' status
     NotClosedAgain : (last : State (Stored D)) → status ≡ 5 → Asked before tally steps (Ok tt) last → ClosedLate d last.table now → steps' ≡ last.steps → AskingRefused before now tally steps steps' status
 

@@ -11,6 +11,7 @@ mod program;
 mod reading;
 mod serving;
 mod serving_laws;
+mod status;
 mod upgrading;
 mod workload;
 
@@ -21,11 +22,15 @@ pub use definition_laws::{
     transfers_of_turns,
 };
 pub use file::Session;
-pub use laws::{few_bytes_are_read, memory_sessions_complete, new_files_complete, session_limits};
+pub use laws::{
+    few_bytes_are_read, memory_sessions_complete, new_files_complete, session_limits,
+    statuses_are_apart, statuses_are_known,
+};
 pub use place::Place;
 pub use program::{Served, serve};
 pub use serving_laws::{
     file_sessions_complete, file_sessions_transfer_few, files_stand, stores_of_turns,
     turns_count_faults, turns_keep_bounds,
 };
+pub use status::Status;
 pub use workload::new_workloads_complete;

@@ -11,6 +11,7 @@ ghost use Rattle.cola_words.specs.Sizes.{SuitStore};
 use crate::memory::MemorySession;
 use crate::reading::{INPUT_LIMIT, text_of};
 use crate::serving::serve_file;
+use crate::status::Status;
 use crate::upgrading::upgrade_file;
 use crate::workload::serve_workload;
 use cola_cell::Format;
@@ -38,14 +39,14 @@ fn serve_lines<S: Source, K: Sink, L: Ledger>(
     'lines: loop {
         let next = reader.next_line(source);
         match next {
-            Next::End => return 0,
-            Next::Fault => return 3,
-            Next::Budget => return 9,
+            Next::End => return Status::Done as u8,
+            Next::Fault => return Status::SourceFailed as u8,
+            Next::Budget => return Status::Spent as u8,
             _ => {}
         }
         let text = text_of(&reader, next);
         if let Err(_) = session.line(text, sink, steps) {
-            return 4;
+            return Status::SinkFailed as u8;
         }
     }
 }
@@ -65,7 +66,7 @@ fn serve_memory<S: Source, K: Sink, L: Ledger>(
             let mut session = MemorySession::begin(table);
             serve_lines(&mut session, source, sink, steps)
         }
-        Err(_) => 1,
+        Err(_) => Status::OutOfMemory as u8,
     }
 }
 
@@ -77,16 +78,16 @@ fn make_file<D: Device>(device: &mut D, keys: u64, block_exp: u8, format: Format
     ensures counts { CountsOneWrite (D.counts device.old) (D.counts device.new) }
 {
     match create_as(device, keys, block_exp, format) {
-        Ok(()) => 0,
-        Err(CreateFault::Device) => 5,
-        Err(CreateFault::NotEmpty) => 8,
+        Ok(()) => Status::Done as u8,
+        Err(CreateFault::Device) => Status::DeviceFailed as u8,
+        Err(CreateFault::NotEmpty) => Status::NotEmpty as u8,
         // (`read_words` answers no such sizes)
-        Err(CreateFault::Keys) => 2,
-        Err(CreateFault::Block) => 2,
+        Err(CreateFault::Keys) => Status::WrongWords as u8,
+        Err(CreateFault::Block) => Status::WrongWords as u8,
     }
 }
 
-/// The exit status, and the two devices, which come back whatever it is.
+/// The exit status, which is the number of a `Status`, and the two devices, which come back whatever it is.
 #[derive(Drop)]
 pub struct Served<D> {
     pub status: u8,
@@ -119,7 +120,7 @@ fn serve_run<S: Source, K: Sink, D: Device, L: Ledger>(
             }
         }
         Some(_) => Served {
-            status: 2,
+            status: Status::WrongWords as u8,
             device,
             second,
         },
@@ -170,7 +171,7 @@ fn serve_mode<S: Source, K: Sink, D: Device, L: Ledger>(
             };
         }
         Some(Mode::Upgrade) => upgrade_file(alloc, &mut device, &mut second),
-        _ => 2,
+        _ => Status::WrongWords as u8,
     };
     Served {
         status,

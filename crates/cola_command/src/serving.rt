@@ -1,14 +1,15 @@
 //! A session over the file of a device, line by line, and the status that it ends with.
-ghost use Rattle.std.specs.Prelude.{◌≡◌, ◌≤◌};
-ghost use Rattle.cola_command.specs.Headline.{FileEnds, refusal_status};
+ghost use Rattle.std.specs.Prelude.{◌≤◌};
+ghost use Rattle.cola_command.specs.Headline.{FileEnds};
 ghost use Rattle.cola_command.specs.SoFar.{LinesEnd, EndsAfter};
 
 use crate::file::Session;
 use crate::reading::{INPUT_LIMIT, text_of};
+use crate::status::{Status, opening_status};
 use cola_device::Device;
 use cola_io::{LineReader, Next, Sink, Source};
 use cola_outside::Steps;
-use cola_store::{OpenFault, Store};
+use cola_store::Store;
 use cola_table::Table;
 use std::alloc::Global;
 use std::sync::ledger::Ledger;
@@ -29,31 +30,17 @@ fn serve_lines<S: Source, K: Sink, D: Device, L: Ledger>(
     'lines: loop {
         let next = reader.next_line(source);
         match next {
-            Next::End => return (session, 0),
-            Next::Fault => return (session, 3),
-            Next::Budget => return (session, 9),
+            Next::End => return (session, Status::Done as u8),
+            Next::Fault => return (session, Status::SourceFailed as u8),
+            Next::Budget => return (session, Status::Spent as u8),
             _ => {}
         }
         let text = text_of(&reader, next);
         let (after, written) = session.line(alloc, text, sink, steps);
         session = after;
         if let Err(_) = written {
-            return (session, 4);
+            return (session, Status::SinkFailed as u8);
         }
-    }
-}
-
-/// The status of a file that was not opened.
-fn status_of(fault: &OpenFault) -> u8
-    ensures { result ≡ refusal_status fault.now }
-{
-    match fault {
-        OpenFault::OutOfMemory => 1,
-        OpenFault::Device => 5,
-        OpenFault::NotStore => 6,
-        OpenFault::Small => 6,
-        OpenFault::NotClosed => 7,
-        OpenFault::BadCell(_) => 10,
     }
 }
 
@@ -64,8 +51,8 @@ fn end_session<D: Device>(session: Session<D>, status: u8) -> (D, u8)
 {
     let cut_off = session.is_cut_off();
     let (device, closed) = session.end();
-    if status == 0 && (cut_off || !closed) {
-        return (device, 5);
+    if status == Status::Done as u8 && (cut_off || !closed) {
+        return (device, Status::DeviceFailed as u8);
     }
     (device, status)
 }
@@ -98,9 +85,6 @@ pub(crate) fn serve_file<S: Source, K: Sink, D: Device, L: Ledger>(
             let (session, status) = serve_lines(alloc, session, source, sink, steps);
             end_session(session, status)
         }
-        Err((device, fault)) => {
-            let status = status_of(&fault);
-            (device, status)
-        }
+        Err((device, fault)) => (device, opening_status(fault)),
     }
 }

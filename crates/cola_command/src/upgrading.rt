@@ -2,6 +2,7 @@
 ghost use Rattle.std.specs.Prelude.{◌≡◌, Result};
 ghost use Rattle.cola_command.specs.Serves.{UpgradeEnds, upgrade_status};
 
+use crate::status::Status;
 use cola_device::Device;
 use cola_wide::{UpgradeFault, upgrade};
 use std::alloc::Global;
@@ -11,15 +12,15 @@ fn status_of(answer: &Result<(), UpgradeFault>) -> u8
     ensures { result ≡ upgrade_status answer.now }
 {
     match answer {
-        Ok(()) => 0,
-        Err(UpgradeFault::Small) => 6,
-        Err(UpgradeFault::NotStore) => 6,
-        Err(UpgradeFault::Already) => 12,
-        Err(UpgradeFault::NotClosed) => 7,
-        Err(UpgradeFault::OutOfMemory) => 1,
-        Err(UpgradeFault::NotEmpty) => 8,
-        Err(UpgradeFault::Device) => 5,
-        Err(UpgradeFault::BadCell(_)) => 10,
+        Ok(()) => Status::Done as u8,
+        Err(UpgradeFault::Small) => Status::NotStore as u8,
+        Err(UpgradeFault::NotStore) => Status::NotStore as u8,
+        Err(UpgradeFault::Already) => Status::AlreadyWide as u8,
+        Err(UpgradeFault::NotClosed) => Status::NotClosed as u8,
+        Err(UpgradeFault::OutOfMemory) => Status::OutOfMemory as u8,
+        Err(UpgradeFault::NotEmpty) => Status::NotEmpty as u8,
+        Err(UpgradeFault::Device) => Status::DeviceFailed as u8,
+        Err(UpgradeFault::BadCell(_)) => Status::BadCell as u8,
     }
 }
 

@@ -10,13 +10,14 @@ ghost use Rattle.cola_words.specs.Sizes.{SuitStore};
 ghost use Rattle.cola_command.specs.Workload as spec;
 ghost use Rattle.cola_command.specs.Workload.{workload_line, LineEnds, ClosedOnce, ClosedLate, AskEnds, FillEnds, FillFaults, filled_device, GenEnds, FaultsCaused, EndsOnEmpty};
 
+use crate::status::{Status, opening_status};
 use arrayvec::ArrayVec;
 use cola_cell::{Format, ReadFault};
 use cola_device::Device;
 use cola_gen::{Tally, generate, verify};
 use cola_io::{Sink, put_all};
 use cola_outside::Steps;
-use cola_store::{Closing, CreateFault, OpenFault, Store, create_as};
+use cola_store::{Closing, CreateFault, Store, create_as};
 use cola_table::{PutFault, Table};
 use itoa::Buffer;
 use std::alloc::Global;
@@ -63,8 +64,8 @@ fn write_line<K: Sink>(tally: &Tally, left: u64, sink: &mut K) -> u8
 {
     let text = line_of(tally, left);
     match put_all(sink, text.as_slice()) {
-        Ok(()) => 0,
-        Err(_) => 4,
+        Ok(()) => Status::Done as u8,
+        Err(_) => Status::SinkFailed as u8,
     }
 }
 
@@ -73,25 +74,11 @@ fn making_status(fault: CreateFault) -> u8
     ensures { result ≡ spec.making_status fault }
 {
     match fault {
-        CreateFault::Device => 5,
-        CreateFault::NotEmpty => 8,
+        CreateFault::Device => Status::DeviceFailed as u8,
+        CreateFault::NotEmpty => Status::NotEmpty as u8,
         // (there is a store of these sizes)
-        CreateFault::Keys => 2,
-        CreateFault::Block => 2,
-    }
-}
-
-/// The status where the file was not opened.
-fn opening_status(fault: OpenFault) -> u8
-    ensures { result ≡ spec.opening_status fault }
-{
-    match fault {
-        OpenFault::OutOfMemory => 1,
-        OpenFault::Device => 5,
-        OpenFault::NotStore => 6,
-        OpenFault::Small => 6,
-        OpenFault::NotClosed => 7,
-        OpenFault::BadCell(_) => 10,
+        CreateFault::Keys => Status::WrongWords as u8,
+        CreateFault::Block => Status::WrongWords as u8,
     }
 }
 
@@ -100,11 +87,11 @@ fn filling_status(fault: PutFault) -> u8
     ensures { result ≡ spec.filling_status fault }
 {
     match fault {
-        PutFault::Device => 5,
-        PutFault::BadCell(_) => 10,
-        PutFault::Overfull(_) => 11,
-        PutFault::Full => 11,
-        PutFault::Worn => 11,
+        PutFault::Device => Status::DeviceFailed as u8,
+        PutFault::BadCell(_) => Status::BadCell as u8,
+        PutFault::Overfull(_) => Status::NoRoom as u8,
+        PutFault::Full => Status::NoRoom as u8,
+        PutFault::Worn => Status::NoRoom as u8,
     }
 }
 
@@ -113,8 +100,8 @@ fn asking_status(fault: ReadFault) -> u8
     ensures { result ≡ spec.asking_status fault }
 {
     match fault {
-        ReadFault::Device => 5,
-        ReadFault::BadCell(_) => 10,
+        ReadFault::Device => Status::DeviceFailed as u8,
+        ReadFault::BadCell(_) => Status::BadCell as u8,
     }
 }
 
@@ -165,7 +152,7 @@ fn ask_store<K: Sink, D: Device, L: Ledger>(
     let left = store.keys_now();
     match store.close() {
         Ok(device) => (device, write_line(&tally, left, sink)),
-        Err(closing) => (close_again(closing), 5),
+        Err(closing) => (close_again(closing), Status::DeviceFailed as u8),
     }
 }
 
@@ -214,7 +201,7 @@ fn fill_store<D: Device, L: Ledger>(
     }
     match store.close() {
         Ok(device) => Ok((device, tally)),
-        Err(closing) => Err((close_again(closing), 5)),
+        Err(closing) => Err((close_again(closing), Status::DeviceFailed as u8)),
     }
 }
 

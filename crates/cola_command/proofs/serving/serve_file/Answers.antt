@@ -14,7 +14,7 @@ returns-in-Ok g c =
     c.end_session.ensures
 
 pub returns-in-Err : goal.returns-in-Err
-returns-in-Err g c = Unopened c.in-Err.fault c.status_of-status.ensures (record {
+returns-in-Err g c = Unopened c.in-Err.fault c.opening_status.ensures (record {
   refused = c.in-Err.ensures.begins;
   kept = c.in-Err.ensures.kept;
   source_stays = refl;
