@@ -1,6 +1,7 @@
 #!/usr/bin/env bash
-# The checks of the documents: each file and each name that they speak of exists, each crate has its lines, and the pages
-# are as short as they are meant to be. The last line is 'N passed, M failed', and the status is 0 only where none failed.
+# The checks of the documents: each file and each name that they speak of exists, each crate has its lines, each status
+# means what the program says, and the pages are as short as they are meant to be. The last line is 'N passed, M failed',
+# and the status is 0 only where none failed.
 set -u
 root=$(cd "$(dirname "$0")/.." && pwd -P) || exit 1
 cd "$root" || exit 1
@@ -62,6 +63,13 @@ for crate in $crates; do
     grep -q "\`$crate\`" README.md
     count "README.md says what is proved of $crate" $?
 done
+
+tests/rows.sh --statuses >"$words"
+count 'the program says what its statuses mean' $?
+while read -r number meaning; do
+    grep -qF "| $number | $meaning |" docs/COMMANDS.md
+    count "docs/COMMANDS.md says that status $number means: $meaning" $?
+done <"$words"
 
 long=$(cat README.md docs/*.md bench/README.md | wc -w)
 [ "$long" -le 12000 ]

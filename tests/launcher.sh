@@ -74,6 +74,11 @@ check 'with no rt on PATH it ends with 100' ended 100
 check 'with no rt on PATH it says so in one line' complained PATH
 check 'with no rt on PATH it writes nothing' wrote_text ''
 
+# What it says that a status means: what the program says.
+"$root/tests/rows.sh" --statuses | sed '/^0 /d' >"$room/statuses"
+sed -n "s/^    \([0-9]*\)) echo '\(.*\)' ;;\$/\1 \2/p" "$root/cola" >"$room/meanings"
+check 'each status means what the program says' cmp "$room/statuses" "$room/meanings"
+
 # A copy over a toolchain that is played by a script: its rt notes each build, and builds a program
 # that shows its words, its folder and its input, and ends with the status that its first word names.
 copy="$room/a copy"

@@ -5,6 +5,7 @@
 #     tests/rows.sh              all subjects, then made lines, in about a minute and a half
 #     tests/rows.sh SUBJECT..    the rows of these folders alone
 #     tests/rows.sh --long N     N made lines of each kind, from another seed than any before
+#     tests/rows.sh --statuses   no rows: the statuses of the program cola, a line for each with its number and its meaning
 #
 # The program is built where it is not current, by rt run in its crate. Rows of failing allocations need a C compiler, and
 # are skipped where there is none. The last line is 'N passed, M failed', and the status is 0 only where none failed.
@@ -100,7 +101,11 @@ made() {
     "$program" made "$1" "$2"
 }
 
-is_current || build || exit 1
+is_current || build >&2 || exit 1
+if [ "${1-}" = --statuses ]; then
+    "$program" statuses
+    exit
+fi
 shopt -s nullglob
 case ${1-} in
 --long)

@@ -1,5 +1,5 @@
 //! The program `cola_rows`: it reads rows from standard input, does each in memory, and prints what came; or it compares
-//! made lines with the plain session.
+//! made lines with the plain session; or it prints the statuses of the program `cola`.
 #![tactic(auto)]
 
 mod allocations;
@@ -22,6 +22,7 @@ use crate::made::compare_made;
 use crate::reading::{begin_row, read_line};
 use crate::row::Row;
 use crate::running::Left;
+use cola_command::Status;
 use std::alloc::{AllocError, Global};
 use std::process::ExitCode;
 use std::rt::Env;
@@ -99,6 +100,7 @@ fn do_rows(alloc: Global, text: &str, out: &mut String) -> bool {
 enum Asked {
     Rows,
     Made(u32, u32),
+    Statuses,
     Nothing,
 }
 
@@ -118,8 +120,19 @@ fn read_arguments<R: Env + AllocGlobal>(rt: &R) -> Asked {
             (Ok(seed), Ok(count)) => Asked::Made(seed, count),
             _ => Asked::Nothing,
         },
+        ("statuses", None, None) => Asked::Statuses,
         _ => Asked::Nothing,
     }
+}
+
+/// Adds a line for each status: its number, and what it means.
+fn push_statuses(out: &mut String) -> Result<(), AllocError> {
+    for status in Status::all() {
+        let number = status.number();
+        let text = status.text();
+        writeln!(out, "{number} {text}")?;
+    }
+    Ok(())
 }
 
 /// Does what the words ask for, and adds what is to be printed. Answers whether all is well.
@@ -127,8 +140,12 @@ fn do_asked(alloc: Global, asked: Asked, text: &str, out: &mut String) -> Result
     match asked {
         Asked::Rows => Ok(do_rows(alloc, text, out)),
         Asked::Made(seed, count) => compare_made(alloc, seed, count, out),
+        Asked::Statuses => {
+            push_statuses(out)?;
+            Ok(true)
+        }
         Asked::Nothing => {
-            out.push_str("cola_rows < FILE, or cola_rows made SEED COUNT\n")?;
+            out.push_str("cola_rows < FILE, cola_rows made SEED COUNT, or cola_rows statuses\n")?;
             Ok(false)
         }
     }
