@@ -3,10 +3,11 @@
 
 ghost use Rattle.std.specs.Prelude.{◌≡◌, ◌<◌};
 
-use cola_command::serve;
+use cola_command::{Status, serve};
 use cola_filedev::FileDevice;
 use cola_io::{StdSink, StdSource};
 use cola_outside::Steps;
+use cola_words::{Opening, files_of};
 use std::marker::Brand;
 use std::os::unix::fs::FileExt;
 use std::process::ExitCode;
@@ -23,31 +24,24 @@ fn take_words<R: Env + AllocGlobal>(rt: &R) -> Option<Vec<String>> {
     Some(words)
 }
 
-/// Whether a mode makes its file where it is not there.
-fn makes_file(mode: &str) -> bool {
-    matches!(mode, "create" | "gen" | "load")
-}
-
-/// The file that the second word names, opened by the first call on it; none where a mode has none.
-fn first_file<'a, R: Files>(rt: &'a R, words: &'a [String]) -> FileDevice<'a, R>
+/// The file that a word names, opened so by the first call on it; none where a mode has none.
+fn file_of<'a, R: Files>(
+    rt: &'a R,
+    words: &'a [String],
+    opening: Option<Opening>,
+) -> FileDevice<'a, R>
 where
     R::File: FileExt,
 {
-    if words.len() < 2 || words[0].as_str() == "mem" {
-        return FileDevice::none(rt);
+    let (place, make) = match opening {
+        Some(Opening::Existing(place)) => (place, false),
+        Some(Opening::Made(place)) => (place, true),
+        None => return FileDevice::none(rt),
+    };
+    match words.get(place as usize) {
+        Some(path) => FileDevice::new(rt, path.as_str(), make),
+        None => FileDevice::none(rt),
     }
-    FileDevice::new(rt, words[1].as_str(), makes_file(words[0].as_str()))
-}
-
-/// The file that the third word names, made where it is not there, in the modes that write one; none in all others.
-fn second_file<'a, R: Files>(rt: &'a R, words: &'a [String]) -> FileDevice<'a, R>
-where
-    R::File: FileExt,
-{
-    if words.len() > 2 && matches!(words[0].as_str(), "upgrade" | "grow" | "rebuild") {
-        return FileDevice::new(rt, words[2].as_str(), true);
-    }
-    FileDevice::none(rt)
 }
 
 /// Serves the words over their files, standard input and standard output, with steps on a ledger of their own.
@@ -59,8 +53,9 @@ fn run<L: Ledger>(blank: Blank, rt: &HostRuntime, words: &[String]) -> u8
     let mut source = StdSource::new(rt.reader());
     let mut sink = StdSink::new(io::writer(rt));
     let mut steps = Steps::<L>::begin(blank);
-    let first = first_file(rt, words);
-    let second = second_file(rt, words);
+    let (first, second) = files_of(words);
+    let first = file_of(rt, words, first);
+    let second = file_of(rt, words, second);
     let served = serve(
         rt.alloc(),
         words,
@@ -75,7 +70,7 @@ fn run<L: Ledger>(blank: Blank, rt: &HostRuntime, words: &[String]) -> u8
 
 fn main(rt: HostRuntime) -> ExitCode {
     let Some(words) = take_words(&rt) else {
-        return ExitCode::from(1);
+        return ExitCode::from(Status::OutOfMemory.number());
     };
     ExitCode::from(run::<Brand>(Blank::new(1), &rt, words.as_slice()))
 }
