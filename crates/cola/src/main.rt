@@ -45,7 +45,13 @@ where
 }
 
 /// Serves the words over their files, standard input and standard output, with steps on a ledger of their own.
-fn run<L: Ledger>(blank: Blank, rt: &HostRuntime, words: &[String]) -> u8
+fn run<L: Ledger, R: Files + Input + Print + AllocGlobal>(
+    blank: Blank,
+    rt: &R,
+    words: &[String],
+) -> u8
+where
+    R::File: FileExt,
     requires name { blank.name ≡ L.name }
     requires parts { blank.parts ≡ L.parts }
     requires some { 0 < L.parts }
@@ -72,5 +78,5 @@ fn main(rt: HostRuntime) -> ExitCode {
     let Some(words) = take_words(&rt) else {
         return ExitCode::from(Status::OutOfMemory.number());
     };
-    ExitCode::from(run::<Brand>(Blank::new(1), &rt, words.as_slice()))
+    ExitCode::from(run::<Brand, HostRuntime>(Blank::new(1), &rt, words.as_slice()))
 }
