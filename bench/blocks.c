@@ -1,6 +1,7 @@
 // Writes and reads cells of 64 bytes in blocks of 32 cells as a plain C program would: cells are encoded into a block, which
 // is written by pwrite when it is full; a block is read by pread when it is not the last one read, and its cells are decoded.
-// The arguments are the file, which is made anew, and the number of cells.
+// The arguments are the file, which is made anew, the number of cells, and how many blocks are kept in memory, or none: those
+// that were used last, found by chains, in the order of their last use.
 #include <fcntl.h>
 #include <stdint.h>
 #include <stdio.h>
@@ -66,15 +67,76 @@ static void push_all(int file, uint32_t cells)
     }
 }
 
+// The frames of a cache: the block of each, the next of its chain, and its neighbours in the order of use. Frame numbers are
+// one more than their places, and 0 is none; place 0 of the order has the first and the last.
+static uint8_t (*frames)[BLOCK];
+static uint32_t *held, *chained, *heads, *newer, *older, room, chains;
+
+static void make_cache(uint32_t blocks)
+{
+    room = blocks;
+    chains = 2 * blocks + 1;
+    frames = calloc(blocks + 1, BLOCK);
+    held = calloc(blocks + 1, 4);
+    chained = calloc(blocks + 1, 4);
+    newer = calloc(blocks + 1, 4);
+    older = calloc(blocks + 1, 4);
+    heads = calloc(chains, 4);
+    if (!frames || !held || !chained || !newer || !older || !heads)
+        exit(1);
+    for (uint32_t i = 0; i <= blocks; i++) {
+        held[i] = UINT32_MAX;
+        older[i] = i == blocks ? 0 : i + 1;
+        newer[i] = i == 0 ? blocks : i - 1;
+    }
+}
+
+static void to_front(uint32_t frame)
+{
+    older[newer[frame]] = older[frame];
+    newer[older[frame]] = newer[frame];
+    older[frame] = older[0];
+    newer[older[0]] = frame;
+    newer[frame] = 0;
+    older[0] = frame;
+}
+
+// The bytes of a block, which are in memory then.
+static const uint8_t *block_of(int file, uint32_t block)
+{
+    uint32_t frame = heads[block % chains];
+    while (frame && held[frame] != block)
+        frame = chained[frame];
+    if (!frame) {
+        frame = newer[0];
+        if (held[frame] != UINT32_MAX) {
+            uint32_t *link = &heads[held[frame] % chains];
+            while (*link != frame)
+                link = &chained[*link];
+            *link = chained[frame];
+        }
+        if (pread(file, frames[frame], BLOCK, (off_t)block * BLOCK) != BLOCK)
+            fail("pread");
+        held[frame] = block;
+        chained[frame] = heads[block % chains];
+        heads[block % chains] = frame;
+    }
+    to_front(frame);
+    return frames[frame];
+}
+
 // Reads so many cells, each `step` behind the one before, modulo their number, which is no multiple of it.
 static uint32_t read_all(int file, uint32_t cells, uint32_t step)
 {
-    static uint8_t block[BLOCK];
-    uint32_t held = UINT32_MAX, found = 0;
+    static uint8_t own[BLOCK];
+    const uint8_t *block = own;
+    uint32_t last = UINT32_MAX, found = 0;
     for (uint32_t i = 0, at = 0; i < cells; i++, at = (uint32_t)(((uint64_t)at + step) % cells)) {
-        if (at / BLOCK_CELLS != held) {
-            held = at / BLOCK_CELLS;
-            if (pread(file, block, BLOCK, (off_t)held * BLOCK) != BLOCK)
+        if (at / BLOCK_CELLS != last) {
+            last = at / BLOCK_CELLS;
+            if (room)
+                block = block_of(file, last);
+            else if (pread(file, own, BLOCK, (off_t)last * BLOCK) != BLOCK)
                 fail("pread");
         }
         found += decode(block + at % BLOCK_CELLS * CELL) == at;
@@ -84,8 +146,10 @@ static uint32_t read_all(int file, uint32_t cells, uint32_t step)
 
 int main(int count, char **words)
 {
-    if (count != 3)
+    if (count < 3)
         return 2;
+    if (count > 3 && strtoul(words[3], NULL, 10) > 0)
+        make_cache(strtoul(words[3], NULL, 10));
     uint32_t cells = strtoul(words[2], NULL, 10);
     int file = open(words[1], O_RDWR | O_CREAT | O_TRUNC, 0600);
     if (file < 0)
