@@ -134,7 +134,7 @@ run "$copy/cola" 0 </dev/null
 check 'a built program that ends with 0 runs with no word of the launcher' is_silent
 for status_named in 1 3 4 5 8 9; do
     run "$copy/cola" "$status_named" </dev/null
-    check "status $status_named has a meaning" complained "status $status_named: [a-z].*docs/COMMANDS.md"
+    check "status $status_named has a meaning" complained "status $status_named: [a-z0-9].*docs/COMMANDS.md"
 done
 touch "$copy/crates/cola/src/main.rt"
 run "$copy/cola" 0 </dev/null
