@@ -17,7 +17,7 @@ program=$root/crates/cola_rows/out/cola_rows
 passed=0 failed=0
 
 # Made lines of each kind, for about 100 seconds together.
-lines=300000
+lines=250000
 seed=1
 
 # check WHAT COMMAND..: counts whether the command ends with 0.

@@ -3,10 +3,11 @@
 
 ghost use Rattle.std.specs.Prelude.{◌≡◌, ◌<◌};
 
-use cola_command::{Status, serve};
+use cola_command::serve;
 use cola_filedev::FileDevice;
 use cola_io::{StdSink, StdSource};
 use cola_outside::Steps;
+use cola_status::Status;
 use cola_words::{Opening, files_of};
 use std::marker::Brand;
 use std::os::unix::fs::FileExt;

@@ -22,6 +22,7 @@ ghost use Rattle.cola_chain.specs.Runs.{visible_runs, visible_lists, AreSearched
 
 use crate::counting::{add, rise};
 use crate::lists::{levels_of, marks_of_levels, runs_of};
+use crate::room::Room;
 use arrayvec::ArrayVec;
 use cola_cell::{Item, Key, Run, StepFault};
 use cola_device::Device;
@@ -40,7 +41,7 @@ use std::sync::ledger::Ledger;
 #[derive(Drop)]
 pub struct Chain<D: Device> {
     pub(crate) runs: RunStore<D>,
-    pub(crate) levels: ArrayVec<Level, 23>,
+    pub(crate) levels: Box<ArrayVec<Level, 23>>,
     pub(crate) clock: u64,
     pub(crate) accepted: u64,
     pub(crate) reads: u64,
@@ -56,7 +57,7 @@ impl<D: Device> Model for Chain<D> {
 
     ghost view = { λ c. record {
       store = c.runs;
-      levels = c.levels.items;
+      levels = c.levels.value.items;
       clock = c.clock;
       accepted = c.accepted;
       reads = c.reads;
@@ -66,7 +67,7 @@ impl<D: Device> Model for Chain<D> {
 
     ghost invariant = { λ c. IsContents D.bytes D.counts (record {
       store = c.runs;
-      levels = c.levels.items;
+      levels = c.levels.value.items;
       clock = c.clock;
       accepted = c.accepted;
       reads = c.reads;
@@ -76,9 +77,9 @@ impl<D: Device> Model for Chain<D> {
 }
 
 impl<D: Device> Chain<D> {
-    /// The chain of a store that was loaded by this header: its levels have the header's marks, at the header's clock. It
-    /// has counted nothing yet.
-    pub fn new(runs: RunStore<D>, header: &Header) -> Chain<D>
+    /// The chain of a store that was loaded by this header: its levels have the header's marks, at the header's clock, and
+    /// stand in the room. It has counted nothing yet.
+    pub fn new(runs: RunStore<D>, room: Room, header: &Header) -> Chain<D>
         requires geometry { runs.geometry ≡ header.now.geometry }
         requires loaded { IsLoaded header.now (run.held_of D.bytes runs) (D.bytes runs.buffers.cache.device) }
         ensures store { result.store ≡ runs }
@@ -95,7 +96,7 @@ impl<D: Device> Chain<D> {
     {
         Chain {
             runs,
-            levels: levels_of(header.levels.as_slice()),
+            levels: room.with(levels_of(header.levels.as_slice())),
             clock: header.clock,
             accepted: 0,
             reads: 0,
@@ -205,6 +206,13 @@ impl<D: Device> Chain<D> {
             last: 0,
             levels,
         }
+    }
+
+    /// How many steps were accepted, up to the last value of `u64`.
+    pub fn accepted(&self) -> u64
+        ensures { result ≡ self.now.accepted }
+    {
+        self.accepted
     }
 
     /// The reads and the writes of the device in the steps that were accepted. As long as these are counted, and no number

@@ -6,5 +6,7 @@ mod counting;
 pub mod laws;
 mod lists;
 mod reading;
+mod room;
 
 pub use chains::Chain;
+pub use room::Room;

@@ -1,7 +1,9 @@
 -- A turn of the session: what follows of its cause, for each kind of command.
-use Rattle.std.proofs.Common.{◌≡◌, ℕ, ◌+◌, ◌≤◌, Bool, List, [], Option, Some, None, Result, refl, ◌∙◌, ap, subst, arith}
+use Rattle.std.proofs.Common.{◌≡◌, ℕ, ◌+◌, ◌≤◌, Bool, List, [], Option, Some, None, Result, refl, sym, ◌∙◌, ap, subst, arith}
 use Rattle.std.specs.Prelude.{IsSome, option_map}
+use Rattle.std.proofs.Math.Bridge.{le_prop}
 use Rattle.cola_outside.specs.Told.{Both}
+use Rattle.cola_cell.specs.declared.format.Format.{Format}
 use Rattle.cola_device.specs.declared.device.Device as device
 use Rattle.cola_io.specs.declared.sink.Sink as sink
 use Rattle.cola_layout.specs.declared.geometry.Geometry.{Geometry}
@@ -12,24 +14,25 @@ use Rattle.cola_spec.specs.Reply as reply
 use Rattle.cola_spec.specs.Reply.{Reply, reply_text}
 use Rattle.cola_spec.specs.Machine as machine
 use Rattle.cola_spec.specs.Machine.{State, Turn, Step, kind_of, by_command, turn_text, PlainStep, plain_reply, plain_after, command_reply, command_after}
-use Rattle.cola_spec.specs.Bounds.{command_bound}
-use Rattle.cola_table.specs.declared.table.Table as table
+use Rattle.cola_spec.specs.Bounds.{command_bound, request_bound}
 use Rattle.cola_table.specs.Replies.{turn_of}
 use Rattle.cola_line.specs.declared.command.Command.{Command}
 use Rattle.cola_line.specs.declared.command.Command.TheVariants as code
 use Rattle.cola_line.specs.Spoken.{spoken, IsOfTable}
 use Rattle.cola_line.specs.Replied.{Wrote, KindFaults, StepsFrom}
 use Rattle.cola_line.specs.Answered.{Answered}
-use Rattle.cola_cursor.specs.declared.cursor.Cursor.{Cursor}
 use Rattle.cola_run.specs.Store.{Beside, beside}
 use Rattle.cola_store.specs.declared.closing.Closing.{Closing as ClosingStore}
 use Rattle.cola_command.specs.declared.place.Place.{Place}
 use Rattle.cola_command.specs.declared.place.Place.TheVariants.{Open, Closing, Closed}
-use Rattle.cola_store.specs.Store.{Stored, Holds, geometry_of, kept_of}
-use Rattle.cola_command.specs.File.{Sizes, sizes_of, shape, KeepsBehind, device_of, depth_of, faults_of, IsAt}
-use Rattle.cola_command.specs.Turns.{Keeps, StepsTo, Turned, CloseCause, OpenCause, Cause, cut_by, cut_by_request}
-use Rattle.cola_command.proofs.PlaceTurns.{TurnFacts, stays, close-facts}
-use Rattle.cola_command.proofs.Reopening.{open-facts}
+use Rattle.cola_store.specs.Store.{Stored, Holds, geometry_of, levels_of, kept_of, spent_of}
+use Rattle.cola_store.specs.Table.{store_table}
+use Rattle.cola_command.specs.declared.file.Session.{Session}
+use Rattle.cola_command.specs.File.{Sizes, sizes_of, shape, KeepsBehind, table_in, format_of, faults_of, IsAt}
+use Rattle.cola_command.specs.Home as home
+use Rattle.cola_command.specs.Home.{cut_by_request, depth_in}
+use Rattle.cola_command.specs.Turns.{Keeps, KeepsFormat, KeepsSession, file_home}
+use Rattle.cola_command.proofs.PlaceTurns.{StepsTo, TurnFacts, stays, session-keeps}
 
 -- a command of a table is neither to close nor to open
 pub by-table : (A B : Type 0) {C : Type 0} (command : Command) → IsOfTable command → C → by_command (spoken command) A B C
@@ -43,6 +46,19 @@ by-table A B (code.Scan low most) is c = c
 by-table A B code.Count is c = c
 by-table A B code.Close is c = absurd is
 by-table A B code.Reopen is c = absurd is
+
+-- and cuts no session off
+pub cut-table : (command : Command) → IsOfTable command → (answer : Reply) (cut : Bool) → cut ≡ cut_by_request (Some (spoken command)) answer cut
+cut-table (code.Put key value) is answer cut = refl
+cut-table (code.PutIf key seen value) is answer cut = refl
+cut-table (code.Del key) is answer cut = refl
+cut-table (code.Get key) is answer cut = refl
+cut-table (code.Stamp key) is answer cut = refl
+cut-table (code.Range low high) is answer cut = refl
+cut-table (code.Scan low most) is answer cut = refl
+cut-table code.Count is answer cut = refl
+cut-table code.Close is answer cut = absurd is
+cut-table code.Reopen is answer cut = absurd is
 
 -- the map of a state
 abbrev pub map_of : State → Map
@@ -94,24 +110,59 @@ module _ {D : Type 0} (d : device.Ghosts D) (old new : Stored D) (kept : kept_of
     cache_stays = ap (λ k. k.cache) kept;
   }
 
--- what a store that is a table answers
-module _ {D K A E : Type 0} (t : table.Ghosts (Stored D) Cursor) (d : device.Ghosts D) (k : sink.Ghosts K) (state : State) (cache : ℕ) (cost : Bool) (command : Command) (result : Result A E) (old new : Stored D) (sink sink' : K) (steps steps' : ℕ) where
-  pub ask-turned : IsOfTable command → (turn : Turn) → Answered t k (map_of state) (spoken command) cost result old new sink sink' steps steps' turn → steps' ≤ steps + command_bound (depth_of {d = d} (Open old)) (spoken command)
-      → kept_of d.bytes d.counts d.kept new ≡ kept_of d.bytes d.counts d.kept old → KindFaults (kind_of turn.answer) (faults_of d (Open old)) (faults_of d (Open new)) → faults_of d (Open old) ≤ faults_of d (Open new)
-      → (Holds d.bytes old (map_of state) → StepsFrom (shape (sizes_of (geometry_of old))) (map_of state) (Holds d.bytes new) turn)
-      → Turned t d k state cache cost (Some (spoken command)) result (Open old) (Open new) sink sink' steps steps' turn
-  ask-turned of_table turn a within kept faults stay step = record {
-    asks = a.asked;
-    wrote = a.wrote;
-    counted = a.counted;
-    within = let n = a.counted in omega (arith, n, within);
+-- ---- a turn of a session
+
+-- the format at a state is that of the sizes
+format-at : {D : Type 0} (d : device.Ghosts D) (sizes : Sizes) (place : Place D d) (state : State) (last before : Format) → IsAt d sizes place state → KeepsFormat place last before → before ≡ sizes.format → format_of place last ≡ sizes.format
+format-at d sizes (Open store) (machine.Open m) last before at kept same = ap (λ (s : Sizes). s.format) at.0
+format-at d sizes (Open store) (machine.Closing m) last before at kept same = absurd at
+format-at d sizes (Open store) (machine.Closed m byte) last before at kept same = absurd at
+format-at d sizes (Closing closing) state last before at kept same = kept ∙ same
+format-at d sizes (Closed now) state last before at kept same = kept ∙ same
+
+module _ {D K A E : Type 0} (d : device.Ghosts D) (k : sink.Ghosts K) (state : State) (asked : Option spec.Command) (result : Result A E) (old new : Session D d) (sink sink' : K) (steps steps' : ℕ) where
+  -- by the place of its store
+  pub session-turned : (turn : Turn) → turn.request ≡ asked → Wrote (turn_text old.cost turn) result (k.written sink) (k.written sink') → steps' ≡ steps + turn.ticks → turn.ticks ≤ request_bound (depth_in (store_table d) (table_in old.place)) asked
+      → KindFaults (kind_of turn.answer) (faults_of d old.place) (faults_of d new.place) → home.Cause (store_table d) (file_home d) k asked result old sink turn new sink' → KeepsSession d old new → new.cut_off ≡ cut_by_request asked turn.answer old.cut_off
+      → ((sizes : Sizes) → IsAt d sizes old.place state → StepsTo d sizes state turn new.place) → home.Turned (store_table d) (file_home d) k state asked result old new sink sink' steps steps' turn
+  session-turned turn asks wrote counted within faults cause keeps cut leads = record {
+    asks = asks;
+    wrote = wrote;
+    counted = counted;
+    within = within;
     faults = faults;
-    cause = by-table _ _ command of_table (new, (a.given, refl));
-    keeps = store-keeps d old new kept stay;
-    leads = at-state state step;
+    cause = cause;
+    keeps = keeps;
+    cut_off = cut;
+    leads = λ sizes at.
+        let s = leads sizes at.at in
+        record { next = s.next; step = s.step; at = record { format_is = format-at d sizes new.place s.next new.format (format_of old.place old.format) s.at keeps.format_is at.format_is; at = s.at } };
   }
+
+-- what a store that is a table answers
+module _ {D K A E : Type 0} (d : device.Ghosts D) (k : sink.Ghosts K) (state : State) (command : Command) (of_table : IsOfTable command) (result : Result A E) (old new : Session D d) (store after : Stored D) (is : old.place ≡ Open store) (then : new.place ≡ Open after)
+    (sink sink' : K) (steps steps' : ℕ) where
+  abbrev At : Place D d → Place D d → Turn → Type 0
+  At before now turn = (sizes : Sizes) → IsAt d sizes before state → StepsTo d sizes state turn now
+
+  pub ask-turned : (turn : Turn) → Answered (store_table d) k (map_of state) (spoken command) old.cost result store after sink sink' steps steps' turn → steps' ≤ steps + command_bound (levels_of store) (spoken command)
+      → kept_of d.bytes d.counts d.kept after ≡ kept_of d.bytes d.counts d.kept store → (spent_of d.counts store).faults ≤ (spent_of d.counts after).faults
+      → new.cache ≡ old.cache → new.cost ≡ old.cost → new.cut_off ≡ old.cut_off → home.Turned (store_table d) (file_home d) k state (Some (spoken command)) result old new sink sink' steps steps' turn
+  ask-turned turn a within kept stay cache cost cut =
+      session-turned d k state (Some (spoken command)) result old new sink sink' steps steps' turn a.asked a.wrote a.counted
+      (subst (λ (p : Place D d). turn.ticks ≤ request_bound (depth_in (store_table d) (table_in p)) (Some (spoken command))) (sym is) (let n = a.counted in omega (arith, n, within)))
+      (subst (λ (p : Place D d). KindFaults (kind_of turn.answer) (faults_of d p) (faults_of d new.place)) (sym is) (subst (λ (p : Place D d). KindFaults (kind_of turn.answer) (faults_of d (Open store)) (faults_of d p)) (sym then) a.faults))
+      (by-table _ _ command of_table (subst (λ (p : Place D d). home.Asked (store_table d) (file_home d) k (table_in p) (spoken command) result old sink turn new sink') (sym is) (after, (a.given, then))))
+      (record {
+        place = subst (λ (p : Place D d). Keeps d p new.place) (sym is) (subst (λ (p : Place D d). Keeps d (Open store) p) (sym then) (store-keeps d store after kept stay));
+        cache_is = cache;
+        cost_is = cost;
+        format_is = subst (λ (p : Place D d). KeepsFormat p new.format (format_of old.place old.format)) (sym then) tt;
+      })
+      (cut ∙ cut-table command of_table turn.answer old.cut_off)
+      (subst (λ (p : Place D d). At p new.place turn) (sym is) (subst (λ (p : Place D d). At (Open store) p turn) (sym then) (at-state state a.step)))
     where
-      at-state : (state : State) → (Holds d.bytes old (map_of state) → StepsFrom (shape (sizes_of (geometry_of old))) (map_of state) (Holds d.bytes new) turn) → (sizes : Sizes) → IsAt d sizes (Open old) state → StepsTo d sizes state turn (Open new)
+      at-state : (state : State) → (Holds d.bytes store (map_of state) → StepsFrom (shape (sizes_of (geometry_of store))) (map_of state) (Holds d.bytes after) turn) → (sizes : Sizes) → IsAt d sizes (Open store) state → StepsTo d sizes state turn (Open after)
       at-state (machine.Closing m) step sizes at = absurd at
       at-state (machine.Closed m byte) step sizes at = absurd at
       at-state (machine.Open m) step sizes (same, holds) =
@@ -119,25 +170,17 @@ module _ {D K A E : Type 0} (t : table.Ghosts (Stored D) Cursor) (d : device.Gho
           record {
             next = machine.Open s.next;
             step = subst (λ (x : Sizes). Step (shape x) (machine.Open m) turn (machine.Open s.next)) same s.step;
-            at = (ap sizes_of (same-geometry d old new kept) ∙ same, s.holds);
+            at = (ap sizes_of (same-geometry d store after kept) ∙ same, s.holds);
           }
 
--- ---- turns without ticks
-
-module _ {D K A E : Type 0} (t : table.Ghosts (Stored D) Cursor) (d : device.Ghosts D) (k : sink.Ghosts K) (state : State) (cache : ℕ) (cost : Bool) (result : Result A E) (sink sink' : K) (steps : ℕ) where
-  -- by the facts of its answer
-  pub turned : (command : spec.Command) (old new : Place D d) (answer : Reply) → Wrote (reply_text cost 0 answer) result (k.written sink) (k.written sink') → TurnFacts d command old answer new
-      → Cause t d k cache (Some command) result old sink (turn_of command answer 0) new sink' → Turned t d k state cache cost (Some command) result old new sink sink' steps steps (turn_of command answer 0)
-  turned command old new answer wrote facts cause = record {
-    asks = refl;
-    wrote = wrote;
-    counted = omega arith;
-    within = omega arith;
-    faults = facts.faults;
-    cause = cause;
-    keeps = facts.keeps;
-    leads = λ sizes at. facts.steps sizes state at;
-  }
+-- turns without ticks, by the facts of their answers
+module _ {D K A E : Type 0} (d : device.Ghosts D) (k : sink.Ghosts K) (state : State) (result : Result A E) (old new : Session D d) (sink sink' : K) (steps steps' : ℕ) (same : steps' ≡ steps) where
+  pub turned : (command : spec.Command) (answer : Reply) → Wrote (reply_text old.cost 0 answer) result (k.written sink) (k.written sink') → TurnFacts d command old.place answer new.place
+      → home.Cause (store_table d) (file_home d) k (Some command) result old sink (turn_of command answer 0) new sink' → new.cache ≡ old.cache → new.cost ≡ old.cost → KeepsFormat new.place new.format (format_of old.place old.format)
+      → new.cut_off ≡ cut_by_request (Some command) answer old.cut_off → home.Turned (store_table d) (file_home d) k state (Some command) result old new sink sink' steps steps' (turn_of command answer 0)
+  turned command answer wrote facts cause cache cost format cut =
+      session-turned d k state (Some command) result old new sink sink' steps steps' (turn_of command answer 0) refl wrote (omega (arith, same)) (omega arith) facts.faults cause (record { place = facts.keeps; cache_is = cache; cost_is = cost; format_is = format }) cut
+      (λ sizes at. facts.steps sizes state at)
 
 -- a command of a table is shut out
 pub shut-reply : (command : Command) → IsOfTable command → (shape : Shape) (m : Map) → (reply.Shut ≡ command_reply shape (machine.Closing m) (spoken command)) × (machine.Closing m ≡ command_after shape (machine.Closing m) (spoken command))
@@ -181,29 +224,18 @@ module _ {D : Type 0} (d : device.Ghosts D) (command : Command) (of_table : IsOf
       step sizes (machine.Closing m) at = absurd at
       step sizes (machine.Closed m byte) at = shut-closed command of_table (shape sizes) m byte
 
--- ---- a command
+-- a session that has no open store answers it so, and stays
+module _ {D K A E : Type 0} (d : device.Ghosts D) (k : sink.Ghosts K) (state : State) (command : Command) (of_table : IsOfTable command) (result : Result A E) (old : Session D d) (sink sink' : K) (steps : ℕ) where
+  abbrev with-bound : old.cache ≤ 4096 → Session D d
+  with-bound small = record { place = old.place; cache = old.cache; cost = old.cost; format = old.format; cut_off = old.cut_off; small = small }
 
-abbrev pub CommandTurn : {D K A E : Type 0} → table.Ghosts (Stored D) Cursor → (d : device.Ghosts D) → sink.Ghosts K → State → ℕ → Bool → spec.Command → Result A E → (old new : Place D d) → (sink sink' : K) → (steps steps' : ℕ) → (cut cut' : Bool) → Type 0
-CommandTurn t d k state cache cost command result old new sink sink' steps steps' cut cut' =
-    (turn : Turn) × Turned t d k state cache cost (Some command) result old new sink sink' steps steps' turn × (cut' ≡ cut_by_request turn.request turn.answer cut)
+  abbrev Shut : Session D d → Type 0
+  Shut new = home.Turned (store_table d) (file_home d) k state (Some (spoken command)) result old new sink sink' steps steps (turn_of (spoken command) reply.Shut 0)
 
-pub cut-table : (command : Command) → IsOfTable command → (answer : Reply) (cut : Bool) → cut ≡ cut_by_request (Some (spoken command)) answer cut
-cut-table (code.Put key value) is answer cut = refl
-cut-table (code.PutIf key seen value) is answer cut = refl
-cut-table (code.Del key) is answer cut = refl
-cut-table (code.Get key) is answer cut = refl
-cut-table (code.Stamp key) is answer cut = refl
-cut-table (code.Range low high) is answer cut = refl
-cut-table (code.Scan low most) is answer cut = refl
-cut-table code.Count is answer cut = refl
-cut-table code.Close is answer cut = absurd is
-cut-table code.Reopen is answer cut = absurd is
-
-module _ {D K A E : Type 0} (t : table.Ghosts (Stored D) Cursor) (d : device.Ghosts D) (k : sink.Ghosts K) (state : State) (cache : ℕ) (cost : Bool) (result : Result A E) (old new : Place D d) (sink sink' : K) (steps : ℕ) (cut : Bool) where
-  pub close-turn : (answer : Reply) → CloseCause d old answer new → d.kept (device_of new) ≡ d.kept (device_of old) → Wrote (reply_text cost 0 answer) result (k.written sink) (k.written sink')
-      → CommandTurn t d k state cache cost Close result old new sink sink' steps steps cut cut
-  close-turn answer cause kept wrote = (turn_of Close answer 0, turned t d k state cache cost result sink sink' steps Close old new answer wrote (close-facts d old answer new cause kept) cause, refl)
-
-  pub open-turn : (answer : Reply) → OpenCause d cache old answer new → d.kept (device_of new) ≡ d.kept (device_of old) → Wrote (reply_text cost 0 answer) result (k.written sink) (k.written sink')
-      → CommandTurn t d k state cache cost Reopen result old new sink sink' steps steps cut (cut_by answer cut)
-  open-turn answer cause kept wrote = (turn_of Reopen answer 0, turned t d k state cache cost result sink sink' steps Reopen old new answer wrote (open-facts d cache old answer new cause kept) cause, refl)
+  pub shut-turned : (small : old.cache ≤ 4096) (place : Place D d) → old.place ≡ place → table_in place ≡ None → TurnFacts d (spoken command) place reply.Shut place → Wrote (reply_text old.cost 0 reply.Shut) result (k.written sink) (k.written sink') → Shut (with-bound small)
+  shut-turned small place is none facts wrote =
+      subst (λ (bound : old.cache ≤ 4096). Shut (with-bound bound)) (le_prop old.small small)
+      (turned d k state result old old sink sink' steps steps refl (spoken command) reply.Shut wrote (subst (λ (p : Place D d). TurnFacts d (spoken command) p reply.Shut p) (sym is) facts)
+      (by-table _ _ command of_table
+      (subst (λ (x : Option (Stored D)). home.Asked (store_table d) (file_home d) k x (spoken command) result old sink (turn_of (spoken command) reply.Shut 0) old sink') (sym (ap (λ (p : Place D d). table_in p) is ∙ none)) (refl, refl)))
+      refl refl (session-keeps d old).format_is (cut-table command of_table reply.Shut old.cut_off))

@@ -1,5 +1,5 @@
 -- Behind a cache that holds the whole file, the reads of a session are few on every file of known sizes.
-use Rattle.std.proofs.Common.{◌≡◌, inl, inr, ℕ, ◌+◌, ◌^◌, ◌<◌, ◌≤◌, Bool, true, false, if◌then◌else◌, List, [], ◌∷◌, ◌++◌, length, take, sum_by, Option, Some, None, Result, Ok, Err, refl, sym, ◌∙◌, ap, subst, arith}
+use Rattle.std.proofs.Common.{◌≡◌, ◌⊎◌, inl, inr, ℕ, ◌+◌, ◌^◌, ◌<◌, ◌≤◌, Bool, true, false, if◌then◌else◌, List, [], ◌∷◌, ◌++◌, length, take, sum_by, Option, Some, None, Result, Ok, Err, refl, sym, ◌∙◌, ap, subst, arith}
 use Rattle.std.specs.Prelude.{IfSome, IsSome}
 use Rattle.std.proofs.lemmas.Bool.{false≢true}
 use Rattle.cola_cell.specs.declared.cell.Item.{Item}
@@ -14,6 +14,7 @@ use Rattle.cola_layout.specs.declared.header.Header.{Header}
 use Rattle.cola_layout.specs.Fields.{fields_of}
 use Rattle.cola_layout.specs.Header.{Fields}
 use Rattle.cola_layout.proofs.Refusing.{spelling-one}
+use Rattle.cola_opening.specs.Judged.{file_size, IsSmall, IsNoStore}
 use Rattle.cola_cell.specs.Held.{Held, Stamped}
 use Rattle.cola_spec.specs.Map.{PutOutcome, New, Old, Full, Worn, Other}
 use Rattle.cola_spec.specs.Lines.{Line}
@@ -30,17 +31,19 @@ use Rattle.cola_store.specs.declared.fault.OpenFault.{OpenFault}
 use Rattle.cola_store.specs.declared.fault.OpenFault.TheVariants as fault
 use Rattle.cola_store.specs.Store.{Stored, geometry_of, spent_of}
 use Rattle.cola_store.specs.Calls.{Searches, Steps, Refuses, Concludes, Removes, PutFollows, PutIfFollows, DeleteFollows}
-use Rattle.cola_store.specs.Create.{file_size}
 use Rattle.cola_store.specs.Close.{IsFileOf}
-use Rattle.cola_store.specs.Open.{Opens, IsSmall, IsNoStore, IsInUse, WasClosed, HasBadCell}
+use Rattle.cola_store.specs.Open.{Opens, IsInUse, WasClosed, HasBadCell}
 use Rattle.cola_store.specs.Sessions.{IsStoreOpened}
+use Rattle.cola_store.specs.Table.{store_table}
 use Rattle.cola_command.specs.declared.file.Session.{Session}
 use Rattle.cola_command.specs.declared.place.Place.{Place}
 use Rattle.cola_command.specs.declared.place.Place.TheVariants.{Open, Closing, Closed}
 use Rattle.cola_command.specs.File.{Sizes, sizes_of, HasSizes, faults_of, IsOfSizes}
 use Rattle.cola_command.specs.RunTransfers.{mutated, searched, opens, refusal_reads, request_reads, refused_reads, by_store, levels, file_blocks, cached_reads, FewCachedReads}
 use Rattle.cola_command.specs.Moves.{AreFew, KeepsCache}
-use Rattle.cola_command.specs.Turns.{Keeps, CloseCause, OpenCause, AskCause, Cause, LineLeads, LinesLead, FrontLeads, refused_reply}
+use Rattle.cola_command.specs.Home.{Point, LineLeads}
+use Rattle.cola_command.specs.Turns.{Keeps, CloseCause, OpenCause, file_home, refused_reply}
+use Rattle.cola_command.proofs.PlaceCauses.{which, AskCause, Cause, cause-place}
 use Rattle.cola_command.specs.Headline.{last_close}
 use Rattle.cola_command.proofs.CutOff.{not-faulted}
 use Rattle.cola_command.proofs.Counting.{Means, rows-calls}
@@ -182,41 +185,31 @@ module _ {K D : Type 0} (t : table.Ghosts (Stored D) Cursor) (d : device.Ghosts 
   AllCaused [] old new = new ≡ old
   AllCaused (turn ∷ turns) old new = (mid : Place D d) × (CausedTurn turn old mid × AllCaused turns mid new)
 
-  caused-append : (a b : List Turn) (old mid new : Place D d) → AllCaused a old mid → AllCaused b mid new → AllCaused (a ++ b) old new
+  pub caused-append : (a b : List Turn) (old mid new : Place D d) → AllCaused a old mid → AllCaused b mid new → AllCaused (a ++ b) old new
   caused-append [] b old mid new same next = subst (λ (p : Place D d). AllCaused b p new) same next
   caused-append (turn ∷ a) b old mid new (between, (one, rest)) next = (between, (one, caused-append a b between mid new rest next))
 
-  module _ (Stands : Session D d → Type 0) where
-    line-caused : (line : Line) (failed : Bool) (turns : List Turn) (old new : Session D d) (sink sink' : K) → LineLeads d t k Stands line failed turns old new sink sink' → old.cache ≡ cache → AllCaused turns old.place new.place
-    line-caused line failed [] old new sink sink' c same = c.cause
-    line-caused line failed (turn ∷ []) old new sink sink' c same = (
-      new.place,
-      (
-        record {
-          result = c.result;
-          from_sink = sink;
-          to_sink = sink';
-          cause = subst (λ (n : ℕ). Cause t d k n turn.request c.result old.place sink turn new.place sink') same c.cause;
-          keeps = c.keeps;
-          few = c.few;
-          faults = subst (λ (n : ℕ). KindFaults (kind_of turn.answer) (faults_of d old.place) n) (sym c.faults.1.1) c.faults.1.0;
-        },
-        refl,
-      ),
-    )
-    line-caused line failed (turn ∷ next ∷ turns) old new sink sink' c same = absurd c.cause
-
-    pub lines-caused : (lines : List Line) (turns : List Turn) (old new : Session D d) (sink sink' : K) → LinesLead d t k Stands lines turns old new sink sink' → old.cache ≡ cache → AllCaused turns old.place new.place × (new.cache ≡ cache)
-    lines-caused [] turns old new sink sink' (none, (same, same_sink)) is =
-        (subst (λ (ts : List Turn). AllCaused ts old.place new.place) (sym none) (ap (λ (s : Session D d). s.place) same), ap (λ (s : Session D d). s.cache) same ∙ is)
-    lines-caused (line ∷ lines) turns old new sink sink' (mid, (between, (now, (rest, (whole, (led, more)))))) is =
-        let others = lines-caused lines rest mid new between sink' more (led.terms.cache_is ∙ is) in
-        (subst (λ (ts : List Turn). AllCaused ts old.place new.place) (sym whole) (caused-append now rest old.place mid.place new.place (line-caused line false now old mid sink between led is) others.0), others.1)
-
-    pub front-caused : (before : List Line) (last : Line) (turns : List Turn) (old new : Session D d) (sink sink' : K) → FrontLeads d t k Stands before last turns old new sink sink' → old.cache ≡ cache → AllCaused turns old.place new.place
-    front-caused before last turns old new sink sink' f is =
-        let earlier = lines-caused before f.earlier old f.mid sink f.between f.led is in
-        subst (λ (ts : List Turn). AllCaused ts old.place new.place) (sym f.are) (caused-append f.earlier f.late old.place f.mid.place new.place earlier.0 (line-caused last true f.late f.mid new f.between sink' f.in_last earlier.1))
+-- those of lines are
+module _ {K D : Type 0} (d : device.Ghosts D) (k : sink.Ghosts K) (cache : ℕ) (known : Option Sizes) where
+  pub line-caused : (line : Line) (result : Result (Unit {0}) SinkFault) (turns : List Turn) (old new : Point (Session D d) K) → LineLeads (store_table d) (file_home d) k known line result turns old new → old.home.cache ≡ cache
+      → AllCaused (store_table d) d k cache turns old.home.place new.home.place
+  line-caused line result [] old new c same = ap (λ (s : Session D d). s.place) c.cause
+  line-caused line result (turn ∷ []) old new c same = (
+    new.home.place,
+    (
+      record {
+        result = result;
+        from_sink = old.sink;
+        to_sink = new.sink;
+        cause = subst (λ (n : ℕ). Cause (store_table d) d k n turn.request result old.home.place old.sink turn new.home.place new.sink) same (cause-place (store_table d) d k result old.home old.sink turn new.home new.sink turn.request c.cause);
+        keeps = c.keeps.place;
+        few = c.few;
+        faults = subst (λ (n : ℕ). KindFaults (kind_of turn.answer) (faults_of d old.home.place) n) (sym c.faults.1.1) c.faults.1.0;
+      },
+      refl,
+    ),
+  )
+  line-caused line result (turn ∷ next ∷ turns) old new c same = absurd c.cause
 
 -- The reads of the stores that are opened behind the first
 
@@ -366,16 +359,12 @@ module _ {K D : Type 0} (t : table.Ghosts (Stored D) Cursor) (d : device.Ghosts 
   turn-pays : (request : Option Command) (answer : Reply) (ticks : ℕ) (result : Result (Unit {0}) SinkFault) (old new : Place D d) (sink sink' : K) → Cause t d k cache request result old sink (record { request = request; answer = answer; ticks = ticks }) new sink'
       → AreFew d old → KeepsCache d old new → IsFine old → (kind_of answer ≡ FaultedStep → ⊥) → Pays (record { request = request; answer = answer; ticks = ticks }) old new
   turn-pays None answer ticks result old new sink sink' (is, same) few kept fine calm = stays-pays (record { request = None; answer = answer; ticks = ticks }) old new same fine.since
-  turn-pays (Some (Put key value)) answer ticks result old new sink sink' cause few kept fine calm = asks-pays (Put key value) answer ticks result old new sink sink' cause kept fine
-  turn-pays (Some (PutIf key seen value)) answer ticks result old new sink sink' cause few kept fine calm = asks-pays (PutIf key seen value) answer ticks result old new sink sink' cause kept fine
-  turn-pays (Some (Del key)) answer ticks result old new sink sink' cause few kept fine calm = asks-pays (Del key) answer ticks result old new sink sink' cause kept fine
-  turn-pays (Some (Get key)) answer ticks result old new sink sink' cause few kept fine calm = asks-pays (Get key) answer ticks result old new sink sink' cause kept fine
-  turn-pays (Some (Stamp key)) answer ticks result old new sink sink' cause few kept fine calm = asks-pays (Stamp key) answer ticks result old new sink sink' cause kept fine
-  turn-pays (Some (Range low high)) answer ticks result old new sink sink' cause few kept fine calm = asks-pays (Range low high) answer ticks result old new sink sink' cause kept fine
-  turn-pays (Some (Scan low most)) answer ticks result old new sink sink' cause few kept fine calm = asks-pays (Scan low most) answer ticks result old new sink sink' cause kept fine
-  turn-pays (Some Count) answer ticks result old new sink sink' cause few kept fine calm = asks-pays Count answer ticks result old new sink sink' cause kept fine
-  turn-pays (Some Close) answer ticks result old new sink sink' cause few kept fine calm = closes-pays (turn_of Close answer ticks) old new cause few fine calm
-  turn-pays (Some Reopen) answer ticks result old new sink sink' cause few kept fine calm = opens-pays answer ticks old new cause fine calm
+  turn-pays (Some command) answer ticks result old new sink sink' cause few kept fine calm = by-which (which command cause)
+    where
+      by-which : ((command ≡ Close) × CloseCause d old answer new) ⊎ (((command ≡ Reopen) × OpenCause d cache old answer new) ⊎ AskCause t d k command result old sink (turn_of command answer ticks) new sink') → Pays (turn_of command answer ticks) old new
+      by-which (inl (is, closes)) = subst (λ (c : Command). Pays (turn_of c answer ticks) old new) (sym is) (closes-pays (turn_of Close answer ticks) old new closes few fine calm)
+      by-which (inr (inl (is, reopens))) = subst (λ (c : Command). Pays (turn_of c answer ticks) old new) (sym is) (opens-pays answer ticks old new reopens fine calm)
+      by-which (inr (inr asks)) = asks-pays command answer ticks result old new sink sink' asks kept fine
 
   -- all turns
   record AllPay (turns : List Turn) (old new : Place D d) : Type 0 where

@@ -1,43 +1,42 @@
--- Lines that are carried out one after another: what one more line makes of it.
+-- A session over a file that carries out lines: what became of it so far, and what one more line makes of it.
 use Rattle.std.proofs.Common.{◌≡◌, ℕ, ◌+◌, ◌≤◌, Bool, List, [], ◌∷◌, ◌++◌, length, take, All, Option, Some, None, Result, Ok, Err, refl, sym, ap, ◌∙◌, subst, append-nil, append_assoc, arith}
-use Rattle.std.specs.Prelude.{IfSome, false, true, is_err}
+use Rattle.std.specs.Prelude.{IfSome}
 use Rattle.std.specs.List.{flat_map, slice_index_or}
 use Rattle.std.proofs.lemmas.List.{map-append}
 use Rattle.std.proofs.lemmas.List.Elements.{All-nil, All-append}
 use Rattle.std.proofs.lemmas.Grind.{flat_map-append}
 use Rattle.cola_outside.specs.Told.{Both}
 use Rattle.cola_cell.specs.declared.format.Format.{Format}
-use Rattle.cola_cursor.specs.declared.cursor.Cursor.{Cursor}
 use Rattle.cola_device.specs.declared.device.Device as device
 use Rattle.cola_io.specs.Streams.{Appended}
-use Rattle.cola_io.specs.Counted.{CountsFaults, after_fault}
 use Rattle.cola_io.specs.declared.sink.Sink as sink
 use Rattle.cola_io.specs.declared.sink.SinkFault.{SinkFault}
 use Rattle.cola_io.proofs.StreamLemmas.{Appended-none, Appended-then}
 use Rattle.cola_layout.proofs.Powers.{power-le}
-use Rattle.cola_spec.specs.Map.{Shape, empty_map}
+use Rattle.cola_spec.specs.Map.{Shape}
 use Rattle.cola_spec.specs.Lines.{Line}
 use Rattle.cola_spec.specs.Command.{Command, Put, PutIf, Del, Get, Stamp, Range, Scan, Count, Close, Reopen, line_requests}
 use Rattle.cola_spec.specs.Machine as machine
 use Rattle.cola_spec.specs.Machine.{State, Turn, Run, kind_of, turn_text, turns_text, ticks_of, faulted_steps}
 use Rattle.cola_spec.specs.Bounds.{request_bound}
-use Rattle.cola_table.specs.declared.table.Table as table
 use Rattle.cola_table.specs.Terms.{shape_of}
-use Rattle.cola_line.specs.Replied.{Wrote}
 use Rattle.cola_line.proofs.Listing.{take_beyond}
+use Rattle.cola_store.specs.Store.{levels_of}
+use Rattle.cola_store.specs.Table.{store_table}
 use Rattle.cola_command.specs.declared.file.Session.{Session}
 use Rattle.cola_command.specs.declared.place.Place.{Place}
 use Rattle.cola_command.specs.declared.place.Place.TheVariants as place
-use Rattle.cola_store.specs.Store.{Stored}
-use Rattle.cola_command.specs.File.{Sizes, shape, KeepsBehind, device_of, depth_of, format_of, faults_of, IsOfSizes}
-use Rattle.cola_command.specs.Turns.{FaultsOver, cut_after, cut_by_request, Carried, SameTerms, LineLeads, LinesLead}
-use Rattle.cola_command.specs.Headline.{Known, IsAtSome, asked, AreAsked}
-use Rattle.cola_command.specs.Moves.{AreFew, AllMove}
+use Rattle.cola_command.specs.File.{Sizes, shape, KeepsBehind, device_of, table_in, format_of, faults_of, IsOfSizes}
+use Rattle.cola_command.specs.Home.{FaultsOver, cut_after, cut_by_request, Point, point, depth_in, LineLeads, LinesLead, FrontLeads}
+use Rattle.cola_command.specs.Turns.{KeepsFormat, SessionAt, file_home}
+use Rattle.cola_command.specs.Headline.{Known, sizes_known, state_known, asked, AreAsked, WroteLines}
+use Rattle.cola_command.specs.Moves.{AllMove}
 use Rattle.cola_command.proofs.CutOff.{quiet-run}
-use Rattle.cola_command.proofs.Counting.{Means}
-use Rattle.cola_command.proofs.Settling.{line-settles}
+use Rattle.cola_command.proofs.Caching.{AllCaused, caused-append, line-caused}
+use Rattle.cola_command.proofs.Leading.{led-by}
 use Rattle.cola_command.proofs.Moving.{moves-append, line-moves}
-use Rattle.cola_command.specs.SoFar.{IsSettledAt, StillOf, RunsSoFar, BeginsAt, SoFar, WholeSoFar, FrontSoFar}
+use Rattle.cola_command.proofs.PlaceCauses.{caused-place}
+use Rattle.cola_command.proofs.Settling.{IsSettledAt, line-settles}
 
 -- Turns one after another
 
@@ -100,178 +99,180 @@ least-bound levels (Some Reopen) = omega arith
 
 module _ {D : Type 0} (d : device.Ghosts D) where
   -- the levels of a store are those of its file's sizes
-  bound-is : (sizes : Sizes) (old : Place D d) → IsOfSizes d sizes old → (request : Option Command) → request_bound (depth_of old) request ≤ request_bound (sizes.bottom + 1) request
-  bound-is sizes (place.Open store) is request = let e : depth_of {D = D} {d = d} (place.Open store) ≡ sizes.bottom + 1 = ap (λ (s : Sizes). s.bottom + 1) is.sizes_are in subst (λ n. request_bound (depth_of {D = D} {d = d} (place.Open store)) request ≤ request_bound n request) e (omega arith)
+  bound-is : (sizes : Sizes) (old : Place D d) → IsOfSizes d sizes old → (request : Option Command) → request_bound (depth_in (store_table d) (table_in old)) request ≤ request_bound (sizes.bottom + 1) request
+  bound-is sizes (place.Open store) is request =
+      let e : levels_of store ≡ sizes.bottom + 1 = ap (λ (s : Sizes). s.bottom + 1) is.sizes_are in
+      subst (λ n. request_bound (levels_of store) request ≤ request_bound n request) e (omega arith)
   bound-is sizes (place.Closing closing) is request = least-bound (sizes.bottom + 1) request
   bound-is sizes (place.Closed device) is request = least-bound (sizes.bottom + 1) request
 
   -- so is the format of lines, where it was that of the file before
-  pub format-kept : (sizes : Sizes) (now : Place D d) (last : Format) → IsOfSizes d sizes now → last ≡ sizes.format → format_of now last ≡ sizes.format
-  format-kept sizes (place.Open store) last is before = ap (λ (s : Sizes). s.format) is.sizes_are
-  format-kept sizes (place.Closing closing) last is before = before
-  format-kept sizes (place.Closed device) last is before = before
+  format-kept : (sizes : Sizes) (now : Place D d) (last before : Format) → IsOfSizes d sizes now → KeepsFormat now last before → before ≡ sizes.format → format_of now last ≡ sizes.format
+  format-kept sizes (place.Open store) last before is kept was = ap (λ (s : Sizes). s.format) is.sizes_are
+  format-kept sizes (place.Closing closing) last before is kept was = kept ∙ was
+  format-kept sizes (place.Closed device) last before is kept was = kept ∙ was
 
-  within-is : (sizes : Sizes) (old : Place D d) (turns : List Turn) → IsOfSizes d sizes old → All (λ (turn : Turn). turn.ticks ≤ request_bound (depth_of old) turn.request) turns → All (λ (turn : Turn). turn.ticks ≤ request_bound (sizes.bottom + 1) turn.request) turns
+  within-is : (sizes : Sizes) (old : Place D d) (turns : List Turn) → IsOfSizes d sizes old → All (λ (turn : Turn). turn.ticks ≤ request_bound (depth_in (store_table d) (table_in old)) turn.request) turns → All (λ (turn : Turn). turn.ticks ≤ request_bound (sizes.bottom + 1) turn.request) turns
   within-is sizes old turns is within = λ k x below. let turn = slice_index_or turns k x in let w = within k x below in let b = bound-is sizes old is turn.request in omega (arith, w, b)
 
--- Nothing yet
-module _ {D : Type 0} (d : device.Ghosts D) (first : Session D d) (steps : ℕ) where
-  runs-none : (known : Option Known) → BeginsAt d first known → IfSome known (λ known. RunsSoFar d first first known [] [])
-  runs-none None begins = tt
-  runs-none (Some known) begins = record { asks = refl; runs = record { last = machine.Open known.map; run = refl; at = begins }; moves = λ none. refl }
+-- What became of a session so far
 
-  so-far-none : (known : Option Known) → BeginsAt d first known → SoFar d first first steps steps known [] []
-  so-far-none known begins = record {
-    asks = refl;
-    counted = omega arith;
-    faults = refl;
-    kept = refl;
-    cut_off = refl;
-    cache_is = refl;
-    cost_is = refl;
-    settled = λ at. at;
-    sized = λ sizes of format. record { format_is = format; asks = refl; of_sizes = of; within = All-nil _; behind = both-same sizes (d.bytes (device_of first.place)) };
-    runs = runs-none known begins;
+-- what is known of the file holds of the session at the beginning
+abbrev pub BeginsAt : {D : Type 0} (d : device.Ghosts D) → Session D d → Option Known → Type 0
+BeginsAt d first known = IfSome known (λ known. SessionAt d known.sizes first (machine.Open known.map))
+
+module _ {K D : Type 0} (h : sink.Ghosts K) (d : device.Ghosts D) (first : Session D d) (sink : K) (steps : ℕ) where
+  -- of a session over a file of these sizes: it still is, the turns are those of the lines in its format, each turn is within the bound of its request, and the bytes stay in number, and behind the cells
+  pub record StillOf (sizes : Sizes) (lines : List Line) (turns : List Turn) (now : Session D d) : Type 0 where
+    pub format_is : format_of now.place now.format ≡ sizes.format
+    pub asks : asked turns ≡ flat_map (line_requests (shape sizes)) lines
+    pub of_sizes : IsOfSizes d sizes now.place
+    pub within : All (λ (turn : Turn). turn.ticks ≤ request_bound (sizes.bottom + 1) turn.request) turns
+    pub behind : Both (d.bytes (device_of first.place)) (d.bytes (device_of now.place)) (KeepsBehind sizes)
+
+  -- the turns are those of the lines in the file's format, and lead the session machine from the map that the store held to where the session is; and, where none is faulted, each moves the store and its device's counts as it may
+  pub record RunsSoFar (known : Known) (lines : List Line) (turns : List Turn) (now : Point (Session D d) K) : Type 0 where
+    pub asks : asked turns ≡ flat_map (line_requests (shape known.sizes)) lines
+    pub run : Run (shape known.sizes) (machine.Open known.map) turns now.state
+    pub at : SessionAt d known.sizes now.home now.state
+    pub moves : faulted_steps turns ≡ 0 → AllMove d known.sizes first.cache turns first.place now.home.place
+
+  -- lines were carried out by turns
+  pub record SoFar (known : Option Known) (lines : List Line) (turns : List Turn) (now : Point (Session D d) K) : Type 0 where
+    pub asks : AreAsked lines (asked turns)
+    pub counted : now.steps ≡ steps + ticks_of turns
+    pub faults : FaultsOver turns (faults_of d first.place) (faults_of d now.home.place)
+    pub kept : d.kept (device_of now.home.place) ≡ d.kept (device_of first.place)
+    pub cut_off : now.home.cut_off ≡ cut_after turns first.cut_off
+    pub cache_is : now.home.cache ≡ first.cache
+    pub cost_is : now.home.cost ≡ first.cost
+    pub settled : IsSettledAt d first.place first.cut_off → IsSettledAt d now.home.place now.home.cut_off
+    pub sized : (sizes : Sizes) → IsOfSizes d sizes first.place → format_of first.place first.format ≡ sizes.format → StillOf sizes lines turns now.home
+    pub caused : AllCaused (store_table d) d h first.cache turns first.place now.home.place
+    pub runs : IfSome known (λ known. RunsSoFar known lines turns now)
+
+  -- and the texts of their replies were written
+  pub record SoFarWrote (known : Option Known) (lines : List Line) (turns : List Turn) (now : Point (Session D d) K) : Type 0 where
+    pub so_far : SoFar known lines turns now
+    pub wrote : Appended (turns_text first.cost turns) (h.written sink) (h.written now.sink)
+
+  -- Nothing yet
+
+  runs-none : (known : Option Known) → BeginsAt d first known → IfSome known (λ of. RunsSoFar of [] [] (point first sink steps (state_known known)))
+  runs-none None begins = tt
+  runs-none (Some known) begins = record { asks = refl; run = refl; at = begins; moves = λ none. refl }
+
+  none-yet : (known : Option Known) → BeginsAt d first known → SoFarWrote known [] [] (point first sink steps (state_known known))
+  none-yet known begins = record {
+    so_far = record {
+      asks = refl;
+      counted = omega arith;
+      faults = refl;
+      kept = refl;
+      cut_off = refl;
+      cache_is = refl;
+      cost_is = refl;
+      settled = λ at. at;
+      sized = λ sizes of format. record { format_is = format; asks = refl; of_sizes = of; within = All-nil _; behind = both-same sizes (d.bytes (device_of first.place)) };
+      caused = refl;
+      runs = runs-none known begins;
+    };
+    wrote = Appended-none (h.written sink);
   }
 
--- the lines of a session, and one more
-module _ {D K : Type 0} (d : device.Ghosts D) (t : table.Ghosts (Stored D) Cursor) (k : sink.Ghosts K) (Stands : Session D d → Type 0) (line : Line) (b : List Turn) (mid new : Session D d) (sink' sink'' : K) (one : LineLeads d t k Stands line false b mid new sink' sink'') where
-  leads-then : (lines : List Line) (a : List Turn) (old : Session D d) (sink : K) → LinesLead d t k Stands lines a old mid sink sink' → LinesLead d t k Stands (lines ++ line ∷ []) (a ++ b) old new sink sink''
-  leads-then [] a old sink (none, (same, same_sink)) =
-      (new, (sink'', (b, ([], (ap (λ (x : List Turn). x ++ b) none ∙ sym (append-nil b), (subst (λ (s : K). LineLeads d t k Stands line false b old new s sink'') same_sink (subst (λ (s : Session D d). LineLeads d t k Stands line false b s new sink' sink'') same one), (refl, (refl, refl))))))))
-  leads-then (first ∷ lines) a old sink (next, (between, (now, (rest, (whole, (led, more)))))) =
-      (next, (between, (now, (rest ++ b, (ap (λ (x : List Turn). x ++ b) whole ∙ append_assoc now rest b, (led, leads-then lines rest next between more))))))
+  -- One more line
 
--- One more line
-module _ {D K : Type 0} (t : table.Ghosts (Stored D) Cursor) (d : device.Ghosts D) (k : sink.Ghosts K) (means : Means d.bytes d.counts t) (first mid now : Session D d) (few : AreFew d mid.place) (sink' sink'' : K) (steps steps' steps'' : ℕ) (line : Line) (result : Result (Unit {0}) SinkFault) (lines : List Line) where
-  abbrev IsCarried : State → List Turn → Type 0
-  IsCarried state more = Carried t d k state line result mid now sink' sink'' steps' steps'' more
+  module _ (line : Line) (result : Result (Unit {0}) SinkFault) (lines : List Line) (turns more : List Turn) (mid now : Point (Session D d) K) where
+    abbrev Leads : Option Sizes → Type 0
+    Leads sizes = LineLeads (store_table d) (file_home d) h sizes line result more mid now
 
-  module _ (turns more : List Turn) where
     -- of a file of known sizes
-    sized-then : (sizes : Sizes) (state : State) → IsCarried state more → SameTerms mid now → StillOf d first mid sizes lines turns → StillOf d first now sizes (lines ++ line ∷ []) (turns ++ more)
-    sized-then sizes state c same so_far = record {
-      format_is = format-kept d sizes now.place now.format (c.keeps.sizes sizes so_far.of_sizes) (same.format_is ∙ so_far.format_is);
+    sized-then : (known : Option Sizes) (sizes : Sizes) → Leads known → StillOf sizes lines turns mid.home → StillOf sizes (lines ++ line ∷ []) (turns ++ more) now.home
+    sized-then known sizes c so_far = record {
+      format_is = format-kept d sizes now.home.place now.home.format (format_of mid.home.place mid.home.format) (c.keeps.place.sizes sizes so_far.of_sizes) c.keeps.format_is so_far.format_is;
       asks =
           let line-asks : asked more ≡ line_requests (shape sizes) line = c.asks sizes.keys ∙ ap (λ f. line_requests (shape_of f sizes.keys) line) so_far.format_is in
           asked-append turns more ∙ ap (λ a. a ++ asked more) so_far.asks ∙ ap (λ a. flat_map (line_requests (shape sizes)) lines ++ a) line-asks ∙ sym (flat-last (line_requests (shape sizes)) lines line);
-      of_sizes = c.keeps.sizes sizes so_far.of_sizes;
-      within = All-append (λ (turn : Turn). turn.ticks ≤ request_bound (sizes.bottom + 1) turn.request) turns more so_far.within (within-is d sizes mid.place more so_far.of_sizes c.within);
-      behind = both-then sizes (d.bytes (device_of first.place)) (d.bytes (device_of mid.place)) (d.bytes (device_of now.place)) so_far.behind (c.keeps.behind sizes so_far.of_sizes);
+      of_sizes = c.keeps.place.sizes sizes so_far.of_sizes;
+      within = All-append (λ (turn : Turn). turn.ticks ≤ request_bound (sizes.bottom + 1) turn.request) turns more so_far.within (within-is d sizes mid.home.place more so_far.of_sizes c.within);
+      behind = both-then sizes (d.bytes (device_of first.place)) (d.bytes (device_of mid.home.place)) (d.bytes (device_of now.home.place)) so_far.behind (c.keeps.place.behind sizes so_far.of_sizes);
     }
 
     -- of a file that stands for a map
-    runs-then : (known : Known) (r : RunsSoFar d first mid known lines turns) → mid.cache ≡ first.cache → IsCarried r.runs.last more → RunsSoFar d first now known (lines ++ line ∷ []) (turns ++ more)
-    runs-then known r cache c =
-        let next = c.runs known.sizes r.runs.at in
-        let line-asks : asked more ≡ line_requests (shape known.sizes) line = c.asks known.sizes.keys ∙ ap (λ f. line_requests (shape_of f known.sizes.keys) line) r.runs.at.format_is in
+    runs-then : (known : Option Known) → Leads (sizes_known known) → mid.home.cache ≡ first.cache → IfSome known (λ known. RunsSoFar known lines turns mid) → IfSome known (λ known. RunsSoFar known (lines ++ line ∷ []) (turns ++ more) now)
+    runs-then None c cache r = tt
+    runs-then (Some known) c cache r =
+        let line-asks : asked more ≡ line_requests (shape known.sizes) line = c.asks known.sizes.keys ∙ ap (λ f. line_requests (shape_of f known.sizes.keys) line) r.at.format_is in
         record {
           asks = asked-append turns more ∙ ap (λ a. a ++ asked more) r.asks ∙ ap (λ a. flat_map (line_requests (shape known.sizes)) lines ++ a) line-asks ∙ sym (flat-last (line_requests (shape known.sizes)) lines line);
-          runs = record { last = next.last; run = run-append (shape known.sizes) turns more (machine.Open known.map) r.runs.last next.last r.runs.run next.run; at = next.at };
+          run = run-append (shape known.sizes) turns more (machine.Open known.map) mid.state now.state r.run c.runs;
+          at = c.stays;
           moves = λ none.
               let whole = faulted-append turns more in
-              let quiet = quiet-run (shape known.sizes) (machine.Open known.map) turns r.runs.last r.runs.run (omega (arith, none, whole)) tt in
-              let moved = line-moves d known.sizes t k means r.runs.last line result mid now sink' sink'' steps' steps'' more c r.runs.at quiet few (omega (arith, none, whole)) in
-              moves-append d known.sizes first.cache turns more first.place mid.place now.place (r.moves (omega (arith, none, whole))) (subst (λ n. AllMove d known.sizes n more mid.place now.place) cache moved);
+              let quiet = quiet-run (shape known.sizes) (machine.Open known.map) turns mid.state r.run (omega (arith, none, whole)) tt in
+              let moved = line-moves d known.sizes h line result more mid now c quiet (omega (arith, none, whole)) in
+              moves-append d known.sizes first.cache turns more first.place mid.home.place now.home.place (r.moves (omega (arith, none, whole))) (subst (λ n. AllMove d known.sizes n more mid.home.place now.home.place) cache moved);
         }
 
-    so-far-then : (known : Option Known) (state : State) → SoFar d first mid steps steps' known lines turns → IsCarried state more → SameTerms mid now → IfSome known (λ known. RunsSoFar d first now known (lines ++ line ∷ []) (turns ++ more))
-        → SoFar d first now steps steps'' known (lines ++ line ∷ []) (turns ++ more)
-    so-far-then known state so_far c same runs = record {
-      asks = subst (λ a. AreAsked (lines ++ line ∷ []) a) (sym (asked-append turns more)) (asks-then lines line (format_of mid.place mid.format) (asked turns) (asked more) so_far.asks (c.asks 0));
+    so-far-then : (known : Option Known) → SoFar known lines turns mid → Leads (sizes_known known) → SoFar known (lines ++ line ∷ []) (turns ++ more) now
+    so-far-then known so_far c = record {
+      asks = subst (λ a. AreAsked (lines ++ line ∷ []) a) (sym (asked-append turns more)) (asks-then lines line (format_of mid.home.place mid.home.format) (asked turns) (asked more) so_far.asks (c.asks 0));
       counted = omega (arith, so_far.counted, c.counted, ticks-append turns more);
-      faults = faults-append turns more (faults_of d first.place) (faults_of d mid.place) (faults_of d now.place) so_far.faults c.faults;
-      kept = c.keeps.kept ∙ so_far.kept;
+      faults = faults-append turns more (faults_of d first.place) (faults_of d mid.home.place) (faults_of d now.home.place) so_far.faults c.faults;
+      kept = c.keeps.place.kept ∙ so_far.kept;
       cut_off = c.cut_off ∙ ap (cut_after more) so_far.cut_off ∙ sym (cut-append turns more first.cut_off);
-      cache_is = same.cache_is ∙ so_far.cache_is;
-      cost_is = same.cost_is ∙ so_far.cost_is;
-      settled = λ begins. subst (λ (b : Bool). IsSettledAt d now.place b) (sym c.cut_off) (line-settles t d k mid.cache result mid.place sink' now.place sink'' mid.cut_off (so_far.settled begins) more c.cause);
-      sized = λ sizes of format. sized-then sizes state c same (so_far.sized sizes of format);
-      runs = runs;
+      cache_is = c.keeps.cache_is ∙ so_far.cache_is;
+      cost_is = c.keeps.cost_is ∙ so_far.cost_is;
+      settled = λ begins. subst (λ (b : Bool). IsSettledAt d now.home.place b) (sym c.cut_off)
+          (line-settles (store_table d) d h mid.home.cache result mid.home.place mid.sink now.home.place now.sink mid.home.cut_off (so_far.settled begins) more (caused-place (store_table d) d h result mid.home mid.sink more now.home now.sink c.cause));
+      sized = λ sizes of format. sized-then (sizes_known known) sizes c (so_far.sized sizes of format);
+      caused = caused-append (store_table d) d h first.cache turns more first.place mid.home.place now.home.place so_far.caused (line-caused d h first.cache (sizes_known known) line result more mid now c so_far.cache_is);
+      runs = runs-then known c so_far.cache_is so_far.runs;
     }
 
-  -- the turns of one more line, behind those so far
-  record Then (known : Option Known) (turns : List Turn) : Type 0 where
-    more : List Turn
-    wrote : Wrote (turns_text mid.cost more) result (k.written sink') (k.written sink'')
-    leads : (failed : Bool) → is_err result ≡ failed → LineLeads d t k (IsAtSome d known) line failed more mid now sink' sink''
-    so_far : SoFar d first now steps steps'' known (lines ++ line ∷ []) (turns ++ more)
+  text-then : (cost : Bool) (turns more : List Turn) → cost ≡ first.cost → turns_text first.cost turns ++ turns_text cost more ≡ turns_text first.cost (turns ++ more)
+  text-then cost turns more same = ap (λ c. turns_text first.cost turns ++ turns_text c more) same ∙ sym (flat_map-append (turn_text first.cost) turns more)
 
-  line-leads : (known : Option Known) → IsAtSome d known mid → (state : State) (more : List Turn) → IsCarried state more → SameTerms mid now → (failed : Bool) → is_err result ≡ failed → LineLeads d t k (IsAtSome d known) line failed more mid now sink' sink''
-  line-leads known stands state more c same failed is = record {
-    stands = stands;
-    asks = c.asks;
-    result = result;
-    failed_is = is;
-    wrote = c.wrote;
-    within = c.within;
-    faults = c.faults;
-    cause = c.cause;
-    keeps = c.keeps;
-    few = few;
-    terms = same;
+  one-more : (known : Option Known) (lines : List Line) (turns more : List Turn) (line : Line) (mid now : Point (Session D d) K) → SoFarWrote known lines turns mid → LineLeads (store_table d) (file_home d) h (sizes_known known) line (Ok tt) more mid now
+      → SoFarWrote known (lines ++ line ∷ []) (turns ++ more) now
+  one-more known lines turns more line mid now before c = record {
+    so_far = so-far-then line (Ok tt) lines turns more mid now known before.so_far c;
+    wrote = subst (λ text. Appended text (h.written sink) (h.written now.sink)) (text-then mid.home.cost turns more before.so_far.cost_is)
+        (Appended-then (turns_text first.cost turns) (turns_text mid.home.cost more) (h.written sink) (h.written mid.sink) (h.written now.sink) before.wrote c.wrote);
   }
 
-  then-line : ((state : State) → (more : List Turn) × IsCarried state more) → SameTerms mid now → (known : Option Known) (turns : List Turn) → SoFar d first mid steps steps' known lines turns → Then known turns
-  then-line carried same None turns so_far =
-      let state = machine.Open empty_map in
-      let one = carried state in
-      record { more = one.0; wrote = one.1.wrote; leads = line-leads None tt state one.0 one.1 same; so_far = so-far-then turns one.0 None state so_far one.1 same tt }
-  then-line carried same (Some known) turns so_far =
-      let state = so_far.runs.runs.last in
-      let one = carried state in
-      record { more = one.0; wrote = one.1.wrote; leads = line-leads (Some known) (so_far.runs.runs.last, so_far.runs.runs.at) state one.0 one.1 same; so_far = so-far-then turns one.0 (Some known) state so_far one.1 same (runs-then turns one.0 known so_far.runs so_far.cache_is one.1) }
+  -- Lines
 
-text-then : (cost cost' : Bool) (turns more : List Turn) → cost' ≡ cost → turns_text cost turns ++ turns_text cost' more ≡ turns_text cost (turns ++ more)
-text-then cost cost' turns more same = ap (λ c. turns_text cost turns ++ turns_text c more) same ∙ sym (flat_map-append (turn_text cost) turns more)
+  module _ (known : Option Known) (begins : BeginsAt d first known) where
+    abbrev start : Point (Session D d) K
+    start = point first sink steps (state_known known)
 
--- the count of faults stays where a call succeeds, and rises by one where it is refused
-pub counts-ok : {A E : Type 0} (result : Result A E) (done : A) (before now : ℕ) → result ≡ Ok done → CountsFaults result before now → now ≡ before
-counts-ok result done before now is counts = subst (λ r. CountsFaults r before now) is counts
+    pub lines-then : (lines : List Line) (turns : List Turn) (now : Point (Session D d) K) → LinesLead (store_table d) (file_home d) h (sizes_known known) lines turns start now → SoFarWrote known lines turns now
+    lines-then = led-by (store_table d) (file_home d) h (sizes_known known) (SoFarWrote known) (one-more known) [] [] start (none-yet known begins)
 
-pub counts-err : {A E : Type 0} (result : Result A E) (failed : E) (before now : ℕ) → result ≡ Err failed → CountsFaults result before now → now ≡ after_fault before
-counts-err result failed before now is counts = subst (λ r. CountsFaults r before now) is counts
+    -- and one in whose reply the sink failed
+    pub record FrontSoFar (before : List Line) (last : Line) (turns : List Turn) (now : Point (Session D d) K) : Type 0 where
+      pub so_far : SoFar known (before ++ last ∷ []) turns now
+      pub wrote : WroteLines first.cost before turns (h.written sink) (h.written now.sink)
 
-module _ {D K : Type 0} (t : table.Ghosts (Stored D) Cursor) (d : device.Ghosts D) (k : sink.Ghosts K) (first : Session D d) (sink : K) (steps : ℕ) where
-  -- nothing is written at the beginning
-  pub whole-none : WholeSoFar k d t first first sink sink steps steps []
-  whole-none known begins = record { turns = []; so_far = so-far-none d first steps known begins; led = (refl, (refl, refl)); wrote = Appended-none (k.written sink) }
-
-module _ {D K : Type 0} (t : table.Ghosts (Stored D) Cursor) (d : device.Ghosts D) (k : sink.Ghosts K) (means : Means d.bytes d.counts t) (first mid now : Session D d) (few : AreFew d mid.place) (sink sink' sink'' : K) (steps steps' steps'' : ℕ) (line : Line) (lines : List Line) (result : Result (Unit {0}) SinkFault) (before : WholeSoFar k d t first mid sink sink' steps steps' lines) (same : SameTerms mid now)
-    (carried : (state : State) → (more : List Turn) × Carried t d k state line result mid now sink' sink'' steps' steps'' more) where
-  -- the line was carried out, and its reply written
-  pub whole-then : (done : Unit {0}) → result ≡ Ok done → WholeSoFar k d t first now sink sink'' steps steps'' (lines ++ line ∷ [])
-  whole-then done is known begins =
-      let old = before known begins in
-      let one = then-line t d k means first mid now few sink' sink'' steps steps' steps'' line result lines carried same known old.turns old.so_far in
-      record {
-        turns = old.turns ++ one.more;
-        so_far = one.so_far;
-        led = leads-then d t k (IsAtSome d known) line one.more mid now sink' sink'' (one.leads false (ap is_err is)) lines old.turns first sink old.led;
-        wrote = subst (λ text. Appended text (k.written sink) (k.written sink'')) (text-then first.cost mid.cost old.turns one.more old.so_far.cost_is)
-            (Appended-then (turns_text first.cost old.turns) (turns_text mid.cost one.more) (k.written sink) (k.written sink') (k.written sink'') old.wrote (subst (λ r. Wrote (turns_text mid.cost one.more) r (k.written sink') (k.written sink'')) is one.wrote));
-      }
-
-  -- the line was carried out, and some front of its reply written
-  pub front-then : (failed : SinkFault) → result ≡ Err failed → FrontSoFar k d t first now sink sink'' steps steps'' lines line
-  front-then failed is known begins =
-      let old = before known begins in
-      let one = then-line t d k means first mid now few sink' sink'' steps steps' steps'' line result lines carried same known old.turns old.so_far in
-      let wrote : (n : ℕ) × Appended (take n (turns_text mid.cost one.more)) (k.written sink') (k.written sink'') = subst (λ r. Wrote (turns_text mid.cost one.more) r (k.written sink') (k.written sink'')) is one.wrote in
-      let size = length (turns_text first.cost old.turns) + wrote.0 in
-      record {
-        turns = old.turns ++ one.more;
-        so_far = one.so_far;
-        led = record { earlier = old.turns; late = one.more; are = refl; mid = mid; between = sink'; led = old.led; in_last = one.leads true (ap is_err is) };
-        wrote = record {
-          earlier = old.turns;
-          late = one.more;
-          are = refl;
-          asks = old.so_far.asks;
-          size = size;
-          least = omega arith;
-          wrote = subst (λ text. Appended text (k.written sink) (k.written sink''))
-              (sym (take_beyond (turns_text first.cost old.turns) (turns_text mid.cost one.more) wrote.0) ∙ ap (take size) (text-then first.cost mid.cost old.turns one.more old.so_far.cost_is))
-              (Appended-then (turns_text first.cost old.turns) (take wrote.0 (turns_text mid.cost one.more)) (k.written sink) (k.written sink') (k.written sink'') old.wrote wrote.1);
-        };
-      }
+    pub front-then : (before : List Line) (last : Line) (turns : List Turn) (now : Point (Session D d) K) → FrontLeads (store_table d) (file_home d) h (sizes_known known) before last turns start now → FrontSoFar before last turns now
+    front-then before last turns now f =
+        let old = lines-then before f.earlier f.mid f.led in
+        let n = f.in_last.wrote.0 in
+        let size = length (turns_text first.cost f.earlier) + n in
+        record {
+          so_far = subst (λ (ts : List Turn). SoFar known (before ++ last ∷ []) ts now) (sym f.are) (so-far-then last (Err f.fault) before f.earlier f.late f.mid now known old.so_far f.in_last);
+          wrote = record {
+            earlier = f.earlier;
+            late = f.late;
+            are = f.are;
+            asks = old.so_far.asks;
+            front = record {
+              size = size;
+              least_is = omega arith;
+              wrote = subst (λ text. Appended text (h.written sink) (h.written now.sink))
+                  (sym (take_beyond (turns_text first.cost f.earlier) (turns_text f.mid.home.cost f.late) n) ∙ ap (take size) (text-then f.mid.home.cost f.earlier f.late old.so_far.cost_is ∙ ap (turns_text first.cost) (sym f.are)))
+                  (Appended-then (turns_text first.cost f.earlier) (take n (turns_text f.mid.home.cost f.late)) (h.written sink) (h.written f.mid.sink) (h.written now.sink) old.wrote f.in_last.wrote.1);
+            };
+          };
+        }

@@ -19,21 +19,19 @@ use Rattle.cola_spec.specs.Reply as reply
 use Rattle.cola_spec.specs.Reply.{Reply}
 use Rattle.cola_spec.specs.Machine.{State, Open, Closing, Closed, Turn, Kind, PlainStep, FaultedStep, ShortStep, StepOf, ShortOfMemory, Run, kind_of, faulted_steps}
 use Rattle.cola_image.specs.Standing.{FileStandsFor}
-use Rattle.cola_store.specs.Store.{Stored}
-use Rattle.cola_table.specs.declared.table.Table as table
-use Rattle.cola_cursor.specs.declared.cursor.Cursor.{Cursor}
 use Rattle.cola_store.specs.declared.fault.OpenFault.{OpenFault}
 use Rattle.cola_store.specs.declared.fault.OpenFault.TheVariants as fault
 use Rattle.cola_store.specs.Sessions.{MetFault}
 use Rattle.cola_store.proofs.OpenLaws.{opens-to}
-use Rattle.cola_command.specs.Memory.{input_limit}
-use Rattle.cola_command.specs.Ends.{ReadToEnd}
+use Rattle.cola_command.specs.Ends.{Ending, Well, Ill, ReadToEnd, NothingFails, SessionEnds, NotBegun, Status0, Status3, Status4, Status5, Status9}
+use Rattle.cola_command.specs.Reading.{input_limit}
 use Rattle.cola_command.specs.File.{Sizes, shape, sizes_in}
-use Rattle.cola_command.specs.Headline.{FileEnds, Unopened, Status0, Status3, Status4, Status5, Status9, StandsAs, EndsWell, IsLeftWhole, NotOpened, WroteAll, Whole, asked, last_close, refusal_status}
-use Rattle.cola_command.specs.HeadlineLaws.{PlainRun, NothingFails, AnsweredPlainly, TransferredFew, Completes, Answered, OutOfMemory}
+use Rattle.cola_status.specs.Statuses.{refusal_status}
+use Rattle.cola_command.specs.Headline.{FileEnds, StandsAs, NotOpened, WroteAll, CarriesAll, asked, last_close}
+use Rattle.cola_command.specs.HeadlineLaws.{PlainRun, NoneFails, AnsweredPlainly, TransferredFew, Completes, Answered, OutOfMemory}
 use Rattle.cola_command.proofs.CutOff.{not-faulted, only-reopened}
 use Rattle.cola_command.proofs.Carrying.{faulted-append}
-use Rattle.cola_command.proofs.Ending.{with-carried}
+use Rattle.cola_command.proofs.Sessions.{with-carried}
 use Rattle.cola_command.proofs.HeadlineLaws.{by-count, faults-rise, ill-counts}
 
 -- Plain turns
@@ -130,14 +128,24 @@ stands-sized m (Some bytes) (header, stands) = (sizes_in header, record { header
 
 -- Completeness
 
-module _ {S K D : Type 0} (g : source.Ghosts S) (h : sink.Ghosts K) (d : device.Ghosts D) (t : table.Ghosts (Stored D) Cursor) (cache : ℕ) (cost : Bool) (m : Map) (source source' : S) (sink sink' : K) (device device' : D) (steps steps' : ℕ) where
+-- where the source and the sink did not fail, and few bytes were read, a session did not begin, or met the end of its source
+pub met-end : {S K : Type 0} (g : source.Ghosts S) (h : sink.Ghosts K) (source source' : S) (sink sink' : K) (R : ℕ → Type 0) (B : Ending → List Line → Type 0) (F : List Line → Line → Type 0) (status : ℕ) → SessionEnds g h source source' sink sink' R B F status → NothingFails g h source source' sink sink'
+    → R status ⊎ (((status ≡ 0) × ReadToEnd g h source source' sink sink' (B Well)) ⊎ ((status ≡ 5) × ReadToEnd g h source source' sink sink' (B Ill)))
+met-end g h source source' sink sink' R B F status (NotBegun refused) sound = inl refused
+met-end g h source source' sink sink' R B F status (Status0 is ends) sound = inr (inl (is, ends))
+met-end g h source source' sink sink' R B F status (Status3 is ends) sound = absurd (sound.source_answers (omega (arith, ends.source_faults)))
+met-end g h source source' sink sink' R B F status (Status4 is ends) sound = absurd (sound.sink_answers (omega (arith, ends.sink_faults)))
+met-end g h source source' sink sink' R B F status (Status5 is ends) sound = inr (inr (is, ends))
+met-end g h source source' sink sink' R B F status (Status9 is ends) sound = absurd (omega (arith, ends.all, sound.few ends.lines ends.reads ends.read))
+
+module _ {S K D : Type 0} (g : source.Ghosts S) (h : sink.Ghosts K) (d : device.Ghosts D) (cache : ℕ) (cost : Bool) (m : Map) (source source' : S) (sink sink' : K) (device device' : D) (steps steps' : ℕ) where
   -- the session from the map that the file stood for
-  from-map : (lines : List Line) → IsSomeAnd (d.bytes device) (λ bytes. FileStandsFor bytes m) → Whole h d t cache cost sink sink' device device' steps steps' IsLeftWhole EndsWell lines
-      → (sizes : Sizes) × (IsSomeAnd (d.bytes device) (StandsAs sizes m) × WroteAll h d t cache cost sink sink' device device' steps steps' IsLeftWhole EndsWell (Some (record { sizes = sizes; map = m })) lines)
+  from-map : (lines : List Line) → IsSomeAnd (d.bytes device) (λ bytes. FileStandsFor bytes m) → CarriesAll h d cache cost sink sink' device device' steps steps' Well lines
+      → (sizes : Sizes) × (IsSomeAnd (d.bytes device) (StandsAs sizes m) × WroteAll h d cache cost sink sink' device device' steps steps' Well (Some (record { sizes = sizes; map = m })) lines)
   from-map lines stands whole = let stood = stands-sized m (d.bytes device) stands in (stood.0, (stood.1, whole (Some (record { sizes = stood.0; map = m })) stood.1))
 
   -- all lines were answered plainly, and the file stands for the last map
-  plainly : (lines : List Line) → IsSomeAnd (d.bytes device) (λ bytes. FileStandsFor bytes m) → (Rose (d.counts device).faults (d.counts device').faults → ⊥) → Whole h d t cache cost sink sink' device device' steps steps' IsLeftWhole EndsWell lines → AnsweredPlainly h d cost m sink sink' device device' lines
+  plainly : (lines : List Line) → IsSomeAnd (d.bytes device) (λ bytes. FileStandsFor bytes m) → (Rose (d.counts device).faults (d.counts device').faults → ⊥) → CarriesAll h d cache cost sink sink' device device' steps steps' Well lines → AnsweredPlainly h d cost m sink sink' device device' lines
   plainly lines stands calm whole =
       let session = from-map lines stands whole in
       let all = session.1.1 in
@@ -164,24 +172,25 @@ module _ {S K D : Type 0} (g : source.Ghosts S) (h : sink.Ghosts K) (d : device.
   no-memory why (inl none) calm = none
   no-memory why (inr met) calm = absurd (calm met.1)
 
-  pub completes : (status : ℕ) → FileEnds g h d t cache cost source source' sink sink' device device' steps steps' status → NothingFails g h d m source source' sink sink' device device' → Completes g h d cache cost m source source' sink sink' device device' steps steps' status
-  completes status (Unopened why is refused) sound =
-      let none : why ≡ fault.OutOfMemory = no-memory why (opens-to d cache device m (Err (device', why)) sound.stands refused.refused) sound.device_answers in
-      OutOfMemory (is ∙ ap refusal_status none) (subst (λ (f : OpenFault). NotOpened g h d cache cost source source' sink sink' device device' steps steps' f) none refused)
-  completes status (Status0 is ends) sound = Answered is (with-carried g h source source' sink sink' _ _ (λ lines. plainly lines sound.stands sound.device_answers) ends)
-  completes status (Status3 is ends) sound = absurd (sound.source_answers (omega (arith, ends.source_faults)))
-  completes status (Status4 is ends) sound = absurd (sound.sink_answers (omega (arith, ends.sink_faults)))
-  completes status (Status5 is ends) sound =
-      let all = ends.carried None tt in
-      let rose = faults-rise (all.turns ++ last_close all.answer ∷ []) (d.counts device).faults (d.counts device').faults all.carried.faults in
-      let some = ill-counts all.turns all.answer all.ends in
-      absurd (sound.device_answers (omega (arith, rose, some)))
-  completes status (Status9 is ends) sound = absurd (omega (arith, ends.all, sound.few ends.lines ends.reads ends.read))
+  pub completes : (status : ℕ) → FileEnds g h d cache cost source source' sink sink' device device' steps steps' status → NoneFails g h d m source source' sink sink' device device' → Completes g h d cache cost m source source' sink sink' device device' steps steps' status
+  completes status ends sound = by-end (met-end g h source source' sink sink' _ _ _ status ends sound.nothing)
+    where
+      by-end : NotOpened g h d cache cost source source' sink sink' device device' steps steps' status
+          ⊎ (((status ≡ 0) × ReadToEnd g h source source' sink sink' (CarriesAll h d cache cost sink sink' device device' steps steps' Well)) ⊎ ((status ≡ 5) × ReadToEnd g h source source' sink sink' (CarriesAll h d cache cost sink sink' device device' steps steps' Ill)))
+          → Completes g h d cache cost m source source' sink sink' device device' steps steps' status
+      by-end (inl refused) =
+          OutOfMemory (refused.status_is ∙ ap refusal_status (no-memory refused.why (opens-to d cache device m (Err (device', refused.why)) sound.stands refused.refused) sound.device_answers)) refused
+      by-end (inr (inl (is, all))) = Answered is (with-carried g h source source' sink sink' _ _ (λ lines. plainly lines sound.stands sound.device_answers) all)
+      by-end (inr (inr (is, ill))) =
+          let all = ill.carried None tt in
+          let rose = faults-rise (all.turns ++ last_close all.answer ∷ []) (d.counts device).faults (d.counts device').faults all.carried.faults in
+          let some = ill-counts all.turns all.answer all.ends in
+          absurd (sound.device_answers (omega (arith, rose, some)))
 
   -- Reads and writes
 
   few-for : (reads : List Read) (lines : List Line) → lines ≡ all_lines (bytes_read reads) → length (bytes_read reads) < input_limit → IsSomeAnd (d.bytes device) (λ bytes. FileStandsFor bytes m) → (Rose (d.counts device).faults (d.counts device').faults → ⊥)
-      → Whole h d t cache cost sink sink' device device' steps steps' IsLeftWhole EndsWell lines → TransferredFew h d cost m sink sink' device device' cache lines
+      → CarriesAll h d cache cost sink sink' device device' steps steps' Well lines → TransferredFew h d cost m sink sink' device device' cache lines
   few-for reads lines all fewer stands calm whole =
       let session = from-map lines stands whole in
       let one = session.1.1 in
@@ -195,11 +204,11 @@ module _ {S K D : Type 0} (g : source.Ghosts S) (h : sink.Ghosts K) (d : device.
         few = runs.few calm (turns-few (shape session.0) one.turns lines (bytes_read reads) input_limit runs.asks all fewer);
       }
 
-  pub transfers-few : FileEnds g h d t cache cost source source' sink sink' device device' steps steps' 0 → IsSomeAnd (d.bytes device) (λ bytes. FileStandsFor bytes m) → (Rose (d.counts device).faults (d.counts device').faults → ⊥)
+  pub transfers-few : FileEnds g h d cache cost source source' sink sink' device device' steps steps' 0 → IsSomeAnd (d.bytes device) (λ bytes. FileStandsFor bytes m) → (Rose (d.counts device).faults (d.counts device').faults → ⊥)
       → ReadToEnd g h source source' sink sink' (TransferredFew h d cost m sink sink' device device' cache)
-  transfers-few (Unopened why is refused) stands calm =
-      let none : why ≡ fault.OutOfMemory = no-memory why (opens-to d cache device m (Err (device', why)) stands refused.refused) calm in
-      let one : 0 ≡ 1 = is ∙ ap refusal_status none in
+  transfers-few (NotBegun refused) stands calm =
+      let none : refused.why ≡ fault.OutOfMemory = no-memory refused.why (opens-to d cache device m (Err (device', refused.why)) stands refused.refused) calm in
+      let one : 0 ≡ 1 = refused.status_is ∙ ap refusal_status none in
       absurd (omega (arith, one))
   transfers-few (Status0 is ends) stands calm = record {
     reads = ends.reads;

@@ -6,6 +6,7 @@ use Rattle.cola_cell.specs.declared.fault.StepFault.{StepFault}
 use Rattle.cola_cell.specs.Held.{Stamped}
 use Rattle.cola_cursor.specs.declared.cursor.Cursor.{Cursor}
 use Rattle.cola_device.specs.declared.counts.Counts.{Counts}
+use Rattle.cola_device.specs.declared.device.Device as device
 use Rattle.cola_io.specs.declared.sink.Sink as sink
 use Rattle.cola_spec.specs.Map.{Map, PutOutcome, New, Old, Full, Worn, Other}
 use Rattle.cola_spec.specs.Bounds.{put_bound}
@@ -24,6 +25,7 @@ use Rattle.cola_store.specs.Walks.{Begins, Goes}
 use Rattle.cola_store.proofs.Rising.{search-reads, put-turn, put-if-turn, delete-turn}
 use Rattle.cola_command.specs.RunTransfers.{mutated, searched, AsksNoRows}
 use Rattle.cola_command.specs.Moves.{CountsCall}
+use Rattle.cola_store.specs.Table.{store_table}
 
 -- a count that does not come to the last value
 counted-more : (most n more now : ℕ) → now ≡ min (n + more) most → n + more < most → now ≡ n + more
@@ -63,7 +65,7 @@ module _ {D : Type 0} (bytes : D → Option (List ℕ)) (counts : D → Counts) 
   search-calls old mid key search s = record {
     opened_is = ap (λ (a : Account). a.opened) s.counted;
     calm_is = ap (λ (a : Account). a.calm) s.counted;
-    steps_are = λ few. let e = ap (λ (a : Account). a.steps) s.counted in omega (arith, e);
+    steps_are = λ few. let e = s.same.steps_are in omega (arith, e);
     searches_are = λ few. counted-more last_value old.account.searches 1 mid.account.searches (ap (λ (a : Account). a.searches) s.counted) few;
     reads_rise = let e = s.same.reads_are in omega (arith, e);
     writes_rise = let e = s.same.writes_are in omega (arith, e);
@@ -80,7 +82,7 @@ module _ {D : Type 0} (bytes : D → Option (List ℕ)) (counts : D → Counts) 
       record {
         opened_is = ap (λ (x : Account). x.opened) account ∙ ap (λ (x : Account). x.opened) s.counted;
         calm_is = ap (λ (x : Account). x.calm) account ∙ ap (λ (x : Account). x.calm) s.counted;
-        steps_are = λ few. counted-more last_value old.account.steps 1 new.account.steps (ap (λ (x : Account). x.steps) account ∙ ap (λ (x : Account). min (x.steps + 1) last_value) s.counted) few;
+        steps_are = λ few. counted-more last_value old.chain.accepted 1 new.chain.accepted (step.counts_step.0 ∙ ap (λ (n : ℕ). min (n + 1) last_value) s.same.steps_are) few;
         searches_are = λ few. counted-more last_value old.account.searches 1 new.account.searches (ap (λ (x : Account). x.searches) account ∙ ap (λ (x : Account). x.searches) s.counted) few;
         reads_rise = rises-within (put_bound (levels_of old)) before.turned between.turned after.turned before.written between.written after.written old.chain.reads mid.chain.reads new.chain.reads
             within.transfers s.reads.turned_stays s.reads.written_is step.turned_stays step.written_stays step.counts_step.1 s.same.reads_are;
@@ -137,23 +139,24 @@ module _ {D : Type 0} (bytes : D → Option (List ℕ)) (counts : D → Counts) 
   -- nothing that is counted changed
   record Uncounted (old new : Stored D) : Type 0 where
     account_is : new.account ≡ old.account
+    steps_are : new.chain.accepted ≡ old.chain.accepted
     reads_are : new.chain.reads ≡ old.chain.reads
     writes_are : new.chain.writes ≡ old.chain.writes
 
   uncounted-none : (old new : Stored D) → new ≡ old → Uncounted old new
-  uncounted-none old new same = subst (λ (x : Stored D). Uncounted old x) (sym same) (record { account_is = refl; reads_are = refl; writes_are = refl })
+  uncounted-none old new same = subst (λ (x : Stored D). Uncounted old x) (sym same) (record { account_is = refl; steps_are = refl; reads_are = refl; writes_are = refl })
 
   uncounted-then : (old mid new : Stored D) → Uncounted old mid → Uncounted mid new → Uncounted old new
-  uncounted-then old mid new a b = record { account_is = b.account_is ∙ a.account_is; reads_are = b.reads_are ∙ a.reads_are; writes_are = b.writes_are ∙ a.writes_are }
+  uncounted-then old mid new a b = record { account_is = b.account_is ∙ a.account_is; steps_are = b.steps_are ∙ a.steps_are; reads_are = b.reads_are ∙ a.reads_are; writes_are = b.writes_are ∙ a.writes_are }
 
   uncounted-same : (old new : Stored D) → Same bytes counts old new → new.account ≡ old.account → Uncounted old new
-  uncounted-same old new same account = record { account_is = account; reads_are = same.reads_are; writes_are = same.writes_are }
+  uncounted-same old new same account = record { account_is = account; steps_are = same.steps_are; reads_are = same.reads_are; writes_are = same.writes_are }
 
   calls-uncounted : (old new : Stored D) → Uncounted old new → CountsCall old new 0 0
   calls-uncounted old new u = record {
     opened_is = ap (λ (a : Account). a.opened) u.account_is;
     calm_is = ap (λ (a : Account). a.calm) u.account_is;
-    steps_are = λ few. let e = ap (λ (a : Account). a.steps) u.account_is in omega (arith, e);
+    steps_are = λ few. let e = u.steps_are in omega (arith, e);
     searches_are = λ few. let e = ap (λ (a : Account). a.searches) u.account_is in omega (arith, e);
     reads_rise = let e = u.reads_are in omega (arith, e);
     writes_rise = let e = u.writes_are in omega (arith, e);
@@ -216,3 +219,7 @@ module _ {D : Type 0} (bytes : D → Option (List ℕ)) (counts : D → Counts) 
         record { calls = counts-as old new answer (reply.Counted old.count) 0 0 a.0 refl refl (calls-uncounted old new (uncounted-none old new a.1)); reads_kept = λ none has. subst (λ (x : Stored D). HasRead counts x) (sym a.1) has }
     turn-counts Close answer ticks result old new sink sink' m holds fine given = absurd (means.answers old (turn_of Close answer ticks) new given)
     turn-counts Reopen answer ticks result old new sink sink' m holds fine given = absurd (means.answers old (turn_of Reopen answer ticks) new given)
+
+-- an open store as a table has these meanings
+pub table-means : {D : Type 0} (d : device.Ghosts D) → Means d.bytes d.counts (store_table d)
+table-means d = record { answers = λ old turn new a. a; begins = λ old low high result new b. b; goes = λ old walk result new after g. g }

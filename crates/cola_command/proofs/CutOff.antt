@@ -4,7 +4,7 @@ use Rattle.cola_spec.specs.Map.{Shape, Map, count}
 use Rattle.cola_spec.specs.Command.{Command, Put, PutIf, Del, Get, Stamp, Range, Scan, Count, Close, Reopen}
 use Rattle.cola_spec.specs.Reply.{Reply, Failed, Fault, Opened, Refused, NotClosed, NotStore}
 use Rattle.cola_spec.specs.Machine.{State, Open, Closing, Closed, Turn, Kind, PlainStep, FaultedStep, ShortStep, StepOf, Run, kind_of, by_command, reopen_after, faulted_one, faulted_steps, plain_reply, plain_after, command_reply, command_after, open_after, OpenFaulted, CommandFaulted, ShortOfMemory}
-use Rattle.cola_command.specs.Turns.{cut_by, cut_by_request, cut_after}
+use Rattle.cola_command.specs.Home.{cut_by, cut_by_request, cut_after}
 
 -- a closed store has the state byte 0, but behind an opening that met a fault
 abbrev pub Safe : State → Bool → Type 0

@@ -19,30 +19,29 @@ use Rattle.cola_spec.specs.Machine as machine
 use Rattle.cola_spec.specs.Machine.{State, Turn, PlainStep, FaultedStep, kind_of, turns_text, ticks_of, faulted_one, faulted_steps}
 use Rattle.cola_image.specs.Standing.{HeaderStandsFor, with_state}
 use Rattle.cola_store.specs.declared.closing.Closing.{Closing}
-use Rattle.cola_store.specs.Store.{Stored}
-use Rattle.cola_table.specs.declared.table.Table as table
-use Rattle.cola_cursor.specs.declared.cursor.Cursor.{Cursor}
+use Rattle.cola_store.specs.Table.{store_table}
 use Rattle.cola_command.specs.declared.file.Session.{Session}
 use Rattle.cola_command.specs.declared.place.Place.{Place}
 use Rattle.cola_command.specs.declared.place.Place.TheVariants as place
+use Rattle.cola_command.specs.Ends.{Ending, Well, Ill, Anyhow, ReadToEnd, NotBegun, Status0, Status3, Status4, Status5, Status9}
 use Rattle.cola_command.specs.File.{Sizes, shape, KeepsBehind, StandsBut, device_of, format_of, faults_of, IsOfSizes, IsAt}
-use Rattle.cola_command.specs.Turns.{FaultsOver, cut_after, CloseCause, StepsTo, Begun, Ended, is_closed}
-use Rattle.cola_command.specs.Ends.{ReadToEnd}
-use Rattle.cola_command.specs.Headline.{StandsAs, Known, IsKnown, IsAtSome, IsLeft, IsLeftWhole, last_close, StaysWithin, RunsToEnd, CarriedOut, WroteFront, EndsWell, EndsIll, EndsAnyhow, Whole, Front, FileEnds, Status0, Status3, Status4, Status5, Status9}
-use Rattle.cola_command.specs.SoFar.{BeginsAt, IsSettledAt, StillOf, RunsSoFar, SoFar, WholeSoFar, FrontSoFar, LinesEnd, Lines0, Lines3, Lines4, Lines9, end_status, EndsAfter}
-use Rattle.cola_command.proofs.PlaceTurns.{TurnFacts, stands-now, close-facts}
-use Rattle.cola_command.proofs.Reopening.{open-facts}
-use Rattle.cola_command.specs.Memory.{input_limit}
-use Rattle.cola_command.specs.RunTransfers.{short, FewTransfers, FewCachedReads}
+use Rattle.cola_command.specs.Headline.{StandsAs, Known, IsKnown, sizes_known, state_known, IsLeft, IsLeftWhole, LeftBy, EndsBy, last_close, StaysWithin, RunsToEnd, CarriedOut, WroteLines, WroteAll, WroteSome, CarriesAll, CarriesFront, FileEnds}
+use Rattle.cola_command.specs.Home.{FaultsOver, cut_after, Point, point, IsAtSome, LinesLead, FrontLeads, AllLead, FrontLead, LinesEnd}
 use Rattle.cola_command.specs.Moves.{AreFew, Moves, AllMove}
+use Rattle.cola_command.specs.Reading.{input_limit}
+use Rattle.cola_command.specs.RunTransfers.{short, FewTransfers, FewCachedReads}
+use Rattle.cola_command.specs.Turns.{CloseCause, Begun, Ended, EndsAfter, is_closed, end_status, file_home}
+use Rattle.cola_command.proofs.Caching.{AllCaused, few-cached}
+use Rattle.cola_command.proofs.Carrying.{BeginsAt, StillOf, RunsSoFar, SoFar, lines-then, front-then, both-then, faults-append, faulted-append}
+use Rattle.cola_command.proofs.Counting.{table-means}
 use Rattle.cola_command.proofs.CutOff.{Safe, safe-run, safe-step, not-faulted, quiet-run}
-use Rattle.cola_command.proofs.Settling.{close-settles}
-use Rattle.cola_command.proofs.Moving.{kind-stays, closes-moves}
-use Rattle.cola_command.proofs.Transferring.{few-transfers}
-use Rattle.cola_command.proofs.Counting.{Means}
-use Rattle.cola_command.proofs.Caching.{AllCaused, lines-caused, front-caused, few-cached}
-use Rattle.cola_command.proofs.Carrying.{both-then, faults-append, faulted-append}
 use Rattle.cola_command.proofs.HeadlineLaws.{by-count, faults-rise}
+use Rattle.cola_command.proofs.Moving.{kind-stays, closes-moves}
+use Rattle.cola_command.proofs.PlaceTurns.{StepsTo, TurnFacts, stands-now, close-facts}
+use Rattle.cola_command.proofs.Reopening.{open-facts}
+use Rattle.cola_command.proofs.Sessions.{with-carried, with-failed, with-front, with-spent}
+use Rattle.cola_command.proofs.Settling.{IsSettledAt, close-settles}
+use Rattle.cola_command.proofs.Transferring.{few-transfers}
 
 -- The file
 
@@ -61,20 +60,6 @@ stands-as sizes m (Some bytes) s =
 
 abbrev Both-with : Sizes → Option (List ℕ) → Option (List ℕ) → Type 0
 Both-with sizes a b = Both a b (KeepsBehind sizes)
-
--- the same reads, with another account of the lines
-pub with-carried : {S K : Type 0} (g : source.Ghosts S) (h : sink.Ghosts K) (source source' : S) (sink sink' : K) (B C : List Line → Type 0) → ((lines : List Line) → B lines → C lines) → ReadToEnd g h source source' sink sink' B → ReadToEnd g h source source' sink sink' C
-with-carried g h source source' sink sink' B C turn r = record {
-  reads = r.reads;
-  lines = r.lines;
-  all = r.all;
-  read = r.read;
-  met_the_end = r.met_the_end;
-  fewer = r.fewer;
-  carried = turn r.lines r.carried;
-  source_faults = r.source_faults;
-  sink_faults = r.sink_faults;
-}
 
 -- the count of faults stays where no turn is faulted
 faults-stay : (turns : List Turn) (before now : ℕ) → faulted_steps turns ≡ 0 → FaultsOver turns before now → now ≡ before
@@ -176,83 +161,103 @@ module _ {D : Type 0} (d : device.Ghosts D) (device : D) (cache : ℕ) (cost : B
         at = subst (λ (p : Place D d). IsAt d known.sizes p (machine.Open known.map)) (sym begun.place_is) at;
       }
 
+  starts-at : {K : Type 0} (sink : K) (steps : ℕ) (known : Option Known) → BeginsAt d first known → IsAtSome (file_home d) (sizes_known known) (point first sink steps (state_known known))
+  starts-at sink steps None at = tt
+  starts-at sink steps (Some known) at = at
+
   -- The end
-  module _ (device' : D) (closed : Bool) (last : Session D d) (ended : Ended d last device' closed) (closes : TurnFacts d Close last.place ended.answer ended.place) (steps steps' : ℕ)
-      (kept : d.kept device' ≡ d.kept (device_of last.place)) (few : AreFew d last.place) (kept_first : d.kept (device_of first.place) ≡ d.kept device) where
+  module _ {K : Type 0} (h : sink.Ghosts K) (sink sink' : K) (device' : D) (closed : Bool) (last : Session D d) (ended : Ended d last device' closed) (closes : TurnFacts d Close last.place ended.answer ended.place) (steps steps' : ℕ)
+      (kept : d.kept device' ≡ d.kept (device_of last.place)) (few : AreFew d last.place) (kept_first : d.kept (device_of first.place) ≡ d.kept device) (state : State) where
+    abbrev now : Point (Session D d) K
+    now = point last sink' steps' state
+
     said : Says d ended.answer ended.place
     said = says d last.place ended.answer ended.place ended.cause
 
+    abbrev Runs : Known → List Line → List Turn → Type 0
+    Runs known lines turns = RunsSoFar h d first sink steps known lines turns now
+
     -- the close at the end is a step of the machine
-    close-step : (known : Known) (lines : List Line) (turns : List Turn) → (r : RunsSoFar d first last known lines turns) → StepsTo d known.sizes r.runs.last (last_close ended.answer) ended.place
-    close-step known lines turns r = closes.steps known.sizes r.runs.last r.runs.at.at
+    close-step : (known : Known) (lines : List Line) (turns : List Turn) → Runs known lines turns → StepsTo d known.sizes state (last_close ended.answer) ended.place
+    close-step known lines turns r = closes.steps known.sizes state r.at.at
 
-    abbrev Leaves : (Sizes → State → Option (List ℕ) → Type 0) → Type 0
-    Leaves Left = (known : Known) (lines : List Line) (turns : List Turn) (r : RunsSoFar d first last known lines turns) → cut_after turns false ≡ last.cut_off → Left known.sizes (close-step known lines turns r).next (d.bytes device')
+    abbrev Leaves : Ending → Type 0
+    Leaves ending = (known : Known) (lines : List Line) (turns : List Turn) (r : Runs known lines turns) → cut_after turns false ≡ last.cut_off → LeftBy ending known.sizes (close-step known lines turns r).next (d.bytes device')
 
-    leaves : Leaves IsLeft
+    leaves : (known : Known) (lines : List Line) (turns : List Turn) (r : Runs known lines turns) → cut_after turns false ≡ last.cut_off → IsLeft known.sizes (close-step known lines turns r).next (d.bytes device')
     leaves known lines turns r cut =
         let close = close-step known lines turns r in
         subst (λ (x : D). IsLeft known.sizes close.next (d.bytes x)) (sym ended.device_is) (left-is d known.sizes ended.answer ended.place close.next said close.at)
 
-    leaves-whole : closed ≡ true → last.cut_off ≡ false → Leaves IsLeftWhole
+    leaves-whole : closed ≡ true → last.cut_off ≡ false → Leaves Well
     leaves-whole is_whole none known lines turns r cut =
         let close = close-step known lines turns r in
-        let safe : Safe r.runs.last false = subst (λ b. Safe r.runs.last b) (cut ∙ none) (safe-run (shape known.sizes) (machine.Open known.map) turns r.runs.last false r.runs.run tt) in
-        let end : Safe close.next false = safe-step (shape known.sizes) r.runs.last (Some Close) ended.answer 0 close.next (kind_of ended.answer) false close.step safe in
+        let safe : Safe state false = subst (λ b. Safe state b) (cut ∙ none) (safe-run (shape known.sizes) (machine.Open known.map) turns state false r.run tt) in
+        let end : Safe close.next false = safe-step (shape known.sizes) state (Some Close) ended.answer 0 close.next (kind_of ended.answer) false close.step safe in
         subst (λ (x : D). IsLeftWhole known.sizes close.next (d.bytes x)) (sym ended.device_is) (whole-is d known.sizes ended.answer ended.place close.next said (sym ended.closed_is ∙ is_whole) close.at end)
 
-    -- a store that is closed at the end has a settled device where its last opening met no fault
+    -- a session that ends well has a settled device
     settled-at-end : kind_of ended.answer ≡ PlainStep → last.cut_off ≡ false → IsSettledAt d last.place last.cut_off → IsSettled d device'
     settled-at-end plain none at =
         let closed_place = never-faulted d ended.answer ended.place said (λ faulted. plain-is-not-faulted (sym plain ∙ faulted)) in
         let end = subst (λ (p : Place D d). IsSettledAt d p last.cut_off) closed_place (close-settles d last.place ended.answer ended.place last.cut_off ended.cause at) in
         subst (λ (x : D). IsSettled d x) (sym ended.device_is) (end none)
 
-    -- where no fault was counted, the reads and writes are few
-    few-at-end : (known : Known) (lines : List Line) (turns : List Turn) → RunsSoFar d first last known lines turns → FaultsOver (turns ++ last_close ended.answer ∷ []) (d.counts device).faults (d.counts device').faults → (Rose (d.counts device).faults (d.counts device').faults → ⊥)
-        → length turns ≤ input_limit → FewTransfers known.sizes cache turns (d.counts device) (d.counts device')
-    few-at-end known lines turns r over calm many =
+    abbrev Over : List Turn → Type 0
+    Over turns = FaultsOver (turns ++ last_close ended.answer ∷ []) (d.counts device).faults (d.counts device').faults
+
+    abbrev Calm : Type 0
+    Calm = Rose (d.counts device).faults (d.counts device').faults → ⊥
+
+    -- where no fault was counted, no turn is faulted, nor is the close at the end
+    record Unfaulted (turns : List Turn) : Type 0 where
+      earlier : faulted_steps turns ≡ 0
+      closing : kind_of ended.answer ≡ FaultedStep → ⊥
+      below : (d.counts device).faults + 1 < 2 ^ 64
+      whole : ended.place ≡ place.Closed (device_of ended.place)
+
+    unfaulted : (turns : List Turn) → Over turns → Calm → Unfaulted turns
+    unfaulted turns over calm =
         let all = turns ++ last_close ended.answer ∷ [] in
         let none : faulted_steps all ≡ 0 = by-count (faulted_steps all) (d.counts device).faults (d.counts device').faults (faults-rise all (d.counts device).faults (d.counts device').faults over) calm in
         let whole = faulted-append turns (last_close ended.answer ∷ []) in
-        let before : faulted_steps turns ≡ 0 = omega (arith, none, whole) in
         let after : faulted_one (kind_of ended.answer) + 0 ≡ 0 = omega (arith, none, whole) in
         let fine = not-faulted (kind_of ended.answer) 0 after in
-        let quiet = quiet-run (shape known.sizes) (machine.Open known.map) turns r.runs.last r.runs.run before tt in
-        let closing = closes-moves d known.sizes cache (last_close ended.answer) last.place ended.place r.runs.last ended.cause few r.runs.at.at fine quiet in
+        record {
+          earlier = omega (arith, none, whole);
+          closing = fine;
+          below = below-last (d.counts device).faults (d.counts device').faults (faults-stay all (d.counts device).faults (d.counts device').faults none over) calm;
+          whole = never-faulted d ended.answer ended.place said fine;
+        }
+
+    -- the reads and writes
+    few-at-end : (known : Known) (lines : List Line) (turns : List Turn) → Runs known lines turns → Over turns → Calm → length turns ≤ input_limit → FewTransfers known.sizes cache turns (d.counts device) (d.counts device')
+    few-at-end known lines turns r over calm many =
+        let none = unfaulted turns over calm in
+        let quiet = quiet-run (shape known.sizes) (machine.Open known.map) turns state r.run none.earlier tt in
+        let closing = closes-moves d known.sizes cache (last_close ended.answer) last.place ended.place state ended.cause few r.at.at none.closing quiet in
         let final = subst (λ (x : D). Moves d known.sizes cache (last_close ended.answer) last.place (place.Closed x)) (sym ended.device_is)
-        (subst (λ (p : Place D d). Moves d known.sizes cache (last_close ended.answer) last.place p) (never-faulted d ended.answer ended.place said fine) closing) in
-        let moves = subst (λ (p : Place D d). AllMove d known.sizes cache turns p last.place) begun.place_is (subst (λ n. AllMove d known.sizes n turns first.place last.place) begun.cache_is (r.moves before)) in
-        few-transfers d known.sizes cache begun.store device last.place (last_close ended.answer) device' turns (below-last (d.counts device).faults (d.counts device').faults (faults-stay all (d.counts device).faults (d.counts device').faults none over) calm) begun.opened
+        (subst (λ (p : Place D d). Moves d known.sizes cache (last_close ended.answer) last.place p) none.whole closing) in
+        let moves = subst (λ (p : Place D d). AllMove d known.sizes cache turns p last.place) begun.place_is (subst (λ n. AllMove d known.sizes n turns first.place last.place) begun.cache_is (r.moves none.earlier)) in
+        few-transfers d known.sizes cache begun.store device last.place (last_close ended.answer) device' turns none.below begun.opened
         final (never-short d last.place ended.answer ended.place ended.cause) many moves
 
-    abbrev Cached : List Turn → Type 0
-    Cached turns = FaultsOver (turns ++ last_close ended.answer ∷ []) (d.counts device).faults (d.counts device').faults → (sizes : Sizes) → IsOfSizes d sizes (place.Closed device) → (Rose (d.counts device).faults (d.counts device').faults → ⊥)
-        → FewCachedReads sizes cache turns (d.counts device) (d.counts device')
-
     -- and the reads behind a cache for the file, on every file of known sizes
-    cached-at-end : {K : Type 0} (h : sink.Ghosts K) (t : table.Ghosts (Stored D) Cursor) → Means d.bytes d.counts t → (turns : List Turn) → AllCaused t d h cache turns first.place last.place → Cached turns
-    cached-at-end h t means turns caused over sizes of calm =
-        let all = turns ++ last_close ended.answer ∷ [] in
-        let none : faulted_steps all ≡ 0 = by-count (faulted_steps all) (d.counts device).faults (d.counts device').faults (faults-rise all (d.counts device).faults (d.counts device').faults over) calm in
-        let whole = faulted-append turns (last_close ended.answer ∷ []) in
-        let before : faulted_steps turns ≡ 0 = omega (arith, none, whole) in
-        let after : faulted_one (kind_of ended.answer) + 0 ≡ 0 = omega (arith, none, whole) in
-        let fine = not-faulted (kind_of ended.answer) 0 after in
-        let close = subst (λ (x : D). CloseCause d last.place ended.answer (place.Closed x)) (sym ended.device_is)
-        (subst (λ (p : Place D d). CloseCause d last.place ended.answer p) (never-faulted d ended.answer ended.place said fine) ended.cause) in
-        few-cached t d h means sizes cache device device' begun.store last.place ended.answer turns begun.opened (opens.keeps.sizes sizes of) (subst (λ (p : Place D d). AllCaused t d h cache turns p last.place) begun.place_is caused) few close before fine
-        (below-last (d.counts device).faults (d.counts device').faults (faults-stay all (d.counts device).faults (d.counts device').faults none over) calm)
+    cached-at-end : (turns : List Turn) → AllCaused (store_table d) d h first.cache turns first.place last.place → Over turns → (sizes : Sizes) → IsOfSizes d sizes (place.Closed device) → Calm → FewCachedReads sizes cache turns (d.counts device) (d.counts device')
+    cached-at-end turns caused over sizes of calm =
+        let none = unfaulted turns over calm in
+        let close = subst (λ (x : D). CloseCause d last.place ended.answer (place.Closed x)) (sym ended.device_is) (subst (λ (p : Place D d). CloseCause d last.place ended.answer p) none.whole ended.cause) in
+        few-cached (store_table d) d h (table-means d) sizes cache device device' begun.store last.place ended.answer turns begun.opened (opens.keeps.sizes sizes of)
+        (subst (λ (p : Place D d). AllCaused (store_table d) d h cache turns p last.place) begun.place_is (subst (λ n. AllCaused (store_table d) d h n turns first.place last.place) begun.cache_is caused)) few close none.earlier none.closing none.below
 
-    module _ (Left : Sizes → State → Option (List ℕ) → Type 0) (left : Leaves Left) (lines : List Line) (turns : List Turn) where
-      runs-to-end : (known : Option Known) → cut_after turns false ≡ last.cut_off → FaultsOver (turns ++ last_close ended.answer ∷ []) (d.counts device).faults (d.counts device').faults → IfSome known (λ known. RunsSoFar d first last known lines turns)
-          → IfSome known (λ known. RunsToEnd d cache device device' steps steps' Left known lines turns ended.answer)
+    module _ (ending : Ending) (left : Leaves ending) (lines : List Line) (turns : List Turn) where
+      runs-to-end : (known : Option Known) → cut_after turns false ≡ last.cut_off → Over turns → IfSome known (λ known. Runs known lines turns) → IfSome known (λ known. RunsToEnd d cache device device' steps steps' ending known lines turns ended.answer)
       runs-to-end None cut over r = tt
       runs-to-end (Some known) cut over r =
           let close = close-step known lines turns r in
-          record { asks = r.asks; last = r.runs.last; run = r.runs.run; end = close.next; close = close.step; left = left known lines turns r cut; few = few-at-end known lines turns r over }
+          record { asks = r.asks; last = state; run = r.run; end = close.next; close = close.step; left = left known lines turns r cut; few = few-at-end known lines turns r over }
 
-      stays-within : (sizes : Sizes) → IsOfSizes d sizes (place.Closed device) → StillOf d first last sizes lines turns → StaysWithin d cache device device' steps steps' sizes lines turns
+      stays-within : (sizes : Sizes) → IsOfSizes d sizes (place.Closed device) → StillOf h d first sink steps sizes lines turns last → StaysWithin d cache device device' steps steps' sizes lines turns
       stays-within sizes of still = record {
         asks = still.asks;
         within = still.within;
@@ -262,8 +267,8 @@ module _ {D : Type 0} (d : device.Ghosts D) (device : D) (cache : ℕ) (cost : B
             both-then sizes (d.bytes device) (d.bytes (device_of last.place)) (d.bytes device') (both-then sizes (d.bytes device) (d.bytes (device_of first.place)) (d.bytes (device_of last.place)) start still.behind) end;
       }
 
-      carried-out : (known : Option Known) (so_far : SoFar d first last steps steps' known lines turns) → cut_after turns false ≡ last.cut_off → Cached turns → CarriedOut d cache device device' steps steps' Left known lines turns ended.answer
-      carried-out known so_far cut cached =
+      carried-out : (known : Option Known) (so_far : SoFar h d first sink steps known lines turns now) → cut_after turns false ≡ last.cut_off → CarriedOut d cache device device' steps steps' ending known lines turns ended.answer
+      carried-out known so_far cut =
           let over = faults-append turns (last_close ended.answer ∷ []) (d.counts device).faults (faults_of d last.place) (d.counts device').faults
           (subst (λ n. FaultsOver turns n (faults_of d last.place)) (ap (λ (p : Place D d). faults_of d p) begun.place_is ∙ begun.opened.opened.no_fault) so_far.faults)
           (faults_of d ended.place, (closes.faults, ap (λ (x : D). (d.counts x).faults) ended.device_is)) in
@@ -276,103 +281,97 @@ module _ {D : Type 0} (d : device.Ghosts D) (device : D) (cache : ℕ) (cost : B
             kept = kept ∙ so_far.kept ∙ kept_first;
             settled = λ well. settled-at-end well.0 (sym cut ∙ well.1) (so_far.settled (subst (λ (p : Place D d). IsSettledAt d p first.cut_off) (sym begun.place_is) tt));
             sized = λ sizes of. stays-within sizes of (so_far.sized sizes (first-sizes sizes of) (first-format sizes of));
-            cached = cached over;
+            cached = cached-at-end turns so_far.caused over;
             runs = runs-to-end known cut over so_far.runs;
           }
 
+    cut-is : (known : Option Known) (lines : List Line) (turns : List Turn) → SoFar h d first sink steps known lines turns now → cut_after turns false ≡ last.cut_off
+    cut-is known lines turns so_far = ap (cut_after turns) (sym begun.none_cut) ∙ sym so_far.cut_off
+
     -- What the lines so far become
-    module _ {K : Type 0} (h : sink.Ghosts K) (t : table.Ghosts (Stored D) Cursor) (means : Means d.bytes d.counts t) (sink sink' : K) where
-      cut-is : (known : Option Known) (lines : List Line) (turns : List Turn) → SoFar d first last steps steps' known lines turns → cut_after turns false ≡ last.cut_off
-      cut-is known lines turns so_far = ap (cut_after turns) (sym begun.none_cut) ∙ sym so_far.cut_off
+    whole : (ending : Ending) → Leaves ending → ((turns : List Turn) → cut_after turns false ≡ last.cut_off → EndsBy ending turns ended.answer) → (lines : List Line) (turns : List Turn) (known : Option Known) → BeginsAt d first known
+        → LinesLead (store_table d) (file_home d) h (sizes_known known) lines turns (point first sink steps (state_known known)) now → WroteAll h d cache cost sink sink' device device' steps steps' ending known lines
+    whole ending left ends lines turns known at led =
+        let s = lines-then h d first sink steps known at lines turns now led in
+        let cut = cut-is known lines turns s.so_far in
+        record {
+          turns = turns;
+          answer = ended.answer;
+          carried = carried-out ending left lines turns known s.so_far cut;
+          led = record { first = first; begun = begun; last = last; led = (state, led); few = few; place = ended.place; close = ended.cause; device_is = ended.device_is };
+          wrote = subst (λ c. Appended (turns_text c turns) (h.written sink) (h.written sink')) begun.cost_is s.wrote;
+          ends = ends turns cut;
+        }
 
-      to-whole : (Left : Sizes → State → Option (List ℕ) → Type 0) (Ends : List Turn → Reply → Type 0) → Leaves Left → ((turns : List Turn) → cut_after turns false ≡ last.cut_off → Ends turns ended.answer) → (lines : List Line)
-          → WholeSoFar h d t first last sink sink' steps steps' lines → Whole h d t cache cost sink sink' device device' steps steps' Left Ends lines
-      to-whole Left Ends left ends lines so_far known is =
-          let s = so_far known (begins known is) in
-          let cut = cut-is known lines s.turns s.so_far in
-          record {
-            turns = s.turns;
-            answer = ended.answer;
-            carried = carried-out Left left lines s.turns known s.so_far cut (cached-at-end h t means s.turns (lines-caused t d h cache (IsAtSome d known) lines s.turns first last sink sink' s.led begun.cache_is).0);
-            led = record { first = first; begun = begun; last = last; led = s.led; few = few; place = ended.place; close = ended.cause; device_is = ended.device_is };
-            wrote = subst (λ c. Appended (turns_text c s.turns) (h.written sink) (h.written sink')) begun.cost_is s.wrote;
-            ends = ends s.turns cut;
-          }
+    front : (before : List Line) (line : Line) (turns : List Turn) (known : Option Known) → BeginsAt d first known → FrontLeads (store_table d) (file_home d) h (sizes_known known) before line turns (point first sink steps (state_known known)) now
+        → WroteSome h d cache cost sink sink' device device' steps steps' known before line
+    front before line turns known at led =
+        let s = front-then h d first sink steps known at before line turns now led in
+        record {
+          turns = turns;
+          answer = ended.answer;
+          carried = carried-out Anyhow leaves (before ++ line ∷ []) turns known s.so_far (cut-is known (before ++ line ∷ []) turns s.so_far);
+          led = record { first = first; begun = begun; last = last; led = (state, led); few = few; place = ended.place; close = ended.cause; device_is = ended.device_is };
+          wrote = subst (λ c. WroteLines c before turns (h.written sink) (h.written sink')) begun.cost_is s.wrote;
+        }
 
-      to-front : (before : List Line) (line : Line) → FrontSoFar h d t first last sink sink' steps steps' before line → Front h d t cache cost sink sink' device device' steps steps' before line
-      to-front before line so_far known is =
-          let s = so_far known (begins known is) in
-          let cut = cut-is known (before ++ line ∷ []) s.turns s.so_far in
-          record {
-            turns = s.turns;
-            answer = ended.answer;
-            carried = carried-out IsLeft leaves (before ++ line ∷ []) s.turns known s.so_far cut (cached-at-end h t means s.turns (front-caused t d h cache (IsAtSome d known) before line s.turns first last sink sink' s.led begun.cache_is));
-            led = record { first = first; begun = begun; last = last; led = s.led; few = few; place = ended.place; close = ended.cause; device_is = ended.device_is };
-            wrote = subst (λ c. WroteFront c before s.turns (h.written sink) (h.written sink')) begun.cost_is s.wrote;
-          }
+  -- whatever is known of the file
+  module _ {K : Type 0} (h : sink.Ghosts K) (sink sink' : K) (device' : D) (closed : Bool) (last : Session D d) (ended : Ended d last device' closed) (closes : TurnFacts d Close last.place ended.answer ended.place) (steps steps' : ℕ)
+      (kept : d.kept device' ≡ d.kept (device_of last.place)) (few : AreFew d last.place) (kept_first : d.kept (device_of first.place) ≡ d.kept device) where
+    abbrev All : List Line → Type 0
+    All lines = AllLead (store_table d) (file_home d) h first last sink sink' steps steps' lines
 
-      to-any : (lines : List Line) → WholeSoFar h d t first last sink sink' steps steps' lines → Whole h d t cache cost sink sink' device device' steps steps' IsLeft EndsAnyhow lines
-      to-any = to-whole IsLeft EndsAnyhow leaves (λ turns cut. tt)
+    abbrev Becomes : Ending → Type 0
+    Becomes ending = (lines : List Line) → All lines → CarriesAll h d cache cost sink sink' device device' steps steps' ending lines
 
-      to-well : closed ≡ true → last.cut_off ≡ false → (lines : List Line) → WholeSoFar h d t first last sink sink' steps steps' lines → Whole h d t cache cost sink sink' device device' steps steps' IsLeftWhole EndsWell lines
-      to-well is_whole none = to-whole IsLeftWhole EndsWell (leaves-whole is_whole none) (λ turns cut. (plain-where d ended.answer ended.place said (sym ended.closed_is ∙ is_whole), cut ∙ none))
+    to-whole : (ending : Ending) → ((state : State) → Leaves h sink sink' device' closed last ended closes steps steps' kept few kept_first state ending) → ((turns : List Turn) → cut_after turns false ≡ last.cut_off → EndsBy ending turns ended.answer) → Becomes ending
+    to-whole ending left ends lines all known is =
+        let at = begins known is in
+        let led = all (sizes_known known) (state_known known) (starts-at sink steps known at) in
+        whole h sink sink' device' closed last ended closes steps steps' kept few kept_first led.0 ending (left led.0) ends lines led.1.0 known at led.1.1
 
-      to-ill : (closed ≡ false) ⊎ (last.cut_off ≡ true) → (lines : List Line) → WholeSoFar h d t first last sink sink' steps steps' lines → Whole h d t cache cost sink sink' device device' steps steps' IsLeft EndsIll lines
-      to-ill (inl opening) = to-whole IsLeft EndsIll leaves (λ turns cut. inl (faulted-where d ended.answer ended.place said (sym ended.closed_is ∙ opening)))
-      to-ill (inr cut_off) = to-whole IsLeft EndsIll leaves (λ turns cut. inr (cut ∙ cut_off))
+    to-front : (before : List Line) (line : Line) → FrontLead (store_table d) (file_home d) h first last sink sink' steps steps' before line → CarriesFront h d cache cost sink sink' device device' steps steps' before line
+    to-front before line all known is =
+        let at = begins known is in
+        let led = all (sizes_known known) (state_known known) (starts-at sink steps known at) in
+        front h sink sink' device' closed last ended closes steps steps' kept few kept_first led.0 before line led.1.0 known at led.1.1
 
-      -- The status
-      module _ {S : Type 0} (g : source.Ghosts S) (source source' : S) where
-        abbrev pub Ends' : ℕ → Type 0
-        Ends' status = FileEnds g h d t cache cost source source' sink sink' device device' steps steps' status
+    to-any : Becomes Anyhow
+    to-any = to-whole Anyhow (leaves h sink sink' device' closed last ended closes steps steps' kept few kept_first) (λ turns cut. tt)
 
-        read-end : (status : ℕ) (cut_off whole : Bool) → last.cut_off ≡ cut_off → closed ≡ whole → status ≡ end_status 0 cut_off whole → ReadToEnd g h source source' sink sink' (WholeSoFar h d t first last sink sink' steps steps') → Ends' status
-        read-end status true whole cut is status_is r = Status5 status_is (with-carried g h source source' sink sink' _ _ (to-ill (inr cut)) r)
-        read-end status false false cut is status_is r = Status5 status_is (with-carried g h source source' sink sink' _ _ (to-ill (inl is)) r)
-        read-end status false true cut is status_is r = Status0 status_is (with-carried g h source source' sink sink' _ _ (to-well is cut) r)
+    said-last : Says d ended.answer ended.place
+    said-last = says d last.place ended.answer ended.place ended.cause
 
-        pub ends : (status status' : ℕ) → LinesEnd g h d t first last source source' sink sink' steps steps' status → status' ≡ end_status status last.cut_off closed → Ends' status'
-        ends status status' (Lines0 none r) is = read-end status' last.cut_off closed refl refl (is ∙ ap (λ n. end_status n last.cut_off closed) none) r
-        ends status status' (Lines3 three r) is = Status3 (is ∙ ap (λ n. end_status n last.cut_off closed) three) (record {
-          reads = r.reads;
-          lines = r.lines;
-          ended = r.ended;
-          read = r.read;
-          refused = r.refused;
-          fewer = r.fewer;
-          carried = to-any r.lines r.carried;
-          source_faults = r.source_faults;
-          sink_faults = r.sink_faults;
-        })
-        ends status status' (Lines4 four r) is = Status4 (is ∙ ap (λ n. end_status n last.cut_off closed) four) (record {
-          reads = r.reads;
-          before = r.before;
-          last = r.last;
-          first = r.first;
-          read = r.read;
-          unrefused = r.unrefused;
-          at_most = r.at_most;
-          carried = to-front r.before r.last r.carried;
-          source_faults = r.source_faults;
-          sink_faults = r.sink_faults;
-        })
-        ends status status' (Lines9 nine r) is = Status9 (is ∙ ap (λ n. end_status n last.cut_off closed) nine) (record {
-          reads = r.reads;
-          lines = r.lines;
-          ended = r.ended;
-          read = r.read;
-          unrefused = r.unrefused;
-          all = r.all;
-          carried = to-any r.lines r.carried;
-          source_faults = r.source_faults;
-          sink_faults = r.sink_faults;
-        })
+    to-well : closed ≡ true → last.cut_off ≡ false → Becomes Well
+    to-well is_whole none = to-whole Well (λ state. leaves-whole h sink sink' device' closed last ended closes steps steps' kept few kept_first state is_whole none) (λ turns cut. (plain-where d ended.answer ended.place said-last (sym ended.closed_is ∙ is_whole), cut ∙ none))
+
+    to-ill : (closed ≡ false) ⊎ (last.cut_off ≡ true) → Becomes Ill
+    to-ill (inl opening) = to-whole Ill (leaves h sink sink' device' closed last ended closes steps steps' kept few kept_first) (λ turns cut. inl (faulted-where d ended.answer ended.place said-last (sym ended.closed_is ∙ opening)))
+    to-ill (inr cut_off) = to-whole Ill (leaves h sink sink' device' closed last ended closes steps steps' kept few kept_first) (λ turns cut. inr (cut ∙ cut_off))
+
+    -- The status
+    module _ {S : Type 0} (g : source.Ghosts S) (source source' : S) where
+      abbrev Ends' : ℕ → Type 0
+      Ends' status = FileEnds g h d cache cost source source' sink sink' device device' steps steps' status
+
+      read-end : (status : ℕ) (cut_off whole : Bool) → last.cut_off ≡ cut_off → closed ≡ whole → status ≡ end_status 0 cut_off whole → ReadToEnd g h source source' sink sink' All → Ends' status
+      read-end status true whole cut is status_is r = Status5 status_is (with-carried g h source source' sink sink' _ _ (to-ill (inr cut)) r)
+      read-end status false false cut is status_is r = Status5 status_is (with-carried g h source source' sink sink' _ _ (to-ill (inl is)) r)
+      read-end status false true cut is status_is r = Status0 status_is (with-carried g h source source' sink sink' _ _ (to-well is cut) r)
+
+      pub ends : (status status' : ℕ) → LinesEnd (store_table d) (file_home d) h g first last source source' sink sink' steps steps' status → status' ≡ end_status status last.cut_off closed → Ends' status'
+      ends status status' (NotBegun never) is = absurd never
+      ends status status' (Status5 five r) is = absurd r.carried
+      ends status status' (Status0 none r) is = read-end status' last.cut_off closed refl refl (is ∙ ap (λ n. end_status n last.cut_off closed) none) r
+      ends status status' (Status3 three r) is = Status3 (is ∙ ap (λ n. end_status n last.cut_off closed) three) (with-failed g h source source' sink sink' _ _ to-any r)
+      ends status status' (Status4 four r) is = Status4 (is ∙ ap (λ n. end_status n last.cut_off closed) four) (with-front g h source source' sink sink' _ _ to-front r)
+      ends status status' (Status9 nine r) is = Status9 (is ∙ ap (λ n. end_status n last.cut_off closed) nine) (with-spent g h source source' sink sink' _ _ to-any r)
 
 -- a session that begins with an opening, carries out the lines of a source and is ended
-pub serves : {S K D : Type 0} (g : source.Ghosts S) (h : sink.Ghosts K) (d : device.Ghosts D) (t : table.Ghosts (Stored D) Cursor) (means : Means d.bytes d.counts t) (cache : ℕ) (cost : Bool) (source source' : S) (sink sink' : K) (device device' : D) (steps steps' status status' : ℕ) (first last : Session D d)
-    → Begun d device cache cost first → d.kept (device_of first.place) ≡ d.kept device → LinesEnd g h d t first last source source' sink sink' steps steps' status → EndsAfter d last status device' status'
-    → FileEnds g h d t cache cost source source' sink sink' device device' steps steps' status'
-serves {D} g h d t means cache cost source source' sink sink' device device' steps steps' status status' first last begun kept_first lines after =
+pub serves : {S K D : Type 0} (g : source.Ghosts S) (h : sink.Ghosts K) (d : device.Ghosts D) (cache : ℕ) (cost : Bool) (source source' : S) (sink sink' : K) (device device' : D) (steps steps' status status' : ℕ) (first last : Session D d)
+    → Begun d device cache cost first → d.kept (device_of first.place) ≡ d.kept device → LinesEnd (store_table d) (file_home d) h g first last source source' sink sink' steps steps' status → EndsAfter d last status device' status'
+    → FileEnds g h d cache cost source source' sink sink' device device' steps steps' status'
+serves {D} g h d cache cost source source' sink sink' device device' steps steps' status status' first last begun kept_first lines after =
     let opened = open-facts d cache (place.Closed device) (reply.Opened begun.store.count) (place.Open begun.store) (Ok begun.store, (begun.opened, (refl, refl))) (sym (ap (λ (p : Place D d). d.kept (device_of p)) begun.place_is) ∙ kept_first) in
     let closed = close-facts d last.place after.ended.answer after.ended.place after.ended.cause (ap d.kept (sym after.ended.device_is) ∙ after.kept) in
-    ends d device cache cost first begun opened device' after.closed last after.ended closed steps steps' after.kept after.few kept_first h t means sink sink' g source source' status status' lines after.status_is
+    ends d device cache cost first begun opened h sink sink' device' after.closed last after.ended closed steps steps' after.kept after.few kept_first g source source' status status' lines after.status_is

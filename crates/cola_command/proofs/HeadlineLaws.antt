@@ -12,8 +12,9 @@ use Rattle.cola_spec.specs.Bounds.{request_bound}
 use Rattle.cola_spec.specs.Kinds.{requests_bound}
 use Rattle.cola_spec.specs.Told.{is_costed, printed_cost}
 use Rattle.cola_line.specs.Replied.{KindFaults}
-use Rattle.cola_command.specs.Turns.{FaultsOver, cut_by, cut_by_request, cut_after}
-use Rattle.cola_command.specs.Headline.{EndsIll, asked, last_close}
+use Rattle.cola_command.specs.Home.{FaultsOver, cut_by, cut_by_request, cut_after}
+use Rattle.cola_command.specs.Ends.{Ill}
+use Rattle.cola_command.specs.Headline.{EndsBy, asked, last_close}
 use Rattle.cola_command.specs.HeadlineLaws.{NoneFaulted, AreWithin, printed_sum, unprinted_bound}
 use Rattle.cola_command.proofs.Carrying.{faulted-append}
 
@@ -131,7 +132,7 @@ cut-counts (turn ∷ turns) cut is = by-rest (cut-counts turns (cut_by_request t
         by-turn (inl before) = inl before
         by-turn (inr kind) = let one : faulted_one (kind_of turn.answer) ≡ 1 = ap faulted_one kind in inr (omega (arith, one))
 
-pub ill-counts : (turns : List Turn) (answer : Reply) → EndsIll turns answer → 0 < faulted_steps (turns ++ last_close answer ∷ [])
+pub ill-counts : (turns : List Turn) (answer : Reply) → EndsBy Ill turns answer → 0 < faulted_steps (turns ++ last_close answer ∷ [])
 ill-counts turns answer (inl kind) = let one : faulted_one (kind_of answer) ≡ 1 = ap faulted_one kind in let whole = faulted-append turns (last_close answer ∷ []) in omega (arith, one, whole)
 ill-counts turns answer (inr cut) = by-cut (cut-counts turns false cut)
   where

@@ -11,7 +11,7 @@ use Rattle.cola_io.specs.Law.{HasRead, all_ended_lines}
 use Rattle.cola_io.proofs.LineLaws.{ended_lines-last}
 use Rattle.cola_io.proofs.ReadLemmas.{AreDue-append, AreDue-wanted, GaveSome-append}
 use Rattle.cola_spec.specs.Lines.{Line, line_of, is_line_feed}
-use Rattle.cola_command.specs.Memory.{AllAnswered, input_limit}
+use Rattle.cola_command.specs.Reading.{AllAnswered, input_limit}
 
 or_true : (b : Bool) → (b || true) ≡ true
 or_true true = refl

@@ -1,12 +1,14 @@
-pub mod PlainLemmas
+pub mod InMemory
+pub mod InMemoryTurns
+pub mod Leading
+pub mod Sessions
 pub mod Joined
-pub mod MemoryServing
 pub mod NewFiles
 pub mod StateByte
+pub mod PlaceCauses
 pub mod PlaceTurns
 pub mod Reopening
 pub mod Asking
-pub mod Lining
 pub mod ReadingOn
 pub mod CutOff
 pub mod Settling
@@ -18,7 +20,6 @@ pub mod Carrying
 pub mod HeadlineLaws
 pub mod Ending
 pub mod Completing
-pub mod Working
-pub mod OnEmpty
+pub mod Mirroring
 pub mod Looks
 pub mod Known

@@ -1,10 +1,12 @@
 -- A turn that is not faulted moves the place of a store and the counts of its device as it may.
-use Rattle.std.proofs.Common.{◌≡◌, ℕ, ◌+◌, ◌≤◌, Bool, true, false, List, [], ◌∷◌, ◌++◌, Option, Some, None, Result, Ok, Err, refl, sym, ◌∙◌, ap, subst, arith}
+use Rattle.std.proofs.Common.{◌≡◌, ◌⊎◌, inl, inr, ℕ, ◌+◌, ◌≤◌, Bool, true, false, List, [], ◌∷◌, ◌++◌, Option, Some, None, Result, Ok, Err, refl, sym, ◌∙◌, ap, subst, arith}
 use Rattle.std.proofs.lemmas.Bool.{false≢true}
 use Rattle.cola_cursor.specs.declared.cursor.Cursor.{Cursor}
 use Rattle.cola_device.specs.declared.device.Device as device
 use Rattle.cola_io.specs.declared.sink.Sink as sink
+use Rattle.cola_io.specs.declared.sink.SinkFault.{SinkFault}
 use Rattle.cola_layout.specs.declared.geometry.Geometry.{Geometry}
+use Rattle.cola_opening.specs.Counted.{Spends}
 use Rattle.cola_spec.specs.Map.{Shape, Map, count}
 use Rattle.cola_spec.specs.Lines.{Line}
 use Rattle.cola_spec.specs.Command.{Command, Put, PutIf, Del, Get, Stamp, Range, Scan, Count, Close, Reopen}
@@ -18,17 +20,19 @@ use Rattle.cola_line.specs.Replied.{KindFaults}
 use Rattle.cola_store.specs.declared.fault.OpenFault.{OpenFault}
 use Rattle.cola_store.specs.declared.fault.OpenFault.TheVariants as fault
 use Rattle.cola_store.specs.Store.{Stored, geometry_of}
-use Rattle.cola_store.specs.Open.{Spends}
 use Rattle.cola_store.specs.Sessions.{OpensStore}
+use Rattle.cola_store.specs.Table.{store_table}
 use Rattle.cola_command.specs.declared.file.Session.{Session}
 use Rattle.cola_command.specs.declared.place.Place.{Place}
 use Rattle.cola_command.specs.declared.place.Place.TheVariants.{Open, Closing, Closed}
 use Rattle.cola_command.specs.File.{Sizes, sizes_of, shape, faults_of, IsAt}
 use Rattle.cola_command.specs.RunTransfers.{searched, short, opens}
 use Rattle.cola_command.specs.Moves.{IsQuiet, CountsCall, AreFew, KeepsCache, Moves, AllMove}
-use Rattle.cola_command.specs.Turns.{CloseCause, OpenCause, AskCause, Cause, Carried, SessionAt, refused_reply}
+use Rattle.cola_command.specs.Home.{Point, LineLeads}
+use Rattle.cola_command.specs.Turns.{CloseCause, OpenCause, file_home, refused_reply}
+use Rattle.cola_command.proofs.PlaceCauses.{which, AskCause, Cause, cause-place}
 use Rattle.cola_command.proofs.CutOff.{Quiet, not-faulted}
-use Rattle.cola_command.proofs.Counting.{NotFailed, Means, calls-none, turn-counts}
+use Rattle.cola_command.proofs.Counting.{NotFailed, Means, table-means, calls-none, turn-counts}
 
 -- Answers
 
@@ -174,16 +178,13 @@ module _ {D : Type 0} (d : device.Ghosts D) (sizes : Sizes) (cache : ℕ) where
     turn-moves : (request : Option Command) (answer : Reply) (ticks : ℕ) (result : Result A E) (old new : Place D d) (sink sink' : K) (state next : State) → Cause t d k cache request result old sink (record { request = request; answer = answer; ticks = ticks }) new sink' → AreFew d old → KeepsCache d old new
         → IsAt d sizes old state → Step (shape sizes) state (record { request = request; answer = answer; ticks = ticks }) next → IsAt d sizes new next → (kind_of answer ≡ FaultedStep → ⊥) → Quiet state → Moves d sizes cache (record { request = request; answer = answer; ticks = ticks }) old new
     turn-moves None answer ticks result old new sink sink' state next (is, same) few kept at step then calm quiet = rests-as (record { request = None; answer = answer; ticks = ticks }) old new state reply.Bad is same (record { mutated_none = refl; searched_none = refl; opens_none = refl }) at quiet
-    turn-moves (Some (Put key value)) answer ticks result old new sink sink' state next cause few kept at step then calm quiet = asks-moves (Put key value) answer ticks result old new sink sink' state next cause kept at step then calm quiet
-    turn-moves (Some (PutIf key seen value)) answer ticks result old new sink sink' state next cause few kept at step then calm quiet = asks-moves (PutIf key seen value) answer ticks result old new sink sink' state next cause kept at step then calm quiet
-    turn-moves (Some (Del key)) answer ticks result old new sink sink' state next cause few kept at step then calm quiet = asks-moves (Del key) answer ticks result old new sink sink' state next cause kept at step then calm quiet
-    turn-moves (Some (Get key)) answer ticks result old new sink sink' state next cause few kept at step then calm quiet = asks-moves (Get key) answer ticks result old new sink sink' state next cause kept at step then calm quiet
-    turn-moves (Some (Stamp key)) answer ticks result old new sink sink' state next cause few kept at step then calm quiet = asks-moves (Stamp key) answer ticks result old new sink sink' state next cause kept at step then calm quiet
-    turn-moves (Some (Range low high)) answer ticks result old new sink sink' state next cause few kept at step then calm quiet = asks-moves (Range low high) answer ticks result old new sink sink' state next cause kept at step then calm quiet
-    turn-moves (Some (Scan low most)) answer ticks result old new sink sink' state next cause few kept at step then calm quiet = asks-moves (Scan low most) answer ticks result old new sink sink' state next cause kept at step then calm quiet
-    turn-moves (Some Count) answer ticks result old new sink sink' state next cause few kept at step then calm quiet = asks-moves Count answer ticks result old new sink sink' state next cause kept at step then calm quiet
-    turn-moves (Some Close) answer ticks result old new sink sink' state next cause few kept at step then calm quiet = closes-moves (turn_of Close answer ticks) old new state cause few at calm quiet
-    turn-moves (Some Reopen) answer ticks result old new sink sink' state next cause few kept at step then calm quiet = opens-moves answer ticks old new state next cause at step then calm quiet
+    turn-moves (Some command) answer ticks result old new sink sink' state next cause few kept at step then calm quiet = by-which (which command cause)
+      where
+        by-which : ((command ≡ Close) × CloseCause d old answer new) ⊎ (((command ≡ Reopen) × OpenCause d cache old answer new) ⊎ AskCause t d k command result old sink (turn_of command answer ticks) new sink') → Moves d sizes cache (turn_of command answer ticks) old new
+        by-which (inl (is, closes)) = subst (λ (c : Command). Moves d sizes cache (turn_of c answer ticks) old new) (sym is) (closes-moves (turn_of Close answer ticks) old new state closes few at calm quiet)
+        by-which (inr (inl (is, reopens))) =
+            subst (λ (c : Command). Moves d sizes cache (turn_of c answer ticks) old new) (sym is) (opens-moves answer ticks old new state next reopens at (subst (λ (c : Command). Step (shape sizes) state (turn_of c answer ticks) next) is step) then calm quiet)
+        by-which (inr (inr asks)) = asks-moves command answer ticks result old new sink sink' state next asks kept at step then calm quiet
 
 -- Lines
 
@@ -199,18 +200,18 @@ module _ {D : Type 0} (d : device.Ghosts D) (sizes : Sizes) where
   moves-append cache [] b old mid new same next = subst (λ (p : Place D d). AllMove d sizes cache b p new) same next
   moves-append cache (turn ∷ a) b old mid new (between, (one, (stay, rest))) next = (between, (one, (stay, moves-append cache a b between mid new rest next)))
 
-  module _ {K A E : Type 0} (t : table.Ghosts (Stored D) Cursor) (k : sink.Ghosts K) (means : Means d.bytes d.counts t) where
-    -- the turn of a line
-    pub line-moves : (state : State) (line : Line) (result : Result A E) (old new : Session D d) (sink sink' : K) (steps steps' : ℕ) (turns : List Turn) → Carried t d k state line result old new sink sink' steps steps' turns → SessionAt d sizes old state → Quiet state → AreFew d old.place
-        → faulted_steps turns ≡ 0 → AllMove d sizes old.cache turns old.place new.place
-    line-moves state line result old new sink sink' steps steps' [] c at quiet few none = c.cause
-    line-moves state line result old new sink sink' steps steps' (turn ∷ []) c at quiet few none =
-        let r = c.runs sizes at in
-        let calm = not-faulted (kind_of turn.answer) 0 none in (
-          new.place,
-          (
-            turn-moves d sizes old.cache t k means turn.request turn.answer turn.ticks result old.place new.place sink sink' state r.run.0 c.cause few c.keeps.cache_stays at.at r.run.1 (subst (λ (s : State). IsAt d sizes new.place s) r.run.2 r.at.at) calm quiet,
-            (c.faults.1.1 ∙ kind-stays (kind_of turn.answer) (faults_of d old.place) c.faults.0 c.faults.1.0 calm, refl),
-          ),
-        )
-    line-moves state line result old new sink sink' steps steps' (turn ∷ next ∷ turns) c at quiet few none = absurd c.cause
+  -- the turn of a line
+  pub line-moves : {K : Type 0} (k : sink.Ghosts K) (line : Line) (result : Result (Unit {0}) SinkFault) (turns : List Turn) (old new : Point (Session D d) K) → LineLeads (store_table d) (file_home d) k (Some sizes) line result turns old new → Quiet old.state → faulted_steps turns ≡ 0
+      → AllMove d sizes old.home.cache turns old.home.place new.home.place
+  line-moves k line result [] old new c quiet none = ap (λ (s : Session D d). s.place) c.cause
+  line-moves k line result (turn ∷ []) old new c quiet none =
+      let calm = not-faulted (kind_of turn.answer) 0 none in
+      let cause = cause-place (store_table d) d k result old.home old.sink turn new.home new.sink turn.request c.cause in (
+        new.home.place,
+        (
+          turn-moves d sizes old.home.cache (store_table d) k (table-means d) turn.request turn.answer turn.ticks result old.home.place new.home.place old.sink new.sink old.state c.runs.0 cause c.few c.keeps.place.cache_stays c.stands.at c.runs.1
+              (subst (λ (s : State). IsAt d sizes new.home.place s) c.runs.2 c.stays.at) calm quiet,
+          (c.faults.1.1 ∙ kind-stays (kind_of turn.answer) (faults_of d old.home.place) c.faults.0 c.faults.1.0 calm, refl),
+        ),
+      )
+  line-moves k line result (turn ∷ next ∷ turns) old new c quiet none = absurd c.cause

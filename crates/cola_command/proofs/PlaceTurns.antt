@@ -4,18 +4,20 @@ use Rattle.std.proofs.lemmas.Bool.{false≢true}
 use Rattle.std.specs.Prelude.{IfSome, IsSome, IsSomeAnd}
 use Rattle.cola_outside.specs.Told.{Both}
 use Rattle.cola_cell.specs.Held.{Held}
+use Rattle.cola_cell.specs.declared.format.Format.{Format}
 use Rattle.cola_device.specs.declared.device.Device as device
 use Rattle.cola_layout.specs.declared.geometry.Geometry.{Geometry}
 use Rattle.cola_layout.specs.declared.header.Header.{Header}
 use Rattle.cola_layout.specs.Header.{Fields}
 use Rattle.cola_layout.specs.Fields.{fields_of}
 use Rattle.cola_layout.proofs.Refusing.{spelling-one}
+use Rattle.cola_opening.specs.Judged.{HasHeader}
 use Rattle.cola_spec.specs.Map.{Map}
 use Rattle.cola_spec.specs.Command.{Command, Close}
 use Rattle.cola_spec.specs.Reply as reply
 use Rattle.cola_spec.specs.Reply.{Reply}
 use Rattle.cola_spec.specs.Machine as machine
-use Rattle.cola_spec.specs.Machine.{State, Turn, Kind, StepOf, kind_of, PlainStep, plain_reply, plain_after}
+use Rattle.cola_spec.specs.Machine.{State, Turn, Kind, Step, StepOf, kind_of, PlainStep, plain_reply, plain_after}
 use Rattle.cola_table.specs.Replies.{turn_of}
 use Rattle.cola_image.specs.Standing.{HeaderStandsFor, FileStandsFor, with_state}
 use Rattle.cola_line.specs.Replied.{KindFaults}
@@ -24,14 +26,21 @@ use Rattle.cola_run.specs.Saving.{SameBehind}
 use Rattle.cola_store.specs.declared.closing.Closing.{Closing as ClosingStore}
 use Rattle.cola_command.specs.declared.place.Place.{Place}
 use Rattle.cola_command.specs.declared.place.Place.TheVariants.{Open, Closing, Closed}
-use Rattle.cola_store.specs.Runs.{HasHeader, StoreStandsFor}
+use Rattle.cola_store.specs.Runs.{StoreStandsFor}
 use Rattle.cola_store.specs.Store.{Stored, Holds, geometry_of}
 use Rattle.cola_store.specs.Close.{IsFileOf, IsClosed, StillOwes}
 use Rattle.cola_store.specs.Sessions.{IsStoreClosed, IsStoreOwed}
-use Rattle.cola_command.specs.File.{Sizes, sizes_of, sizes_in, shape, KeepsBehind, HasSizes, StandsBut, device_of, faults_of, IsOfSizes, IsAt}
+use Rattle.cola_command.specs.File.{Sizes, sizes_of, sizes_in, shape, KeepsBehind, HasSizes, StandsBut, device_of, format_of, faults_of, IsOfSizes, IsAt}
 use Rattle.cola_command.specs.Moves.{KeepsCache}
-use Rattle.cola_command.specs.Turns.{Keeps, StepsTo, CloseCause}
+use Rattle.cola_command.specs.declared.file.Session.{Session}
+use Rattle.cola_command.specs.Turns.{Keeps, CloseCause, OpenCause, KeepsFormat, KeepsSession}
 use Rattle.cola_command.proofs.StateByte.{some-state, state-is, size-large}
+
+-- a turn is a step of the session machine from a state to one at which the place is then
+pub record StepsTo {D : Type 0} (d : device.Ghosts D) (sizes : Sizes) (state : State) (turn : Turn) (new : Place D d) : Type 0 where
+  pub next : State
+  pub step : Step (shape sizes) state turn next
+  pub at : IsAt d sizes new next
 
 -- what follows of a turn without ticks
 pub record TurnFacts {D : Type 0} (d : device.Ghosts D) (command : Command) (old : Place D d) (answer : Reply) (new : Place D d) : Type 0 where
@@ -107,6 +116,25 @@ module _ {D : Type 0} (d : device.Ghosts D) where
   -- a place that stays keeps all
   pub keeps-same : (old : Place D d) → Keeps d old old
   keeps-same old = record { kept = refl; faults_stay = omega arith; sizes = λ sizes h. h; behind = λ sizes h. same-behind sizes (d.bytes (device_of old)); cache_stays = keeps-cache old }
+
+  keeps-format : (place : Place D d) (last : Format) → KeepsFormat place last (format_of place last)
+  keeps-format (Open store) last = tt
+  keeps-format (Closing closing) last = refl
+  keeps-format (Closed now) last = refl
+
+  -- the last format is kept by a place, and by what an opening leaves
+  pub format-keeps : (place : Place D d) (now before : Format) → now ≡ before → KeepsFormat place now before
+  format-keeps (Open store) now before same = tt
+  format-keeps (Closing closing) now before same = same
+  format-keeps (Closed device) now before same = same
+
+  pub open-format : (cache : ℕ) (old : Place D d) (answer : Reply) (new : Place D d) (last : Format) → OpenCause d cache old answer new → KeepsFormat new last (format_of old last)
+  open-format cache (Open store) answer new last (is, same) = subst (λ (p : Place D d). KeepsFormat p last (format_of {d = d} (Open store) last)) (sym same) tt
+  open-format cache (Closing closing) answer new last (is, same) = format-keeps new last last refl
+  open-format cache (Closed before) answer new last cause = format-keeps new last last refl
+
+  pub session-keeps : (same : Session D d) → KeepsSession d same same
+  session-keeps same = record { place = keeps-same same.place; cache_is = refl; cost_is = refl; format_is = keeps-format same.place same.format }
 
   -- an answer that changes nothing
   pub stays : (command : Command) (old : Place D d) (answer : Reply) → kind_of answer ≡ PlainStep

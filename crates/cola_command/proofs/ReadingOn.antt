@@ -17,7 +17,7 @@ use Rattle.cola_io.proofs.StreamLemmas.{Taken-none, Taken-then}
 use Rattle.cola_io.proofs.LineLaws.{HasRead-fresh, HasRead-then, told-last}
 use Rattle.cola_io.proofs.ReadLemmas.{bytes_read-append, WasRead-append}
 use Rattle.cola_spec.specs.Lines.{Line}
-use Rattle.cola_command.specs.Memory.{input_limit, HoldsLine, ReadFor, AreFirstLines}
+use Rattle.cola_command.specs.Reading.{input_limit, HoldsLine, ReadFor, AreFirstLines}
 use Rattle.cola_command.specs.Ends.{ReadToEnd, SourceFailed, SinkFailed, Spent}
 use Rattle.cola_command.proofs.Joined.{settled_at_end, met_end_joined, was_refused_joined, at_end_joined, gave_some_joined, due_joined, due_answered}
 

@@ -8,6 +8,7 @@ use Rattle.cola_outside.specs.Told.{Both}
 use Rattle.cola_device.specs.declared.device.Device as device
 use Rattle.cola_layout.specs.declared.header.Header.{Header}
 use Rattle.cola_layout.specs.Fields.{fields_of}
+use Rattle.cola_opening.specs.Judged.{HasHeader, IsSmall, IsNoStore, IsSeen}
 use Rattle.cola_spec.specs.Map.{Map, count}
 use Rattle.cola_spec.specs.Command.{Reopen}
 use Rattle.cola_spec.specs.Reply as reply
@@ -22,16 +23,15 @@ use Rattle.cola_store.specs.declared.fault.OpenFault.TheVariants as fault
 use Rattle.cola_store.specs.declared.closing.Closing.{Closing as ClosingStore}
 use Rattle.cola_command.specs.declared.place.Place.{Place}
 use Rattle.cola_command.specs.declared.place.Place.TheVariants.{Open, Closing, Closed}
-use Rattle.cola_store.specs.Runs.{HasHeader}
 use Rattle.cola_store.specs.Store.{Stored, Holds, geometry_of}
-use Rattle.cola_store.specs.Open.{IsSmall, IsNoStore, IsInUse, WasClosed, IsReady, HasBadCell, IsRefused, FailedAtHeader, FailedAtCells, FailedAtMark, DeviceFailed, Opens, opening_reads}
+use Rattle.cola_store.specs.Open.{IsInUse, WasClosed, IsReady, HasBadCell, FailedAtHeader, FailedAtCells, FailedAtMark, DeviceFailed, Opens, opening_reads}
 use Rattle.cola_store.specs.Sessions.{IsStoreOpened}
 use Rattle.cola_command.specs.File.{Sizes, sizes_of, sizes_in, shape, KeepsBehind, HasSizes, StandsBut, device_of, IsOfSizes, IsAt}
-use Rattle.cola_command.specs.Turns.{Keeps, StepsTo, OpenCause, refused_reply}
+use Rattle.cola_command.specs.Turns.{Keeps, OpenCause, refused_reply}
 use Rattle.cola_store.proofs.OpenLaws.{IsUsed, IsLost, used-file, lost-file, lost-small, not-no_store, not-in_use, not-small, not-bad_cell, used-no_store, used-small, used-closed}
 use Rattle.cola_store.proofs.States.{state-long}
 use Rattle.cola_command.proofs.StateByte.{state-twice, sizes-one, size-large, keeps-behind}
-use Rattle.cola_command.proofs.PlaceTurns.{TurnFacts, stays, facts-of, kept-of, same-behind, both-told}
+use Rattle.cola_command.proofs.PlaceTurns.{StepsTo, TurnFacts, stays, facts-of, kept-of, same-behind, both-told}
 
 -- ---- the state byte of a file that stands for a map but for it
 
@@ -228,7 +228,7 @@ module _ {D : Type 0} (d : device.Ghosts D) (cache : ℕ) (before : D) where
   at-still now bytes sizes m byte at = subst (λ (t : Option (List ℕ)). IsSomeAnd t (StandsBut sizes m byte)) (sym bytes) at
 
   -- a refusal for some reason, which the state at the place allows
-  refused-facts : (now : D) (why : List ℕ → Type 0) (reads others : ℕ) (answer : Reply) → IsRefused d before why reads others now → d.kept now ≡ d.kept before → ((b n : ℕ) → n ≡ b → KindFaults (kind_of answer) b n)
+  refused-facts : (now : D) (why : List ℕ → Type 0) (reads others : ℕ) (answer : Reply) → IsSeen d before why reads others now → d.kept now ≡ d.kept before → ((b n : ℕ) → n ≡ b → KindFaults (kind_of answer) b n)
       → ((sizes : Sizes) (m : Map) (byte : ℕ) → IsSomeAnd (d.bytes before) (StandsBut sizes m byte) → Step (shape sizes) (machine.Closed m byte) (turn_of Reopen answer 0) (machine.Closed m byte))
       → TurnFacts d Reopen (Closed before) answer (Closed now)
   refused-facts now why reads others answer is kept free step = record {
@@ -242,7 +242,7 @@ module _ {D : Type 0} (d : device.Ghosts D) (cache : ℕ) (before : D) where
       at-state sizes (machine.Closing m) at = absurd at
       at-state sizes (machine.Closed m byte) at = record { next = machine.Closed m byte; step = step sizes m byte at; at = at-still now is.bytes_stay sizes m byte at }
 
-  why-so : {A : Type 0} (now : D) (why : List ℕ → Type 0) (reads others : ℕ) → IsRefused d before why reads others now → (sizes : Sizes) (m : Map) (byte : ℕ) → IsSomeAnd (d.bytes before) (StandsBut sizes m byte) → ((bytes : List ℕ) → StandsBut sizes m byte bytes → why bytes → A) → A
+  why-so : {A : Type 0} (now : D) (why : List ℕ → Type 0) (reads others : ℕ) → IsSeen d before why reads others now → (sizes : Sizes) (m : Map) (byte : ℕ) → IsSomeAnd (d.bytes before) (StandsBut sizes m byte) → ((bytes : List ℕ) → StandsBut sizes m byte bytes → why bytes → A) → A
   why-so now why reads others is sizes m byte at h = so (d.bytes before) (StandsBut sizes m byte) why h at is.why_is
 
   -- ---- faults

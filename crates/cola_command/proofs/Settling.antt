@@ -1,23 +1,32 @@
 -- A store that is closed has a settled device, but behind an opening that met a fault.
 use Rattle.std.proofs.Common.{◌≡◌, ℕ, Bool, false, List, [], ◌∷◌, Option, Some, None, Result, Ok, Err, sym, subst, arith}
+use Rattle.std.specs.Prelude.{⊤}
 use Rattle.std.proofs.lemmas.Bool.{false≢true}
 use Rattle.cola_device.specs.declared.device.Device as device
 use Rattle.cola_device.specs.Settling.{IsSettled}
 use Rattle.cola_device.proofs.SettlingLemmas.{settled-stays}
 use Rattle.cola_io.specs.declared.sink.Sink as sink
-use Rattle.cola_spec.specs.Command.{Command, Put, PutIf, Del, Get, Stamp, Range, Scan, Count, Close, Reopen}
+use Rattle.cola_spec.specs.Command.{Command}
 use Rattle.cola_spec.specs.Reply.{Reply}
 use Rattle.cola_spec.specs.Machine.{Turn}
 use Rattle.cola_table.specs.declared.table.Table as table
 use Rattle.cola_cursor.specs.declared.cursor.Cursor.{Cursor}
+use Rattle.cola_opening.specs.Judged.{IsSeen}
 use Rattle.cola_store.specs.declared.fault.OpenFault.{OpenFault}
 use Rattle.cola_store.specs.declared.fault.OpenFault.TheVariants as fault
-use Rattle.cola_store.specs.Open.{IsRefused, Opens}
+use Rattle.cola_store.specs.Open.{Opens}
 use Rattle.cola_store.specs.Store.{Stored}
 use Rattle.cola_command.specs.declared.place.Place.{Place}
 use Rattle.cola_command.specs.declared.place.Place.TheVariants as place
-use Rattle.cola_command.specs.Turns.{CloseCause, OpenCause, AskCause, Cause, CausedBy, refused_reply, cut_by, cut_by_request, cut_after}
-use Rattle.cola_command.specs.SoFar.{IsSettledAt}
+use Rattle.cola_command.specs.Home.{cut_by, cut_by_request, cut_after}
+use Rattle.cola_command.specs.Turns.{CloseCause, OpenCause, refused_reply}
+use Rattle.cola_command.proofs.PlaceCauses.{whether, AskCause, Cause, CausedBy}
+
+-- a store that is closed has a settled device, but behind an opening that met a fault
+abbrev pub IsSettledAt : {D : Type 0} (d : device.Ghosts D) → Place D d → Bool → Type 0
+IsSettledAt d (place.Open store) cut = ⊤
+IsSettledAt d (place.Closing closing) cut = ⊤
+IsSettledAt d (place.Closed now) cut = cut ≡ false → IsSettled d now
 
 module _ {D : Type 0} (d : device.Ghosts D) where
   settled-is : (old new : Place D d) (cut : Bool) → new ≡ old → IsSettledAt d old cut → IsSettledAt d new cut
@@ -32,7 +41,7 @@ module _ {D : Type 0} (d : device.Ghosts D) where
   close-settles (place.Closed now) answer new cut (answered, is) at = settled-is (place.Closed now) new cut is at
 
   -- a refused opening without a fault wrote nothing
-  refused-settles : {why : List ℕ → Type 0} {reads others : ℕ} (before now : D) → IsRefused d before why reads others now → IsSettled d before → IsSettled d now
+  refused-settles : {why : List ℕ → Type 0} {reads others : ℕ} (before now : D) → IsSeen d before why reads others now → IsSettled d before → IsSettled d now
   refused-settles before now is at =
       let stay = is.spends.writes_stay in
       let rise = is.spends.writes_rise in
@@ -64,16 +73,8 @@ module _ {D K A E : Type 0} (t : table.Ghosts (Stored D) Cursor) (d : device.Gho
 
   turn-settles : (request : Option Command) (turn : Turn) → Cause t d k cache request result old sink turn new sink' → IsSettledAt d new (cut_by_request request turn.answer cut)
   turn-settles None turn (answered, same) = settled-is d old new cut same at
-  turn-settles (Some (Put key value)) turn cause = ask-settles (Put key value) turn old cause at
-  turn-settles (Some (PutIf key seen value)) turn cause = ask-settles (PutIf key seen value) turn old cause at
-  turn-settles (Some (Del key)) turn cause = ask-settles (Del key) turn old cause at
-  turn-settles (Some (Get key)) turn cause = ask-settles (Get key) turn old cause at
-  turn-settles (Some (Stamp key)) turn cause = ask-settles (Stamp key) turn old cause at
-  turn-settles (Some (Range low high)) turn cause = ask-settles (Range low high) turn old cause at
-  turn-settles (Some (Scan low most)) turn cause = ask-settles (Scan low most) turn old cause at
-  turn-settles (Some Count) turn cause = ask-settles Count turn old cause at
-  turn-settles (Some Close) turn cause = close-settles d old turn.answer new cut cause at
-  turn-settles (Some Reopen) turn cause = open-settles d cache old turn.answer new cut cause at
+  turn-settles (Some command) turn cause =
+      whether (IsSettledAt d new) cut (cut_by turn.answer cut) cut command (λ closes. close-settles d old turn.answer new cut closes at) (λ opens. open-settles d cache old turn.answer new cut opens at) (λ asks. ask-settles command turn old asks at) cause
 
   pub line-settles : (turns : List Turn) → CausedBy t d k cache result old sink turns new sink' → IsSettledAt d new (cut_after turns cut)
   line-settles [] same = settled-is d old new cut same at

@@ -7,8 +7,8 @@ use Rattle.cola_layout.specs.Header.{Fields, IsSpelling}
 use Rattle.cola_layout.proofs.Saying.{text-says}
 use Rattle.cola_layout.proofs.Powers.{power-le}
 use Rattle.cola_layout.proofs.Refusing.{spelling-one}
+use Rattle.cola_opening.specs.Judged.{file_size}
 use Rattle.cola_image.specs.Standing.{with_state}
-use Rattle.cola_store.specs.Create.{file_size}
 use Rattle.cola_command.specs.File.{Sizes, KeepsBehind, sizes_in, size_of}
 use Rattle.cola_store.proofs.States.{state-long, state-first, behind, in_use, used-spelling}
 

@@ -15,7 +15,7 @@ use Rattle.cola_store.specs.Transfers.{IsCounting}
 use Rattle.cola_command.specs.declared.place.Place.{Place}
 use Rattle.cola_command.specs.declared.place.Place.TheVariants.{Open, Closing, Closed}
 use Rattle.cola_command.specs.File.{Sizes, sizes_of, faults_of}
-use Rattle.cola_command.specs.Memory.{input_limit}
+use Rattle.cola_command.specs.Reading.{input_limit}
 use Rattle.cola_command.specs.RunTransfers.{mutated, searched, short, opens, mutations, searches, shorts, AsksNoRows, AskNoRows, before_all, begin_where, by_store, levels, block_cells, file_blocks, most_writes, most_reads, cached_reads, FewTransfers}
 use Rattle.cola_command.specs.Moves.{Answers, Closes, Rests, Moves, AllMove}
 
@@ -155,7 +155,7 @@ module _ {D : Type 0} (d : device.Ghosts D) (sizes : Sizes) (cache faults : ℕ)
   -- an open store after so many turns: what it counted is small
   pub record IsSmall (n : ℕ) (store : Stored D) : Type 0 where
     pub calm : store.account.calm ≡ true
-    pub steps_few : store.account.steps ≤ n
+    pub steps_few : store.chain.accepted ≤ n
     pub searches_few : store.account.searches ≤ n
     pub reads_few : store.chain.reads ≤ 920 * n
     pub writes_few : store.chain.writes ≤ 920 * n
@@ -166,7 +166,7 @@ module _ {D : Type 0} (d : device.Ghosts D) (sizes : Sizes) (cache faults : ℕ)
   opened-small : (n : ℕ) (before : D) (store : Stored D) → IsStoreOpened d before cache store → (d.counts before).faults ≡ faults → IsSmall n store
   opened-small n before store opened same = record {
     calm = ap (λ (a : Account). a.calm) opened.account_is;
-    steps_few = let e = ap (λ (a : Account). a.steps) opened.account_is in omega (arith, e);
+    steps_few = let e = opened.numbers.0 in omega (arith, e);
     searches_few = let e = ap (λ (a : Account). a.searches) opened.account_is in omega (arith, e);
     reads_few = let e = opened.numbers.1 in omega (arith, e);
     writes_few = let e = opened.numbers.2 in omega (arith, e);
@@ -181,7 +181,7 @@ module _ {D : Type 0} (d : device.Ghosts D) (sizes : Sizes) (cache faults : ℕ)
       let shallow : (geometry_of old).bottom ≤ 22 = (geometry_of old).shallow in
       record {
         calm = a.calls.calm_is ∙ small.calm;
-        steps_few = count-rises old.account.steps (mutated turn.answer) new.account.steps n a.calls.steps_are small.steps_few one.0 many;
+        steps_few = count-rises old.chain.accepted (mutated turn.answer) new.chain.accepted n a.calls.steps_are small.steps_few one.0 many;
         searches_few = count-rises old.account.searches (searched turn.answer) new.account.searches n a.calls.searches_are small.searches_few one.1 many;
         reads_few = block-rises old.chain.reads new.chain.reads (geometry_of old).bottom n a.calls.reads_rise shallow small.reads_few;
         writes_few = block-rises old.chain.writes new.chain.writes (geometry_of old).bottom n a.calls.writes_rise shallow small.writes_few;
@@ -200,7 +200,7 @@ module _ {D : Type 0} (d : device.Ghosts D) (sizes : Sizes) (cache faults : ℕ)
       let b = small.searches_few in
       record {
         calm = small.calm;
-        steps_few = below-last n store.account.steps (omega (arith, a)) many;
+        steps_few = below-last n store.chain.accepted (omega (arith, a)) many;
         searches_few = below-last n store.account.searches (omega (arith, b)) many;
         reads_few = below-last n store.chain.reads small.reads_few many;
         writes_few = below-last n store.chain.writes small.writes_few many;
@@ -210,11 +210,11 @@ module _ {D : Type 0} (d : device.Ghosts D) (sizes : Sizes) (cache faults : ℕ)
   module _ (count : Counts → ℕ) (no_other : (counts : Counts) → count (record counts { others = 0 }) ≡ count counts) (f : ℕ → ℕ → ℕ) (takes : Reply → ℕ) (Asks : Turn → Type 0) (Keeps : Stored D → Type 0)
       (goes : (turn : Turn) (old new : Stored D) → Answers d sizes cache turn old new → Asks turn → Keeps old → Keeps new)
       (begins : (before : D) (store : Stored D) → IsStoreOpened d before cache store → Keeps store)
-      (closes : (n : ℕ) (turn : Turn) (store : Stored D) (now : D) → n ≤ turns_limit → IsSmall n store → Keeps store → Closes d sizes cache turn store now → count (d.counts now) ≤ count store.account.opened + f store.account.steps store.account.searches)
+      (closes : (n : ℕ) (turn : Turn) (store : Stored D) (now : D) → n ≤ turns_limit → IsSmall n store → Keeps store → Closes d sizes cache turn store now → count (d.counts now) ≤ count store.account.opened + f store.chain.accepted store.account.searches)
       (rest : (turn : Turn) (before now : D) → Rests d sizes cache turn before now → count (d.counts now) ≤ count (d.counts before) + takes turn.answer) where
     -- a place after so many turns, with the mutations and searches of its last store
     abbrev pub Is : ℕ → Place D d → (m s : ℕ) → Type 0
-    Is n (Open store) m s = IsSmall n store × (Keeps store × ((store.account.steps ≡ m) × (store.account.searches ≡ s)))
+    Is n (Open store) m s = IsSmall n store × (Keeps store × ((store.chain.accepted ≡ m) × (store.account.searches ≡ s)))
     Is n (Closing closing) m s = ⊥
     Is n (Closed before) m s = (d.counts before).faults ≡ faults
 
@@ -235,7 +235,7 @@ module _ {D : Type 0} (d : device.Ghosts D) (sizes : Sizes) (cache faults : ℕ)
 
       ends : (n : ℕ) (place : Place D d) (m s : ℕ) → n ≤ turns_limit → Is n place m s → Moves d sizes cache last_turn place (Closed end) → Bound place m s []
       ends n (Open store) m s many (small, (keeps, (steps, searching))) move =
-          open-ends (count (d.counts end)) (count store.account.opened) (f store.account.steps store.account.searches) (f m s) (closes n last_turn store end many small keeps move) (same-amount f store.account.steps store.account.searches m s steps searching)
+          open-ends (count (d.counts end)) (count store.account.opened) (f store.chain.accepted store.account.searches) (f m s) (closes n last_turn store end many small keeps move) (same-amount f store.chain.accepted store.account.searches m s steps searching)
       ends n (Closing closing) m s many is move = absurd is
       ends n (Closed before) m s many is move = closed-ends (count (d.counts end)) (count (d.counts before)) (f m s) (takes last_turn.answer) (rest last_turn before end move) free
 
@@ -255,7 +255,7 @@ module _ {D : Type 0} (d : device.Ghosts D) (sizes : Sizes) (cache faults : ℕ)
           let one = one-at-most turn.answer in
           let a = small.steps_few in
           let b = small.searches_few in
-          let last-steps : store.account.steps + mutated turn.answer < last_value = omega (arith, a, one.0, limit) in
+          let last-steps : store.chain.accepted + mutated turn.answer < last_value = omega (arith, a, one.0, limit) in
           let last-searches : store.account.searches + searched turn.answer < last_value = omega (arith, b, one.1, limit) in
           let m' = m + mutated turn.answer in
           let s' = s + searched turn.answer in
@@ -265,17 +265,17 @@ module _ {D : Type 0} (d : device.Ghosts D) (sizes : Sizes) (cache faults : ℕ)
           (small', (goes turn store next move asks.0 keeps, (move.calls.steps_are last-steps ∙ ap (λ (x : ℕ). x + mutated turn.answer) steps, move.calls.searches_are last-searches ∙ ap (λ (x : ℕ). x + searched turn.answer) searching))) asks.1 others)
       within (turn ∷ turns) n (Open store) m s many (small, (keeps, (steps, searching))) asks (Closed now, (move, (stay, others))) =
           let b = closes n turn store now (omega (arith, many)) small keeps move in
-          let e : f store.account.steps store.account.searches ≡ f m s = same-amount f store.account.steps store.account.searches m s steps searching in
+          let e : f store.chain.accepted store.account.searches ≡ f m s = same-amount f store.chain.accepted store.account.searches m s steps searching in
           let none-more : m ≡ m + mutated turn.answer = let q = move.quiet.mutated_none in omega (arith, q) in
           let none-searched : s ≡ s + searched turn.answer = let q = move.quiet.searched_none in omega (arith, q) in
-          goes-on (Open store) (Closed now) m s m s turn turns move.quiet.opens_none none-more none-searched (paid-from (count (d.counts now)) (count store.account.opened) (f store.account.steps store.account.searches) (f m s) (takes turn.answer) b e)
+          goes-on (Open store) (Closed now) m s m s turn turns move.quiet.opens_none none-more none-searched (paid-from (count (d.counts now)) (count store.account.opened) (f store.chain.accepted store.account.searches) (f m s) (takes turn.answer) b e)
           (within turns (suc n) (Closed now) m s (omega (arith, many)) (stay ∙ small.faults_are) asks.1 others)
       within (turn ∷ turns) n (Open store) m s many is asks (Closing closing, (move, others)) = absurd move
       within (turn ∷ turns) n (Closing before) m s many is asks moves = absurd is
       within (turn ∷ turns) n (Closed before) m s many is asks (Open next, (move, (stay, others))) =
           let none-mutated : mutated turn.answer ≡ 0 = ap mutated move.answer_is in
           let none-searched : searched turn.answer ≡ 0 = ap searched move.answer_is in
-          let steps : next.account.steps ≡ mutated turn.answer = ap (λ (a : Account). a.steps) move.opened.account_is ∙ sym none-mutated in
+          let steps : next.chain.accepted ≡ mutated turn.answer = move.opened.numbers.0 ∙ sym none-mutated in
           let searching : next.account.searches ≡ searched turn.answer = ap (λ (a : Account). a.searches) move.opened.account_is ∙ sym none-searched in
           let opened : count next.account.opened ≡ count (d.counts before) = ap (λ (a : Account). count a.opened) move.opened.account_is ∙ no_other (d.counts before) in
           let bound = within turns (suc n) (Open next) (mutated turn.answer) (searched turn.answer) (omega (arith, many)) (opened-small (suc n) before next move.opened is, (begins before next move.opened, (steps, searching))) asks.1 others in
@@ -294,7 +294,7 @@ module _ {D : Type 0} (d : device.Ghosts D) (sizes : Sizes) (cache faults : ℕ)
           → count (d.counts end) ≤ count (d.counts before) + sum_by (λ (store : List Turn). f (mutations store) (searches store)) (by_store turns) + all_takes takes turns
       store-within first before turns opened same many asks moves =
           let account = opened.account_is in
-          let bound = within turns 0 (Open first) 0 0 (omega (arith, many)) (opened-small 0 before first opened same, (begins before first opened, (ap (λ (a : Account). a.steps) account, ap (λ (a : Account). a.searches) account))) asks moves in
+          let bound = within turns 0 (Open first) 0 0 (omega (arith, many)) (opened-small 0 before first opened same, (begins before first opened, (opened.numbers.0, ap (λ (a : Account). a.searches) account))) asks moves in
           let start : count first.account.opened ≡ count (d.counts before) = ap (λ (a : Account). count a.opened) account ∙ no_other (d.counts before) in
           let sum = amounts-sum f turns in
           whole-bound (count (d.counts end)) (count first.account.opened) (count (d.counts before)) (amounts f 0 0 turns) (sum_by (amount f) (by_store turns)) (all_takes takes turns) bound start sum
@@ -313,17 +313,17 @@ pub cached-sum : (now before opened b b' bottom : ℕ) → before ≤ opened + (
 cached-sum now before opened b b' bottom few e close = omega (arith, few, e, close)
 
 module _ {D : Type 0} (d : device.Ghosts D) (sizes : Sizes) (cache faults : ℕ) where
-  closed-writes : (n : ℕ) (turn : Turn) (store : Stored D) (now : D) → n ≤ turns_limit → IsSmall d sizes cache faults n store → Unit {0} → Closes d sizes cache turn store now → (d.counts now).writes ≤ store.account.opened.writes + most_writes sizes store.account.steps
+  closed-writes : (n : ℕ) (turn : Turn) (store : Stored D) (now : D) → n ≤ turns_limit → IsSmall d sizes cache faults n store → Unit {0} → Closes d sizes cache turn store now → (d.counts now).writes ≤ store.account.opened.writes + most_writes sizes store.chain.accepted
   closed-writes n turn store now many small keeps close =
       let few = close.few.writes (counting d sizes cache faults n store many small) in
       write-sum (d.counts now).writes (spent_of d.counts store).written store.account.opened.writes _ _ _ _ sizes.bottom few
-      (ap (λ (x : Sizes). parts (4 * (store.account.steps * levels x)) (block_cells x)) close.sizes_are) (ap file_blocks close.sizes_are) close.spends.writes_rise
+      (ap (λ (x : Sizes). parts (4 * (store.chain.accepted * levels x)) (block_cells x)) close.sizes_are) (ap file_blocks close.sizes_are) close.spends.writes_rise
 
-  closed-reads : (n : ℕ) (turn : Turn) (store : Stored D) (now : D) → n ≤ turns_limit → IsSmall d sizes cache faults n store → HasRead d.counts store → Closes d sizes cache turn store now → (d.counts now).reads ≤ store.account.opened.reads + most_reads sizes store.account.steps store.account.searches
+  closed-reads : (n : ℕ) (turn : Turn) (store : Stored D) (now : D) → n ≤ turns_limit → IsSmall d sizes cache faults n store → HasRead d.counts store → Closes d sizes cache turn store now → (d.counts now).reads ≤ store.account.opened.reads + most_reads sizes store.chain.accepted store.account.searches
   closed-reads n turn store now many small keeps close =
       let few = close.few.reads keeps (counting d sizes cache faults n store many small) in
       read-sum (d.counts now).reads (spent_of d.counts store).turned store.account.opened.reads _ _ _ _ _ _ _ _ few
-      (ap (λ (x : Sizes). parts (14 * (store.account.steps * levels x)) (block_cells x)) close.sizes_are) (ap file_blocks close.sizes_are) (ap levels close.sizes_are) (ap (λ (x : Sizes). levels x * store.account.searches) close.sizes_are) close.spends.reads_rise
+      (ap (λ (x : Sizes). parts (14 * (store.chain.accepted * levels x)) (block_cells x)) close.sizes_are) (ap file_blocks close.sizes_are) (ap levels close.sizes_are) (ap (λ (x : Sizes). levels x * store.account.searches) close.sizes_are) close.spends.reads_rise
 
   closed-cached : file_blocks sizes ≤ cache → faults + 1 < 2 ^ 64 → (n : ℕ) (turn : Turn) (store : Stored D) (now : D) → n ≤ turns_limit → IsSmall d sizes cache faults n store → Unit {0} → Closes d sizes cache turn store now → (d.counts now).reads ≤ store.account.opened.reads + cached_reads sizes
   closed-cached room few_faults n turn store now many small keeps close =

@@ -1,5 +1,5 @@
--- How the lines of a session end, and how a session over a table in memory ends: its status, and what it leaves.
-use Rattle.std.specs.Prelude.{ℕ, ◌≡◌, ◌≤◌, ◌<◌, true, false, List, [], ◌∷◌, ◌++◌, length}
+-- How a session ends, over any home: its status, and what it read.
+use Rattle.std.specs.Prelude.{ℕ, ◌≡◌, ◌≤◌, ◌<◌, true, false, List, [], ◌∷◌, ◌++◌, length, take, Option}
 use Rattle.cola_outside.specs.Faults.{Rose}
 use Rattle.cola_io.specs.Streams.{Appended}
 use Rattle.cola_io.specs.Counted.{after_fault}
@@ -8,13 +8,31 @@ use Rattle.cola_io.specs.declared.source.Source as source
 use Rattle.cola_io.specs.declared.sink.Sink as sink
 use Rattle.cola_io.specs.Law.{all_lines, all_ended_lines}
 use Rattle.cola_spec.specs.Lines.{Line}
-use Rattle.cola_command.specs.Memory.{input_limit, replies, lines_bound, StepsWithin, ReadFor, AreFirstLines, WroteFront}
+use Rattle.cola_command.specs.Reading.{input_limit, ReadFor, AreFirstLines}
 
 -- the source, the sink and the count of cell accesses are those before
 pub record Untouched {S K : Type 0} (source source' : S) (sink sink' : K) (steps steps' : ℕ) : Type 0 where
   pub source_stays : source' ≡ source
   pub sink_stays : sink' ≡ sink
   pub steps_stay : steps' ≡ steps
+
+-- some front of a text was written, of so many bytes at least
+pub record WroteFront (text : List ℕ) (least : ℕ) (written written' : Option (List ℕ)) : Type 0 where
+  pub size : ℕ
+  pub least_is : least ≤ size
+  pub wrote : Appended (take size text) written written'
+
+-- how the home of a session is left: closed, with no opening behind which none succeeded; not so; or either way
+pub data Ending : Type 0 where
+  Well : Ending
+  Ill : Ending
+  Anyhow : Ending
+
+-- no session ends ill, and all others so
+abbrev pub UnlessIll : Ending → Type 0 → Type 0
+UnlessIll Well A = A
+UnlessIll Ill A = ⊥
+UnlessIll Anyhow A = A
 
 module _ {S K : Type 0} (g : source.Ghosts S) (h : sink.Ghosts K) (source source' : S) (sink sink' : K) where
   -- the end of the source was met, within the limit, and all lines were carried out
@@ -66,28 +84,14 @@ module _ {S K : Type 0} (g : source.Ghosts S) (h : sink.Ghosts K) (source source
     pub source_faults : g.faults source' ≡ g.faults source
     pub sink_faults : h.faults sink' ≡ h.faults sink
 
--- A session in memory
-
-module _ {K : Type 0} (h : sink.Ghosts K) (keys : ℕ) (sink sink' : K) (steps steps' : ℕ) where
-  -- all lines were answered, within the bounds of what they ask
-  pub record Replied (lines : List Line) : Type 0 where
-    pub wrote : Appended (replies keys lines) (h.written sink) (h.written sink')
-    pub cells : StepsWithin (lines_bound keys lines) steps steps'
-
-  -- all lines were, up to some front of the reply to the last
-  pub record RepliedFront (before : List Line) (last : Line) : Type 0 where
-    pub wrote : WroteFront keys before last (h.written sink) (h.written sink')
-    pub cells : StepsWithin (lines_bound keys (before ++ last ∷ [])) steps steps'
-
-module _ {S K : Type 0} (g : source.Ghosts S) (h : sink.Ghosts K) (keys : ℕ) (source source' : S) (sink sink' : K) (steps steps' : ℕ) where
-  -- how a session over a table for so many keys ends, by its status
-  pub data Ends (status : ℕ) : Type 0 where
-    Status0 : status ≡ 0 → ReadToEnd g h source source' sink sink' (Replied h keys sink sink' steps steps') → Ends status
-    -- there was no memory for the table
-    Status1 : status ≡ 1 → Untouched source source' sink sink' steps steps' → Ends status
-    Status3 : status ≡ 3 → SourceFailed g h source source' sink sink' (Replied h keys sink sink' steps steps') → Ends status
-    Status4 : status ≡ 4 → SinkFailed g h source source' sink sink' (RepliedFront h keys sink sink' steps steps') → Ends status
-    Status9 : status ≡ 9 → Spent g h source source' sink sink' (Replied h keys sink sink' steps steps') → Ends status
+  -- how a session ends, by its status: it did not begin; 0 or 5 where the end of the source was met, as the home is left; 3 where it failed; 4 where the sink did; and 9 where all bytes that may be taken were
+  pub data SessionEnds (Refused : ℕ → Type 0) (Whole : Ending → List Line → Type 0) (Front : List Line → Line → Type 0) (status : ℕ) : Type 0 where
+    NotBegun : Refused status → SessionEnds Refused Whole Front status
+    Status0 : status ≡ 0 → ReadToEnd (Whole Well) → SessionEnds Refused Whole Front status
+    Status3 : status ≡ 3 → SourceFailed (Whole Anyhow) → SessionEnds Refused Whole Front status
+    Status4 : status ≡ 4 → SinkFailed Front → SessionEnds Refused Whole Front status
+    Status5 : status ≡ 5 → ReadToEnd (Whole Ill) → SessionEnds Refused Whole Front status
+    Status9 : status ≡ 9 → Spent (Whole Anyhow) → SessionEnds Refused Whole Front status
 
 -- fewer bytes were read than may be taken, and neither the source nor the sink failed
 pub record NothingFails {S K : Type 0} (g : source.Ghosts S) (h : sink.Ghosts K) (source source' : S) (sink sink' : K) : Type 0 where

@@ -4,23 +4,16 @@ use Rattle.cola_cell.specs.declared.format.Format.{Format}
 use Rattle.cola_device.specs.declared.device.Device as device
 use Rattle.cola_layout.specs.declared.geometry.Geometry.{Geometry}
 use Rattle.cola_layout.specs.Header.{Fields}
+use Rattle.cola_opening.specs.Judged.{file_size, HasHeader}
 use Rattle.cola_spec.specs.Map.{Shape, Map}
-use Rattle.cola_spec.specs.Lines.{Line, Text, TooLong}
 use Rattle.cola_spec.specs.Machine as machine
 use Rattle.cola_spec.specs.Machine.{State}
 use Rattle.cola_table.specs.Terms.{shape_of}
 use Rattle.cola_image.specs.Standing.{HeaderStandsFor, with_state}
 use Rattle.cola_command.specs.declared.place.Place.{Place}
 use Rattle.cola_command.specs.declared.place.Place.TheVariants.{Open, Closing, Closed}
-use Rattle.cola_store.specs.Create.{file_size}
-use Rattle.cola_store.specs.Runs.{HasHeader}
-use Rattle.cola_store.specs.Store.{Holds, geometry_of, levels_of}
+use Rattle.cola_store.specs.Store.{Stored, Holds, geometry_of}
 use Rattle.cola_store.specs.Sessions.{Owes}
-
--- the line that was read: its text, or none where it was too long
-abbrev pub line_read : Option (List ℕ) → Line
-line_read None = TooLong
-line_read (Some text) = Text text
 
 -- Sizes
 
@@ -77,11 +70,11 @@ device_of (Open store) = store.chain.store.buffers.cache.device
 device_of (Closing closing) = closing.runs.buffers.cache.device
 device_of (Closed device) = device
 
--- the levels of the store while it is open, and none else
-abbrev pub depth_of : {D : Type 0} {d : device.Ghosts D} → Place D d → ℕ
-depth_of (Open store) = levels_of store
-depth_of (Closing closing) = 0
-depth_of (Closed device) = 0
+-- the store while it is open
+abbrev pub table_in : {D : Type 0} {d : device.Ghosts D} → Place D d → Option (Stored D)
+table_in (Open store) = Some store
+table_in (Closing closing) = None
+table_in (Closed device) = None
 
 -- the format of lines: that of the store while it is open, else the last one
 abbrev pub format_of : {D : Type 0} {d : device.Ghosts D} → Place D d → Format → Format

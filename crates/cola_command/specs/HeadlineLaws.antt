@@ -1,10 +1,9 @@
 -- Words of the laws of sessions over a file.
-use Rattle.std.specs.Prelude.{ℕ, ◌≡◌, ◌≤◌, ◌<◌, ◌⊎◌, Bool, ◌&&◌, if◌then◌else◌, List, [], ◌∷◌, length, sum_by, All, Some, IsSomeAnd}
+use Rattle.std.specs.Prelude.{ℕ, ◌≡◌, ◌≤◌, ◌⊎◌, Bool, ◌&&◌, if◌then◌else◌, List, [], ◌∷◌, sum_by, All, Some, IsSomeAnd}
 use Rattle.std.specs.List.{flat_map}
 use Rattle.cola_outside.specs.Faults.{Rose}
 use Rattle.cola_device.specs.declared.device.Device as device
 use Rattle.cola_io.specs.Streams.{Appended}
-use Rattle.cola_io.specs.Reads.{Read, bytes_read}
 use Rattle.cola_io.specs.declared.source.Source as source
 use Rattle.cola_io.specs.declared.sink.Sink as sink
 use Rattle.cola_spec.specs.Map.{Shape, Map}
@@ -15,19 +14,15 @@ use Rattle.cola_spec.specs.Machine.{State, Open, Closed, Turn, FaultedStep, kind
 use Rattle.cola_spec.specs.Bounds.{request_bound}
 use Rattle.cola_spec.specs.Told.{is_costed, printed_cost}
 use Rattle.cola_image.specs.Standing.{FileStandsFor}
-use Rattle.cola_store.specs.declared.fault.OpenFault.TheVariants as fault
-use Rattle.cola_command.specs.Memory.{input_limit, ReadFor}
 use Rattle.cola_command.specs.File.{Sizes, shape}
-use Rattle.cola_command.specs.Ends.{ReadToEnd}
+use Rattle.cola_command.specs.Ends.{ReadToEnd, NothingFails}
 use Rattle.cola_command.specs.RunTransfers.{FewTransfers}
 use Rattle.cola_command.specs.Headline.{StandsAs, IsLeftWhole, NotOpened, asked}
 
 -- the file stands for a map, fewer bytes were read than may be taken, and no count of faults rose
-pub record NothingFails {S K D : Type 0} (g : source.Ghosts S) (h : sink.Ghosts K) (d : device.Ghosts D) (m : Map) (source source' : S) (sink sink' : K) (device device' : D) : Type 0 where
+pub record NoneFails {S K D : Type 0} (g : source.Ghosts S) (h : sink.Ghosts K) (d : device.Ghosts D) (m : Map) (source source' : S) (sink sink' : K) (device device' : D) : Type 0 where
   pub stands : IsSomeAnd (d.bytes device) (λ bytes. FileStandsFor bytes m)
-  pub few : (answered : List Line) (reads : List Read) → ReadFor g answered source reads source' → length (bytes_read reads) < input_limit
-  pub source_answers : Rose (g.faults source) (g.faults source') → ⊥
-  pub sink_answers : Rose (h.faults sink) (h.faults sink') → ⊥
+  pub nothing : NothingFails g h source source' sink sink'
   pub device_answers : Rose (d.counts device).faults (d.counts device').faults → ⊥
 
 -- turns from a state to a last one: each is the one plain step, or an opening of a closed store that found no memory, which changes nothing
@@ -64,7 +59,7 @@ module _ {S K D : Type 0} (g : source.Ghosts S) (h : sink.Ghosts K) (d : device.
   -- how a session ends where nothing fails: all lines are answered plainly, or there was no memory for its store
   pub data Completes (status : ℕ) : Type 0 where
     Answered : status ≡ 0 → ReadToEnd g h source source' sink sink' (AnsweredPlainly h d cost m sink sink' device device') → Completes status
-    OutOfMemory : status ≡ 1 → NotOpened g h d cache cost source source' sink sink' device device' steps steps' fault.OutOfMemory → Completes status
+    OutOfMemory : status ≡ 1 → NotOpened g h d cache cost source source' sink sink' device device' steps steps' status → Completes status
 
 -- no turn is faulted
 abbrev pub NoneFaulted : List Turn → Type 0

@@ -1,12 +1,13 @@
-pub mod Memory
+pub mod Reading
 pub mod Ends
+pub mod Home
+pub mod Memory
 pub mod File
 pub mod RunTransfers
 pub mod Moves
 pub mod Turns
 pub mod Headline
+pub mod Mirrored
 pub mod HeadlineLaws
-pub mod SoFar
-pub mod Workload
-pub mod Statuses
+pub mod MirrorLaws
 pub mod Serves

@@ -1,60 +1,71 @@
--- A session over a table in memory: what it is asked and replies, and which reads it makes.
-use Rattle.std.specs.Prelude.{ℕ, ◌≡◌, ◌+◌, ◌≤◌, ◌^◌, ◌⊎◌, Bool, true, false, List, [], ◌∷◌, ◌++◌, length, sum_by, take, Option, Some, None, IsSome, ⊤}
+-- A session over a table in memory: its home, what it replies, and how it ends.
+use Rattle.std.specs.Prelude.{ℕ, ◌≡◌, ◌+◌, ◌≤◌, Bool, true, false, List, [], ◌∷◌, ◌++◌, length, sum_by, Option, Some, None}
 use Rattle.std.specs.List.{flat_map}
-use Rattle.std.specs.Io.KnownBytes.{IsAtEnd}
 use Rattle.cola_cell.specs.declared.format.Format.TheVariants.{One}
-use Rattle.cola_io.specs.Streams.{Taken, Appended}
-use Rattle.cola_io.specs.Reads.{Read, bytes_read, WasRead, AreDue, met_end}
+use Rattle.cola_io.specs.Streams.{Appended}
 use Rattle.cola_io.specs.declared.source.Source as source
-use Rattle.cola_io.specs.declared.next.Next.{Next}
-use Rattle.cola_io.specs.declared.next.Next.TheVariants as next
-use Rattle.cola_io.specs.Law.{all_lines, all_ended_lines}
-use Rattle.cola_spec.specs.Map.{Map, empty_map}
-use Rattle.cola_spec.specs.Lines.{Line, Text, TooLong}
+use Rattle.cola_io.specs.declared.sink.Sink as sink
+use Rattle.cola_spec.specs.Map.{Map, empty_map, count}
+use Rattle.cola_spec.specs.Lines.{Line}
 use Rattle.cola_spec.specs.Command.{Command, line_requests}
+use Rattle.cola_spec.specs.Reply.{Reply, Already, Opened}
+use Rattle.cola_spec.specs.Reply as reply
 use Rattle.cola_spec.specs.Bounds.{request_bound}
-use Rattle.cola_spec.specs.Machine.{State, Open, Closed, plain_turns, plain_last, turns_text}
+use Rattle.cola_spec.specs.Machine.{State, Open, Closed, plain_turns, turns_text}
+use Rattle.cola_table.specs.Flat.{Flat}
 use Rattle.cola_table.specs.Terms.{shape_of}
+use Rattle.cola_command.specs.declared.memory.MemorySession.{MemorySession}
+use Rattle.cola_command.specs.Home.{Home}
+use Rattle.cola_command.specs.Ends.{SessionEnds, UnlessIll, Untouched, WroteFront}
 
--- the most bytes of input
-abbrev pub input_limit : ℕ
-input_limit = 2 ^ 40
+-- The home
 
 -- the state of a session over a table in memory, which closing and opening keep
 abbrev pub state_of : Bool → Map → State
 state_of true m = Open m
 state_of false m = Closed m 0
 
--- the line that was read: its text, or none where it was too long
-abbrev pub line_read : Option (List ℕ) → Line
-line_read None = TooLong
-line_read (Some text) = Text text
+-- the table while the session is open
+abbrev pub table_in : Bool → Flat → Option Flat
+table_in true table = Some table
+table_in false table = None
+
+-- what the answers to `close` and `open` are, by whether the session is open
+abbrev pub close_answer : Bool → Reply
+close_answer true = reply.Closed
+close_answer false = Already
+
+abbrev pub open_answer : Bool → Map → Reply
+open_answer true m = Already
+open_answer false m = Opened (count m)
+
+-- it is closed and opened without fail, and no call makes a fault; for so many keys it is at the state of its map
+abbrev pub memory_home : Home MemorySession Flat
+memory_home = record {
+  Known = ℕ;
+  shape = shape_of One;
+  at = λ keys session state. (session.table.limit ≡ keys) × (state ≡ state_of session.is_open session.table.map);
+  table = λ session. table_in session.is_open session.table;
+  with_table = λ old table new. new ≡ record { table = table; is_open = old.is_open };
+  format = λ session. One;
+  cost = λ session. false;
+  faults = λ session. 0;
+  cut_off = λ session. false;
+  keeps = λ old new. new.table.limit ≡ old.table.limit;
+  closes = λ old answer new. (answer ≡ close_answer old.is_open) × (new ≡ record { table = old.table; is_open = false });
+  opens = λ old answer new. (answer ≡ open_answer old.is_open old.table.map) × (new ≡ record { table = old.table; is_open = true });
+  few = λ session. Unit {0};
+}
+
+-- Replies
 
 -- what lines ask
 abbrev pub asked : ℕ → List Line → List (Option Command)
 asked keys lines = flat_map (line_requests (shape_of One keys)) lines
 
--- the state after lines
-abbrev pub state_after : ℕ → State → List Line → State
-state_after keys state lines = plain_last (shape_of One keys) state (asked keys lines)
-
--- the texts of the replies to lines, one after another
-abbrev pub replies_to : ℕ → State → List Line → List ℕ
-replies_to keys state lines = turns_text false (plain_turns (shape_of One keys) state (asked keys lines))
-
--- a session begins open, with the empty map
+-- the texts of the replies to lines, one after another: a session begins open, with the empty map
 abbrev pub replies : ℕ → List Line → List ℕ
-replies keys lines = replies_to keys (Open empty_map) lines
-
--- a reader that answered so holds a line's text, or had a line that was too long
-abbrev pub HoldsLine : Next → Option (List ℕ) → Type 0
-HoldsLine next.Line held = IsSome held
-HoldsLine next.TooLong held = ⊤
-HoldsLine next.End held = ⊥
-HoldsLine next.Fault held = ⊥
-HoldsLine next.Budget held = ⊥
-
--- Cell accesses
+replies keys lines = turns_text false (plain_turns (shape_of One keys) (Open empty_map) (asked keys lines))
 
 -- the most cell accesses of what lines ask: a table in memory has no levels
 abbrev pub lines_bound : ℕ → List Line → ℕ
@@ -65,25 +76,20 @@ pub record StepsWithin (bound steps steps' : ℕ) : Type 0 where
   pub kept : steps ≤ steps'
   pub within : steps' ≤ steps + bound
 
--- Reads
+-- The end
 
--- each line that a line feed ends within the bytes was answered
-abbrev pub AllAnswered : List Line → List ℕ → Type 0
-AllAnswered answered bytes = length (all_ended_lines bytes) ≤ length answered
+module _ {K : Type 0} (h : sink.Ghosts K) (keys : ℕ) (sink sink' : K) (steps steps' : ℕ) where
+  -- all lines were answered, within the bounds of what they ask
+  pub record Replied (lines : List Line) : Type 0 where
+    pub wrote : Appended (replies keys lines) (h.written sink) (h.written sink')
+    pub cells : StepsWithin (lines_bound keys lines) steps steps'
 
--- the source was read for lines, of which these were answered: no read came where a line that had ended was not answered, none behind a refused one, none behind the end, and none for more than the limit
-pub record ReadFor {S : Type 0} (g : source.Ghosts S) (answered : List Line) (source : S) (reads : List Read) (source' : S) : Type 0 where
-  pub was_read : WasRead g source reads source'
-  pub due : AreDue (AllAnswered answered) input_limit reads
-  pub took : Taken (bytes_read reads) (g.left source) (g.left source')
-  pub at_end : met_end reads ≡ true → IsAtEnd (g.left source')
+  -- all lines were, up to some front of the reply to the last
+  pub record RepliedFront (before : List Line) (last : Line) : Type 0 where
+    pub wrote : WroteFront (replies keys (before ++ last ∷ [])) (length (replies keys before)) (h.written sink) (h.written sink')
+    pub cells : StepsWithin (lines_bound keys (before ++ last ∷ [])) steps steps'
 
--- these are first lines of the bytes taken, each of which a line feed ends, or all of their lines at the end of the source
-abbrev pub AreFirstLines : List Line → List Read → Type 0
-AreFirstLines lines reads = ((rest : List Line) × (lines ++ rest ≡ all_ended_lines (bytes_read reads))) ⊎ ((met_end reads ≡ true) × (lines ≡ all_lines (bytes_read reads)))
-
--- the replies to all lines but the last were written whole, and some front of the reply to the last
-pub record WroteFront (keys : ℕ) (before : List Line) (last : Line) (written written' : Option (List ℕ)) : Type 0 where
-  pub size : ℕ
-  pub least : length (replies keys before) ≤ size
-  pub wrote : Appended (take size (replies keys (before ++ last ∷ []))) written written'
+-- how a session over a table for so many keys ends, by its status: 1 where there was no memory for the table; it never ends ill
+abbrev pub MemoryEnds : {S K : Type 0} → source.Ghosts S → sink.Ghosts K → ℕ → (source source' : S) → (sink sink' : K) → (steps steps' : ℕ) → ℕ → Type 0
+MemoryEnds g h keys source source' sink sink' steps steps' status =
+    SessionEnds g h source source' sink sink' (λ n. (n ≡ 1) × Untouched source source' sink sink' steps steps') (λ ending lines. UnlessIll ending (Replied h keys sink sink' steps steps' lines)) (RepliedFront h keys sink sink' steps steps') status

@@ -6,8 +6,8 @@ use Rattle.cola_spec.specs.Reply as reply
 use Rattle.cola_spec.specs.Reply.{Reply}
 use Rattle.cola_spec.specs.Machine.{Turn}
 use Rattle.cola_transfers.specs.Credit.{last_value}
+use Rattle.cola_opening.specs.Counted.{Spends}
 use Rattle.cola_store.specs.Store.{Stored, HasRead, geometry_of, levels_of}
-use Rattle.cola_store.specs.Open.{Spends}
 use Rattle.cola_store.specs.Sessions.{IsStoreOpened}
 use Rattle.cola_store.specs.Transfers.{IsCounting, WritesFew, ReadsFew, ReadsOnce}
 use Rattle.cola_command.specs.declared.place.Place.{Place}
@@ -25,7 +25,7 @@ pub record IsQuiet (answer : Reply) : Type 0 where
 pub record CountsCall {D : Type 0} (old new : Stored D) (more_steps more_searches : ℕ) : Type 0 where
   pub opened_is : new.account.opened ≡ old.account.opened
   pub calm_is : new.account.calm ≡ old.account.calm
-  pub steps_are : old.account.steps + more_steps < last_value → new.account.steps ≡ old.account.steps + more_steps
+  pub steps_are : old.chain.accepted + more_steps < last_value → new.chain.accepted ≡ old.chain.accepted + more_steps
   pub searches_are : old.account.searches + more_searches < last_value → new.account.searches ≡ old.account.searches + more_searches
   pub reads_rise : new.chain.reads ≤ old.chain.reads + put_bound (levels_of old)
   pub writes_rise : new.chain.writes ≤ old.chain.writes + put_bound (levels_of old)

@@ -6,17 +6,17 @@ use Rattle.cola_io.specs.declared.source.Source as source
 use Rattle.cola_io.specs.declared.sink.Sink as sink
 use Rattle.cola_store.specs.Create.{Made, WasNotEmpty, DeviceFailed, CountsOneWrite}
 use Rattle.cola_spec.specs.Map.{Map}
-use Rattle.cola_table.specs.declared.table.Table as table
-use Rattle.cola_cursor.specs.declared.cursor.Cursor.{Cursor}
-use Rattle.cola_store.specs.Store.{Stored}
 use Rattle.cola_wide.specs.declared.fault.UpgradeFault.{UpgradeFault}
 use Rattle.cola_wide.specs.declared.fault.UpgradeFault.TheVariants as upgrade
 use Rattle.cola_wide.specs.Upgrade.{Upgrades, CanBeUpgraded, IsDoneForMemory}
 use Rattle.cola_words.specs.declared.mode.Mode.{Mode}
-use Rattle.cola_words.specs.declared.mode.Mode.TheVariants.{Mem, Create, Run, Gen, Upgrade}
-use Rattle.cola_command.specs.Ends.{Ends, Untouched}
+use Rattle.cola_words.specs.declared.mode.Mode.TheVariants.{Mem, Create, Run, Gen, Upgrade, Rebuild}
+use Rattle.cola_command.specs.Ends.{Untouched}
+use Rattle.cola_command.specs.Memory.{MemoryEnds}
+use Rattle.cola_store.specs.Table.{store_table}
 use Rattle.cola_command.specs.Headline.{FileEnds}
-use Rattle.cola_command.specs.Workload.{GenEnds, FaultsCaused, EndsOnEmpty}
+use Rattle.cola_command.specs.Mirrored.{MirrorEnds, RebuildEnds}
+use Rattle.cola_workload.specs.Workload.{GenEnds, FaultsCaused, EndsOnEmpty}
 
 -- how making a file ends, by its status: the file is made, a call of the device was refused, or the device had bytes
 pub data CreateEnds {D : Type 0} (d : device.Ghosts D) (format : Format) (keys block_exp : ℕ) (device device' : D) (status : ℕ) : Type 0 where
@@ -47,7 +47,7 @@ pub record UpgradeEnds {D : Type 0} (d : device.Ghosts D) (device device' second
   pub second_kept : d.kept second' ≡ d.kept second
   pub complete : (m : Map) → CanBeUpgraded d d device device' second second' m → IsDoneForMemory answer
 
-module _ {S K D : Type 0} (g : source.Ghosts S) (h : sink.Ghosts K) (d : device.Ghosts D) (t : table.Ghosts (Stored D) Cursor) (source source' : S) (sink sink' : K) (device device' second second' : D) (steps steps' : ℕ) (status : ℕ) where
+module _ {S K D : Type 0} (g : source.Ghosts S) (h : sink.Ghosts K) (d : device.Ghosts D) (source source' : S) (sink sink' : K) (device device' second second' : D) (steps steps' : ℕ) (status : ℕ) where
   -- nothing was touched
   pub record Refused : Type 0 where
     pub status_is : status ≡ 2
@@ -57,7 +57,7 @@ module _ {S K D : Type 0} (g : source.Ghosts S) (h : sink.Ghosts K) (d : device.
 
   -- a session over a table in memory for so many keys, which calls no device
   pub record ServedInMemory (keys : ℕ) : Type 0 where
-    pub ends : Ends g h keys source source' sink sink' steps steps' status
+    pub ends : MemoryEnds g h keys source source' sink sink' steps steps' status
     pub device_stays : device' ≡ device
     pub second_stays : second' ≡ second
 
@@ -71,12 +71,12 @@ module _ {S K D : Type 0} (g : source.Ghosts S) (h : sink.Ghosts K) (d : device.
 
   -- a session over the file of the first device, which alone is called
   pub record ServedFile (cache : ℕ) (cost : Bool) : Type 0 where
-    pub ends : FileEnds g h d t cache cost source source' sink sink' device device' steps steps' status
+    pub ends : FileEnds g h d cache cost source source' sink sink' device device' steps steps' status
     pub second_stays : second' ≡ second
 
   -- the stated workload was carried out on a new file of the first device, or was ended by a refusal; that device and the sink alone were called
   pub record ServedWorkload (keys : ℕ) : Type 0 where
-    pub ends : GenEnds h d t keys device device' sink sink' steps steps' status
+    pub ends : GenEnds h d (store_table d) keys device device' sink sink' steps steps' status
     pub faults : FaultsCaused status (d.counts device).faults (d.counts device').faults
     pub on_empty : IsSomeAnd (d.bytes device) (λ bytes. length bytes ≡ 0) → EndsOnEmpty h keys sink sink' (d.bytes device') status
     pub kept : d.kept device' ≡ d.kept device
@@ -88,11 +88,22 @@ module _ {S K D : Type 0} (g : source.Ghosts S) (h : sink.Ghosts K) (d : device.
     pub ends : UpgradeEnds d device device' second second' status
     pub untouched : Untouched source source' sink sink' steps steps'
 
+  -- a session over the files of both devices
+  pub record ServedMirror (cache : ℕ) (cost : Bool) : Type 0 where
+    pub ends : MirrorEnds g h d cache cost source source' sink sink' device device' second second' steps steps' status
+
+  -- the file of the second device was made equal to that of the first or was not, and the devices alone were called
+  pub record RebuiltFile : Type 0 where
+    pub ends : RebuildEnds d device device' second second' status
+    pub untouched : Untouched source source' sink sink' steps steps'
+
   -- by the mode that the words name. Every other mode is refused as words that name none
   abbrev pub Serves : Option Mode → Type 0
   Serves (Some (Mem keys)) = ServedInMemory keys
   Serves (Some (Create keys block_exp format)) = MadeFile keys block_exp format
   Serves (Some (Run cache cost None)) = ServedFile cache cost
   Serves (Some (Gen keys)) = ServedWorkload keys
+  Serves (Some (Run cache cost (Some place))) = ServedMirror cache cost
   Serves (Some Upgrade) = UpgradedFile
+  Serves (Some Rebuild) = RebuiltFile
   Serves _ = Refused

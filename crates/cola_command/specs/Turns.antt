@@ -1,20 +1,11 @@
--- What a session over a file answers to a line, on every device and every file: the cause of each reply, what stays, and the step of the session machine that it is where the file stands for a map.
-use Rattle.std.specs.Prelude.{◌≡◌, ℕ, ◌+◌, ◌≤◌, Bool, true, false, List, [], ◌∷◌, ◌++◌, map, All, Option, Some, None, Result, Ok, Err, is_err}
+-- The home of a session over a file, on every device and every file: why `close` and `open` are answered so, and what every line keeps.
+use Rattle.std.specs.Prelude.{◌≡◌, ℕ, nat_eq, ◌≤◌, Bool, true, false, ◌&&◌, ◌||◌, not, if◌then◌else◌, Result, Ok, Err}
 use Rattle.cola_outside.specs.Told.{Both}
+use Rattle.cola_cell.specs.declared.format.Format.{Format}
 use Rattle.cola_device.specs.declared.device.Device as device
-use Rattle.cola_io.specs.declared.sink.Sink as sink
-use Rattle.cola_io.specs.declared.sink.SinkFault.{SinkFault}
-use Rattle.cola_spec.specs.Lines.{Line}
-use Rattle.cola_spec.specs.Command.{Command, line_requests}
 use Rattle.cola_spec.specs.Reply as reply
 use Rattle.cola_spec.specs.Reply.{Reply}
-use Rattle.cola_spec.specs.Machine.{State, Turn, Step, Run, kind_of, by_command, turn_text, turns_text, ticks_of}
-use Rattle.cola_spec.specs.Bounds.{request_bound}
-use Rattle.cola_table.specs.declared.table.Table as table
-use Rattle.cola_table.specs.Terms.{shape_of}
-use Rattle.cola_line.specs.Given.{Given}
-use Rattle.cola_line.specs.Replied.{Wrote, KindFaults}
-use Rattle.cola_cursor.specs.declared.cursor.Cursor.{Cursor}
+use Rattle.cola_spec.specs.Machine.{State}
 use Rattle.cola_store.specs.declared.closing.Closing.{Closing}
 use Rattle.cola_store.specs.declared.fault.OpenFault.{OpenFault}
 use Rattle.cola_store.specs.declared.fault.OpenFault.TheVariants as fault
@@ -22,9 +13,10 @@ use Rattle.cola_command.specs.declared.place.Place.{Place}
 use Rattle.cola_command.specs.declared.place.Place.TheVariants as place
 use Rattle.cola_command.specs.declared.file.Session.{Session}
 use Rattle.cola_store.specs.Store.{Stored}
-use Rattle.cola_store.specs.Close.{IsClosed, StillOwes}
 use Rattle.cola_store.specs.Sessions.{OpensStore, IsStoreOpened, ClosesStore}
-use Rattle.cola_command.specs.File.{Sizes, shape, KeepsBehind, device_of, depth_of, format_of, faults_of, IsOfSizes, IsAt}
+use Rattle.cola_workload.specs.Workload.{ClosesAgain}
+use Rattle.cola_command.specs.File.{Sizes, shape, KeepsBehind, device_of, table_in, format_of, faults_of, IsOfSizes, IsAt}
+use Rattle.cola_command.specs.Home.{Home}
 use Rattle.cola_command.specs.Moves.{KeepsCache, AreFew}
 
 -- Replies
@@ -38,22 +30,6 @@ refused_reply fault.Device = reply.Failed reply.Fault
 refused_reply fault.OutOfMemory = reply.Refused reply.Memory
 refused_reply (fault.BadCell cell) = reply.Failed (reply.Damaged cell)
 
--- whether the last file that was to be opened met a fault: after an answer to `open`
-abbrev pub cut_by : Reply → Bool → Bool
-cut_by (reply.Failed reply.Fault) before = true
-cut_by (reply.Opened keys) before = false
-cut_by _ before = before
-
--- after a turn: only `open` changes it
-abbrev pub cut_by_request : Option Command → Reply → Bool → Bool
-cut_by_request None answer before = before
-cut_by_request (Some command) answer before = by_command command before (cut_by answer before) before
-
--- after turns
-abbrev pub cut_after : List Turn → Bool → Bool
-cut_after [] before = before
-cut_after (turn ∷ turns) before = cut_after turns (cut_by_request turn.request turn.answer before)
-
 -- Causes
 
 module _ {D : Type 0} (d : device.Ghosts D) where
@@ -61,11 +37,6 @@ module _ {D : Type 0} (d : device.Ghosts D) where
   abbrev pub ClosesWith : Result D (Closing D d) → Reply → Place D d → Type 0
   ClosesWith (Ok now) answer new = (answer ≡ reply.Closed) × (new ≡ place.Closed now)
   ClosesWith (Err closing) answer new = (answer ≡ reply.Failed reply.Fault) × (new ≡ place.Closing closing)
-
-  -- another attempt to close a store
-  abbrev pub ClosesAgain : Closing D d → Result D (Closing D d) → Type 0
-  ClosesAgain closing (Ok now) = IsClosed d closing.header closing.runs now
-  ClosesAgain closing (Err still) = StillOwes d closing.header closing.runs still.runs still.header
 
   -- an opening, as it is answered
   abbrev pub OpensWith : Result (Stored D) (D × OpenFault) → Reply → Place D d → Type 0
@@ -75,7 +46,7 @@ module _ {D : Type 0} (d : device.Ghosts D) where
   -- `close` is answered by an attempt to close what is not closed
   abbrev pub CloseCause : Place D d → Reply → Place D d → Type 0
   CloseCause (place.Open store) answer new = (attempt : Result D (Closing D d)) × (ClosesStore d store attempt × ClosesWith attempt answer new)
-  CloseCause (place.Closing closing) answer new = (attempt : Result D (Closing D d)) × (ClosesAgain closing attempt × ClosesWith attempt answer new)
+  CloseCause (place.Closing closing) answer new = (attempt : Result D (Closing D d)) × (ClosesAgain d closing attempt × ClosesWith attempt answer new)
   CloseCause (place.Closed now) answer new = (answer ≡ reply.Already) × (new ≡ place.Closed now)
 
   -- `open` is answered by an opening of what is closed
@@ -84,31 +55,7 @@ module _ {D : Type 0} (d : device.Ghosts D) where
   OpenCause cache (place.Closing closing) answer new = (answer ≡ reply.Already) × (new ≡ place.Closing closing)
   OpenCause cache (place.Closed before) answer new = (opening : Result (Stored D) (D × OpenFault)) × (OpensStore d before cache opening × OpensWith opening answer new)
 
-module _ {D K A E : Type 0} (t : table.Ghosts (Stored D) Cursor) (d : device.Ghosts D) (k : sink.Ghosts K) where
-  -- all other commands are answered by the store while it is open
-  abbrev pub AskCause : Command → Result A E → Place D d → K → Turn → Place D d → K → Type 0
-  AskCause command result (place.Open store) sink turn new sink' = (after : Stored D) × (Given t k command result store sink turn after sink' × (new ≡ place.Open after))
-  AskCause command result (place.Closing closing) sink turn new sink' = (turn.answer ≡ reply.Shut) × (new ≡ place.Closing closing)
-  AskCause command result (place.Closed now) sink turn new sink' = (turn.answer ≡ reply.Shut) × (new ≡ place.Closed now)
-
-  -- the cause of a turn
-  abbrev pub Cause : ℕ → Option Command → Result A E → Place D d → K → Turn → Place D d → K → Type 0
-  Cause cache None result old sink turn new sink' = (turn.answer ≡ reply.Bad) × (new ≡ old)
-  Cause cache (Some command) result old sink turn new sink' =
-      by_command command (CloseCause d old turn.answer new) (OpenCause d cache old turn.answer new) (AskCause command result old sink turn new sink')
-
-  -- a line has one turn, or none, which changes nothing
-  abbrev pub CausedBy : ℕ → Result A E → Place D d → K → List Turn → Place D d → K → Type 0
-  CausedBy cache result old sink [] new sink' = new ≡ old
-  CausedBy cache result old sink (turn ∷ []) new sink' = Cause cache turn.request result old sink turn new sink'
-  CausedBy cache result old sink (turn ∷ next ∷ turns) new sink' = ⊥
-
--- Turns
-
--- the device's count of faults over turns: it rises in each faulted step, and in no other
-abbrev pub FaultsOver : List Turn → ℕ → ℕ → Type 0
-FaultsOver [] before now = now ≡ before
-FaultsOver (turn ∷ turns) before now = (between : ℕ) × (KindFaults (kind_of turn.answer) before between × FaultsOver turns between now)
+-- Sessions
 
 module _ {D : Type 0} (d : device.Ghosts D) where
   -- what a line keeps on every device: what the device keeps, and, where it tells its bytes, their number and those behind the cells; a store that stays open keeps its cache; and the device's count of faults does not fall
@@ -124,79 +71,36 @@ module _ {D : Type 0} (d : device.Ghosts D) where
     pub format_is : format_of session.place session.format ≡ sizes.format
     pub at : IsAt d sizes session.place state
 
-  -- a turn is a step of the session machine from a state at which the place is to one at which it is then
-  pub record StepsTo (sizes : Sizes) (state : State) (turn : Turn) (new : Place D d) : Type 0 where
-    pub next : State
-    pub step : Step (shape sizes) state turn next
-    pub at : IsAt d sizes new next
+-- the format of lines where no store is open: the last one
+abbrev pub KeepsFormat : {D : Type 0} {d : device.Ghosts D} → Place D d → Format → Format → Type 0
+KeepsFormat (place.Open store) now before = Unit {0}
+KeepsFormat (place.Closing closing) now before = now ≡ before
+KeepsFormat (place.Closed device) now before = now ≡ before
 
-  -- turns lead the session machine from a state at which the session is to one at which it is then
-  pub record RunsTo (sizes : Sizes) (state : State) (turns : List Turn) (new : Session D d) : Type 0 where
-    pub last : State
-    pub run : Run (shape sizes) state turns last
-    pub at : SessionAt sizes new last
-
--- a turn: this was asked, the text of its reply was written, and its cell accesses are those that were made; the cause of the reply, what stays, and, where the place was at the state, the step of the machine
-pub record Turned {D K A E : Type 0} (t : table.Ghosts (Stored D) Cursor) (d : device.Ghosts D) (k : sink.Ghosts K) (state : State) (cache : ℕ) (cost : Bool) (asked : Option Command) (result : Result A E) (old new : Place D d) (sink sink' : K) (steps steps' : ℕ) (turn : Turn) : Type 0 where
-  pub asks : turn.request ≡ asked
-  pub wrote : Wrote (turn_text cost turn) result (k.written sink) (k.written sink')
-  pub counted : steps' ≡ steps + turn.ticks
-  pub within : turn.ticks ≤ request_bound (depth_of old) asked
-  pub faults : KindFaults (kind_of turn.answer) (faults_of d old) (faults_of d new)
-  pub cause : Cause t d k cache asked result old sink turn new sink'
-  pub keeps : Keeps d old new
-  pub leads : (sizes : Sizes) → IsAt d sizes old state → StepsTo d sizes state turn new
-
--- a line was carried out: it was asked, by the format of the store, and answered so, the text was written, and its cell accesses are those that were made; the cause of the reply; and where the session was at a state, the step of the machine
-pub record Carried {D K A E : Type 0} (t : table.Ghosts (Stored D) Cursor) (d : device.Ghosts D) (k : sink.Ghosts K) (state : State) (line : Line) (result : Result A E) (old new : Session D d) (sink sink' : K) (steps steps' : ℕ) (turns : List Turn) : Type 0 where
-  pub asks : (keys : ℕ) → map (λ (turn : Turn). turn.request) turns ≡ line_requests (shape_of (format_of old.place old.format) keys) line
-  pub wrote : Wrote (turns_text old.cost turns) result (k.written sink) (k.written sink')
-  pub counted : steps' ≡ steps + ticks_of turns
-  pub within : All (λ (turn : Turn). turn.ticks ≤ request_bound (depth_of old.place) turn.request) turns
-  pub faults : FaultsOver turns (faults_of d old.place) (faults_of d new.place)
-  pub cause : CausedBy t d k old.cache result old.place sink turns new.place sink'
-  pub keeps : Keeps d old.place new.place
-  pub cut_off : new.cut_off ≡ cut_after turns old.cut_off
-  pub runs : (sizes : Sizes) → SessionAt d sizes old state → RunsTo d sizes state turns new
-
--- what no line changes of a session; the format is asked of the store while it is open, and kept while it is not
-pub record SameTerms {D : Type 0} {d : device.Ghosts D} (old new : Session D d) : Type 0 where
+-- what every line keeps of a session: what its place does, its cache, whether costs are printed, and the last format
+pub record KeepsSession {D : Type 0} (d : device.Ghosts D) (old new : Session D d) : Type 0 where
+  pub place : Keeps d old.place new.place
   pub cache_is : new.cache ≡ old.cache
   pub cost_is : new.cost ≡ old.cost
-  pub format_is : new.format ≡ format_of old.place old.format
+  pub format_is : KeepsFormat new.place new.format (format_of old.place old.format)
 
--- Lines one after another
-
-module _ {D K : Type 0} (d : device.Ghosts D) (t : table.Ghosts (Stored D) Cursor) (k : sink.Ghosts K) (Stands : Session D d → Type 0) where
-  -- a line led from one session, which stood so, to the next: it was asked, by the format of the store, each reply has its cause, an open store's reads and writes were few, and its text was written, or some front of it where the sink failed
-  pub record LineLeads (line : Line) (failed : Bool) (turns : List Turn) (old new : Session D d) (sink sink' : K) : Type 0 where
-    pub stands : Stands old
-    pub asks : (keys : ℕ) → map (λ (turn : Turn). turn.request) turns ≡ line_requests (shape_of (format_of old.place old.format) keys) line
-    pub result : Result (Unit {0}) SinkFault
-    pub failed_is : is_err result ≡ failed
-    pub wrote : Wrote (turns_text old.cost turns) result (k.written sink) (k.written sink')
-    pub within : All (λ (turn : Turn). turn.ticks ≤ request_bound (depth_of old.place) turn.request) turns
-    pub faults : FaultsOver turns (faults_of d old.place) (faults_of d new.place)
-    pub cause : CausedBy t d k old.cache result old.place sink turns new.place sink'
-    pub keeps : Keeps d old.place new.place
-    pub few : AreFew d old.place
-    pub terms : SameTerms old new
-
-  -- lines led from one session to another, one after the other, and each reply was written
-  abbrev pub LinesLead : List Line → List Turn → Session D d → Session D d → K → K → Type 0
-  LinesLead [] turns old new sink sink' = (turns ≡ []) × ((new ≡ old) × (sink' ≡ sink))
-  LinesLead (line ∷ lines) turns old new sink sink' =
-      (mid : Session D d) × ((between : K) × ((now : List Turn) × ((rest : List Turn) × ((turns ≡ now ++ rest) × (LineLeads line false now old mid sink between × LinesLead lines rest mid new between sink')))))
-
-  -- lines did, and then one more, in whose reply the sink failed
-  pub record FrontLeads (before : List Line) (last : Line) (turns : List Turn) (old new : Session D d) (sink sink' : K) : Type 0 where
-    pub earlier : List Turn
-    pub late : List Turn
-    pub are : turns ≡ earlier ++ late
-    pub mid : Session D d
-    pub between : K
-    pub led : LinesLead before earlier old mid sink between
-    pub in_last : LineLeads last true late mid new between sink'
+-- the home of a session over a file: for a file of these sizes it is at the state of its place
+abbrev pub file_home : {D : Type 0} → (d : device.Ghosts D) → Home (Session D d) (Stored D)
+file_home d = record {
+  Known = Sizes;
+  shape = shape;
+  at = SessionAt d;
+  table = λ session. table_in session.place;
+  with_table = λ old store new. new.place ≡ place.Open store;
+  format = λ session. format_of session.place session.format;
+  cost = λ session. session.cost;
+  faults = λ session. faults_of d session.place;
+  cut_off = λ session. session.cut_off;
+  keeps = KeepsSession d;
+  closes = λ old answer new. CloseCause d old.place answer new.place;
+  opens = λ old answer new. OpenCause d old.cache old.place answer new.place;
+  few = λ session. AreFew d session.place;
+}
 
 -- Beginning and ending
 
@@ -244,3 +148,15 @@ pub record Ended {D : Type 0} (d : device.Ghosts D) (old : Session D d) (device 
   pub cause : CloseCause d old.place answer place
   pub device_is : device ≡ device_of place
   pub closed_is : closed ≡ is_closed place
+
+-- the status after the end: 5 in place of 0 where the store could not be closed, or the last opening met a fault
+abbrev pub end_status : ℕ → Bool → Bool → ℕ
+end_status status cut_off closed = if nat_eq status 0 && (cut_off || not closed) then 5 else status
+
+-- a session was ended, and that is the status then
+pub record EndsAfter {D : Type 0} (d : device.Ghosts D) (session : Session D d) (status : ℕ) (device' : D) (status' : ℕ) : Type 0 where
+  pub closed : Bool
+  pub ended : Ended d session device' closed
+  pub kept : d.kept device' ≡ d.kept (device_of session.place)
+  pub few : AreFew d session.place
+  pub status_is : status' ≡ end_status status session.cut_off closed

@@ -1,20 +1,18 @@
 //! What follows from how a session over a table in memory, or making a file, ends, and the numbers of a session.
-ghost use Rattle.std.specs.Prelude.{◌≡◌, ◌⊎◌, ℕ, ◌^◌, ◌<◌, List, length, Option, Some, IsSomeAnd, slice_get};
+ghost use Rattle.std.specs.Prelude.{◌≡◌, ◌⊎◌, ℕ, ◌^◌, ◌<◌, List, length, Option, IsSomeAnd};
 ghost use Rattle.cola_cell.specs.declared.format.Format.{Format};
 ghost use Rattle.cola_outside.specs.Faults.{Rose};
 ghost use Rattle.cola_io.specs.Reads.{Read, bytes_read};
 ghost use Rattle.cola_spec.specs.Lines.{Line, line_limit};
-ghost use Rattle.cola_command.specs.Memory.{input_limit, ReadFor};
-ghost use Rattle.cola_command.specs.Ends.{Ends, NothingFails};
+ghost use Rattle.cola_command.specs.Ends.{NothingFails};
+ghost use Rattle.cola_command.specs.Memory.{MemoryEnds};
+ghost use Rattle.cola_command.specs.Reading.{input_limit, ReadFor};
 ghost use Rattle.cola_command.specs.Serves.{CreateEnds, Serves};
-ghost use Rattle.cola_command.specs.Statuses.{IsStatus, all_statuses, number_of};
-ghost use Rattle.cola_command.specs.declared.status.Status.{Status};
+ghost use Rattle.cola_status.specs.Statuses.{IsStatus};
 ghost use Rattle.cola_words.specs.declared.mode.Mode.{Mode};
 
 use cola_device::Device;
 use cola_io::{Sink, Source};
-use cola_store::Store;
-use cola_table::Table;
 
 /// A source that tells fewer than 2^40 bytes gives fewer than 2^40.
 pub fn few_bytes_are_read<S: Source>()
@@ -24,7 +22,7 @@ pub fn few_bytes_are_read<S: Source>()
 /// Completeness: where fewer than 2^40 bytes were read, with no fault of the source or the
 /// sink, a session ends with status 0, or with 1 where there was no memory for its table.
 pub fn memory_sessions_complete<S: Source, K: Sink>()
-    ensures { (keys status steps steps' : ℕ) (source source' : S) (sink sink' : K) → Ends S.Source K.Sink keys source source' sink sink' steps steps' status → NothingFails S.Source K.Sink source source' sink sink' → (status ≡ 0) ⊎ (status ≡ 1) }
+    ensures { (keys status steps steps' : ℕ) (source source' : S) (sink sink' : K) → MemoryEnds S.Source K.Sink keys source source' sink sink' steps steps' status → NothingFails S.Source K.Sink source source' sink sink' → (status ≡ 0) ⊎ (status ≡ 1) }
 {}
 
 /// Completeness of making a file: on a device that tells that it is empty, with no fault of it, the
@@ -40,13 +38,7 @@ pub fn session_limits()
     ensures line { line_limit ≡ 160 }
 {}
 
-/// No two statuses have one number, and among all of them each is at the place of its number.
-pub fn statuses_are_apart()
-    ensures apart { (a b : Status) → number_of a ≡ number_of b → a ≡ b }
-    ensures placed { (a : Status) → slice_get all_statuses (number_of a) ≡ Some a }
-{}
-
 /// What `serve` ends with is the number of a status.
 pub fn statuses_are_known<S: Source, K: Sink, D: Device>()
-    ensures { (source source' : S) (sink sink' : K) (device device' second second' : D) (steps steps' status : ℕ) (mode : Option Mode) → Serves S.Source K.Sink D.Device ⟦<Store<D> as Table>⟧ source source' sink sink' device device' second second' steps steps' status mode → IsStatus status }
+    ensures { (source source' : S) (sink sink' : K) (device device' second second' : D) (steps steps' status : ℕ) (mode : Option Mode) → Serves S.Source K.Sink D.Device source source' sink sink' device device' second second' steps steps' status mode → IsStatus status }
 {}

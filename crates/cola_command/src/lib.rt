@@ -3,17 +3,19 @@
 
 mod definition_laws;
 mod file;
+mod home;
 mod laws;
 mod lines;
 mod memory;
+mod mirror_laws;
+mod mirrored;
 mod place;
 mod program;
 mod reading;
 mod serving;
 mod serving_laws;
-mod status;
+mod session;
 mod upgrading;
-mod workload;
 
 pub use definition_laws::{
     all_answered_is_no_line_ahead, carried_out, file_sessions_end, files_are_left,
@@ -24,7 +26,11 @@ pub use definition_laws::{
 pub use file::Session;
 pub use laws::{
     few_bytes_are_read, memory_sessions_complete, new_files_complete, session_limits,
-    statuses_are_apart, statuses_are_known,
+    statuses_are_known,
+};
+pub use mirror_laws::{
+    files_that_differ, mirrored_files_are_left, mirrored_sessions_complete,
+    mirrored_turns_count_faults, mirrors_have_statuses,
 };
 pub use place::Place;
 pub use program::{Served, serve};
@@ -32,5 +38,3 @@ pub use serving_laws::{
     file_sessions_complete, file_sessions_transfer_few, files_stand, stores_of_turns,
     turns_count_faults, turns_keep_bounds,
 };
-pub use status::Status;
-pub use workload::new_workloads_complete;

@@ -1,22 +1,22 @@
 //! What a session over a store in a file does line by line.
-ghost use Rattle.std.specs.Prelude.{◌≡◌, ◌+◌, ◌≤◌, ◌∷◌, [], ℕ, Bool, List, Some, option_copied};
+ghost use Rattle.std.specs.Prelude.{◌≡◌, ◌≤◌, option_copied};
 ghost use Rattle.cola_io.specs.Counted.{CountsFaults};
-ghost use Rattle.cola_spec.specs.Command.{Close, Reopen};
-ghost use Rattle.cola_spec.specs.Reply as reply;
-ghost use Rattle.cola_spec.specs.Machine.{State, Turn};
-ghost use Rattle.cola_line.specs.Replied.{Wrote, reply_of};
-ghost use Rattle.cola_line.specs.Spoken.{spoken, CommandFits, IsOfTable};
-ghost use Rattle.cola_cell.specs.declared.format.Format.{Format};
-ghost use Rattle.cola_command.specs.File.{device_of, format_of, line_read};
+ghost use Rattle.cola_store.specs.Table.{store_table};
+ghost use Rattle.cola_line.specs.Replied.{reply_of};
+ghost use Rattle.cola_command.specs.File.{device_of, format_of};
+ghost use Rattle.cola_command.specs.Home.{Leads, cut_by};
 ghost use Rattle.cola_command.specs.Moves.{AreFew};
-ghost use Rattle.cola_command.specs.Turns.{Begins, Carried, SameTerms, Turned, Ended, cut_by, cut_by_request, device_begun};
+ghost use Rattle.cola_command.specs.Reading.{line_read};
+ghost use Rattle.cola_command.specs.Turns.{file_home, Begins, Ended, device_begun};
 
 use crate::file::Session;
+use crate::home::Home;
 use crate::place::{Place, close, open};
+use crate::session::carry_out;
 use cola_cell::Format;
 use cola_device::Device;
 use cola_io::{Sink, SinkFault};
-use cola_line::{Command, Failure, Reply, answer, parse_line, write_reply};
+use cola_line::{Command, Failure, Reply, answer, write_reply};
 use cola_outside::Steps;
 use cola_store::{OpenFault, Store};
 use cola_table::Table;
@@ -41,41 +41,6 @@ fn cut_after(reply: &Reply, before: bool) -> bool
         Reply::Failed(Failure::Fault) => true,
         Reply::Opened(_) => false,
         _ => before,
-    }
-}
-
-/// Says how many reads and writes an open store made at most since its opening. Nothing is done.
-fn know_transfers<D: Device>(place: &Place<D>)
-    ensures { AreFew D.Device place.now }
-{
-    match place {
-        Place::Open(store) => {
-            let (_reads, _writes) = store.transfers();
-        }
-        Place::Closing(_) => {}
-        Place::Closed(_) => {}
-    }
-}
-
-/// Answers a command that a store answers while it is open: all but `close` and `open`.
-fn ask<D: Device, K: Sink, L: Ledger>(
-    place: &mut Place<D>,
-    command: &Command,
-    cost: bool,
-    sink: &mut K,
-    steps: &mut Steps<L>,
-) -> Result<(), SinkFault>
-    requires of_table { IsOfTable command.now }
-    requires fits { (last : Format) × CommandFits (format_of place.old last) command.now }
-    ensures turn { (state : State) → (cache : ℕ) → (turn : Turn) × Turned ⟦<Store<D> as Table>⟧ D.Device K.Sink state cache cost (Some (spoken command.now)) result place.old place.new sink.old sink.new steps.old steps.new turn }
-    ensures none_cut { (answer : reply.Reply) → (cut : Bool) → cut ≡ cut_by_request (Some (spoken command.now)) answer cut }
-    ensures faults_counted { CountsFaults result (K.faults sink.old) (K.faults sink.new) }
-    ensures faults_kept { K.faults sink.old ≤ K.faults sink.new }
-{
-    match place {
-        Place::Open(store) => answer(store, command, cost, sink, steps),
-        Place::Closing(_) => write_reply(&Reply::Shut, cost, 0, sink),
-        Place::Closed(_) => write_reply(&Reply::Shut, cost, 0, sink),
     }
 }
 
@@ -111,20 +76,103 @@ impl<D: Device> Session<D> {
         }
     }
 
-    /// Carries out `close`, and writes its reply.
-    fn close<K: Sink>(self, sink: &mut K) -> (Session<D>, Result<(), SinkFault>)
-        requires format { self.format ≡ format_of self.place self.format }
-        ensures turn { (state : State) → (steps : ℕ) → (turn : Turn) × Turned ⟦<Store<D> as Table>⟧ D.Device K.Sink state self.cache self.cost (Some Close) result.1 self.place result.0.place sink.old sink.new steps steps turn × (result.0.cut_off ≡ cut_by_request turn.request turn.answer self.cut_off) }
-        ensures terms { SameTerms self result.0 }
+    /// Carries out a line, of which the text is given, or none where it was too long, and writes its reply. An empty line
+    /// has none. At a fault of the sink the line is carried out all the same, and some front of the reply was written.
+    ///
+    /// What is no command of the store's format is answered `bad`. `close` closes the store in one attempt: `closed`, or
+    /// `fault` where the device refused a call, and then the store is not closed yet, and the next `close` tries again.
+    /// `open` opens a closed store: `open` with the number of its keys, or the word of the opening's refusal, which leaves it
+    /// closed. Where there is nothing to close or to open, both are answered `already`. All other commands are answered by
+    /// the store while it is open, and `shut` else. The format is that of the store while it is open, and the last one else.
+    ///
+    /// The device's count of faults rises where the reply is `fault`, or ends in it, and in no other line. The sink's count
+    /// stays at `Ok`, and is one more at `Err`. A put, a delete, a get and a stamp make at most 40 or 8 ticks for each level, a
+    /// range and a scan at most as many as the store's walk, and no other line makes one. No memory is taken but by `open`.
+    pub fn line<K: Sink, L: Ledger>(
+        self,
+        alloc: Global,
+        text: Option<&[u8]>,
+        sink: &mut K,
+        steps: &mut Steps<L>,
+    ) -> (Session<D>, Result<(), SinkFault>)
+        ensures line { Leads (store_table D.Device) (file_home D.Device) K.Sink (line_read (option_copied text.entry)) result.1 self result.0 sink.old sink.new steps.old steps.new }
         ensures faults_counted { CountsFaults result.1 (K.faults sink.old) (K.faults sink.new) }
         ensures faults_kept { K.faults sink.old ≤ K.faults sink.new }
     {
+        carry_out(self, alloc, text, sink, steps)
+    }
+
+    /// Whether an `open` met a fault, and none succeeded since.
+    pub fn is_cut_off(&self) -> bool
+        ensures { result ≡ self.now.cut_off }
+    {
+        self.cut_off
+    }
+
+    /// Closes the store where it is not closed, in one attempt, and gives the device, and whether the store is closed. It is
+    /// not only where the device refused a call.
+    pub fn end(self) -> (D, bool)
+        ensures ended { Ended D.Device self result.0 result.1 }
+        ensures kept { D.kept result.0 ≡ D.kept (device_of self.place) }
+        ensures few { AreFew D.Device self.place }
+    {
+        self.know();
+        let Session { place, .. } = self;
+        let (place, _) = close(place);
+        match place {
+            Place::Open(_) => unreachable!(),
+            Place::Closing(closing) => (closing.into_device(), false),
+            Place::Closed(device) => (device, true),
+        }
+    }
+}
+
+impl<D: Device> Home for Session<D> {
+    type Table = Store<D>;
+
+    ghost home = { file_home D.Device };
+
+    /// That of the store while it is open, else the last one.
+    fn format(&self) -> Format {
+        format_of(&self.place, self.format)
+    }
+
+    fn cost(&self) -> bool {
+        self.cost
+    }
+
+    fn know(&self) {
+        match &self.place {
+            Place::Open(store) => {
+                let (_reads, _writes) = store.transfers();
+            }
+            Place::Closing(_) => {}
+            Place::Closed(_) => {}
+        }
+    }
+
+    fn ask<K: Sink, L: Ledger>(
+        &mut self,
+        command: &Command,
+        sink: &mut K,
+        steps: &mut Steps<L>,
+    ) -> Result<(), SinkFault> {
+        let cost = self.cost;
+        match &mut self.place {
+            Place::Open(store) => answer(store, command, cost, sink, steps),
+            Place::Closing(_) => write_reply(&Reply::Shut, cost, 0, sink),
+            Place::Closed(_) => write_reply(&Reply::Shut, cost, 0, sink),
+        }
+    }
+
+    fn close<K: Sink>(self, sink: &mut K) -> (Session<D>, Result<(), SinkFault>) {
+        let format = format_of(&self.place, self.format);
         let Session {
             place,
             cache,
             cost,
-            format,
             cut_off,
+            ..
         } = self;
         let (place, reply) = close(place);
         let written = write_reply(&reply, cost, 0, sink);
@@ -140,19 +188,12 @@ impl<D: Device> Session<D> {
         )
     }
 
-    /// Carries out `open`, and writes its reply.
     fn reopen<K: Sink, L: Ledger>(
         self,
         alloc: Global,
         sink: &mut K,
         steps: &mut Steps<L>,
-    ) -> (Session<D>, Result<(), SinkFault>)
-        requires format { self.format ≡ format_of self.place self.format }
-        ensures turn { (state : State) → (turn : Turn) × Turned ⟦<Store<D> as Table>⟧ D.Device K.Sink state self.cache self.cost (Some Reopen) result.1 self.place result.0.place sink.old sink.new steps.old steps.new turn × (result.0.cut_off ≡ cut_by_request turn.request turn.answer self.cut_off) }
-        ensures terms { SameTerms self result.0 }
-        ensures faults_counted { CountsFaults result.1 (K.faults sink.old) (K.faults sink.new) }
-        ensures faults_kept { K.faults sink.old ≤ K.faults sink.new }
-    {
+    ) -> (Session<D>, Result<(), SinkFault>) {
         let Session {
             place,
             cache,
@@ -173,79 +214,5 @@ impl<D: Device> Session<D> {
             },
             written,
         )
-    }
-
-    /// Carries out a line, of which the text is given, or none where it was too long, and writes its reply. An empty line
-    /// has none. At a fault of the sink the line is carried out all the same, and some front of the reply was written.
-    ///
-    /// What is no command of the store's format is answered `bad`. `close` closes the store in one attempt: `closed`, or
-    /// `fault` where the device refused a call, and then the store is not closed yet, and the next `close` tries again.
-    /// `open` opens a closed store: `open` with the number of its keys, or the word of the opening's refusal, which leaves it
-    /// closed. Where there is nothing to close or to open, both are answered `already`. All other commands are answered by
-    /// the store while it is open, and `shut` else. The format is that of the store while it is open, and the last one else.
-    ///
-    /// The device's count of faults rises where the reply is `fault`, or ends in it, and in no other line. The sink's count
-    /// stays at `Ok`, and is one more at `Err`. A put, a delete, a get and a stamp make at most 40 or 8 ticks for each level, a
-    /// range and a scan at most as many as the store's walk, and no other line makes one. No memory is taken but by `open`.
-    pub fn line<K: Sink, L: Ledger>(
-        self,
-        alloc: Global,
-        text: Option<&[u8]>,
-        sink: &mut K,
-        steps: &mut Steps<L>,
-    ) -> (Session<D>, Result<(), SinkFault>)
-        ensures line { (state : State) → (turns : List Turn) × Carried ⟦<Store<D> as Table>⟧ D.Device K.Sink state (line_read (option_copied text.entry)) result.1 self result.0 sink.old sink.new steps.old steps.new turns }
-        ensures terms { SameTerms self result.0 }
-        ensures few { AreFew D.Device self.place }
-        ensures faults_counted { CountsFaults result.1 (K.faults sink.old) (K.faults sink.new) }
-        ensures faults_kept { K.faults sink.old ≤ K.faults sink.new }
-    {
-        let mut session = self;
-        know_transfers(&session.place);
-        session.format = format_of(&session.place, session.format);
-        let Some(text) = text else {
-            let written = write_reply(&Reply::Bad, session.cost, 0, sink);
-            return (session, written);
-        };
-        if text.is_empty() {
-            return (session, Ok(()));
-        }
-        match parse_line(text, session.format) {
-            Some(Command::Close) => session.close(sink),
-            Some(Command::Reopen) => session.reopen(alloc, sink, steps),
-            Some(command) => {
-                let cost = session.cost;
-                let written = ask(&mut session.place, &command, cost, sink, steps);
-                (session, written)
-            }
-            None => {
-                let written = write_reply(&Reply::Bad, session.cost, 0, sink);
-                (session, written)
-            }
-        }
-    }
-
-    /// Whether an `open` met a fault, and none succeeded since.
-    pub fn is_cut_off(&self) -> bool
-        ensures { result ≡ self.now.cut_off }
-    {
-        self.cut_off
-    }
-
-    /// Closes the store where it is not closed, in one attempt, and gives the device, and whether the store is closed. It is
-    /// not only where the device refused a call.
-    pub fn end(self) -> (D, bool)
-        ensures ended { Ended D.Device self result.0 result.1 }
-        ensures kept { D.kept result.0 ≡ D.kept (device_of self.place) }
-        ensures few { AreFew D.Device self.place }
-    {
-        let Session { place, .. } = self;
-        know_transfers(&place);
-        let (place, _) = close(place);
-        match place {
-            Place::Open(_) => unreachable!(),
-            Place::Closing(closing) => (closing.into_device(), false),
-            Place::Closed(device) => (device, true),
-        }
     }
 }

@@ -9,6 +9,7 @@ use cola_device::Device;
 use cola_line::{Failure, Refusal, Reply};
 use cola_outside::Steps;
 use cola_store::{Closing, OpenFault, Store};
+use cola_table::Table;
 use std::alloc::Global;
 use std::sync::ledger::Ledger;
 
@@ -70,7 +71,7 @@ fn reopen<D: Device, L: Ledger>(
 {
     match Store::open_on(alloc, device, cache, steps) {
         Ok(store) => {
-            let keys = store.keys_now();
+            let keys = store.count();
             (Place::Open(store), Reply::Opened(keys))
         }
         Err((device, fault)) => (Place::Closed(device), refused(fault)),

@@ -1,74 +1,25 @@
 //! The one call that the program makes.
-ghost use Rattle.std.specs.Prelude.{◌≡◌, ◌≤◌, true, map, string_bytes, Some, IfSome};
-ghost use Rattle.cola_spec.specs.Map.{empty_map};
-ghost use Rattle.cola_command.specs.Ends.{Ends};
+ghost use Rattle.std.specs.Prelude.{◌≡◌, ◌≤◌, map, string_bytes, Some, IfSome};
 ghost use Rattle.cola_command.specs.Serves.{CreateEnds, Serves};
 ghost use Rattle.cola_store.specs.Create.{CountsOneWrite};
 ghost use Rattle.cola_words.specs.Modes.{HasSizes, mode_of};
 ghost use Rattle.cola_words.specs.declared.mode.Mode.TheVariants.{Run};
 ghost use Rattle.cola_words.specs.Sizes.{SuitStore};
 
-use crate::memory::MemorySession;
-use crate::reading::{INPUT_LIMIT, text_of};
+use crate::memory::serve_memory;
+use crate::mirrored::{rebuild_file, serve_mirror};
 use crate::serving::serve_file;
-use crate::status::Status;
 use crate::upgrading::upgrade_file;
-use crate::workload::serve_workload;
 use cola_cell::Format;
 use cola_device::Device;
-use cola_io::{LineReader, Next, Sink, Source};
+use cola_io::{Sink, Source};
 use cola_outside::Steps;
-use cola_store::{CreateFault, Store, create_as};
-use cola_table::{FlatTable, Table};
+use cola_status::Status;
+use cola_store::{CreateFault, create_as};
 use cola_words::{Mode, read_words};
+use cola_workload::serve_workload;
 use std::alloc::Global;
 use std::sync::ledger::Ledger;
-
-/// Answers every line of the source, and gives the status.
-fn serve_lines<S: Source, K: Sink, L: Ledger>(
-    session: &mut MemorySession,
-    source: &mut S,
-    sink: &mut K,
-    steps: &mut Steps<L>,
-) -> u8
-    requires open { session.old.is_open ≡ true }
-    requires empty { session.old.table.map ≡ empty_map }
-    ensures { Ends S.Source K.Sink session.old.table.limit source.old source.new sink.old sink.new steps.old steps.new result }
-{
-    let mut reader = LineReader::new(INPUT_LIMIT);
-    'lines: loop {
-        let next = reader.next_line(source);
-        match next {
-            Next::End => return Status::Done as u8,
-            Next::Fault => return Status::SourceFailed as u8,
-            Next::Budget => return Status::Spent as u8,
-            _ => {}
-        }
-        let text = text_of(&reader, next);
-        if let Err(_) = session.line(text, sink, steps) {
-            return Status::SinkFailed as u8;
-        }
-    }
-}
-
-/// A session over a new table in memory, and its status.
-fn serve_memory<S: Source, K: Sink, L: Ledger>(
-    alloc: Global,
-    keys: u32,
-    source: &mut S,
-    sink: &mut K,
-    steps: &mut Steps<L>,
-) -> u8
-    ensures { Ends S.Source K.Sink keys source.old source.new sink.old sink.new steps.old steps.new result }
-{
-    match FlatTable::new(alloc, keys) {
-        Ok(table) => {
-            let mut session = MemorySession::begin(table);
-            serve_lines(&mut session, source, sink, steps)
-        }
-        Err(_) => Status::OutOfMemory as u8,
-    }
-}
 
 /// Makes a file, and gives the status.
 fn make_file<D: Device>(device: &mut D, keys: u64, block_exp: u8, format: Format) -> u8
@@ -95,7 +46,7 @@ pub struct Served<D> {
     pub second: D,
 }
 
-/// Serves a session over the file of the first device. One with a second file, its mirror, is not built.
+/// Serves a session over the file of the first device, or over the mirror of both.
 fn serve_run<S: Source, K: Sink, D: Device, L: Ledger>(
     alloc: Global,
     cache: u32,
@@ -108,7 +59,7 @@ fn serve_run<S: Source, K: Sink, D: Device, L: Ledger>(
     steps: &mut Steps<L>,
 ) -> Served<D>
     requires { cache ≤ 4096 }
-    ensures { Serves S.Source K.Sink D.Device ⟦<Store<D> as Table>⟧ source.old source.new sink.old sink.new device result.device second result.second steps.old steps.new result.status (Some (Run cache cost mirror)) }
+    ensures { Serves S.Source K.Sink D.Device source.old source.new sink.old sink.new device result.device second result.second steps.old steps.new result.status (Some (Run cache cost mirror)) }
 {
     match mirror {
         None => {
@@ -119,11 +70,7 @@ fn serve_run<S: Source, K: Sink, D: Device, L: Ledger>(
                 second,
             }
         }
-        Some(_) => Served {
-            status: Status::WrongWords as u8,
-            device,
-            second,
-        },
+        Some(_) => serve_mirror(alloc, cache, cost, source, sink, device, second, steps),
     }
 }
 
@@ -138,7 +85,7 @@ fn serve_mode<S: Source, K: Sink, D: Device, L: Ledger>(
     steps: &mut Steps<L>,
 ) -> Served<D>
     requires { IfSome mode HasSizes }
-    ensures { Serves S.Source K.Sink D.Device ⟦<Store<D> as Table>⟧ source.old source.new sink.old sink.new device result.device second result.second steps.old steps.new result.status mode }
+    ensures { Serves S.Source K.Sink D.Device source.old source.new sink.old sink.new device result.device second result.second steps.old steps.new result.status mode }
 {
     let mut device = device;
     let mut second = second;
@@ -171,6 +118,7 @@ fn serve_mode<S: Source, K: Sink, D: Device, L: Ledger>(
             };
         }
         Some(Mode::Upgrade) => upgrade_file(alloc, &mut device, &mut second),
+        Some(Mode::Rebuild) => rebuild_file(&mut device, &mut second),
         _ => Status::WrongWords as u8,
     };
     Served {
@@ -212,8 +160,16 @@ fn serve_mode<S: Source, K: Sink, D: Device, L: Ledger>(
 /// has no store or not all of one, with 7 where its store is in use, with 8 where the second device has
 /// bytes, with 10 where a cell is no spelling, and with 12 where the file is of version 2 already.
 ///
-/// All other words end with 2, and nothing is touched: the modes that `cola_words` knows beside these, and
-/// `run` with `--mirror`, are not built. No mode but `upgrade` touches the second device.
+/// `run FILE --mirror OTHER` is a session over two files with the same bytes, which goes on while one of them works. They are
+/// compared first: 5 where a device failed, and 16 where they differ; then the session is that of `run` over both. In place
+/// of 0 alone it ends with 17 where the first file is lost at the end, and with 18 where the second is.
+///
+/// `rebuild FILE TO` makes the file of the second device equal to the closed file of the first, and touches neither the source
+/// nor the sink. It ends with 0 where that is done, with 5 where a device refused a call, with 6 where the first has no store
+/// or not all of one, with 7 where its store is in use, and with 8 where the second has another number of bytes.
+///
+/// All other words end with 2, and nothing is touched: the modes that `cola_words` knows beside these are not built. No mode
+/// but `upgrade`, `rebuild` and `run` with `--mirror` touches the second device.
 ///
 /// In a session the source is read only while every line that has ended is answered, for 512 bytes or
 /// for those that the limit still allows, and not again behind a refused read, its end, or a refused
@@ -229,7 +185,7 @@ pub fn serve<S: Source, K: Sink, D: Device, L: Ledger>(
     second: D,
     steps: &mut Steps<L>,
 ) -> Served<D>
-    ensures { Serves S.Source K.Sink D.Device ⟦<Store<D> as Table>⟧ source.old source.new sink.old sink.new device result.device second result.second steps.old steps.new result.status (mode_of (map string_bytes words.now)) }
+    ensures { Serves S.Source K.Sink D.Device source.old source.new sink.old sink.new device result.device second result.second steps.old steps.new result.status (mode_of (map string_bytes words.now)) }
 {
     serve_mode(
         alloc,

@@ -1,7 +1,7 @@
 //! The lines of a source, as the sessions take them.
 ghost use Rattle.std.specs.Prelude.{◌≡◌, ◌∷◌, [], option_copied};
 ghost use Rattle.cola_io.specs.Law.{line_told};
-ghost use Rattle.cola_command.specs.Memory.{HoldsLine, line_read};
+ghost use Rattle.cola_command.specs.Reading.{HoldsLine, line_read};
 
 use cola_io::{LineReader, Next};
 

@@ -1,48 +1,16 @@
 //! A session over the file of a device, line by line, and the status that it ends with.
 ghost use Rattle.std.specs.Prelude.{◌≤◌};
 ghost use Rattle.cola_command.specs.Headline.{FileEnds};
-ghost use Rattle.cola_command.specs.SoFar.{LinesEnd, EndsAfter};
+ghost use Rattle.cola_command.specs.Turns.{EndsAfter};
 
 use crate::file::Session;
-use crate::reading::{INPUT_LIMIT, text_of};
-use crate::status::{Status, opening_status};
+use crate::session::serve_lines;
 use cola_device::Device;
-use cola_io::{LineReader, Next, Sink, Source};
+use cola_io::{Sink, Source};
 use cola_outside::Steps;
-use cola_store::Store;
-use cola_table::Table;
+use cola_status::{Status, opening_status};
 use std::alloc::Global;
 use std::sync::ledger::Ledger;
-
-/// Carries out the lines of the source, and gives the session and the status: 0 where the end of the source was met, 3
-/// where it failed, 4 where the sink failed, and 9 where all bytes that may be taken were.
-fn serve_lines<S: Source, K: Sink, D: Device, L: Ledger>(
-    alloc: Global,
-    session: Session<D>,
-    source: &mut S,
-    sink: &mut K,
-    steps: &mut Steps<L>,
-) -> (Session<D>, u8)
-    ensures { LinesEnd S.Source K.Sink D.Device ⟦<Store<D> as Table>⟧ session result.0 source.old source.new sink.old sink.new steps.old steps.new result.1 }
-{
-    let mut session = session;
-    let mut reader = LineReader::new(INPUT_LIMIT);
-    'lines: loop {
-        let next = reader.next_line(source);
-        match next {
-            Next::End => return (session, Status::Done as u8),
-            Next::Fault => return (session, Status::SourceFailed as u8),
-            Next::Budget => return (session, Status::Spent as u8),
-            _ => {}
-        }
-        let text = text_of(&reader, next);
-        let (after, written) = session.line(alloc, text, sink, steps);
-        session = after;
-        if let Err(_) = written {
-            return (session, Status::SinkFailed as u8);
-        }
-    }
-}
 
 /// Ends a session whose lines ended with this status, and gives the device and the status. Where it was 0, it is 5 if the
 /// store could not be closed, or if a line that was to open the file met a fault and none opened it since.
@@ -78,7 +46,7 @@ pub(crate) fn serve_file<S: Source, K: Sink, D: Device, L: Ledger>(
     steps: &mut Steps<L>,
 ) -> (D, u8)
     requires { cache ≤ 4096 }
-    ensures { FileEnds S.Source K.Sink D.Device ⟦<Store<D> as Table>⟧ cache cost source.old source.new sink.old sink.new device result.0 steps.old steps.new result.1 }
+    ensures { FileEnds S.Source K.Sink D.Device cache cost source.old source.new sink.old sink.new device result.0 steps.old steps.new result.1 }
 {
     match Session::begin(alloc, device, cache, cost, steps) {
         Ok(session) => {

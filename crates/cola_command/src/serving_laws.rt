@@ -8,24 +8,22 @@ ghost use Rattle.cola_spec.specs.Map.{Map};
 ghost use Rattle.cola_spec.specs.Told.{printed_cost};
 ghost use Rattle.cola_image.specs.Standing.{FileStandsFor};
 ghost use Rattle.cola_command.specs.File.{Sizes};
-ghost use Rattle.cola_command.specs.Turns.{FaultsOver};
+ghost use Rattle.cola_command.specs.Home.{FaultsOver};
 ghost use Rattle.cola_command.specs.Headline.{FileEnds, StandsAs, asked};
 ghost use Rattle.cola_command.specs.Ends.{ReadToEnd};
 ghost use Rattle.cola_command.specs.RunTransfers.{mutations, searches, by_store, most_writes, most_reads, cached_reads, example, example_sizes};
-ghost use Rattle.cola_command.specs.HeadlineLaws.{NothingFails, TransferredFew, Completes, NoneFaulted, AreWithin, printed_sum, unprinted_bound};
+ghost use Rattle.cola_command.specs.HeadlineLaws.{NoneFails, TransferredFew, Completes, NoneFaulted, AreWithin, printed_sum, unprinted_bound};
 
 use cola_device::Device;
 use cola_io::{Sink, Source};
-use cola_store::Store;
-use cola_table::Table;
 
 /// Completeness: over a file that stands for a map, where fewer than 2^40 bytes were read, with no fault of the
 /// source, the sink or the device, a session ends with status 0, and every line is answered as by the map, but that an
 /// opening of a closed store may find no memory; or with status 1, where there was no memory for its store.
 pub fn file_sessions_complete<S: Source, K: Sink, D: Device>()
     ensures { (cache status steps steps' : ℕ) (cost : Bool) (m : Map) (source source' : S) (sink sink' : K) (device device' : D) →
-        FileEnds S.Source K.Sink D.Device ⟦<Store<D> as Table>⟧ cache cost source source' sink sink' device device' steps steps' status →
-        NothingFails S.Source K.Sink D.Device m source source' sink sink' device device' →
+        FileEnds S.Source K.Sink D.Device cache cost source source' sink sink' device device' steps steps' status →
+        NoneFails S.Source K.Sink D.Device m source source' sink sink' device device' →
         Completes S.Source K.Sink D.Device cache cost m source source' sink sink' device device' steps steps' status }
 {}
 
@@ -36,7 +34,7 @@ pub fn file_sessions_complete<S: Source, K: Sink, D: Device>()
 /// one for each level and 4, and one more for each opening that found no memory.
 pub fn file_sessions_transfer_few<S: Source, K: Sink, D: Device>()
     ensures { (cache steps steps' : ℕ) (cost : Bool) (m : Map) (source source' : S) (sink sink' : K) (device device' : D) →
-        FileEnds S.Source K.Sink D.Device ⟦<Store<D> as Table>⟧ cache cost source source' sink sink' device device' steps steps' 0 →
+        FileEnds S.Source K.Sink D.Device cache cost source source' sink sink' device device' steps steps' 0 →
         IsSomeAnd (D.bytes device) (λ bytes. FileStandsFor bytes m) → (Rose (D.counts device).faults (D.counts device').faults → ⊥) →
         ReadToEnd S.Source K.Sink source source' sink sink' (TransferredFew K.Sink D.Device cost m sink sink' device device' cache) }
 {}

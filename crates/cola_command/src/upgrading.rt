@@ -2,8 +2,8 @@
 ghost use Rattle.std.specs.Prelude.{◌≡◌, Result};
 ghost use Rattle.cola_command.specs.Serves.{UpgradeEnds, upgrade_status};
 
-use crate::status::Status;
 use cola_device::Device;
+use cola_status::Status;
 use cola_wide::{UpgradeFault, upgrade};
 use std::alloc::Global;
 

@@ -1,6 +1,7 @@
 -- A cursor on its way to its next pair.
-use Rattle.std.proofs.Common.{◌≡◌, ◌⊎◌, inl, inr, ℕ, ◌+◌, ◌≤◌, true, List, [], ◌∷◌, Option, None, Some, Ok, option_map, sym, ap, subst, ◌∙◌}
+use Rattle.std.proofs.Common.{◌≡◌, ◌⊎◌, inl, inr, ℕ, ◌+◌, ◌≤◌, true, List, [], ◌∷◌, Option, None, Some, Result, Ok, Err, option_map, sym, ap, subst, ◌∙◌, arith}
 use Rattle.std.specs.List.{AllByRecursion}
+use Rattle.std.specs.Result.{IsErrAnd}
 use Rattle.cola_runs.specs.Cells as laws
 use Rattle.cola_cell.specs.declared.cell.Cell.{Cell}
 use Rattle.cola_cell.specs.declared.cell.Item.{Item}
@@ -8,7 +9,9 @@ use Rattle.cola_cell.specs.declared.cell.Item.TheVariants.{Value, Tombstone}
 use Rattle.cola_cell.specs.declared.cell.Run.{Run}
 use Rattle.cola_cell.specs.declared.fault.ReadFault.{ReadFault}
 use Rattle.cola_cell.specs.declared.fault.ReadFault.TheVariants.{Device, BadCell}
+use Rattle.cola_cell.specs.declared.source.CellSource as source
 use Rattle.cola_cell.specs.Held.{Held, LawCell, Stamped, as_item}
+use Rattle.cola_cell.specs.Spent.{ReadCalm}
 use Rattle.cola_cell.specs.Order.{key_cmp}
 use Rattle.cola_look.specs.Runs.{AreRuns}
 use Rattle.cola_look.proofs.RunLists.{sampled_rise}
@@ -18,10 +21,11 @@ use Rattle.cola_pairs.proofs.Steps.{live_ends}
 use Rattle.std.specs.Cmp.Lexicographic.{nat_list_cmp_total}
 use Rattle.cola_cursor.specs.declared.line.Line.{Line}
 use Rattle.cola_cursor.specs.declared.cursor.Cursor.{Cursor}
-use Rattle.cola_cursor.specs.Lines.{LineFits, IsReady, all_left}
+use Rattle.cola_cursor.specs.Lines.{LineFits, IsReady, Reading, all_left}
 use Rattle.cola_cursor.specs.Passing.{PassAll}
 use Rattle.cola_cursor.specs.Results.{FetchAll, HasBadLine, LinesCause, least_from}
-use Rattle.cola_cursor.specs.Standing.{runs_of, rests, befores, AreSearched, AreApart, Stands, Ahead, TakesNext, TakesPair, unstamped, answered_key, pair_key, IsPassed, IsPairPassed, HeadEnds, LineEnds, LinesPassed, none_hidden}
+use Rattle.cola_cursor.specs.Standing.{runs_of, rests, befores, AreSearched, AreApart, Stands, Ahead, TakesNext, AnswerCause, IsPassed, answered_key, HeadEnds, LineEnds, LinesPassed, none_hidden}
+use Rattle.cola_cursor.specs.Giving.{NextGives}
 use Rattle.cola_cursor.proofs.Least.{HeadPast, AnyHas, IsLeast, least_is, least_none}
 use Rattle.cola_cursor.proofs.Stepping.{fetch_runs, fetch_fit, fetch_ready, fetch_bad, fetch_rests, fetch_befores, pass_runs, pass_fit, pass_ready, pass_bad, heads_from, heads_past, rising_rests, step_lives, step_apart}
 use Rattle.cola_cursor.proofs.Behind.{fetch_passes, passes_then, look_passes, tombstone_passes, answer_passes}
@@ -199,18 +203,53 @@ step_cause {held} {object} {end} {olds} {news} {xs} before between now fault e f
 pub left_same : (after before whole : ℕ) (xs ys : List Line) → xs ≡ ys → after + before ≤ whole + all_left xs → after + before ≤ whole + all_left ys
 left_same after before whole xs ys e h = subst (λ (z : List Line). after + before ≤ whole + all_left z) e h
 
--- ---- an answer without its stamp
+-- ---- what a step gives, put together
 
-pub takes_unstamped : (ahead : List (List ℕ × Stamped) → Type 0) (pairs : List (List ℕ × Stamped)) (found : Option (List ℕ × List ℕ × ℕ)) (answer : Option (List ℕ × List ℕ)) → answer ≡ option_map unstamped found →
-    TakesNext ahead pairs (Ok found) → TakesPair ahead pairs (Ok answer)
-takes_unstamped ahead pairs None answer e h = subst (λ (x : Option (List ℕ × List ℕ)). TakesPair ahead pairs (Ok x)) (sym e) h
-takes_unstamped ahead pairs (Some pair) answer e h = subst (λ (x : Option (List ℕ × List ℕ)). TakesPair ahead pairs (Ok x)) (sym e) (pair.2, h.0, h.1, h.2)
+calm_for : (T U : Type 0) (between before now : ℕ) (fault other : ReadFault) → between ≡ before → other ≡ fault → ReadCalm {T = T} between now (Err fault) → ReadCalm {T = U} before now (Err other)
+calm_for T U between before now fault Device e is calm = tt
+calm_for T U between before now fault (BadCell number) e is calm = subst (λ (f : ReadFault). ReadCalm {T = T} between now (Err f)) (sym is) calm ∙ e
 
-pub unstamped_key : (found : Option (List ℕ × List ℕ × ℕ)) (answer : Option (List ℕ × List ℕ)) → answer ≡ option_map unstamped found → answered_key found ≡ pair_key answer
-unstamped_key None answer e = sym (ap pair_key e)
-unstamped_key (Some pair) answer e = sym (ap pair_key e)
+module _ {W : Type 0} (w : source.Ghosts W) (before now : W) (old new : Cursor) (ticks ticks_now : ℕ) (stay : w.held now ≡ w.held before) (kept : w.kept now ≡ w.kept before)
+    (reading : Reading (w.spent before) (w.spent now) ticks ticks_now) where
+  -- a step that was carried out
+  pub went : (found : Option (List ℕ × List ℕ × ℕ)) → (w.spent now).faults ≡ (w.spent before).faults → ticks_now + all_left new.lines.items ≤ ticks + all_left old.lines.items → new.end ≡ old.end →
+      Going (w.held before) old.end old.lines.items new.lines.items (answered_key found) → AnswerCause new (answered_key found) → IsPassed (w.held before) old.lines.items new.lines.items found →
+      ((pairs : List (List ℕ × Stamped)) → Ahead (w.held before) old pairs → TakesNext (Ahead (w.held before) new) pairs (Ok found)) → NextGives w before now old new ticks ticks_now (Ok found)
+  went found calm left end going answers pair takes = record {
+    takes = λ pairs ahead. subst (λ (h : Held). TakesNext (Ahead h new) pairs (Ok found)) (sym stay) (takes pairs ahead);
+    answers = answers;
+    pair = pair;
+    passes = going.passed;
+    stands = subst (λ (h : Held). Stands h new) (sym stay) (stands_then new going);
+    end_stays = end;
+    refused = tt;
+    left = left;
+    at_most = omega (arith, left);
+    reading = reading;
+    cause = tt;
+    cells_stay = stay;
+    kept = kept;
+    calm = calm;
+  }
 
--- the pair of an answer without its stamp was passed
-pub pair_passed : (held : Held) (olds news : List Line) (found : Option (List ℕ × List ℕ × ℕ)) (answer : Option (List ℕ × List ℕ)) → answer ≡ option_map unstamped found → IsPassed held olds news found → IsPairPassed held olds news answer
-pair_passed held olds news None answer e h = subst (IsPairPassed held olds news) (sym e) tt
-pair_passed held olds news (Some pair) answer e h = subst (IsPairPassed held olds news) (sym e) (pair.2, h)
+  -- a step that was refused
+  pub stayed : (T : Type 0) (result : Result (Option (List ℕ × List ℕ × ℕ)) ReadFault) (fault : ReadFault) (faults : ℕ) → IsErrAnd result (λ e. e ≡ fault) → new ≡ old → Stands (w.held before) old →
+      ticks_now + 0 ≤ ticks + all_left old.lines.items → LinesCause (w.held before) old.lines.items (w.spent before).faults (w.spent now).faults fault →
+      faults ≡ (w.spent before).faults → ReadCalm {T = T} faults (w.spent now).faults (Err fault) → NextGives w before now old new ticks ticks_now result
+  stayed T (Ok found) fault faults is same stands most cause none calm = absurd is
+  stayed T (Err other) fault faults is same stands most cause none calm = record {
+    takes = λ pairs ahead. subst (λ (c : Cursor). Ahead (w.held now) c pairs) (sym same) (subst (λ (h : Held). Ahead h old pairs) (sym stay) ahead);
+    answers = tt;
+    pair = tt;
+    passes = tt;
+    stands = subst (λ (c : Cursor). Stands (w.held now) c) (sym same) (subst (λ (h : Held). Stands h old) (sym stay) stands);
+    end_stays = ap (λ (c : Cursor). c.end) same;
+    refused = same;
+    left = tt;
+    at_most = omega (arith, most);
+    reading = reading;
+    cause = subst (LinesCause (w.held before) old.lines.items (w.spent before).faults (w.spent now).faults) (sym is) cause;
+    cells_stay = stay;
+    kept = kept;
+    calm = calm_for T (Option (List ℕ × List ℕ × ℕ)) faults (w.spent before).faults (w.spent now).faults fault other none is calm;
+  }

@@ -2,4 +2,5 @@ pub mod Lines
 pub mod Passing
 pub mod Results
 pub mod Standing
+pub mod Giving
 pub mod Seeking

@@ -1,5 +1,5 @@
 -- Where a cursor stands over an object, and which pairs are ahead of it.
-use Rattle.std.specs.Prelude.{◌≡◌, ◌⊎◌, ℕ, ◌≤◌, ◌<◌, Bool, false, List, [], ◌∷◌, map, take, drop, Option, None, Some, Result, Ok, Err, ⊤, IsTrue}
+use Rattle.std.specs.Prelude.{◌≡◌, ◌⊎◌, ℕ, ◌≤◌, ◌<◌, Bool, false, List, [], ◌∷◌, map, take, drop, Option, None, Some, Result, Ok, Err, ⊤, IsTrue, option_map}
 use Rattle.std.specs.List.{AllByRecursion}
 use Rattle.std.specs.declared.cmp.Ordering.TheVariants.{Less}
 use Rattle.cola_runs.specs.Cells as laws
@@ -61,13 +61,6 @@ TakesNext ahead pairs (Ok None) = (pairs ≡ []) × ahead []
 TakesNext ahead pairs (Ok (Some pair)) =
     (others : List (List ℕ × Stamped)) × (pairs ≡ (pair.0, record { value = pair.1; stamp = pair.2 }) ∷ others) × ahead others
 TakesNext ahead pairs (Err fault) = ahead pairs
-
--- the same of an answer without the stamp
-abbrev pub TakesPair : (List (List ℕ × Stamped) → Type 0) → List (List ℕ × Stamped) → Result (Option (List ℕ × List ℕ)) ReadFault → Type 0
-TakesPair ahead pairs (Ok None) = (pairs ≡ []) × ahead []
-TakesPair ahead pairs (Ok (Some pair)) =
-    (stamp : ℕ) × (others : List (List ℕ × Stamped)) × (pairs ≡ (pair.0, record { value = pair.1; stamp = stamp }) ∷ others) × ahead others
-TakesPair ahead pairs (Err fault) = ahead pairs
 
 -- the head of a line is at or past the upper end, or there is none
 abbrev pub HeadEnds : Option (List ℕ) → ℕ → ℕ → Option Cell → Type 0
@@ -132,11 +125,6 @@ abbrev pub IsPassed : Held → List Line → List Line → Option (List ℕ × L
 IsPassed held olds news None = ⊤
 IsPassed held olds news (Some pair) = AnyHasValue held pair.0 pair.1 pair.2 olds news
 
--- the same of an answer without the stamp
-abbrev pub IsPairPassed : Held → List Line → List Line → Option (List ℕ × List ℕ) → Type 0
-IsPairPassed held olds news None = ⊤
-IsPairPassed held olds news (Some pair) = (stamp : ℕ) × AnyHasValue held pair.0 pair.1 stamp olds news
-
 -- no key is hidden
 abbrev pub none_hidden : List ℕ → Type 0
 none_hidden k = ⊥
@@ -146,14 +134,10 @@ abbrev pub answered_key : Option (List ℕ × List ℕ × ℕ) → Option (List 
 answered_key None = None
 answered_key (Some pair) = Some pair.0
 
--- a pair without its stamp
-abbrev pub unstamped : List ℕ × List ℕ × ℕ → List ℕ × List ℕ
-unstamped pair = (pair.0, pair.1)
-
--- the key of an answer without the stamp
-abbrev pub pair_key : Option (List ℕ × List ℕ) → Option (List ℕ)
-pair_key None = None
-pair_key (Some pair) = Some pair.0
+-- an answer, its pair with this stamp
+abbrev pub with_stamp : ℕ → Result (Option (List ℕ × List ℕ)) ReadFault → Result (Option (List ℕ × List ℕ × ℕ)) ReadFault
+with_stamp stamp (Ok answer) = Ok (option_map (λ pair. (pair.0, pair.1, stamp)) answer)
+with_stamp stamp (Err fault) = Err fault
 
 -- the cells of each line's run stay from one object to another
 abbrev pub RunsStay : Held → Held → List Line → Type 0

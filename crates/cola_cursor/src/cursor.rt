@@ -1,6 +1,4 @@
 //! Cursors.
-ghost use Rattle.std.specs.Prelude.{◌≡◌, option_map};
-ghost use Rattle.cola_cursor.specs.Standing.{unstamped};
 
 use crate::line::Line;
 use crate::lines::{Step, least_key, pass_all, with_heads};
@@ -18,27 +16,17 @@ pub struct Cursor {
     pub end: Option<Key>,
 }
 
-/// A pair without its stamp.
-fn without_stamp(found: Option<(Key, Value, u64)>) -> Option<(Key, Value)>
-    ensures { result ≡ option_map unstamped found }
-{
-    match found {
-        Some((key, value, _)) => Some((key, value)),
-        None => None,
-    }
-}
-
 impl Cursor {
-    ghost use Rattle.std.specs.Prelude.{◌≡◌, ◌+◌, ◌≤◌, ℕ, List, map, All, None, IfOk, IfErr, OnOk, OnErr, option_copied};
-    ghost use Rattle.cola_cell.specs.Held.{LawCell, Stamped};
+    ghost use Rattle.std.specs.Prelude.{◌≡◌, ◌+◌, ◌≤◌, List, map, All, IfOk, IfErr, option_copied};
+    ghost use Rattle.cola_cell.specs.Held.{LawCell};
     ghost use Rattle.cola_cell.specs.Order.{key_cmp};
     ghost use Rattle.cola_look.specs.Runs.{HasRun, AreRuns};
     ghost use Rattle.cola_pairs.specs.Live.{live, between};
     ghost use Rattle.cola_cell.specs.Spent.{ReadCalm};
-    ghost use Rattle.cola_cursor.specs.Lines.{all_left, Reading};
-    ghost use Rattle.cola_cursor.specs.Results.{LinesCause};
+    ghost use Rattle.cola_cursor.specs.Giving.{NextGives, NextGivesPair};
+    ghost use Rattle.cola_cursor.specs.Lines.{Reading};
     ghost use Rattle.cola_cursor.specs.Seeking.{LevelsRise, places_from, range_ticks, left_sought, RunsCause};
-    ghost use Rattle.cola_cursor.specs.Standing.{runs_of, AreSearched, Stands, Ahead, TakesNext, TakesPair, AnswerCause, LinesPassed, IsPassed, IsPairPassed, none_hidden, answered_key, pair_key};
+    ghost use Rattle.cola_cursor.specs.Standing.{runs_of, AreSearched, Stands, Ahead};
 
     /// A cursor over the runs, the newest first, at the first key that is at least `lo`; its pairs end below `hi`,
     /// where there is one. It searches each run from the link of the run above it, as a look-up does, in at most
@@ -81,23 +69,7 @@ impl Cursor {
         steps: &mut Steps<L>,
     ) -> Result<Option<(Key, Value, u64)>, ReadFault>
         requires { Stands (W.held work.old) self.old }
-
-        // The pair is the first of those ahead, and the others are ahead then; none comes where there is none.
-        ensures takes { (pairs : List (List ℕ × Stamped)) → Ahead (W.held work.old) self.old pairs → TakesNext (Ahead (W.held work.new) self.new) pairs result }
-        // On all runs, in order or not: where none comes, that a pair is a value that was passed, and which cells are passed.
-        ensures answers { IfOk result (λ answer. AnswerCause self.new (answered_key answer)) }
-        ensures pair { IfOk result (IsPassed (W.held work.old) self.old.lines.items self.new.lines.items) }
-        ensures passes { IfOk result (λ answer. LinesPassed (W.held work.old) (answered_key answer) none_hidden self.old.lines.items self.new.lines.items) }
-        ensures stands { Stands (W.held work.new) self.new }
-        ensures end_stays { self.new.end ≡ self.old.end }
-        ensures refused { OnErr result (self.new ≡ self.old) }
-        ensures left { OnOk result (steps.new + all_left self.new.lines.items ≤ steps.old + all_left self.old.lines.items) }
-        ensures at_most { steps.new ≤ steps.old + all_left self.old.lines.items }
-        ensures reading { Reading (W.spent work.old) (W.spent work.new) steps.old steps.new }
-        ensures cause { IfErr result (LinesCause (W.held work.old) self.old.lines.items (W.spent work.old).faults (W.spent work.new).faults) }
-        ensures cells_stay { W.held work.new ≡ W.held work.old }
-        ensures kept { W.kept work.new ≡ W.kept work.old }
-        ensures calm { ReadCalm (W.spent work.old).faults (W.spent work.new).faults result }
+        ensures { NextGives W.CellSource work.old work.new self.old self.new steps.old steps.new result }
     {
         let mut lines = with_heads(work, self.lines.as_slice(), steps)?;
         while let Some(key) = least_key(lines.as_slice(), &self.end) {
@@ -128,22 +100,12 @@ impl Cursor {
         steps: &mut Steps<L>,
     ) -> Result<Option<(Key, Value)>, ReadFault>
         requires { Stands (W.held work.old) self.old }
-        ensures takes { (pairs : List (List ℕ × Stamped)) → Ahead (W.held work.old) self.old pairs → TakesPair (Ahead (W.held work.new) self.new) pairs result }
-        ensures answers { IfOk result (λ answer. AnswerCause self.new (pair_key answer)) }
-        ensures pair { IfOk result (IsPairPassed (W.held work.old) self.old.lines.items self.new.lines.items) }
-        ensures passes { IfOk result (λ answer. LinesPassed (W.held work.old) (pair_key answer) none_hidden self.old.lines.items self.new.lines.items) }
-        ensures stands { Stands (W.held work.new) self.new }
-        ensures end_stays { self.new.end ≡ self.old.end }
-        ensures refused { OnErr result (self.new ≡ self.old) }
-        ensures left { OnOk result (steps.new + all_left self.new.lines.items ≤ steps.old + all_left self.old.lines.items) }
-        ensures at_most { steps.new ≤ steps.old + all_left self.old.lines.items }
-        ensures reading { Reading (W.spent work.old) (W.spent work.new) steps.old steps.new }
-        ensures cause { IfErr result (LinesCause (W.held work.old) self.old.lines.items (W.spent work.old).faults (W.spent work.new).faults) }
-        ensures cells_stay { W.held work.new ≡ W.held work.old }
-        ensures kept { W.kept work.new ≡ W.kept work.old }
-        ensures calm { ReadCalm (W.spent work.old).faults (W.spent work.new).faults result }
+        ensures { NextGivesPair W.CellSource work.old work.new self.old self.new steps.old steps.new result }
     {
-        let found = self.next_stamped(work, steps)?;
-        Ok(without_stamp(found))
+        match self.next_stamped(work, steps) {
+            Ok(Some((key, value, _))) => Ok(Some((key, value))),
+            Ok(None) => Ok(None),
+            Err(fault) => Err(fault),
+        }
     }
 }

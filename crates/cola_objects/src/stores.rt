@@ -3,7 +3,7 @@ ghost use Rattle.std.specs.Prelude.{◌≡◌, ◌<◌, IfSome};
 ghost use Rattle.cola_cell.specs.Format.{ItemFits, KeyFits};
 
 use cola_cell::{CellSource, Format, Item, Key, Reader, Value};
-use cola_chain::Chain;
+use cola_chain::{Chain, Room};
 use cola_device::{Device, MemoryDevice};
 use cola_layout::{Geometry, Header};
 use cola_outside::Steps;
@@ -60,8 +60,9 @@ fn chain_of(
     }
     let device = MemoryDevice::holding(bytes, failing);
     let mut runs = RunStore::new(alloc, device, geometry, 0).ok()?;
+    let room = Room::new(alloc).ok()?;
     match runs.load(header) {
-        Ok(()) => Some(Chain::new(runs, header)),
+        Ok(()) => Some(Chain::new(runs, room, header)),
         Err(_) => None,
     }
 }

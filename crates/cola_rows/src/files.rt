@@ -81,20 +81,22 @@ pub(crate) fn device_of(
     Ok(Watched { device, longest: 0 })
 }
 
-/// What a session gave: the replies, the status, and the first device.
+/// What a session gave: the replies, the status, and both devices.
 #[derive(Drop)]
 pub(crate) struct Simple {
     pub(crate) replies: Vec<u8>,
     pub(crate) status: u8,
     pub(crate) device: Watched,
+    pub(crate) second: Watched,
 }
 
-/// A session in which nothing but calls of the one device fails. The words are separated by blanks.
-pub(crate) fn simple_session(
+/// A session in which nothing but calls of the two devices fails. The words are separated by blanks.
+pub(crate) fn session_over(
     alloc: Global,
     words: &str,
     input: &[u8],
-    device: Watched,
+    first: Watched,
+    second: Watched,
 ) -> Result<Simple, AllocError> {
     let mut list = Vec::new(alloc);
     for word in words.split(' ') {
@@ -103,14 +105,29 @@ pub(crate) fn simple_session(
     let bytes = Vec::from_slice(alloc, input)?;
     let mut source = source_of(bytes, usize::MAX, Vec::new(alloc));
     let mut sink = sink_of(alloc, Vec::new(alloc))?;
-    let none = device_of(alloc, Vec::new(alloc), 0, Vec::new(alloc))?;
-    let served = serve_rows(alloc, &list, &mut source, &mut sink, device, none);
-    let Served { status, device, .. } = served;
+    let served = serve_rows(alloc, &list, &mut source, &mut sink, first, second);
+    let Served {
+        status,
+        device,
+        second,
+    } = served;
     Ok(Simple {
         replies: Vec::from_slice(alloc, sink.sink.bytes())?,
         status,
         device,
+        second,
     })
+}
+
+/// The same over one device.
+pub(crate) fn simple_session(
+    alloc: Global,
+    words: &str,
+    input: &[u8],
+    device: Watched,
+) -> Result<Simple, AllocError> {
+    let none = device_of(alloc, Vec::new(alloc), 0, Vec::new(alloc))?;
+    session_over(alloc, words, input, device, none)
 }
 
 /// The file of a store after so many puts, closed.

@@ -1,6 +1,6 @@
 //! Sessions of many made lines, in memory and over files, beside the plain session.
 use crate::allowed::{is_cut_off, script_of};
-use crate::files::{Simple, device_of, simple_session};
+use crate::files::{Simple, device_of, session_over, simple_session};
 use crate::outside::Watched;
 use crate::talk::{Ask, MOSTLY_STAMPS, Talk, WITH_STAMPS, WITHOUT_STAMPS, next_number, whole_map};
 use crate::text::push_escaped;
@@ -24,6 +24,8 @@ enum Home {
     File,
     /// A file on a device of which calls fail.
     FailingFile,
+    /// A mirror over two files, of which calls of one fail.
+    Mirror,
 }
 
 /// A kind of sessions: how a file is made and served, and which lines are made.
@@ -90,7 +92,7 @@ impl Kind {
 }
 
 /// All kinds.
-fn kinds() -> [Kind; 11] {
+fn kinds() -> [Kind; 13] {
     let small = "create F --keys 150 --block 3";
     let small_2 = "create F --keys 150 --block 3 --version 2";
     let large = "create F --keys 512";
@@ -140,6 +142,20 @@ fn kinds() -> [Kind; 11] {
             failing,
             small_2,
             "run F",
+            150,
+        ),
+        plainly(
+            "version 1, a side of a mirror fails",
+            Home::Mirror,
+            large_3,
+            "run F --mirror G --cache 4",
+            512,
+        ),
+        stamped(
+            "version 2, a side of a mirror fails",
+            Home::Mirror,
+            small_2,
+            "run F --mirror G",
             150,
         ),
     ]
@@ -201,24 +217,25 @@ fn new_file(alloc: Global, kind: &Kind) -> Result<Watched, AllocError> {
     let device = empty_device(alloc)?;
     match kind.home {
         Home::Memory => Ok(device),
-        Home::File | Home::FailingFile => {
+        Home::File | Home::FailingFile | Home::Mirror => {
             let made = simple_session(alloc, kind.create, b"", device)?;
             Ok(made.device)
         }
     }
 }
 
-/// Whether a file serves the map of an open plain session.
+/// Whether a file, served by these words, serves the map of an open plain session.
 fn holds(
     alloc: Global,
     kind: &Kind,
+    run: &str,
     plain: &mut Session,
     device: Watched,
 ) -> Result<Found, AllocError> {
     let shape = kind.shape();
     let lines = whole_map(alloc, &shape)?;
     let replies = plain.run(alloc, &shape, lines.as_bytes())?;
-    let ended = simple_session(alloc, kind.run, lines.as_bytes(), device)?;
+    let ended = simple_session(alloc, run, lines.as_bytes(), device)?;
     compare(alloc, &ended, &replies, 0)
 }
 
@@ -230,16 +247,19 @@ fn serves_alike(alloc: Global, kind: &Kind, count: u32, number: u32) -> Result<F
     let ended = simple_session(alloc, kind.run, &talk.lines, device)?;
     let found = compare(alloc, &ended, &talk.replies, 0)?;
     match (kind.home, &found) {
-        (Home::File, Found::Same) => holds(alloc, kind, &mut talk.plain, ended.device),
+        (Home::File, Found::Same) => { holds(alloc, kind, kind.run, &mut talk.plain, ended.device) }
         _ => Ok(found),
     }
 }
 
-/// The numbers of calls of a device that fail: about one in 26, and none of the first 20, in which a file is opened.
-fn failing_calls(alloc: Global, first: u32) -> Result<Vec<u64>, AllocError> {
+/// How many calls come before the first line: in them a file is opened.
+const OPENING_CALLS: u64 = 20;
+
+/// The numbers of calls of a device that fail: about one in 26, and none of the first ones.
+fn failing_calls(alloc: Global, first: u32, before: u64) -> Result<Vec<u64>, AllocError> {
     let mut calls = Vec::new(alloc);
     let mut number = first;
-    let mut call = 20u64;
+    let mut call = before;
     for _ in 0..400 {
         number = next_number(number);
         let apart = (number >> 8) % 50;
@@ -267,7 +287,12 @@ fn serves_with_faults(
     let mut talk = Talk::new(alloc, kind.shape(), number);
     talk.make(alloc, kind.mix, count)?;
     let bytes = new_file(alloc, kind)?.device.into_bytes();
-    let device = device_of(alloc, bytes, 0, failing_calls(alloc, number)?)?;
+    let device = device_of(
+        alloc,
+        bytes,
+        0,
+        failing_calls(alloc, number, OPENING_CALLS)?,
+    )?;
     let ended = simple_session(alloc, kind.run, &talk.lines, device)?;
     let script = script_of(alloc, &ended.replies)?;
     let asked = requests(alloc, &shape, &talk.lines)?;
@@ -287,9 +312,50 @@ fn serves_with_faults(
         (true, Found::Same) => {
             let _opened = plain.run(alloc, &shape, b"close\nopen\n")?;
             let device = without_faults(alloc, ended.device)?;
-            Ok((holds(alloc, kind, &mut plain, device)?, faults))
+            Ok((holds(alloc, kind, kind.run, &mut plain, device)?, faults))
         }
         _ => Ok((found, faults)),
+    }
+}
+
+/// Compares a session over a mirror of which calls of one side fail with the plain one, in which nothing does, and then the
+/// map that the other side holds. Where no side was lost both files are the same. It gives the number of faults too.
+fn serves_mirrored(
+    alloc: Global,
+    kind: &Kind,
+    count: u32,
+    number: u32,
+) -> Result<(Found, u64), AllocError> {
+    let mut talk = Talk::new(alloc, kind.shape(), number);
+    talk.make(alloc, kind.mix, count)?;
+    let bytes = new_file(alloc, kind)?.device.into_bytes();
+    // (the two are compared first: the size, and pieces of 512 bytes)
+    let compared = (bytes.len() as u64 / 512).saturating_add(1);
+    let before = compared.saturating_add(OPENING_CALLS);
+    let sound = device_of(alloc, bytes.clone()?, 0, Vec::new(alloc))?;
+    let failing = device_of(alloc, bytes, 0, failing_calls(alloc, number, before)?)?;
+    let fails_first = number % 2 == 0;
+    let (first, second) = if fails_first {
+        (failing, sound)
+    } else {
+        (sound, failing)
+    };
+    let ended = session_over(alloc, kind.run, &talk.lines, first, second)?;
+    let lost = if fails_first { 17 } else { 18 };
+    let is_lost = ended.status == lost;
+    let found = compare(alloc, &ended, &talk.replies, if is_lost { lost } else { 0 })?;
+    let Simple { device, second, .. } = ended;
+    let are_same = device.device.as_bytes() == second.device.as_bytes();
+    let (failing, sound) = if fails_first {
+        (device, second)
+    } else {
+        (second, device)
+    };
+    let faults = failing.faults();
+    match found {
+        Found::Same if !is_lost && !are_same => Ok((Found::Status(0, lost), faults)),
+        Found::Same => Ok((holds(alloc, kind, "run F", &mut talk.plain, sound)?, faults)),
+        found => Ok((found, faults)),
     }
 }
 
@@ -331,7 +397,7 @@ fn compare_kind(
     out: &mut String,
 ) -> Result<bool, AllocError> {
     let at_once = match kind.home {
-        Home::FailingFile => AT_ONCE_WITH_FAULTS,
+        Home::FailingFile | Home::Mirror => AT_ONCE_WITH_FAULTS,
         _ => AT_ONCE,
     };
     let mut number = seed;
@@ -344,6 +410,7 @@ fn compare_kind(
         }
         let (found, faults) = match kind.home {
             Home::FailingFile => serves_with_faults(alloc, kind, lines, number)?,
+            Home::Mirror => serves_mirrored(alloc, kind, lines, number)?,
             _ => (serves_alike(alloc, kind, lines, number)?, 0),
         };
         if !matches!(found, Found::Same) {
@@ -355,7 +422,7 @@ fn compare_kind(
         number = number.wrapping_add(1);
     }
     write!(out, "{}: {count} lines", kind.name)?;
-    if let Home::FailingFile = kind.home {
+    if let Home::FailingFile | Home::Mirror = kind.home {
         write!(out, ", {all_faults} faults")?;
     }
     out.push('\n')?;

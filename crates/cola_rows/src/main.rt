@@ -22,7 +22,7 @@ use crate::made::compare_made;
 use crate::reading::{begin_row, read_line};
 use crate::row::Row;
 use crate::running::Left;
-use cola_command::Status;
+use cola_status::Status;
 use std::alloc::{AllocError, Global};
 use std::process::ExitCode;
 use std::rt::Env;

@@ -19,17 +19,18 @@ use Rattle.cola_layout.specs.declared.marks.Marks.{Marks}
 use Rattle.cola_layout.specs.Fields.{fields_of}
 use Rattle.cola_layout.specs.Header.{IsSpelling}
 use Rattle.cola_layout.specs.Marks.{all_numbers, no_marks}
+use Rattle.cola_opening.specs.Counted.{Spends}
+use Rattle.cola_opening.specs.Judged.{file_size}
+use Rattle.cola_opening.proofs.Spending.{called-spends, spends-more}
 use Rattle.cola_spec.specs.Map.{Map}
 use Rattle.cola_image.specs.Cells.{file_spots}
 use Rattle.cola_image.specs.Standing.{AreRunsAlike}
 use Rattle.cola_image.proofs.StandingLemmas.{stand-alike}
 use Rattle.cola_run.specs.Store.{Store, IsStore}
 use Rattle.cola_run.specs.Saving.{SameReads, IsFlushed}
-use Rattle.cola_store.specs.Create.{file_size}
 use Rattle.cola_store.specs.Runs.{StoreStandsFor}
-use Rattle.cola_store.specs.Open.{Spends}
 use Rattle.cola_store.specs.Close.{IsFileOf, closing_writes}
-use Rattle.cola_store.proofs.Opened.{slot-in}
+use Rattle.cola_chain.proofs.Headers.{slot-in}
 
 -- a run is another than the shadow beside it
 apart : (visible slot : ℕ) → slot ≡ 1 - visible → visible ≢ slot
@@ -119,12 +120,4 @@ pub closing-spends : {D : Type 0} (d : device.Ghosts D) (header : Header) (befor
     → Called (d.counts before.buffers.cache.device) (d.counts now.buffers.cache.device) 0 (before.geometry.bottom + 3) 2 result → Spends (d.counts before.buffers.cache.device) (d.counts now.buffers.cache.device) 0 (closing_writes header) 2
 closing-spends d header before now result same called =
     let e = ap (λ (g : Geometry). g.bottom + 3) same in
-    record {
-      faults_stay = called.faults_stay;
-      reads_stay = called.reads_stay;
-      reads_rise = called.reads_rise;
-      writes_stay = called.writes_stay;
-      writes_rise = omega (arith, e, called.writes_rise);
-      others_stay = called.others_stay;
-      others_rise = called.others_rise;
-    }
+    spends-more (called-spends called) (omega arith) (omega (arith, e)) (omega arith)

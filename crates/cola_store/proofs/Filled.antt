@@ -1,16 +1,23 @@
--- The bytes of a device that was laid out and has its header.
-use Rattle.std.proofs.Common.{◌≡◌, ℕ, ◌+◌, ◌-◌, ◌^◌, ◌≤◌, List, ◌++◌, length, take, drop, replicate, Option, Some, None, Result, Ok, Err, refl, sym, ◌∙◌, ap, subst, arith, length-append}
-use Rattle.std.specs.Prelude.{IfSome, OnOk}
-use Rattle.std.proofs.Math.Pow.{pow_mono}
+-- The bytes of a device that was laid out and has its header, and which refusals of that are left where nothing speaks for them.
+use Rattle.std.proofs.Common.{◌≡◌, ℕ, ◌-◌, ◌≤◌, List, ◌++◌, length, take, drop, replicate, Option, Some, None, Result, Ok, Err, refl, sym, ◌∙◌, ap, subst, arith, length-append, ◌<◌, true, inl, inr}
+use Rattle.std.specs.Prelude.{IfSome, OnOk, is_ok, IsSomeAnd}
 use Rattle.std.proofs.lemmas.List.{length-replicate, drop-replicate, take_at, drop_at}
 use Rattle.cola_outside.specs.Told.{Both}
+use Rattle.cola_outside.specs.Faults.{Rose}
 use Rattle.cola_cell.specs.declared.format.Format.{Format}
-use Rattle.cola_cell.specs.declared.format.Format.TheVariants.{One, Two}
 use Rattle.cola_device.specs.Bytes.{splice, IsEmpty, HasSize, HasRange, LaidOut, Wrote}
 use Rattle.cola_device.proofs.ToldLemmas.{length-WroteSome}
+use Rattle.cola_device.specs.declared.device.Device as device
 use Rattle.cola_layout.specs.Header.{IsSpelling}
+use Rattle.cola_layout.specs.declared.fault.LayoutFault.{LayoutFault}
+use Rattle.cola_layout.specs.declared.fault.LayoutFault.TheVariants as layout
+use Rattle.cola_layout.specs.Geometry.{Refuses}
+use Rattle.cola_layout.proofs.Powers.{bottom-is_one}
+use Rattle.cola_opening.specs.Judged.{file_size}
 use Rattle.cola_image.proofs.StandingLemmas.{empty-stands}
-use Rattle.cola_store.specs.Create.{IsNewFile, new_header, file_size}
+use Rattle.cola_store.specs.Create.{IsNewFile, new_header, Suits, Created}
+use Rattle.cola_store.specs.declared.fault.CreateFault.{CreateFault}
+use Rattle.cola_store.specs.declared.fault.CreateFault.TheVariants.{Keys, Block, NotEmpty, Device}
 
 -- where bytes are told, there are at most so many afterwards
 abbrev pub AtMost : ℕ → Option (List ℕ) → Option (List ℕ) → Type 0
@@ -67,15 +74,6 @@ told_new_file format keys block_exp bottom size header None is long spelled room
 told_new_file format keys block_exp bottom size header (Some bytes) is long spelled room found =
     is_new_file format keys block_exp bottom header bytes long spelled (omega (arith, is, room)) (found ∙ ap (λ n. header ++ replicate (n - 512) 0) is)
 
--- a file has a header's bytes at least
-pub header_fits : (format : Format) (bottom : ℕ) → 3 ≤ bottom → 512 ≤ file_size format bottom
-header_fits One bottom deep =
-    let grows : 2 ^ 7 ≤ 2 ^ (bottom + 4) = pow_mono {i = 7} {j = bottom + 4} (omega arith) in
-    omega arith
-header_fits Two bottom deep =
-    let grows : 2 ^ 7 ≤ 2 ^ (bottom + 4) = pow_mono {i = 7} {j = bottom + 4} (omega arith) in
-    omega arith
-
 -- a size of 0 is that of no bytes
 pub size_0_is_empty : (told : Option (List ℕ)) (size : ℕ) → size ≡ 0 → HasSize told size → IsEmpty told
 size_0_is_empty None size none has = tt
@@ -84,3 +82,25 @@ size_0_is_empty (Some bytes) size none has = sym has ∙ none
 pub on_ok : {T E P : Type 0} (result : Result T E) → P → OnOk result P
 on_ok (Ok value) p = p
 on_ok (Err fault) p = tt
+
+-- sizes of a store are not refused
+suited : (keys block_exp bottom : ℕ) (fault : LayoutFault) → Suits keys block_exp bottom → Refuses keys block_exp fault → ⊥
+suited keys block_exp bottom layout.Keys suits (inl none) = omega (arith, none, suits.keys_in_range.some)
+suited keys block_exp bottom layout.Keys suits (inr many) = omega (arith, many, suits.keys_in_range.few)
+suited keys block_exp bottom layout.Block suits (are, (other, is, inl small)) = omega (arith, small, suits.block_fits.group)
+suited keys block_exp bottom layout.Block suits (are, (other, is, inr large)) =
+    let same : other ≡ bottom = bottom-is_one keys other bottom is suits.bottom_is in
+    omega (arith, rw same at large, suits.block_fits.fits)
+
+-- no bytes and some bytes
+none_and_some : (told : Option (List ℕ)) → IsSomeAnd told (λ bytes. length bytes ≡ 0) → IfSome told (λ bytes. 0 < length bytes) → ⊥
+none_and_some None none some = none
+none_and_some (Some bytes) none some = omega (arith, none, some)
+
+pub is_made : {D : Type 0} (d : device.Ghosts D) (format : Format) (keys block_exp bottom : ℕ) (before now : D) (result : Result (Unit {0}) CreateFault) → Suits keys block_exp bottom → IsSomeAnd (d.bytes before) (λ bytes. length bytes ≡ 0)
+    → (Rose (d.counts before).faults (d.counts now).faults → ⊥) → Created d format keys block_exp before now result → is_ok result ≡ true
+is_made d format keys block_exp bottom before now (Ok value) suits none calm made = refl
+is_made d format keys block_exp bottom before now (Err Keys) suits none calm refused = absurd (suited keys block_exp bottom layout.Keys suits refused.why)
+is_made d format keys block_exp bottom before now (Err Block) suits none calm refused = absurd (suited keys block_exp bottom layout.Block suits refused.why)
+is_made d format keys block_exp bottom before now (Err NotEmpty) suits none calm was = absurd (none_and_some (d.bytes before) none was.some)
+is_made d format keys block_exp bottom before now (Err Device) suits none calm failed = absurd (calm failed.cause)

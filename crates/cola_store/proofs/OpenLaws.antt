@@ -1,6 +1,6 @@
 -- Which answer an opening gives on a file that stands for a map, or would but for its state byte.
-use Rattle.std.proofs.Common.{◌≡◌, ◌∙◌, ◌⊎◌, inl, inr, ℕ, zero, suc, ◌+◌, ◌-◌, ◌*◌, ◌^◌, ◌<◌, ◌≤◌, Bool, true, false, eqb, ◌==◌, if◌then◌else◌, ◌≢◌, cond, List, [], ◌∷◌, length, take, Option, Some, None, Result, Ok, Err, refl, sym, ap, subst, arith}
-use Rattle.std.specs.Prelude.{IfSome, MatchResult, is_ok}
+use Rattle.std.proofs.Common.{◌≡◌, ◌⊎◌, inl, inr, ℕ, zero, suc, ◌+◌, ◌-◌, ◌<◌, ◌≤◌, Bool, true, false, eqb, ◌==◌, if◌then◌else◌, ◌≢◌, List, [], ◌∷◌, length, take, Option, Some, None, Result, Ok, Err, refl, sym, ap, subst, arith}
+use Rattle.std.specs.Prelude.{IfSome, is_ok}
 use Rattle.std.proofs.lemmas.Bool.Decides.{eqb_tells}
 use Rattle.cola_outside.specs.Told.{Both}
 use Rattle.std.specs.Option.{IsSome, IsSomeAnd}
@@ -15,6 +15,8 @@ use Rattle.cola_layout.specs.Header.{Fields, IsSpelling, IsNoSpelling}
 use Rattle.cola_layout.specs.Marks.{all_numbers, marks_of}
 use Rattle.cola_layout.proofs.Levels.{number-at, numbers-length}
 use Rattle.cola_layout.proofs.Refusing.{spelling-one}
+use Rattle.cola_opening.specs.Judged.{file_size, IsSmall, IsNoStore}
+use Rattle.cola_opening.proofs.Sizes.{header_fits}
 use Rattle.cola_spec.specs.Map.{Map, empty_map}
 use Rattle.cola_told.specs.Cells.{AreTold}
 use Rattle.cola_image.specs.Cells.{file_spots}
@@ -23,12 +25,11 @@ use Rattle.cola_run.specs.Saving.{IsFrontRun, SameBehind, run_len}
 use Rattle.cola_store.specs.declared.fault.CreateFault.{CreateFault}
 use Rattle.cola_store.specs.declared.fault.OpenFault.{OpenFault}
 use Rattle.cola_store.specs.declared.fault.OpenFault.TheVariants.{NotStore, NotClosed, Small, Device, OutOfMemory, BadCell}
-use Rattle.cola_store.specs.Create.{file_size, new_header, IsNewFile, Created}
-use Rattle.cola_store.specs.Open.{IsSmall, IsNoStore, IsInUse, WasClosed, IsReady, HasBadCell, Opens}
+use Rattle.cola_store.specs.Create.{new_header, IsNewFile, Created}
+use Rattle.cola_store.specs.Open.{IsInUse, WasClosed, IsReady, HasBadCell, Opens}
 use Rattle.cola_store.specs.Sessions.{OpensStore, ClosesStore, MetFault, OpensTo, RefusesAs}
 use Rattle.cola_store.specs.Store.{Stored, Holds}
-use Rattle.cola_store.proofs.Filled.{header_fits}
-use Rattle.cola_store.proofs.Opened.{slot-in}
+use Rattle.cola_chain.proofs.Headers.{slot-in}
 use Rattle.cola_store.proofs.States.{in_use, used-spelling, no-spelling, state-first, state-long}
 
 -- ---- one header

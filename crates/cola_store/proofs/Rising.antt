@@ -1,35 +1,123 @@
--- What a turn leaves of the account of reads, and the bounds of a store that counts.
-use Rattle.std.proofs.Common.{◌≡◌, ℕ, suc, ◌+◌, ◌-◌, ◌*◌, ◌<◌, ◌≤◌, true, false, List, [], ◌∷◌, Option, Some, None, Result, Ok, Err, sym, ap, subst, ◌∙◌, arith}
+-- What turns keep, of the account of reads and of its calm, and the bounds of a store that counts.
+use Rattle.std.proofs.Common.{◌≡◌, ℕ, suc, Bool, ◌+◌, ◌-◌, ◌*◌, ◌<◌, ◌≤◌, true, false, List, [], ◌∷◌, Option, Some, None, Result, Ok, Err, sym, ap, subst, ◌∙◌, arith}
+use Rattle.cola_outside.specs.Faults.{Rose}
 use Rattle.cola_runs.specs.Search.{AreSampled}
 use Rattle.cola_laws.specs.Chain.{visibles}
 use Rattle.cola_laws.specs.Plain.{IsSoundChain}
 use Rattle.cola_laws.proofs.Facts.{visible-sampled}
+use Rattle.cola_transfers.specs.Credit.{last_value}
 use Rattle.cola_cell.specs.declared.cell.Item.{Item}
 use Rattle.cola_cell.specs.declared.fault.ReadFault.{ReadFault}
 use Rattle.cola_cell.specs.declared.fault.StepFault.{StepFault}
 use Rattle.cola_cell.specs.Held.{Held, Stamped}
 use Rattle.cola_cell.specs.Order.{key_cmp}
+use Rattle.cola_cell.specs.declared.fault.StepFault.TheVariants as step
 use Rattle.cola_told.proofs.ToldRuns.{told_is}
 use Rattle.cola_device.specs.declared.counts.Counts.{Counts}
 use Rattle.cola_layout.specs.declared.geometry.Geometry.{Geometry}
-use Rattle.cola_spec.specs.Map.{Map, PutOutcome, New, Old, Full, Worn, Other}
+use Rattle.cola_spec.specs.Map.{Shape, Map, PutOutcome, put_outcome, put_if_outcome, New, Old, Full, Worn, Other, Shape}
 use Rattle.cola_spec.specs.Reply.{Reply}
+use Rattle.cola_spec.specs.Reply as reply
+use Rattle.cola_table.specs.declared.Put.{Put}
+use Rattle.cola_table.specs.declared.PutIf.{PutIf}
+use Rattle.cola_table.specs.declared.PutFault.{PutFault}
+use Rattle.cola_table.specs.declared.PutFault.TheVariants as fault
+use Rattle.cola_table.specs.Answers.{PutRefused, PutAnswers, PutIfAnswers, DeleteAnswers, PutFaults, StepFaults}
+use Rattle.cola_table.specs.Replies.{put_refused, put_reply, put_if_reply, delete_reply, step_failure}
 use Rattle.cola_image.specs.Standing.{AreRunsTold}
+use Rattle.cola_look.specs.Runs.{AreRuns}
 use Rattle.cola_level.specs.declared.level.Level.{Level}
 use Rattle.cola_level.specs.Aims.{visible_run}
 use Rattle.cola_level.specs.Marks.{all_marks_of}
 use Rattle.cola_level.specs.Standing.{all_stood}
-use Rattle.cola_look.specs.Runs.{AreRuns}
+use Rattle.cola_run.proofs.News.{blocks-are}
 use Rattle.cola_chain.specs.Runs.{visible_runs, visible_lists}
 use Rattle.cola_chain.specs.Account.{AreBounded, sums_of}
 use Rattle.cola_chain.proofs.Account.{bounded}
-use Rattle.cola_transfers.specs.Credit.{last_value}
-use Rattle.cola_run.proofs.News.{blocks-are}
 use Rattle.cola_store.specs.declared.account.Account.{Account}
 use Rattle.cola_store.specs.Store.{Stored, IsStored, Holds, HasRead, held_of, spent_of, geometry_of, levels_of}
-use Rattle.cola_store.specs.Calls.{Searches, Steps, Concludes, Removes, PutFollows, PutIfFollows, DeleteFollows, SearchesFirst}
+use Rattle.cola_store.specs.Calls.{Searches, Steps, Concludes, Removes, PutFollows, PutIfFollows, DeleteFollows, SearchesFirst, stepped}
 use Rattle.cola_store.specs.Transfers.{IsCounting, WritesFew, ReadsFew}
 use Rattle.cola_store.proofs.Storing.{not-last}
+
+-- A property of stores that each step with this answer keeps: a turn has it in the end, where its search does
+
+module _ {D : Type 0} (bytes : D → Option (List ℕ)) (counts : D → Counts) (P : Stored D → Type 0) (new : Stored D) (answer : Reply)
+    (keeps : (old : Stored D) (key : List ℕ) (item : Item) (count last : ℕ) (says : Reply) (step : Result (Unit {0}) StepFault) → Steps bytes counts old new key item count last step → answer ≡ stepped says step → P old → P new) where
+  same-kept : (old : Stored D) → new ≡ old → P old → P new
+  same-kept old same has = subst (λ (s : Stored D). P s) (sym same) has
+
+  concludes-kept : (o : PutOutcome) (old : Stored D) (key value : List ℕ) (x : Option Stamped) → Concludes bytes counts o old new key value x answer → P old → P new
+  concludes-kept New old key value x w = keeps old key _ _ _ _ w.step w.steps w.answer_is
+  concludes-kept (Old v) old key value x w = keeps old key _ _ _ _ w.step w.steps w.answer_is
+  concludes-kept Full old key value x w = same-kept old w.same
+  concludes-kept Worn old key value x w = same-kept old w.same
+  concludes-kept (Other n) old key value x w = same-kept old w.same
+
+  removes-kept : (x : Option (List ℕ)) (old : Stored D) (key : List ℕ) → Removes bytes counts old new key x answer → P old → P new
+  removes-kept None old key w = same-kept old w.same
+  removes-kept (Some v) old key w = keeps old key _ _ _ _ w.step w.steps w.answer_is
+
+  put-follows : (search : Result (Option Item) ReadFault) (old : Stored D) (key value : List ℕ) → PutFollows bytes counts old new key value search answer → P old → P new
+  put-follows (Ok found) old key value w = concludes-kept _ old key value _ w
+  put-follows (Err fault) old key value w = same-kept old w.same
+
+  put-if-follows : (search : Result (Option Item) ReadFault) (old : Stored D) (key : List ℕ) (seen : ℕ) (value : List ℕ) → PutIfFollows bytes counts old new key seen value search answer → P old → P new
+  put-if-follows (Ok found) old key seen value w = concludes-kept _ old key value _ w
+  put-if-follows (Err fault) old key seen value w = same-kept old w.same
+
+  delete-follows : (search : Result (Option Item) ReadFault) (old : Stored D) (key : List ℕ) → DeleteFollows bytes counts old new key search answer → P old → P new
+  delete-follows (Ok found) old key w = removes-kept _ old key w
+  delete-follows (Err fault) old key w = same-kept old w.same
+
+  module _ (old : Stored D) (key : List ℕ) (searched : (mid : Stored D) (search : Result (Option Item) ReadFault) → Searches bytes counts old mid key search → P mid) where
+    pub put-kept : (value : List ℕ) → SearchesFirst bytes counts old new key (λ mid search. PutFollows bytes counts mid new key value search answer) → P new
+    put-kept value a = put-follows a.search a.mid key value a.follows (searched a.mid a.search a.searches)
+
+    pub put-if-kept : (seen : ℕ) (value : List ℕ) → SearchesFirst bytes counts old new key (λ mid search. PutIfFollows bytes counts mid new key seen value search answer) → P new
+    put-if-kept seen value a = put-if-follows a.search a.mid key seen value a.follows (searched a.mid a.search a.searches)
+
+    pub delete-kept : SearchesFirst bytes counts old new key (λ mid search. DeleteFollows bytes counts mid new key search answer) → P new
+    delete-kept a = delete-follows a.search a.mid key a.follows (searched a.mid a.search a.searches)
+
+-- Calm: on a store that stands for a map, a turn leaves it, unless a fault of the device was counted
+
+-- an answer that is no refusal of a step
+abbrev NoStepFailed : Reply → Type 0
+NoStepFailed answer = (f : StepFault) → answer ≡ reply.Failed (step_failure f) → ⊥
+
+put-refused : (A : Type 0) (o : PutOutcome) (f : PutFault) (before now : ℕ) → PutRefused o f → PutFaults {A = A} (Err f) before now → (Rose before now → ⊥) → NoStepFailed (put_refused f)
+put-refused A o fault.Full before now refused faults calm = λ f is. cc
+put-refused A o fault.Worn before now refused faults calm = λ f is. cc
+put-refused A o fault.Device before now refused faults calm = λ f is. calm faults
+put-refused A o (fault.BadCell n) before now refused faults calm = λ f is. refused
+put-refused A o (fault.Overfull n) before now refused faults calm = λ f is. refused
+
+pub put-not-failed : (shape : Shape) (m : Map) (key value : List ℕ) (After : Map → Type 0) (result : Result (Put × ℕ) PutFault) (before now : ℕ) → PutAnswers shape m key value After result → PutFaults result before now → (Rose before now → ⊥) → NoStepFailed (put_reply result)
+put-not-failed shape m key value After (Ok a) before now answers faults calm = λ f is. cc
+put-not-failed shape m key value After (Err f) before now answers faults calm = put-refused (Put × ℕ) (put_outcome shape m key) f before now answers.0 faults calm
+
+pub put-if-not-failed : (shape : Shape) (m : Map) (key : List ℕ) (seen : ℕ) (value : List ℕ) (After : Map → Type 0) (result : Result (PutIf × ℕ) PutFault) (before now : ℕ) → PutIfAnswers shape m key seen value After result → PutFaults result before now → (Rose before now → ⊥) →
+    NoStepFailed (put_if_reply result)
+put-if-not-failed shape m key seen value After (Ok a) before now answers faults calm = λ f is. cc
+put-if-not-failed shape m key seen value After (Err f) before now answers faults calm = put-refused (PutIf × ℕ) (put_if_outcome shape m key seen) f before now answers.0 faults calm
+
+pub delete-not-failed : (m : Map) (key : List ℕ) (After : Map → Type 0) (result : Result (Option (List ℕ) × ℕ) StepFault) (before now : ℕ) → DeleteAnswers m key After result → StepFaults result before now → (Rose before now → ⊥) → NoStepFailed (delete_reply result)
+delete-not-failed m key After (Ok a) before now answers faults calm = λ f is. cc
+delete-not-failed m key After (Err step.Device) before now answers faults calm = λ f is. calm faults
+delete-not-failed m key After (Err (step.BadCell n)) before now answers faults calm = λ f is. answers.0
+delete-not-failed m key After (Err (step.Overfull n)) before now answers faults calm = λ f is. answers.0
+
+module _ {D : Type 0} (bytes : D → Option (List ℕ)) (counts : D → Counts) where
+  pub step-calm : (calm : Bool) (new : Stored D) (answer : Reply) → NoStepFailed answer → (old : Stored D) (key : List ℕ) (item : Item) (count last : ℕ) (says : Reply) (step : Result (Unit {0}) StepFault) → Steps bytes counts old new key item count last step →
+      answer ≡ stepped says step → old.account.calm ≡ calm → new.account.calm ≡ calm
+  step-calm calm new answer fine old key item count last says (Ok a) s is was = ap (λ (x : Account). x.calm) s.by.account_is ∙ was
+  step-calm calm new answer fine old key item count last says (Err f) s is was = absurd (fine f is)
+
+  pub search-calm : (old new : Stored D) (key : List ℕ) (search : Result (Option Item) ReadFault) → Searches bytes counts old new key search → new.account.calm ≡ old.account.calm
+  search-calm old new key search s = ap (λ (x : Account). x.calm) s.counted
+
+-- The account of reads
 
 -- the visible runs of levels that are told are told to be the lists of their cells
 told-runs : (held : Held) (t j : ℕ) (levels : List Level) → AreRunsTold held.spots t j (all_marks_of levels) → AreRuns held (visible_runs t j levels) (visibles (all_stood held t j (all_marks_of levels)))
@@ -78,53 +166,24 @@ module _ {D : Type 0} (bytes : D → Option (List ℕ)) (counts : D → Counts) 
       let no : false ≡ true = sym (ap (λ (a : Account). a.calm) s.by.account_is) ∙ calm in
       cc
 
-  same-reads : (old new : Stored D) → new ≡ old → HasRead counts old → HasRead counts new
-  same-reads old new same has = subst (λ (s : Stored D). HasRead counts s) (sym same) has
-
-  concludes-reads : (o : PutOutcome) (old new : Stored D) (key value : List ℕ) (x : Option Stamped) (answer : Reply) → Concludes bytes counts o old new key value x answer → HasRead counts old → HasRead counts new
-  concludes-reads New old new key value x answer w = step-reads old new key _ _ _ w.step w.steps
-  concludes-reads (Old v) old new key value x answer w = step-reads old new key _ _ _ w.step w.steps
-  concludes-reads Full old new key value x answer w = same-reads old new w.same
-  concludes-reads Worn old new key value x answer w = same-reads old new w.same
-  concludes-reads (Other n) old new key value x answer w = same-reads old new w.same
-
-  removes-reads : (old new : Stored D) (key : List ℕ) (x : Option (List ℕ)) (answer : Reply) → Removes bytes counts old new key x answer → HasRead counts old → HasRead counts new
-  removes-reads old new key None answer w = same-reads old new w.same
-  removes-reads old new key (Some v) answer w = step-reads old new key _ _ _ w.step w.steps
-
-  put-reads : (old new : Stored D) (key value : List ℕ) (search : Result (Option Item) ReadFault) (answer : Reply) → PutFollows bytes counts old new key value search answer → HasRead counts old → HasRead counts new
-  put-reads old new key value (Ok found) answer w = concludes-reads _ old new key value _ answer w
-  put-reads old new key value (Err fault) answer w = same-reads old new w.same
-
-  put-if-reads : (old new : Stored D) (key : List ℕ) (seen : ℕ) (value : List ℕ) (search : Result (Option Item) ReadFault) (answer : Reply) → PutIfFollows bytes counts old new key seen value search answer → HasRead counts old → HasRead counts new
-  put-if-reads old new key seen value (Ok found) answer w = concludes-reads _ old new key value _ answer w
-  put-if-reads old new key seen value (Err fault) answer w = same-reads old new w.same
-
-  delete-reads : (old new : Stored D) (key : List ℕ) (search : Result (Option Item) ReadFault) (answer : Reply) → DeleteFollows bytes counts old new key search answer → HasRead counts old → HasRead counts new
-  delete-reads old new key (Ok found) answer w = removes-reads old new key _ answer w
-  delete-reads old new key (Err fault) answer w = same-reads old new w.same
-
-  -- a call that searches first
-  first-reads : (old new : Stored D) (m : Map) (key : List ℕ) (Follows : Stored D → Result (Option Item) ReadFault → Type 0) → ((mid : Stored D) (search : Result (Option Item) ReadFault) → Follows mid search → HasRead counts mid → HasRead counts new) →
-      Holds bytes old m → SearchesFirst bytes counts old new key Follows → HasRead counts old → HasRead counts new
-  first-reads old new m key Follows then holds a has = then a.mid a.search a.follows (search-reads old a.mid m key a.search holds a.searches has)
-
   pub put-turn : (old new : Stored D) (m : Map) (key value : List ℕ) (answer : Reply) → Holds bytes old m → SearchesFirst bytes counts old new key (λ mid search. PutFollows bytes counts mid new key value search answer) → HasRead counts old → HasRead counts new
-  put-turn old new m key value answer = first-reads old new m key (λ mid search. PutFollows bytes counts mid new key value search answer) (λ mid search w. put-reads mid new key value search answer w)
+  put-turn old new m key value answer holds a has =
+      put-kept bytes counts (λ s. HasRead counts s) new answer (λ o k i c l says step s is. step-reads o new k i c l step s) old key (λ mid search s. search-reads old mid m key search holds s has) value a
 
   pub put-if-turn : (old new : Stored D) (m : Map) (key : List ℕ) (seen : ℕ) (value : List ℕ) (answer : Reply) → Holds bytes old m → SearchesFirst bytes counts old new key (λ mid search. PutIfFollows bytes counts mid new key seen value search answer) → HasRead counts old → HasRead counts new
-  put-if-turn old new m key seen value answer = first-reads old new m key (λ mid search. PutIfFollows bytes counts mid new key seen value search answer) (λ mid search w. put-if-reads mid new key seen value search answer w)
+  put-if-turn old new m key seen value answer holds a has =
+      put-if-kept bytes counts (λ s. HasRead counts s) new answer (λ o k i c l says step s is. step-reads o new k i c l step s) old key (λ mid search s. search-reads old mid m key search holds s has) seen value a
 
   pub delete-turn : (old new : Stored D) (m : Map) (key : List ℕ) (answer : Reply) → Holds bytes old m → SearchesFirst bytes counts old new key (λ mid search. DeleteFollows bytes counts mid new key search answer) → HasRead counts old → HasRead counts new
-  delete-turn old new m key answer = first-reads old new m key (λ mid search. DeleteFollows bytes counts mid new key search answer) (λ mid search w. delete-reads mid new key search answer w)
+  delete-turn old new m key answer holds a has =
+      delete-kept bytes counts (λ s. HasRead counts s) new answer (λ o k i c l says step s is. step-reads o new k i c l step s) old key (λ mid search s. search-reads old mid m key search holds s has) a
 
   -- The bounds
 
-  within-bounds : (store : Stored D) → IsStored bytes counts store → IsCounting store → AreBounded (geometry_of store) store.account.steps store.chain.reads store.chain.writes
+  within-bounds : (store : Stored D) → IsStored bytes counts store → IsCounting store → AreBounded (geometry_of store) store.chain.accepted store.chain.reads store.chain.writes
   within-bounds store is c =
-      subst (λ (n : ℕ). AreBounded (geometry_of store) n store.chain.reads store.chain.writes) (sym is.steps_are)
-      (bounded (geometry_of store) store.chain.accepted 0 0 store.chain.clock 0 store.chain.levels (sums_of (held_of bytes store) (spent_of counts store) store.chain.reads store.chain.writes) is.many
-      (subst (λ (n : ℕ). n < last_value) is.steps_are c.steps_few) c.reads_few c.writes_few (is.paid c.calm).paid)
+      bounded (geometry_of store) store.chain.accepted 0 0 store.chain.clock 0 store.chain.levels (sums_of (held_of bytes store) (spent_of counts store) store.chain.reads store.chain.writes) is.many
+      c.steps_few c.reads_few c.writes_few (is.paid c.calm).paid
 
   pub writes-bound : (store : Stored D) → IsStored bytes counts store → IsCounting store → WritesFew counts store
   writes-bound store is c =

@@ -1,5 +1,5 @@
 -- The state byte of a file: what a file with another one tells, and what its first bytes spell.
-use Rattle.std.proofs.Common.{◌≡◌, ◌∙◌, ℕ, ◌+◌, ◌*◌, ◌<◌, ◌≤◌, Bool, true, false, cond, List, [], ◌∷◌, ◌++◌, length, take, drop, get_or, slice_index, refl, sym, ap, subst, arith}
+use Rattle.std.proofs.Common.{◌≡◌, ◌∙◌, ℕ, ◌*◌, ◌<◌, ◌≤◌, Bool, true, false, cond, List, [], ◌∷◌, ◌++◌, length, take, drop, slice_index, refl, sym, ap, arith}
 use Rattle.std.proofs.lemmas.List.{append_assoc, length-append, length-take-le, take_at, take-append-le, drop-append-le, take-append-drop}
 use Rattle.std.proofs.lemmas.Slice.{drop-append-drop}
 use Rattle.cola_cell.specs.declared.format.Format.{Format}
@@ -10,7 +10,6 @@ use Rattle.cola_cell.specs.Places.{number_of}
 use Rattle.cola_layout.specs.Header.{Fields, IsSpelling, IsNoSpelling, header_bytes, head_bytes}
 use Rattle.cola_layout.proofs.Places.{place-behind}
 use Rattle.cola_layout.proofs.Refusing.{no-state}
-use Rattle.cola_layout.proofs.Saying.{head-length}
 use Rattle.cola_image.specs.Cells.{cell_bytes, file_spots}
 use Rattle.cola_image.specs.Standing.{with_state}
 

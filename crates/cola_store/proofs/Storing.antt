@@ -1,11 +1,14 @@
--- A search of a store and a step of its chain: what they say of the store.
+-- A search of a store, a step of its chain, and a call that only reads: what they say of the store, and leave of walks.
 use Rattle.std.proofs.Common.{◌≡◌, ℕ, suc, ◌+◌, ◌-◌, ◌*◌, ◌<◌, ◌≤◌, ◌≢◌, ◌^◌, min, Bool, List, [], ◌∷◌, length, Option, Some, None, Result, Ok, Err, option_map, true, refl, ap, sym, subst, ◌∙◌, arith}
 use Rattle.std.specs.Prelude.{IfErr}
 use Rattle.std.specs.Option.{IsSome}
+use Rattle.std.specs.FinMap as finite
+use Rattle.cola_clock.specs.Clock.{visible_slot}
 use Rattle.cola_runs.specs.Search.{AreSampled}
 use Rattle.cola_runs.specs.Seen.{answer, value_of}
 use Rattle.cola_laws.specs.Chain.{value_at, updated}
 use Rattle.cola_laws.specs.Sound.{HasAtMost}
+use Rattle.cola_transfers.specs.Credit.{last_value}
 use Rattle.cola_cell.specs.declared.cell.Item.{Item}
 use Rattle.cola_cell.specs.declared.cell.Item.TheVariants.{Value, Tombstone}
 use Rattle.cola_cell.specs.declared.cell.Run.{Run}
@@ -21,28 +24,38 @@ use Rattle.cola_cell.specs.Spent.{Buffer, Search}
 use Rattle.cola_device.specs.declared.counts.Counts.{Counts}
 use Rattle.cola_layout.specs.declared.geometry.Geometry.{Geometry}
 use Rattle.cola_spec.specs.Bounds.{get_bound}
-use Rattle.cola_spec.specs.Map.{Map, IsMap, count}
-use Rattle.cola_table.specs.Answers.{OnlyDevice}
-use Rattle.cola_table.specs.Terms.{Terms, shape}
+use Rattle.cola_spec.specs.Map.{Map, IsMap, count, Stored as Entry}
+use Rattle.cola_spec.specs.Map as map
+use Rattle.cola_spec.specs.Reply as reply
+use Rattle.cola_table.specs.Answers.{OnlyDevice, KeepsWalks}
+use Rattle.cola_table.specs.Terms.{Terms, shape, Call}
+use Rattle.cola_table.specs.Stamps.{stamped_of}
 use Rattle.cola_image.specs.Standing.{found_in}
-use Rattle.cola_level.specs.declared.level.Level.{Level}
-use Rattle.cola_level.specs.Work.{IsDevice}
 use Rattle.cola_look.specs.Outcome.{Found, Answers}
 use Rattle.cola_look.specs.Runs.{AreRuns}
 use Rattle.cola_search.specs.Find.{found_in_runs, FindCause}
-use Rattle.cola_mutation.specs.Standing.{StandsFor}
+use Rattle.cola_cursor.specs.Standing as standing
+use Rattle.cola_cursor.specs.declared.line.Line.{Line}
+use Rattle.cola_cursor.proofs.Staying.{stands_stay, ahead_stays}
+use Rattle.cola_level.specs.declared.level.Level.{Level}
+use Rattle.cola_level.specs.Work.{IsDevice}
+use Rattle.cola_level.specs.Aims.{visible_run}
+use Rattle.cola_mutation.specs.Standing.{StandsFor, KeepsProgress}
 use Rattle.cola_mutation.specs.Steps.{IsMapOf, ChangesMap, KeepsMap, with_item}
 use Rattle.cola_mutation.proofs.MapLemmas.{few-found}
+use Rattle.cola_mutation.specs.Work.{HaveTurned}
 use Rattle.cola_run.specs.Store as run
 use Rattle.cola_chain.specs.Contents as chain
 use Rattle.cola_chain.specs.Contents.{Contents}
 use Rattle.cola_chain.specs.Runs.{visible_runs}
 use Rattle.cola_chain.specs.Account.{IsPaid, CountsStep, added}
 use Rattle.cola_chain.proofs.Account.{paid-stays}
-use Rattle.cola_transfers.specs.Credit.{last_value}
 use Rattle.cola_store.specs.declared.account.Account.{Account}
-use Rattle.cola_store.specs.Store.{Stored, IsStored, IsMadeAfter, HasWritten, Holds, held_of, spent_of, geometry_of, levels_of, runs_of, terms_of}
-use Rattle.cola_store.specs.Calls.{stamped_found, FindsIn, TicksWithin, Same, Searches, with_search, with_step, with_refusal}
+use Rattle.cola_store.specs.Store.{Stored, IsStored, IsMadeAfter, HasWritten, Holds, held_of, spent_of, geometry_of, levels_of, runs_of, terms_of, kept_of}
+use Rattle.cola_store.specs.Calls.{stamped_found, FindsIn, TicksWithin, Same, Searches, with_search, with_refusal, value_found, stamp_found}
+use Rattle.cola_store.specs.Walks.{Stands, Ahead}
+
+-- Searches
 
 pub length-visible : (t j : ℕ) (levels : List Level) → length (visible_runs t j levels) ≡ length levels
 length-visible t j [] = refl
@@ -65,8 +78,10 @@ module _ {D K : Type 0} (bytes : D → Option (List ℕ)) (counts : D → Counts
   abbrev pub searched_store : Stored D → Contents D → Stored D
   searched_store store now = record { chain = now; count = store.count; last = store.last; account = with_search store.account }
 
-  pub same : (store : Stored D) (now : Contents D) → chain.held_of bytes now ≡ held_of bytes store → chain.kept_of bytes counts kept now ≡ chain.kept_of bytes counts kept store.chain → Same bytes counts store (searched_store store now)
-  same store now held_is kept_is = record {
+  -- what a call that only reads leaves
+  pub same : (store : Stored D) (now : Contents D) (account : Account) → chain.held_of bytes now ≡ held_of bytes store → chain.kept_of bytes counts kept now ≡ chain.kept_of bytes counts kept store.chain →
+      Same bytes counts store (record { chain = now; count = store.count; last = store.last; account = account })
+  same store now account held_is kept_is = record {
     held_is = held_is;
     geometry_is = ap (λ (k : chain.Kept K). k.store.geometry) kept_is;
     levels_are = ap (λ (k : chain.Kept K). k.levels) kept_is;
@@ -104,7 +119,7 @@ module _ {D K : Type 0} (bytes : D → Option (List ℕ)) (counts : D → Counts
           turned_rises = subst (λ (k : ℕ). (chain.spent_of counts now).turned ≤ (spent_of counts store).turned + k) n (turns lists (subst (λ (rs : List Run). AreRuns (held_of bytes store) rs lists) (sym runs_are) told) sampled);
           written_is = costs.written_is;
         };
-        same = same store now held_is kept_is;
+        same = same store now (with_search store.account) held_is kept_is;
         counted = refl;
       }
 
@@ -128,18 +143,17 @@ module _ {D K : Type 0} (bytes : D → Option (List ℕ)) (counts : D → Counts
   }
 
   -- a store whose chain was only read by way of the block of searches, with another number of searches
-  pub read-is : (store : Stored D) (now : Contents D) (account : Account) → account.opened ≡ store.account.opened → account.calm ≡ store.account.calm → account.steps ≡ store.account.steps →
+  pub read-is : (store : Stored D) (now : Contents D) (account : Account) → account.opened ≡ store.account.opened → account.calm ≡ store.account.calm →
       IsStored bytes counts store → chain.held_of bytes now ≡ held_of bytes store → chain.kept_of bytes counts kept now ≡ chain.kept_of bytes counts kept store.chain →
       (chain.spent_of counts now).written ≡ (spent_of counts store).written →
       ((buffer : Buffer) → buffer ≢ Search → (chain.spent_of counts now).lasts buffer ≡ (spent_of counts store).lasts buffer) →
       IsStored bytes counts (record { chain = now; count = store.count; last = store.last; account = account })
-  read-is store now account opened_is calm_is steps_is is held_is kept_is written_is lasts =
+  read-is store now account opened_is calm_is is held_is kept_is written_is lasts =
       let geometry_is : now.store.geometry ≡ geometry_of store = ap (λ (k : chain.Kept K). k.store.geometry) kept_is in
       record {
         many = subst (λ (q : Geometry). length now.levels ≡ q.bottom + 1) (sym geometry_is) (ap (λ (k : chain.Kept K). length k.levels) kept_is ∙ is.many);
         count_fits = subst (λ (q : Geometry). store.count ≤ q.keys) (sym geometry_is) is.count_fits;
         last_fits = subst (λ (q : Geometry). store.last ≤ stamp_limit q.format) (sym geometry_is) is.last_fits;
-        steps_are = steps_is ∙ is.steps_are ∙ sym (ap (λ (k : chain.Kept K). k.accepted) kept_is);
         made = subst (λ (c : Counts). IsMadeAfter c (chain.held_of bytes now)) (sym opened_is) (subst (λ (h : Held). IsMadeAfter store.account.opened h) (sym held_is) is.made);
         paid = λ calm. paid-stays bytes counts kept store.chain now held_is kept_is lasts (is.paid (sym calm_is ∙ calm));
         written = written-stays store now account opened_is calm_is kept_is written_is is.written;
@@ -212,25 +226,23 @@ module _ {D K : Type 0} (bytes : D → Option (List ℕ)) (counts : D → Counts
   pub stored-after : (unit : Unit {0}) (count last : ℕ) → length now.levels ≡ length store.chain.levels → (chain.held_of bytes now).fixed ≡ (held_of bytes store).fixed → count ≤ (geometry_of store).keys → last ≤ stamp_limit (geometry_of store).format →
       (spent_of counts store).written ≤ (chain.spent_of counts now).written →
       CountsStep counts store.chain now (Ok unit) → (IsPaid bytes counts store.chain → IsPaid bytes counts now) →
-      IsStored bytes counts (record { chain = now; count = count; last = last; account = with_step store.account })
+      IsStored bytes counts (record { chain = now; count = count; last = last; account = store.account })
   stored-after unit count last many fixed count_fits last_fits written counted paid = record {
     many = many ∙ is.many ∙ ap (λ (q : Geometry). q.bottom + 1) (sym geometry_is);
     count_fits = subst (λ (q : Geometry). count ≤ q.keys) (sym geometry_is) count_fits;
     last_fits = subst (λ (q : Geometry). last ≤ stamp_limit q.format) (sym geometry_is) last_fits;
-    steps_are = ap (λ (n : ℕ). added n 1) is.steps_are ∙ sym counted.0;
     made = made-stays fixed;
     paid = λ calm. paid (is.paid calm);
     written = written-rises store.account.calm store.chain.writes now.writes store.account.opened.writes (spent_of counts store).written (chain.spent_of counts now).written written is.written counted.2;
   }
 
   -- and after a refused one
-  pub stored-still : length now.levels ≡ length store.chain.levels → now.accepted ≡ store.chain.accepted → (chain.held_of bytes now).fixed ≡ (held_of bytes store).fixed →
+  pub stored-still : length now.levels ≡ length store.chain.levels → (chain.held_of bytes now).fixed ≡ (held_of bytes store).fixed →
       IsStored bytes counts (record { chain = now; count = store.count; last = store.last; account = with_refusal store.account })
-  stored-still many accepted fixed = record {
+  stored-still many fixed = record {
     many = many ∙ is.many ∙ ap (λ (q : Geometry). q.bottom + 1) (sym geometry_is);
     count_fits = subst (λ (q : Geometry). store.count ≤ q.keys) (sym geometry_is) is.count_fits;
     last_fits = subst (λ (q : Geometry). store.last ≤ stamp_limit q.format) (sym geometry_is) is.last_fits;
-    steps_are = is.steps_are ∙ sym accepted;
     made = made-stays fixed;
     paid = λ calm. cc;
     written = λ calm few. cc;
@@ -275,3 +287,122 @@ module _ {D K : Type 0} (bytes : D → Option (List ℕ)) (counts : D → Counts
     only fault (device (geometry_of store).keys (found_in m) (map-of m holds)),
     holds-still account m holds clock keeps,
   )
+
+-- Calls that only read
+
+module _ {D K : Type 0} (bytes : D → Option (List ℕ)) (counts : D → Counts) (kept : D → K) (old new : Stored D) (same : Same bytes counts old new) (kept_is : kept_of bytes counts kept new ≡ kept_of bytes counts kept old) where
+  runs-same : runs_of new ≡ runs_of old
+  runs-same = ap (λ (ls : List Level). visible_runs new.chain.clock 0 ls) same.levels_are ∙ ap (λ (t : ℕ). visible_runs t 0 old.chain.levels) same.clock_is
+
+  pub terms-same : terms_of new ≡ terms_of old
+  terms-same = ap terms_at same.geometry_is
+
+  pub holds-same : (m : Map) → Holds bytes old m → Holds bytes new m
+  holds-same m holds = record {
+    tells = still-tells (run.beside (geometry_of old)) (run.beside (geometry_of new)) (bytes old.chain.store.buffers.cache.device) (bytes new.chain.store.buffers.cache.device) (ap (λ (k : run.Kept K). k.beside) kept_is) holds.tells;
+    stands =
+        subst (λ (h : Held). StandsFor h (geometry_of new).keys new.chain.clock new.chain.levels (found_in m)) (sym same.held_is)
+        (subst (λ (q : Geometry). StandsFor (held_of bytes old) q.keys new.chain.clock new.chain.levels (found_in m)) (sym same.geometry_is)
+        (subst (λ (t : ℕ). StandsFor (held_of bytes old) (geometry_of old).keys t new.chain.levels (found_in m)) (sym same.clock_is)
+        (subst (λ (ls : List Level). StandsFor (held_of bytes old) (geometry_of old).keys old.chain.clock ls (found_in m)) (sym same.levels_are) holds.stands)));
+    counted = same.count_is ∙ holds.counted;
+    numbered = same.last_is ∙ holds.numbered;
+    is_map = subst (λ (q : Geometry). IsMap (shape (terms_at q)) m) (sym same.geometry_is) holds.is_map;
+  }
+
+  pub walks-same : KeepsWalks (Stands bytes old) (Stands bytes new) (Ahead bytes old) (Ahead bytes new)
+  walks-same = record {
+    standing = λ walk stands. record {
+      cursor = subst (λ (h : Held). standing.Stands h walk) (sym same.held_is) stands.cursor;
+      visible = stands.visible ∙ sym runs-same;
+    };
+    pairs_ahead = λ walk pairs ahead. record {
+      stamped = ahead.stamped;
+      cursor = subst (λ (h : Held). standing.Ahead h walk ahead.stamped) (sym same.held_is) ahead.cursor;
+      pairs_are = ahead.pairs_are;
+      visible = ahead.visible ∙ sym runs-same;
+    };
+  }
+
+  pub call-same : (before after bound : ℕ) → TicksWithin (spent_of counts old) (spent_of counts new) before after bound →
+      Call (terms_of old) (terms_of new) (spent_of counts old).faults (spent_of counts new).faults before after bound
+  call-same before after bound ticks = record {
+    same_terms = terms-same;
+    faults_kept = ticks.faults_stay;
+    steps_kept = ticks.steps_stay;
+    within = ticks.steps_rise;
+  }
+
+-- the number of keys, by what a count answered
+pub counted-is : (n m : ℕ) → reply.Counted n ≡ reply.Counted m → n ≡ m
+counted-is n m is = cc
+
+-- what a map stores of a key, by what a search found
+value-stored : (x : Option Entry) → option_map (λ (s : Stamped). s.value) (option_map stamped_of x) ≡ option_map (λ (s : Entry). s.value) x
+value-stored None = refl
+value-stored (Some s) = refl
+
+stamp-stored : (x : Option Entry) → option_map (λ (s : Stamped). s.stamp) (option_map stamped_of x) ≡ option_map (λ (s : Entry). s.stamp) x
+stamp-stored None = refl
+stamp-stored (Some s) = refl
+
+pub value-found : (m : Map) (key : List ℕ) (found : Option Item) → stamped_found found ≡ found_in m key → value_found found ≡ map.value_of m key
+value-found m key found is = ap (option_map (λ (s : Stamped). s.value)) is ∙ value-stored (finite.get m.entries key)
+
+pub stamp-found : (m : Map) (key : List ℕ) (found : Option Item) → stamped_found found ≡ found_in m key → stamp_found found ≡ map.stamp_of m key
+stamp-found m key found is = ap (option_map (λ (s : Stamped). s.stamp)) is ∙ stamp-stored (finite.get m.entries key)
+
+-- Refused steps: what they leave of the walks over the store
+
+turned-runs : (t i : ℕ) (ls ms : List Level) → HaveTurned t i ls ms → visible_runs t (suc i) ms ≡ visible_runs t (suc i) ls
+turned-runs t i [] [] h = refl
+turned-runs t i [] (m ∷ ms) h = absurd h
+turned-runs t i (l ∷ ls) [] h = absurd h
+turned-runs t i (l ∷ ls) (m ∷ ms) h =
+    ap (λ (v : ℕ). visible_run t (suc i) v ∷ visible_runs t (suc (suc i)) ms) h.0.visible ∙ ap (λ (rs : List Run). visible_run t (suc i) l.visible ∷ rs) (turned-runs t (suc i) ls ms h.1)
+
+pub kept-runs : (t : ℕ) (ls ms : List Level) → KeepsProgress t ls ms → visible_runs t 0 ms ≡ visible_runs t 0 ls
+kept-runs t [] [] h = refl
+kept-runs t [] (m ∷ ms) h = absurd h
+kept-runs t (l ∷ ls) [] h = absurd h
+kept-runs t (l ∷ ls) (m ∷ ms) h =
+    ap (λ (x : Level). visible_run t 0 x.visible ∷ visible_runs t 1 ms) h.0 ∙ ap (λ (rs : List Run). visible_run t 0 l.visible ∷ rs) (turned-runs t 0 ls ms h.1)
+
+-- the first run of a list and the others
+abbrev first-of : Run → List Run → Run
+first-of r [] = r
+first-of r (x ∷ xs) = x
+
+abbrev rest-of : List Run → List Run
+rest-of [] = []
+rest-of (x ∷ xs) = xs
+
+lines-stay : (old new : Held) (t j : ℕ) (levels : List Level) (lines : List Line) → standing.runs_of lines ≡ visible_runs t j levels →
+    ((level index : ℕ) → level < j + length levels → new.spots level (visible_slot t level) index ≡ old.spots level (visible_slot t level) index) → standing.RunsStay old new lines
+unfolding visible_slot
+lines-stay old new t j levels [] is stay = tt
+lines-stay old new t j [] (x ∷ xs) is stay = cc
+lines-stay old new t j (l ∷ ls) (x ∷ xs) is stay = (
+  λ i within. subst (λ (r : Run). new.spots r.level r.slot i ≡ old.spots r.level r.slot i) (sym (ap (first-of x.run) is)) (stay j i (omega arith)),
+  lines-stay old new t (suc j) ls xs (ap rest-of is) (λ level index h. stay level index (omega (arith, h))),
+)
+
+module _ {D : Type 0} (bytes : D → Option (List ℕ)) (store : Stored D) (now : Contents D) (clock : now.clock ≡ store.chain.clock) (progress : KeepsProgress store.chain.clock store.chain.levels now.levels)
+    (fixed : (chain.held_of bytes now).fixed ≡ (held_of bytes store).fixed)
+    (stay : (level index : ℕ) → level < length store.chain.levels → (chain.held_of bytes now).spots level (visible_slot store.chain.clock level) index ≡ (held_of bytes store).spots level (visible_slot store.chain.clock level) index) where
+  runs-kept : visible_runs now.clock 0 now.levels ≡ runs_of store
+  runs-kept = ap (λ (t : ℕ). visible_runs t 0 now.levels) clock ∙ kept-runs store.chain.clock store.chain.levels now.levels progress
+
+  pub walks-refused : (account : Account) → KeepsWalks (Stands bytes store) (Stands bytes (record { chain = now; count = store.count; last = store.last; account = account })) (Ahead bytes store) (Ahead bytes (record { chain = now; count = store.count; last = store.last; account = account }))
+  walks-refused account = record {
+    standing = λ walk stands. record {
+      cursor = stands_stay (held_of bytes store) (chain.held_of bytes now) walk (ap (λ (f : Fixed). f.levels) fixed) (lines-stay (held_of bytes store) (chain.held_of bytes now) store.chain.clock 0 store.chain.levels walk.lines.items stands.visible (λ level index h. stay level index (omega (arith, h)))) stands.cursor;
+      visible = stands.visible ∙ sym runs-kept;
+    };
+    pairs_ahead = λ walk pairs ahead. record {
+      stamped = ahead.stamped;
+      cursor = ahead_stays (held_of bytes store) (chain.held_of bytes now) walk ahead.stamped (lines-stay (held_of bytes store) (chain.held_of bytes now) store.chain.clock 0 store.chain.levels walk.lines.items ahead.visible (λ level index h. stay level index (omega (arith, h)))) ahead.cursor;
+      pairs_are = ahead.pairs_are;
+      visible = ahead.visible ∙ sym runs-kept;
+    };
+  }

@@ -35,15 +35,12 @@ use Rattle.cola_cursor.specs.Lines.{LineFits, heads_of, all_left, all_ahead}
 use Rattle.cola_cursor.specs.Results.{LinesCause, HasBadLine}
 use Rattle.cola_cursor.specs.Seeking.{LevelsRise, RunsCause, HasBadRun, range_ticks, left_sought}
 use Rattle.cola_cursor.specs.Standing as standing
-use Rattle.cola_cursor.specs.Standing.{runs_of, TakesPair, LinesPassed, AnyHasValue, IsPairPassed, none_hidden, pair_key}
+use Rattle.cola_cursor.specs.Standing.{runs_of, TakesNext, LinesPassed, AnyHasValue, IsPassed, none_hidden, answered_key, with_stamp}
 use Rattle.cola_cursor.proofs.Keys.{keys_alike}
 use Rattle.cola_cursor.proofs.Places.{all_by_recursion}
-use Rattle.cola_chain.specs.Contents as chain
-use Rattle.cola_chain.specs.Contents.{Contents}
 use Rattle.cola_chain.specs.Runs.{visible_runs, AreSearched}
 use Rattle.cola_store.specs.Store as opened
 use Rattle.cola_store.specs.Store.{Stored, Holds, held_of, spent_of, levels_of}
-use Rattle.cola_store.specs.Calls.{Same}
 use Rattle.cola_store.specs.Walks.{Stands, Ahead, Begins, GoesOn, Stays, Then, TurnsWithin, pair_of, left_of, cells_ahead}
 
 -- The visible runs, as a range takes them
@@ -218,40 +215,20 @@ pairs-live m low high lists values =
     (subst (λ (b : Bool). T b) (sym (sorted-stored es)) (finite.entries_sorted m.entries))
     (λ q. find-stored q es ∙ ap (λ (x : Option spec.Stored). option_map stamped_of x) (sym (finite.get-entries m.entries q)) ∙ sym (values q)))
 
--- What a store is after a call on a walk
-
-module _ {D K : Type 0} (bytes : D → Option (List ℕ)) (counts : D → Counts) (kept : D → K) (store : Stored D) (now : Contents D)
-    (held_is : chain.held_of bytes now ≡ held_of bytes store) (kept_is : chain.kept_of bytes counts kept now ≡ chain.kept_of bytes counts kept store.chain) where
-  abbrev pub read_store : Stored D
-  read_store = record { chain = now; count = store.count; last = store.last; account = store.account }
-
-  pub same-read : Same bytes counts store read_store
-  same-read = record {
-    held_is = held_is;
-    geometry_is = ap (λ (k : chain.Kept K). k.store.geometry) kept_is;
-    levels_are = ap (λ (k : chain.Kept K). k.levels) kept_is;
-    clock_is = ap (λ (k : chain.Kept K). k.clock) kept_is;
-    steps_are = ap (λ (k : chain.Kept K). k.accepted) kept_is;
-    reads_are = ap (λ (k : chain.Kept K). k.reads) kept_is;
-    writes_are = ap (λ (k : chain.Kept K). k.writes) kept_is;
-    count_is = refl;
-    last_is = refl;
-  }
-
 -- The calls on walks
 
-after-runs : {A : Type 0} (held : Held) (key : A → Option (List ℕ)) (result : Result A ReadFault) (walk after : Cursor) →
-    IfOk result (λ answer. LinesPassed held (key answer) none_hidden walk.lines.items after.lines.items) → OnErr result (after ≡ walk) →
+after-runs : (held : Held) (result : Result (Option (List ℕ × List ℕ × ℕ)) ReadFault) (walk after : Cursor) →
+    IfOk result (λ answer. LinesPassed held (answered_key answer) none_hidden walk.lines.items after.lines.items) → OnErr result (after ≡ walk) →
     runs_of after.lines.items ≡ runs_of walk.lines.items
-after-runs held key (Ok answer) walk after passes refused = same-runs held (key answer) none_hidden walk.lines.items after.lines.items passes
-after-runs held key (Err fault) walk after passes refused = ap (λ (w : Cursor). runs_of w.lines.items) refused
+after-runs held (Ok answer) walk after passes refused = same-runs held (answered_key answer) none_hidden walk.lines.items after.lines.items passes
+after-runs held (Err fault) walk after passes refused = ap (λ (w : Cursor). runs_of w.lines.items) refused
 
-pub fewer-ahead : (held other : Held) (result : Result (Option (List ℕ × List ℕ)) ReadFault) (walk after : Cursor) →
-    IfOk result (λ answer. LinesPassed held (pair_key answer) none_hidden walk.lines.items after.lines.items) → IfOk result (IsPairPassed held walk.lines.items after.lines.items) →
+pub fewer-ahead : (held other : Held) (stamp : ℕ) (result : Result (Option (List ℕ × List ℕ)) ReadFault) (walk after : Cursor) →
+    IfOk (with_stamp stamp result) (λ answer. LinesPassed held (answered_key answer) none_hidden walk.lines.items after.lines.items) → IfOk (with_stamp stamp result) (IsPassed held walk.lines.items after.lines.items) →
     standing.Stands other after → IfOk result (λ answer. OnSome answer (cells_ahead after < cells_ahead walk))
-fewer-ahead held other (Ok None) walk after passes pair stands = tt
-fewer-ahead held other (Ok (Some p)) walk after passes pair stands = fewer held other (Some p.0) none_hidden p.0 p.1 pair.0 walk.lines.items after.lines.items passes stands.fit pair.1
-fewer-ahead held other (Err fault) walk after passes pair stands = tt
+fewer-ahead held other stamp (Ok None) walk after passes pair stands = tt
+fewer-ahead held other stamp (Ok (Some p)) walk after passes pair stands = fewer held other (Some p.0) none_hidden p.0 p.1 stamp walk.lines.items after.lines.items passes stands.fit pair
+fewer-ahead held other stamp (Err fault) walk after passes pair stands = tt
 
 module _ {D : Type 0} (bytes : D → Option (List ℕ)) (old new : Stored D) (held_is : held_of bytes new ≡ held_of bytes old) (runs_are : opened.runs_of new ≡ opened.runs_of old) where
   pub range-right : (m : Map) (low : List ℕ) (high : Option (List ℕ)) (runs : List Run) (lists : List (List LawCell)) (before now : ℕ) (result : Result Cursor ReadFault) →
@@ -271,28 +248,28 @@ module _ {D : Type 0} (bytes : D → Option (List ℕ)) (old new : Stored D) (he
   range-right m low high runs lists before now (Err fault) holds visible ready few ahead begins cause =
       (only-runs (held_of bytes old) runs lists before now fault ready.told cause, holds)
 
-  pub next-stands : {A : Type 0} (key : A → Option (List ℕ)) (result : Result A ReadFault) (walk after : Cursor) → Stands bytes old walk → standing.Stands (held_of bytes new) after →
-      IfOk result (λ answer. LinesPassed (held_of bytes old) (key answer) none_hidden walk.lines.items after.lines.items) → OnErr result (after ≡ walk) → Stands bytes new after
-  next-stands key result walk after stood stands passes refused =
-      record { cursor = stands; visible = after-runs (held_of bytes old) key result walk after passes refused ∙ stood.visible ∙ sym runs_are }
+  pub next-stands : (stamp : ℕ) (result : Result (Option (List ℕ × List ℕ)) ReadFault) (walk after : Cursor) → Stands bytes old walk → standing.Stands (held_of bytes new) after →
+      IfOk (with_stamp stamp result) (λ answer. LinesPassed (held_of bytes old) (answered_key answer) none_hidden walk.lines.items after.lines.items) → OnErr (with_stamp stamp result) (after ≡ walk) → Stands bytes new after
+  next-stands stamp result walk after stood stands passes refused =
+      record { cursor = stands; visible = after-runs (held_of bytes old) (with_stamp stamp result) walk after passes refused ∙ stood.visible ∙ sym runs_are }
 
-  pub next-right : (pairs : List (List ℕ × List ℕ)) (result : Result (Option (List ℕ × List ℕ)) ReadFault) (walk after : Cursor) (before now : ℕ) → Ahead bytes old walk pairs →
-      ((stamped : List (List ℕ × Stamped)) → standing.Ahead (held_of bytes old) walk stamped → TakesPair (standing.Ahead (held_of bytes new) after) stamped result) →
-      IfOk result (λ answer. LinesPassed (held_of bytes old) (pair_key answer) none_hidden walk.lines.items after.lines.items) → OnErr result (after ≡ walk) →
-      IfErr result (LinesCause (held_of bytes old) walk.lines.items before now) → NextAnswers (Ahead bytes new after) pairs result
-  next-right pairs result walk after before now ahead takes passes refused cause =
-      answers result (takes ahead.stamped ahead.cursor) (after-runs (held_of bytes old) pair_key result walk after passes refused ∙ ahead.visible ∙ sym runs_are) cause
+  pub next-right : (pairs : List (List ℕ × List ℕ)) (stamp : ℕ) (result : Result (Option (List ℕ × List ℕ)) ReadFault) (walk after : Cursor) (before now : ℕ) → Ahead bytes old walk pairs →
+      ((stamped : List (List ℕ × Stamped)) → standing.Ahead (held_of bytes old) walk stamped → TakesNext (standing.Ahead (held_of bytes new) after) stamped (with_stamp stamp result)) →
+      IfOk (with_stamp stamp result) (λ answer. LinesPassed (held_of bytes old) (answered_key answer) none_hidden walk.lines.items after.lines.items) → OnErr (with_stamp stamp result) (after ≡ walk) →
+      IfErr (with_stamp stamp result) (LinesCause (held_of bytes old) walk.lines.items before now) → NextAnswers (Ahead bytes new after) pairs result
+  next-right pairs stamp result walk after before now ahead takes passes refused cause =
+      answers result (takes ahead.stamped ahead.cursor) (after-runs (held_of bytes old) (with_stamp stamp result) walk after passes refused ∙ ahead.visible ∙ sym runs_are) cause
     where
-      answers : (result : Result (Option (List ℕ × List ℕ)) ReadFault) → TakesPair (standing.Ahead (held_of bytes new) after) ahead.stamped result → runs_of after.lines.items ≡ opened.runs_of new →
-          IfErr result (LinesCause (held_of bytes old) walk.lines.items before now) → NextAnswers (Ahead bytes new after) pairs result
+      answers : (result : Result (Option (List ℕ × List ℕ)) ReadFault) → TakesNext (standing.Ahead (held_of bytes new) after) ahead.stamped (with_stamp stamp result) → runs_of after.lines.items ≡ opened.runs_of new →
+          IfErr (with_stamp stamp result) (LinesCause (held_of bytes old) walk.lines.items before now) → NextAnswers (Ahead bytes new after) pairs result
       answers (Ok None) took visible cause = (
         ahead.pairs_are ∙ ap (λ (ps : List (List ℕ × Stamped)). map pair_of ps) took.0,
         record { stamped = []; cursor = took.1; pairs_are = refl; visible = visible },
       )
       answers (Ok (Some pair)) took visible cause = (
-        map pair_of took.1,
-        ahead.pairs_are ∙ ap (λ (ps : List (List ℕ × Stamped)). map pair_of ps) took.2,
-        record { stamped = took.1; cursor = took.3; pairs_are = refl; visible = visible },
+        map pair_of took.0,
+        ahead.pairs_are ∙ ap (λ (ps : List (List ℕ × Stamped)). map pair_of ps) took.1,
+        record { stamped = took.0; cursor = took.2; pairs_are = refl; visible = visible },
       )
       answers (Err fault) took visible cause = (
         only-lines (held_of bytes old) walk.lines.items ahead.cursor.lists before now fault ahead.cursor.told cause,

@@ -109,11 +109,6 @@ put_fault step.Device = fault.Device
 put_fault (step.BadCell cell) = fault.BadCell cell
 put_fault (step.Overfull level) = fault.Overfull level
 
--- why a put was refused whose search was
-abbrev pub put_fault_read : ReadFault → PutFault
-put_fault_read read.Device = fault.Device
-put_fault_read (read.BadCell cell) = fault.BadCell cell
-
 -- why a delete was refused whose search was
 abbrev pub step_fault_read : ReadFault → StepFault
 step_fault_read read.Device = step.Device
@@ -163,15 +158,11 @@ pub record ReadsWithin (old new : Spent) (turns : ℕ) : Type 0 where
 
 -- an account with one search more
 abbrev pub with_search : Account → Account
-with_search account = record { searches = added account.searches 1; steps = account.steps; opened = account.opened; calm = account.calm }
-
--- an account with one step more
-abbrev pub with_step : Account → Account
-with_step account = record { searches = account.searches; steps = added account.steps 1; opened = account.opened; calm = account.calm }
+with_search account = record account { searches = added account.searches 1 }
 
 -- an account in which a step was refused
 abbrev pub with_refusal : Account → Account
-with_refusal account = record { searches = account.searches; steps = account.steps; opened = account.opened; calm = false }
+with_refusal account = record account { calm = false }
 
 module _ {D : Type 0} (bytes : D → Option (List ℕ)) (counts : D → Counts) where
   -- what a call that only reads leaves: all cells, the levels, the clock, the numbers of the chain, the count of keys and the last number
@@ -201,7 +192,7 @@ module _ {D : Type 0} (bytes : D → Option (List ℕ)) (counts : D → Counts) 
     pub changes : ChangesMap (held_of bytes old) (held_of bytes new) old.chain.clock new.chain.clock key item old.chain.levels new.chain.levels
     pub count_is : new.count ≡ count
     pub last_is : new.last ≡ last
-    pub account_is : new.account ≡ with_step old.account
+    pub account_is : new.account ≡ old.account
 
   -- the step was refused for this reason: every visible run, the clock, the count of keys and the last number stay
   pub record Unchanged (old new : Stored D) (fault : StepFault) : Type 0 where
@@ -290,23 +281,20 @@ module _ {D : Type 0} (bytes : D → Option (List ℕ)) (counts : D → Counts) 
     pub transfers : (spent_of counts new).turned + (spent_of counts new).written
         ≤ (spent_of counts old).turned + (spent_of counts old).written + put_bound (levels_of old)
 
-  -- the store is asked this command, answers so, and is this one afterwards
-  abbrev pub AnswersCommand : Command → Reply → (old new : Stored D) → Type 0
-  AnswersCommand (Put key value) answer old new = SearchesFirst old new key (λ mid search. PutFollows mid new key value search answer) × TransfersWithin old new
-  AnswersCommand (PutIf key seen value) answer old new = SearchesFirst old new key (λ mid search. PutIfFollows mid new key seen value search answer) × TransfersWithin old new
-  AnswersCommand (Del key) answer old new = SearchesFirst old new key (λ mid search. DeleteFollows mid new key search answer) × TransfersWithin old new
-  AnswersCommand (Get key) answer old new = OnlySearches old new key got answer
-  AnswersCommand (Stamp key) answer old new = OnlySearches old new key stamp_got answer
-  AnswersCommand (Range low high) answer old new = ⊥
-  AnswersCommand (Scan low most) answer old new = ⊥
-  AnswersCommand Count answer old new = (answer ≡ reply.Counted old.count) × (new ≡ old)
-  AnswersCommand Close answer old new = ⊥
-  AnswersCommand Reopen answer old new = ⊥
-
+  -- the store is asked this, answers so, and is this one afterwards
   abbrev pub AnswersRequest : Option Command → Reply → (old new : Stored D) → Type 0
   AnswersRequest None answer old new = ⊥
-  AnswersRequest (Some command) answer old new = AnswersCommand command answer old new
+  AnswersRequest (Some (Put key value)) answer old new = SearchesFirst old new key (λ mid search. PutFollows mid new key value search answer) × TransfersWithin old new
+  AnswersRequest (Some (PutIf key seen value)) answer old new = SearchesFirst old new key (λ mid search. PutIfFollows mid new key seen value search answer) × TransfersWithin old new
+  AnswersRequest (Some (Del key)) answer old new = SearchesFirst old new key (λ mid search. DeleteFollows mid new key search answer) × TransfersWithin old new
+  AnswersRequest (Some (Get key)) answer old new = OnlySearches old new key got answer
+  AnswersRequest (Some (Stamp key)) answer old new = OnlySearches old new key stamp_got answer
+  AnswersRequest (Some (Range low high)) answer old new = ⊥
+  AnswersRequest (Some (Scan low most)) answer old new = ⊥
+  AnswersRequest (Some Count) answer old new = (answer ≡ reply.Counted old.count) × (new ≡ old)
+  AnswersRequest (Some Close) answer old new = ⊥
+  AnswersRequest (Some Reopen) answer old new = ⊥
 
-  -- the store is asked this, gives this reply, and is this one afterwards
+  -- the same as a turn
   abbrev pub AnswersTurn : Stored D → Turn → Stored D → Type 0
   AnswersTurn old turn new = AnswersRequest turn.request turn.answer old new

@@ -7,13 +7,14 @@ use Rattle.cola_cell.specs.Places.{IsPlace}
 use Rattle.cola_device.specs.declared.device.Device as device
 use Rattle.cola_layout.specs.declared.header.Header.{Header}
 use Rattle.cola_layout.specs.Fields.{fields_of}
+use Rattle.cola_opening.specs.Counted.{Spends}
+use Rattle.cola_opening.specs.Judged.{HasHeader}
 use Rattle.cola_spec.specs.Map.{Map}
 use Rattle.cola_image.specs.Cells.{file_spots}
 use Rattle.cola_image.specs.Standing.{HeaderStandsFor}
 use Rattle.cola_run.specs.Store.{Store, held_of}
 use Rattle.cola_run.specs.Saving.{SameReads, IsFrontLast, SameBehind, SettlesTwice}
-use Rattle.cola_store.specs.Open.{Spends}
-use Rattle.cola_store.specs.Runs.{HasHeader, StoreStandsFor}
+use Rattle.cola_store.specs.Runs.{StoreStandsFor}
 
 -- the file has each cell of the store that it reads: all but those behind a shadow in its slot
 abbrev pub HasCells : Header → Held → List ℕ → Type 0

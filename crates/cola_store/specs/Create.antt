@@ -1,9 +1,8 @@
 -- The file of a new store, and what making one answers and leaves.
-use Rattle.std.specs.Prelude.{◌≡◌, ℕ, ◌+◌, ◌-◌, ◌*◌, ◌^◌, ◌<◌, ◌≤◌, true, List, length, drop, replicate, Result, Ok, Err, IfSome}
+use Rattle.std.specs.Prelude.{◌≡◌, ℕ, ◌+◌, ◌-◌, ◌<◌, ◌≤◌, true, List, length, drop, replicate, Result, Ok, Err, IfSome}
 use Rattle.cola_outside.specs.Faults.{Rose}
 use Rattle.cola_outside.specs.Told.{Both}
 use Rattle.cola_cell.specs.declared.format.Format.{Format}
-use Rattle.cola_cell.specs.Format.{width}
 use Rattle.cola_device.specs.declared.counts.Counts.{Counts}
 use Rattle.cola_device.specs.declared.device.Device as device
 use Rattle.cola_device.specs.Bytes.{IsEmpty}
@@ -12,14 +11,11 @@ use Rattle.cola_layout.specs.declared.fault.LayoutFault.TheVariants as layout
 use Rattle.cola_layout.specs.Geometry.{AreKeys, IsBottom, IsBlock, Refuses}
 use Rattle.cola_layout.specs.Header.{Fields}
 use Rattle.cola_layout.specs.Marks.{no_marks}
+use Rattle.cola_opening.specs.Judged.{file_size}
 use Rattle.cola_spec.specs.Map.{empty_map}
 use Rattle.cola_image.specs.Standing.{HeaderStandsFor}
 use Rattle.cola_store.specs.declared.fault.CreateFault.{CreateFault}
 use Rattle.cola_store.specs.declared.fault.CreateFault.TheVariants.{Keys, Block, NotEmpty, Device}
-
--- the bytes of a file with this lowest level
-abbrev pub file_size : Format → ℕ → ℕ
-file_size format bottom = width format * 2 ^ (bottom + 4)
 
 -- the header of a closed store with no keys
 abbrev pub new_header : Format → ℕ → ℕ → ℕ → Fields

@@ -7,3 +7,4 @@ pub mod Calls
 pub mod Walks
 pub mod Transfers
 pub mod Sessions
+pub mod Table

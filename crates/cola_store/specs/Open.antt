@@ -1,13 +1,14 @@
 -- How the file of a store is opened: what each answer says, and what it leaves.
-use Rattle.std.specs.Prelude.{◌≡◌, ◌⊎◌, ℕ, ◌+◌, ◌<◌, ◌≤◌, true, false, List, length, take, Result, Ok, Err, IfSome}
+use Rattle.std.specs.Prelude.{◌≡◌, ◌⊎◌, ℕ, ◌+◌, ◌≤◌, true, false, List, Result, Ok, Err, IfSome}
 use Rattle.cola_outside.specs.Faults.{Rose}
 use Rattle.cola_outside.specs.Told.{Both}
-use Rattle.cola_device.specs.declared.counts.Counts.{Counts}
 use Rattle.cola_device.specs.declared.device.Device as device
 use Rattle.cola_device.specs.Settling.{IsSettled}
 use Rattle.cola_layout.specs.declared.header.Header.{Header}
 use Rattle.cola_layout.specs.Fields.{fields_of}
-use Rattle.cola_layout.specs.Header.{Fields, IsSpelling, IsNoSpelling}
+use Rattle.cola_layout.specs.Header.{Fields}
+use Rattle.cola_opening.specs.Counted.{Spends}
+use Rattle.cola_opening.specs.Judged.{HasHeader, IsSmall, IsNoStore, IsSeen}
 use Rattle.cola_spec.specs.Map.{Map}
 use Rattle.cola_image.specs.Cells.{file_spots}
 use Rattle.cola_image.specs.Standing.{FileStandsFor, with_state}
@@ -15,18 +16,8 @@ use Rattle.cola_run.specs.Store.{Store, held_of}
 use Rattle.cola_run.specs.Saving.{AreFileSpots, AreFrontRunsSpelled, IsLowestBad, IsLoaded, header_shadow}
 use Rattle.cola_store.specs.declared.fault.OpenFault.{OpenFault}
 use Rattle.cola_store.specs.declared.fault.OpenFault.TheVariants.{NotStore, NotClosed, Small, Device, OutOfMemory, BadCell}
-use Rattle.cola_store.specs.Create.{file_size}
-use Rattle.cola_store.specs.Runs.{HasHeader, StoreStandsFor}
+use Rattle.cola_store.specs.Runs.{StoreStandsFor}
 use Rattle.cola_store.specs.Store.{IsMadeAfter}
-
--- a file has no room for a header, or none for the cells of the store whose header it has
-abbrev pub IsSmall : List ℕ → Type 0
-IsSmall bytes = (length bytes < 512) ⊎ ((header : Fields) × (IsSpelling header (take 512 bytes) × (length bytes < file_size header.format header.bottom)))
-
--- a file has room for a header, but its first bytes are none
-pub record IsNoStore (bytes : List ℕ) : Type 0 where
-  pub long : 512 ≤ length bytes
-  pub none : IsNoSpelling (take 512 bytes)
 
 -- a file has a header and all cells, and its store is in use
 abbrev pub IsInUse : List ℕ → Type 0
@@ -47,28 +38,11 @@ pub record HasBadCell (header : Header) (number : ℕ) (bytes : List ℕ) : Type
   pub was : WasClosed header bytes
   pub bad : IsLowestBad header (file_spots header.geometry.format bytes) number
 
--- what the counts of a device rise by: so many reads, writes and other calls at most, and no count falls
-pub record Spends (before now : Counts) (reads writes others : ℕ) : Type 0 where
-  pub faults_stay : before.faults ≤ now.faults
-  pub reads_stay : before.reads ≤ now.reads
-  pub reads_rise : now.reads ≤ before.reads + reads
-  pub writes_stay : before.writes ≤ now.writes
-  pub writes_rise : now.writes ≤ before.writes + writes
-  pub others_stay : before.others ≤ now.others
-  pub others_rise : now.others ≤ before.others + others
-
 -- how many reads an opening makes at most by a header: three, and one for each level
 abbrev pub opening_reads : Header → ℕ
 opening_reads header = header.geometry.bottom + 4
 
 module _ {D : Type 0} (d : device.Ghosts D) (before : D) where
-  -- a refusal for this reason, where bytes are told: the device met no fault and keeps its bytes
-  pub record IsRefused (why : List ℕ → Type 0) (reads others : ℕ) (now : D) : Type 0 where
-    pub why_is : IfSome (d.bytes before) why
-    pub bytes_stay : d.bytes now ≡ d.bytes before
-    pub spends : Spends (d.counts before) (d.counts now) reads 0 others
-    pub no_fault : (d.counts now).faults ≡ (d.counts before).faults
-
   -- the device failed before the header was read: it keeps its bytes
   pub record FailedAtHeader (now : D) : Type 0 where
     pub bytes_stay : d.bytes now ≡ d.bytes before
@@ -112,38 +86,33 @@ module _ {D : Type 0} (d : device.Ghosts D) (before : D) where
   -- what an opening answered, with its cause, and what it left
   abbrev pub Opens : ℕ → Result (Store D × Header) (D × OpenFault) → Type 0
   Opens cache (Ok (store, header)) = IsOpened cache store header
-  Opens cache (Err (now, NotStore)) = IsRefused IsNoStore 1 1 now
-  Opens cache (Err (now, NotClosed)) = IsRefused IsInUse 1 1 now
-  Opens cache (Err (now, Small)) = IsRefused IsSmall 1 1 now
+  Opens cache (Err (now, NotStore)) = IsSeen d before IsNoStore 1 1 now
+  Opens cache (Err (now, NotClosed)) = IsSeen d before IsInUse 1 1 now
+  Opens cache (Err (now, Small)) = IsSeen d before IsSmall 1 1 now
   Opens cache (Err (now, Device)) = DeviceFailed now
-  Opens cache (Err (now, OutOfMemory)) = IsRefused (λ bytes. (header : Header) × WasClosed header bytes) 1 1 now
-  Opens cache (Err (now, BadCell number)) = (header : Header) × IsRefused (HasBadCell header number) (opening_reads header) 1 now
+  Opens cache (Err (now, OutOfMemory)) = IsSeen d before (λ bytes. (header : Header) × WasClosed header bytes) 1 1 now
+  Opens cache (Err (now, BadCell number)) = (header : Header) × IsSeen d before (HasBadCell header number) (opening_reads header) 1 now
+
+-- an answer without its last part, the room of a chain
+abbrev pub without_room : {A B C E : Type 0} → Result (A × B × C) E → Result (A × B) E
+without_room (Ok (a, b, c)) = Ok (a, b)
+without_room (Err e) = Err e
 
 -- the device after an opening
 abbrev pub device_after : {D : Type 0} → Result (Store D × Header) (D × OpenFault) → D
 device_after (Ok (store, header)) = store.buffers.cache.device
 device_after (Err (now, fault)) = now
 
--- what the first bytes of a file of this size answer: the header of a closed store that has its cells, or why there is none
-abbrev pub FirstBytesSay : ℕ → List ℕ → Result Header OpenFault → Type 0
-FirstBytesSay size bytes (Ok header) = IsSpelling (fields_of header) bytes × ((header.closed ≡ true) × (file_size header.geometry.format header.geometry.bottom ≤ size))
-FirstBytesSay size bytes (Err NotStore) = IsNoSpelling bytes
-FirstBytesSay size bytes (Err NotClosed) = (header : Fields) × (IsSpelling header bytes × ((header.closed ≡ false) × (file_size header.format header.bottom ≤ size)))
-FirstBytesSay size bytes (Err Small) = (header : Fields) × (IsSpelling header bytes × (size < file_size header.format header.bottom))
-FirstBytesSay size bytes (Err Device) = ⊥
-FirstBytesSay size bytes (Err OutOfMemory) = ⊥
-FirstBytesSay size bytes (Err (BadCell number)) = ⊥
-
 module _ {D : Type 0} (d : device.Ghosts D) (before now : D) where
-  -- what reading the header answered
-  abbrev pub FindsHeader : Result Header OpenFault → Type 0
-  FindsHeader (Ok header) = IsRefused d before (WasClosed header) 1 1 now × (header.closed ≡ true)
-  FindsHeader (Err NotStore) = IsRefused d before IsNoStore 1 1 now
-  FindsHeader (Err NotClosed) = IsRefused d before IsInUse 1 1 now
-  FindsHeader (Err Small) = IsRefused d before IsSmall 1 1 now
-  FindsHeader (Err Device) = Rose (d.counts before).faults (d.counts now).faults × FailedAtHeader d before now
-  FindsHeader (Err OutOfMemory) = ⊥
-  FindsHeader (Err (BadCell number)) = ⊥
+  -- what looking for the header of a closed store answered
+  abbrev pub FindsClosed : Result Header OpenFault → Type 0
+  FindsClosed (Ok header) = IsSeen d before (WasClosed header) 1 1 now × (header.closed ≡ true)
+  FindsClosed (Err NotStore) = IsSeen d before IsNoStore 1 1 now
+  FindsClosed (Err NotClosed) = IsSeen d before IsInUse 1 1 now
+  FindsClosed (Err Small) = IsSeen d before IsSmall 1 1 now
+  FindsClosed (Err Device) = Rose (d.counts before).faults (d.counts now).faults × FailedAtHeader d before now
+  FindsClosed (Err OutOfMemory) = ⊥
+  FindsClosed (Err (BadCell number)) = ⊥
 
 module _ {D : Type 0} (d : device.Ghosts D) (header : Header) (before now : Store D) where
   -- the cells of the file are loaded by the header, and its state byte says that the store is in use, with which the device settled
@@ -180,4 +149,4 @@ module _ {D : Type 0} (d : device.Ghosts D) (header : Header) (before now : Stor
   LoadsAndMarks (Err Device) = Rose (d.counts before.buffers.cache.device).faults (d.counts now.buffers.cache.device).faults × (FailedReading ⊎ FailedMarking)
   LoadsAndMarks (Err OutOfMemory) = ⊥
   LoadsAndMarks (Err (BadCell number)) =
-      IsRefused d before.buffers.cache.device (λ bytes. IsLowestBad header (file_spots header.geometry.format bytes) number) (header.geometry.bottom + 3) 0 now.buffers.cache.device
+      IsSeen d before.buffers.cache.device (λ bytes. IsLowestBad header (file_spots header.geometry.format bytes) number) (header.geometry.bottom + 3) 0 now.buffers.cache.device

@@ -1,19 +1,12 @@
--- A store whose cells are in memory and on a device: which header its file has, and when it stands for a map.
-use Rattle.std.specs.Prelude.{◌≡◌, ℕ, ◌≤◌, List, length, take}
+-- A store whose cells are in memory and on a device: when it stands for a map.
+use Rattle.std.specs.Prelude.{◌≡◌, ℕ, ◌≤◌}
 use Rattle.cola_cell.specs.Held.{Held}
 use Rattle.cola_layout.specs.declared.header.Header.{Header}
-use Rattle.cola_layout.specs.Header.{Fields, IsSpelling}
 use Rattle.cola_layout.specs.Marks.{all_numbers}
 use Rattle.cola_spec.specs.Map.{Map, IsMap, count}
 use Rattle.cola_table.specs.Terms.{shape_of}
 use Rattle.cola_image.specs.Standing.{LevelsStandFor}
 use Rattle.cola_run.specs.Saving.{header_shadow}
-use Rattle.cola_store.specs.Create.{file_size}
-
--- a file has this header, and all cells of its store
-pub record HasHeader (header : Fields) (bytes : List ℕ) : Type 0 where
-  pub spelled : IsSpelling header (take 512 bytes)
-  pub whole : file_size header.format header.bottom ≤ length bytes
 
 -- the shadow of each level stands beside the visible run, with the length of the header's marks
 pub record AreShadowsOf (header : Header) (held : Held) : Type 0 where

@@ -1,5 +1,5 @@
 -- What opening and closing a store answer, with its chain, its count, its last number and its account.
-use Rattle.std.specs.Prelude.{◌≡◌, ◌⊎◌, ℕ, true, List, Option, Result, Ok, Err, IfSome, MatchResult}
+use Rattle.std.specs.Prelude.{◌≡◌, ◌⊎◌, ℕ, true, Result, Ok, Err, IfSome, MatchResult}
 use Rattle.std.specs.Result.{IsErrAnd}
 use Rattle.cola_outside.specs.Faults.{Rose}
 use Rattle.cola_device.specs.declared.device.Device as device

@@ -27,7 +27,7 @@ pub record Stored (D : Type 0) : Type 0 where
 
 -- what a store has counted at its opening, by the counts of its device
 abbrev pub new_account : Counts → Account
-new_account opened = record { searches = 0; steps = 0; opened = opened; calm = true }
+new_account opened = record { searches = 0; opened = opened; calm = true }
 
 -- what it holds: what its chain does
 abbrev pub held_of : {D : Type 0} → (D → Option (List ℕ)) → Stored D → Held
@@ -73,7 +73,6 @@ pub record IsStored {D : Type 0} (bytes : D → Option (List ℕ)) (counts : D �
   pub many : length store.chain.levels ≡ levels_of store
   pub count_fits : store.count ≤ (geometry_of store).keys
   pub last_fits : store.last ≤ stamp_limit (geometry_of store).format
-  pub steps_are : store.account.steps ≡ store.chain.accepted
   pub made : IsMadeAfter store.account.opened (held_of bytes store)
   pub paid : store.account.calm ≡ true → IsPaid bytes counts store.chain
   pub written : HasWritten counts store

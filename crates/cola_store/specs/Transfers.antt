@@ -8,7 +8,7 @@ use Rattle.cola_store.specs.Store.{Stored, spent_of, geometry_of, levels_of}
 -- a store counts: no step was refused since its opening, and no number stands at the last value of 64 bits
 pub record IsCounting {D : Type 0} (store : Stored D) : Type 0 where
   pub calm : store.account.calm ≡ true
-  pub steps_few : store.account.steps < last_value
+  pub steps_few : store.chain.accepted < last_value
   pub searches_few : store.account.searches < last_value
   pub reads_few : store.chain.reads < last_value
   pub writes_few : store.chain.writes < last_value
@@ -19,7 +19,7 @@ blocks_of store = file_blocks (geometry_of store)
 
 -- so many cells for each step and level, in whole blocks
 abbrev pub cells_in_blocks : {D : Type 0} → ℕ → Stored D → ℕ
-cells_in_blocks rate store = parts (rate * (store.account.steps * levels_of store)) (block_cells (geometry_of store))
+cells_in_blocks rate store = parts (rate * (store.chain.accepted * levels_of store)) (block_cells (geometry_of store))
 
 module _ {D : Type 0} (counts : D → Counts) where
   -- the writes since the opening: 4 cells for each step and level, each block of the file once, and the mark that the file is in use

@@ -10,7 +10,7 @@ use Rattle.cola_cursor.specs.Lines.{all_left, all_ahead}
 use Rattle.cola_cursor.specs.Results.{LinesCause}
 use Rattle.cola_cursor.specs.Seeking.{places_from, range_ticks, left_sought, RunsCause}
 use Rattle.cola_cursor.specs.Standing as standing
-use Rattle.cola_cursor.specs.Standing.{AnswerCause, LinesPassed, IsPairPassed, none_hidden, pair_key}
+use Rattle.cola_cursor.specs.Standing.{AnswerCause, LinesPassed, IsPassed, none_hidden, answered_key, with_stamp}
 use Rattle.cola_store.specs.Store.{Stored, held_of, spent_of, levels_of, runs_of}
 use Rattle.cola_store.specs.Calls.{Same}
 
@@ -59,11 +59,12 @@ module _ {D : Type 0} (bytes : D → Option (List ℕ)) (counts : D → Counts) 
     pub same : Same bytes counts old new
     pub account_is : new.account ≡ old.account
 
-  -- a walk gives a pair that it passed, or none where every line ends, and passes no other value; or it is refused with its cause
+  -- a walk gives a pair that it passed, with some stamp, or none where every line ends, and passes no other value; or it is refused with its cause
   pub record Goes (old : Stored D) (walk : Cursor) (result : Result (Option (List ℕ × List ℕ)) ReadFault) (new : Stored D) (after : Cursor) : Type 0 where
-    pub answers : IfOk result (λ answer. AnswerCause after (pair_key answer))
-    pub pair : IfOk result (IsPairPassed (held_of bytes old) walk.lines.items after.lines.items)
-    pub passes : IfOk result (λ answer. LinesPassed (held_of bytes old) (pair_key answer) none_hidden walk.lines.items after.lines.items)
+    pub stamp : ℕ
+    pub answers : IfOk (with_stamp stamp result) (λ answer. AnswerCause after (answered_key answer))
+    pub pair : IfOk (with_stamp stamp result) (IsPassed (held_of bytes old) walk.lines.items after.lines.items)
+    pub passes : IfOk (with_stamp stamp result) (λ answer. LinesPassed (held_of bytes old) (answered_key answer) none_hidden walk.lines.items after.lines.items)
     pub end_is : after.end ≡ walk.end
     pub cause : IfErr result (LinesCause (held_of bytes old) walk.lines.items (spent_of counts old).faults (spent_of counts new).faults)
     pub turns : TurnsWithin (spent_of counts old) (spent_of counts new) (left_after after result) (left_of walk)

@@ -1,8 +1,8 @@
 //! How a store is closed.
 ghost use Rattle.std.specs.Prelude.{◌≡◌, ◌≤◌, true, length, IfSome};
-ghost use Rattle.cola_store.specs.Create.{file_size};
 ghost use Rattle.cola_layout.specs.Fields.{fields_of};
 ghost use Rattle.cola_layout.specs.Header.{IsSpelling};
+ghost use Rattle.cola_opening.specs.Judged.{file_size};
 
 use cola_device::Device;
 use cola_layout::Header;

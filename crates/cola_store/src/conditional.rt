@@ -1,17 +1,16 @@
 //! Puts that depend on the stamp seen.
-ghost use Rattle.std.specs.Prelude.{◌≡◌, ◌+◌, ◌*◌, ◌/◌, ◌-◌, ◌≤◌, IfOk};
+ghost use Rattle.std.specs.Prelude.{◌≡◌, ◌+◌, ◌*◌, ◌/◌, ◌-◌, ◌≤◌};
 ghost use Rattle.cola_cell.specs.Format.{KeyFits, ValueFits};
 ghost use Rattle.cola_spec.specs.Bounds.{put_bound};
-ghost use Rattle.cola_spec.specs.Command as spec;
 ghost use Rattle.cola_spec.specs.Map.{Map};
 ghost use Rattle.cola_table.specs.Answers.{PutIfAnswers, PutFaults, KeepsWalks, UnlessPut};
-ghost use Rattle.cola_table.specs.Replies.{put_if_reply, turn_of};
-ghost use Rattle.cola_table.specs.Terms.{Call, shape};
+ghost use Rattle.cola_table.specs.Replies.{put_if_reply};
+ghost use Rattle.cola_table.specs.Terms.{shape};
 ghost use Rattle.cola_image.specs.Standing.{found_in};
 ghost use Rattle.cola_mutation.specs.Steps.{step_ticks};
 ghost use Rattle.cola_store.specs.Store.{Holds, spent_of, kept_of, geometry_of, levels_of, terms_of};
 ghost use Rattle.cola_store.specs.Calls as calls;
-ghost use Rattle.cola_store.specs.Calls.{AnswersTurn, stamped_found, decided_if, Concludes, PutIfFollows, SearchesFirst, TransfersWithin, TicksWithin, with_ticks};
+ghost use Rattle.cola_store.specs.Calls.{stamped_found, decided_if, Concludes, PutIfFollows, SearchesFirst, TransfersWithin, TicksWithin, with_ticks};
 ghost use Rattle.cola_store.specs.Walks.{Stands, Ahead};
 
 use crate::calls::{stamp_of, ticks_between};
@@ -65,7 +64,7 @@ impl<D: Device> Store<D> {
     }
 
     /// A put that depends on the stamp seen: it searches, and then it is refused or made.
-    fn put_if_uncounted<L: Ledger>(
+    pub(crate) fn put_if_uncounted<L: Ledger>(
         &mut self,
         key: &Key,
         seen: u64,
@@ -85,32 +84,6 @@ impl<D: Device> Store<D> {
         match self.search(key, steps) {
             Ok(found) => self.put_if_found(key, seen, value, &found, steps),
             Err(fault) => Err(read_put_fault(fault)),
-        }
-    }
-
-    /// A put that is made only where the key has the stamp seen, 0 where it is absent. That is tried before the causes of a
-    /// put. In format One each stamp is 0. Another stamp leaves the clock, the count, the last number and every cell.
-    pub fn put_if<L: Ledger>(
-        &mut self,
-        key: &Key,
-        seen: u64,
-        value: &Value,
-        steps: &mut Steps<L>,
-    ) -> Result<(PutIf, u32), PutFault>
-        requires key_fits { KeyFits (terms_of self.old).format key.now }
-        requires value_fits { ValueFits (terms_of self.old).format value.now }
-        ensures answer { (m : Map) → Holds D.bytes self.old m → PutIfAnswers (shape (terms_of self.old)) m key.now seen value.now (Holds D.bytes self.new) result }
-        ensures given { AnswersTurn D.bytes D.counts self.old (turn_of (spec.PutIf key.now seen value.now) (put_if_reply result) (steps.new - steps.old)) self.new }
-        ensures call { Call (terms_of self.old) (terms_of self.new) (spent_of D.counts self.old).faults (spent_of D.counts self.new).faults steps.old steps.new (put_bound (terms_of self.old).depth) }
-        ensures counted { IfOk result (λ answer. steps.new ≡ steps.old + answer.1) }
-        ensures faults { PutFaults result (spent_of D.counts self.old).faults (spent_of D.counts self.new).faults }
-        ensures kept { kept_of D.bytes D.counts D.kept self.new ≡ kept_of D.bytes D.counts D.kept self.old }
-        ensures walks { UnlessPut (KeepsWalks (Stands D.bytes self.old) (Stands D.bytes self.new) (Ahead D.bytes self.old) (Ahead D.bytes self.new)) result }
-    {
-        let before = self.ticked();
-        match self.put_if_uncounted(key, seen, value, steps) {
-            Ok(put) => Ok((put, ticks_between(before, self.ticked()))),
-            Err(fault) => Err(fault),
         }
     }
 }

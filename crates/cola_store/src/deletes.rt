@@ -1,19 +1,17 @@
 //! Deletes: each searches first.
-ghost use Rattle.std.specs.Prelude.{◌≡◌, ◌+◌, ◌*◌, ◌/◌, ◌-◌, ◌≤◌, nat_le, if◌then◌else◌, length, None, Some, IfOk, IfSome, OnErr};
-ghost use Rattle.cola_cell.specs.Format.{KeyFits, key_limit};
+ghost use Rattle.std.specs.Prelude.{◌≡◌, ◌+◌, ◌*◌, ◌/◌, ◌-◌, ◌≤◌, if◌then◌else◌, None, Some, IfSome, OnErr};
+ghost use Rattle.cola_cell.specs.Format.{KeyFits};
 ghost use Rattle.cola_cell.specs.declared.cell.Item.TheVariants.{Tombstone};
 ghost use Rattle.cola_spec.specs.Bounds.{put_bound};
-ghost use Rattle.cola_spec.specs.Command as spec;
 ghost use Rattle.cola_spec.specs.Map.{Map, value_of};
 ghost use Rattle.cola_spec.specs.Reply as reply;
 ghost use Rattle.cola_table.specs.Answers.{DeleteAnswers, StepFaults, KeepsWalks, UnlessDeleted};
-ghost use Rattle.cola_table.specs.Replies.{delete_reply, turn_of};
-ghost use Rattle.cola_table.specs.Terms.{Call};
+ghost use Rattle.cola_table.specs.Replies.{delete_reply, step_failure, read_failure};
 ghost use Rattle.cola_image.specs.Standing.{found_in};
 ghost use Rattle.cola_mutation.specs.Steps.{step_ticks};
-ghost use Rattle.cola_store.specs.Store.{Holds, spent_of, kept_of, geometry_of, levels_of, terms_of};
+ghost use Rattle.cola_store.specs.Store.{Holds, spent_of, kept_of, geometry_of, levels_of};
 ghost use Rattle.cola_store.specs.Calls as calls;
-ghost use Rattle.cola_store.specs.Calls.{AnswersTurn, value_found, stamped_found, held_by, Removes, Writes, DeleteFollows, SearchesFirst, TransfersWithin, TicksWithin, with_ticks};
+ghost use Rattle.cola_store.specs.Calls.{value_found, stamped_found, held_by, Removes, Writes, DeleteFollows, SearchesFirst, TransfersWithin, TicksWithin, with_ticks};
 ghost use Rattle.cola_store.specs.Walks.{Stands, Ahead};
 
 use crate::calls::{ticks_between, value_of};
@@ -21,11 +19,13 @@ use crate::store::Store;
 use cola_cell::{Item, Key, ReadFault, StepFault, Value};
 use cola_device::Device;
 use cola_outside::Steps;
+use cola_table::Table;
 use std::sync::ledger::Ledger;
 
 /// Why a delete was refused whose search was.
 fn read_step_fault(fault: ReadFault) -> StepFault
-    ensures { result ≡ calls.step_fault_read fault }
+    ensures value { result ≡ calls.step_fault_read fault }
+    ensures told { step_failure result ≡ read_failure fault }
 {
     match fault {
         ReadFault::Device => StepFault::Device,
@@ -40,7 +40,7 @@ impl<D: Device> Store<D> {
         ensures value { result ≡ held_by (geometry_of self.now).format key.now (value_found found.now) }
         ensures fits { IfSome result (λ _. KeyFits (geometry_of self.now).format key.now) }
     {
-        if key.fits(self.kind()) {
+        if key.fits(self.format()) {
             value_of(found)
         } else {
             None
@@ -95,7 +95,7 @@ impl<D: Device> Store<D> {
     }
 
     /// A delete: it searches, and then it answers none or is made.
-    fn delete_uncounted<L: Ledger>(
+    pub(crate) fn delete_uncounted<L: Ledger>(
         &mut self,
         key: &Key,
         steps: &mut Steps<L>,
@@ -111,29 +111,6 @@ impl<D: Device> Store<D> {
         match self.search(key, steps) {
             Ok(found) => self.delete_found(key, &found, steps),
             Err(fault) => Err(read_step_fault(fault)),
-        }
-    }
-
-    /// Takes the key out, and answers the value that it had. An absent key, a deleted one, and one that does not fit the
-    /// format are answered none: no step is made, and the clock stays. A delete takes no number. A refusal leaves the count,
-    /// the last number and every visible run.
-    pub fn delete<L: Ledger>(
-        &mut self,
-        key: &Key,
-        steps: &mut Steps<L>,
-    ) -> Result<(Option<Value>, u32), StepFault>
-        ensures answer { (m : Map) → Holds D.bytes self.old m → DeleteAnswers m key.now (Holds D.bytes self.new) result }
-        ensures given { AnswersTurn D.bytes D.counts self.old (turn_of (spec.Del key.now) (delete_reply result) (steps.new - steps.old)) self.new }
-        ensures call { Call (terms_of self.old) (terms_of self.new) (spent_of D.counts self.old).faults (spent_of D.counts self.new).faults steps.old steps.new (put_bound (terms_of self.old).depth) }
-        ensures counted { IfOk result (λ answer. steps.new ≡ steps.old + answer.1) }
-        ensures faults { StepFaults result (spent_of D.counts self.old).faults (spent_of D.counts self.new).faults }
-        ensures kept { kept_of D.bytes D.counts D.kept self.new ≡ kept_of D.bytes D.counts D.kept self.old }
-        ensures walks { UnlessDeleted (KeepsWalks (Stands D.bytes self.old) (Stands D.bytes self.new) (Ahead D.bytes self.old) (Ahead D.bytes self.new)) result }
-    {
-        let before = self.ticked();
-        match self.delete_uncounted(key, steps) {
-            Ok(old) => Ok((old, ticks_between(before, self.ticked()))),
-            Err(fault) => Err(fault),
         }
     }
 }

@@ -17,7 +17,6 @@ mod store;
 mod table;
 mod transfers;
 pub mod walk_laws;
-mod walks;
 
 pub use account::Account;
 pub use closing::Closing;

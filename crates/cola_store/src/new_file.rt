@@ -6,20 +6,13 @@ ghost use Rattle.cola_device.specs.Bytes.{IsEmpty};
 ghost use Rattle.cola_device.specs.Counts.{Called};
 ghost use Rattle.cola_device.specs.Settling.{IsSettled};
 ghost use Rattle.cola_layout.specs.Header.{IsSpelling};
-ghost use Rattle.cola_store.specs.Create.{Created, CountsOneWrite, new_header, file_size};
+ghost use Rattle.cola_store.specs.Create.{Created, CountsOneWrite, new_header};
 
 use crate::fault::CreateFault;
 use cola_cell::Format;
 use cola_device::{Device, DeviceFault};
 use cola_layout::{Geometry, Header, LayoutFault};
-
-/// The bytes of a file.
-pub(crate) fn size_of(geometry: &Geometry) -> u64
-    ensures value { result ≡ file_size geometry.now.format geometry.now.bottom }
-    ensures header { 512 ≤ result }
-{
-    geometry.format.width() as u64 * geometry.cells()
-}
+use cola_opening::size_of;
 
 /// The spelling of the header of a closed store with no keys.
 fn first_bytes(geometry: Geometry) -> [u8; 512]

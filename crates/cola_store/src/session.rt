@@ -50,8 +50,8 @@ impl<D: Device> Store<D> {
             others: 0,
         };
         match open_runs(alloc, device, cache) {
-            Ok((runs, header)) => {
-                let chain = Chain::new(runs, &header);
+            Ok((runs, header, room)) => {
+                let chain = Chain::new(runs, room, &header);
                 Ok(Store::of(chain, header.count, header.last, opened))
             }
             Err(refusal) => Err(refusal),

@@ -19,7 +19,7 @@ ghost use Rattle.cola_store.specs.Calls as calls;
 ghost use Rattle.cola_store.specs.Walks.{Stands, Ahead};
 
 use crate::account::{Account, one_more};
-use cola_cell::{CellSource, Format, Item, Key, ReadFault, StepFault};
+use cola_cell::{CellSource, Item, Key, ReadFault, StepFault};
 use cola_chain::Chain;
 use cola_device::{Counts, Device};
 use cola_outside::Steps;
@@ -53,7 +53,6 @@ impl<D: Device> Store<D> {
         requires many { length chain.levels ≡ chain.store.geometry.bottom + 1 }
         requires count_fits { count ≤ chain.store.geometry.keys }
         requires last_fits { last ≤ stamp_limit chain.store.geometry.format }
-        requires fresh { chain.accepted ≡ 0 }
         requires made { IsMadeAfter opened (chain_held.held_of D.bytes chain) }
         requires paid { IsPaid D.bytes D.counts chain }
         requires written { (chain_held.spent_of D.counts chain).written ≤ opened.writes + 1 + chain.writes }
@@ -65,7 +64,6 @@ impl<D: Device> Store<D> {
             last,
             account: Account {
                 searches: 0,
-                steps: 0,
                 opened,
                 calm: true,
             },
@@ -87,7 +85,7 @@ impl<D: Device> Store<D> {
     }
 
     /// The number of keys.
-    pub fn keys_now(&self) -> u64
+    pub(crate) fn keys_now(&self) -> u64
         ensures value { result ≡ self.now.count }
         ensures sound { IsStored D.bytes D.counts self.now }
     {
@@ -102,11 +100,18 @@ impl<D: Device> Store<D> {
         self.last
     }
 
-    /// What it counted since its opening.
+    /// What it counted since its opening, beside its steps.
     pub fn account(&self) -> &Account
         ensures { result.now ≡ self.now.account }
     {
         &self.account
+    }
+
+    /// The steps that were accepted since its opening, up to the last value of `u64`.
+    pub fn steps(&self) -> u64
+        ensures { result ≡ self.now.chain.accepted }
+    {
+        self.chain.accepted()
     }
 
     /// Its chain.
@@ -122,13 +127,6 @@ impl<D: Device> Store<D> {
         ensures { result ≡ (geometry_of self.now).keys }
     {
         self.chain.runs().geometry().keys
-    }
-
-    /// The format of its keys and values.
-    pub(crate) fn kind(&self) -> Format
-        ensures { result ≡ (geometry_of self.now).format }
-    {
-        self.chain.runs().format()
     }
 
     /// The number of its levels, 4 to 23.
@@ -191,7 +189,6 @@ impl<D: Device> Store<D> {
             Ok(()) => {
                 self.count = count;
                 self.last = last;
-                self.account.steps = one_more(self.account.steps);
                 Ok(())
             }
             Err(fault) => {

@@ -14,14 +14,14 @@ impl<D: Device> Store<D> {
         let account = self.account();
         let (reads, writes) = self.chain().transfers();
         account.calm
-            && account.steps < u64::MAX
+            && self.steps() < u64::MAX
             && account.searches < u64::MAX
             && reads < u64::MAX
             && writes < u64::MAX
     }
 
-    /// The reads and the writes of the device, in blocks. Since the opening, as long as the store counts, with its steps and
-    /// searches those of its account: at most 4 cells written for each step and level, in whole blocks, and the blocks of the
+    /// The reads and the writes of the device, in blocks. Since the opening, as long as the store counts, with the steps and
+    /// searches since then: at most 4 cells written for each step and level, in whole blocks, and the blocks of the
     /// file once, and 1 more; and at most 14 cells read for each step and level, in whole blocks, the blocks of the file four
     /// times, one for each search and level, and one for each level, and 3 more. Where the cache has room for every block of
     /// the file and no fault was met since the opening, at most the blocks of the file were read, and 1 more.

@@ -51,8 +51,8 @@ impl Sink for Slow {
     }
 }
 
-/// A reader and a writer whose first call is interrupted, whose second one moves no byte, and whose
-/// third one moves one.
+/// A reader and a writer whose first call is interrupted, whose second one moves no byte, and of which the further ones move
+/// a byte and are interrupted in turn. So each answer tells how many calls were made.
 #[derive(Drop)]
 struct Slowly {
     calls: u64,
@@ -62,7 +62,7 @@ impl Slowly {
     fn next(&mut self) -> io::Result<usize> {
         self.calls = self.calls.saturating_add(1);
         match self.calls {
-            1 => Err(io::Error::from(io::ErrorKind::Interrupted)),
+            1 | 4 | 6 => Err(io::Error::from(io::ErrorKind::Interrupted)),
             2 => Ok(0),
             _ => Ok(1),
         }
@@ -199,19 +199,30 @@ fn sinks_with_room(rt: HostRuntime) -> Result<(), Fail> {
     Ok(())
 }
 
-// No clause can say how often the reader or the writer of std is called.
+// No clause can say how often the reader or the writer of std is called: neither for a few bytes, nor for as many as a
+// session asks for and writes.
 #[test]
 fn one_call_of_std_for_each(rt: HostRuntime) -> Result<(), Fail> {
     let mut source = StdSource::new(Slowly { calls: 0 });
     let mut sink = StdSink::new(Slowly { calls: 0 });
+    let mut long_source = StdSource::new(Slowly { calls: 0 });
+    let mut long_sink = StdSink::new(Slowly { calls: 0 });
     let mut into = [0; 8];
+    let mut long_into = [0; 512];
+    let long = [b'a'; 160];
     for (read, wrote) in [
         (Err(SourceFault), Err(SinkFault)),
         (Ok(0), Err(SinkFault)),
         (Ok(1), Ok(1)),
+        (Err(SourceFault), Err(SinkFault)),
+        (Ok(1), Ok(1)),
+        (Err(SourceFault), Err(SinkFault)),
+        (Ok(1), Ok(1)),
     ] {
         assert!(rt; source.read(&mut into) == read);
         assert!(rt; sink.write(b"abc") == wrote);
+        assert!(rt; long_source.read(&mut long_into) == read);
+        assert!(rt; long_sink.write(&long) == wrote);
     }
     Ok(())
 }

@@ -1,5 +1,6 @@
 //! Refusals of files that the program does not print: their messages, and numbers that its words never name.
 use cola_device::MemoryDevice;
+use cola_opening::HeaderFault;
 use cola_store::{CreateFault, OpenFault, create};
 use cola_wide::UpgradeFault;
 use std::test::Fail;
@@ -26,6 +27,7 @@ fn new_files_of_no_size(rt: HostRuntime) -> Result<(), Fail> {
 }
 
 const MESSAGES: &str = "Keys Block NotEmpty Device \
+    NotStore Small Device \
     NotStore NotClosed Small Device OutOfMemory BadCell 87 \
     Small NotStore Already NotClosed OutOfMemory NotEmpty Device BadCell 87 ";
 
@@ -37,6 +39,13 @@ fn messages(rt: HostRuntime) -> Result<(), Fail> {
         CreateFault::Block,
         CreateFault::NotEmpty,
         CreateFault::Device,
+    ] {
+        write!(text, "{fault} ")?;
+    }
+    for fault in [
+        HeaderFault::NotStore,
+        HeaderFault::Small,
+        HeaderFault::Device,
     ] {
         write!(text, "{fault} ")?;
     }

@@ -2,82 +2,21 @@
 use Rattle.std.proofs.Common.{◌≡◌, ℕ, ◌+◌, ◌*◌, ◌≤◌, inl, inr, List, length, Option, Result, Ok, Err, refl, subst, ◌∙◌, arith}
 use Rattle.std.specs.Prelude.{IfSome, IfErr, OnOk}
 use Rattle.cola_outside.specs.Faults.{Rose}
-use Rattle.cola_device.specs.declared.counts.Counts.{Counts}
 use Rattle.cola_device.specs.declared.device.Device as device
 use Rattle.cola_device.specs.Bytes.{splice, Wrote}
 use Rattle.cola_device.specs.Counts.{Called}
 use Rattle.cola_device.specs.Settling.{IsSettled}
 use Rattle.cola_device.proofs.BytesLemmas.{length-splice}
 use Rattle.cola_layout.specs.Header.{Fields}
+use Rattle.cola_opening.specs.Counted.{Spends}
+use Rattle.cola_opening.proofs.Spending.{spends-none, spends-then, spends-more, called-spends}
 use Rattle.cola_wide.specs.declared.fault.UpgradeFault.{UpgradeFault}
 use Rattle.cola_wide.specs.declared.fault.UpgradeFault.TheVariants.{Small, NotStore, Already, NotClosed, OutOfMemory, NotEmpty, Device, BadCell}
 use Rattle.cola_wide.specs.Copied.{cells_of, block_cells, IsBlockOf, AreSpelled, AreCopied, IsLowestBad, IsBegun, IsFilled}
-use Rattle.cola_wide.specs.Upgrade.{CountsReads, CountsWrites, IsFound, FailedReading, LoadsBlock, BlocksAreCopied, FailedCopying, FailedLast, CopiesBlocks, CopiesAll}
+use Rattle.cola_wide.specs.Upgrade.{IsFound, FailedReading, LoadsBlock, BlocksAreCopied, FailedCopying, FailedLast, CopiesBlocks, CopiesAll}
 use Rattle.cola_wide.proofs.Told.{some-then, some-both, some-any}
 use Rattle.cola_wide.proofs.Blocks.{spelled-join, bad-later}
 use Rattle.cola_wide.proofs.Writes.{spelled-first, first-size, first-behind, first-whole}
-
--- ---- counts
-
-pub reads-then : (a b c : Counts) (q r total o t others : ℕ) → q + r ≤ total → o + t ≤ others → CountsReads a b q o → CountsReads b c r t → CountsReads a c total others
-reads-then a b c q r total o t others within few x y = record {
-  faults_stay = omega (arith, x.faults_stay, y.faults_stay);
-  reads_stay = omega (arith, x.reads_stay, y.reads_stay);
-  reads_rise = omega (arith, within, x.reads_rise, y.reads_rise);
-  writes_is = y.writes_is ∙ x.writes_is;
-  others_stay = omega (arith, x.others_stay, y.others_stay);
-  others_rise = omega (arith, few, x.others_rise, y.others_rise);
-}
-
-pub writes-then : (a b c : Counts) (q r total o t others : ℕ) → q + r ≤ total → o + t ≤ others → CountsWrites a b q o → CountsWrites b c r t → CountsWrites a c total others
-writes-then a b c q r total o t others within few x y = record {
-  faults_stay = omega (arith, x.faults_stay, y.faults_stay);
-  reads_is = y.reads_is ∙ x.reads_is;
-  writes_stay = omega (arith, x.writes_stay, y.writes_stay);
-  writes_rise = omega (arith, within, x.writes_rise, y.writes_rise);
-  others_stay = omega (arith, x.others_stay, y.others_stay);
-  others_rise = omega (arith, few, x.others_rise, y.others_rise);
-}
-
-pub called-reads : {T E : Type 0} {others : ℕ} (result : Result T E) (a b : Counts) (n total : ℕ) → n ≤ total → Called a b n 0 others result → CountsReads a b total others
-called-reads result a b n total within called = record {
-  faults_stay = called.faults_stay;
-  reads_stay = called.reads_stay;
-  reads_rise = omega (arith, within, called.reads_rise);
-  writes_is = omega (arith, called.writes_stay, called.writes_rise);
-  others_stay = called.others_stay;
-  others_rise = called.others_rise;
-}
-
-pub called-writes : {T E : Type 0} {others : ℕ} (result : Result T E) (a b : Counts) (n total : ℕ) → n ≤ total → Called a b 0 n others result → CountsWrites a b total others
-called-writes result a b n total within called = record {
-  faults_stay = called.faults_stay;
-  reads_is = omega (arith, called.reads_stay, called.reads_rise);
-  writes_stay = called.writes_stay;
-  writes_rise = omega (arith, within, called.writes_rise);
-  others_stay = called.others_stay;
-  others_rise = called.others_rise;
-}
-
-pub writes-none : (a : Counts) (n others : ℕ) → CountsWrites a a n others
-writes-none a n others = record {
-  faults_stay = omega arith;
-  reads_is = refl;
-  writes_stay = omega arith;
-  writes_rise = omega arith;
-  others_stay = omega arith;
-  others_rise = omega arith;
-}
-
-reads-more : (a b : Counts) (q total others : ℕ) → q ≤ total → CountsReads a b q others → CountsReads a b total others
-reads-more a b q total others within x = record {
-  faults_stay = x.faults_stay;
-  reads_stay = x.reads_stay;
-  reads_rise = omega (arith, within, x.reads_rise);
-  writes_is = x.writes_is;
-  others_stay = x.others_stay;
-  others_rise = x.others_rise;
-}
 
 -- ---- what the device that is read has
 
@@ -89,12 +28,12 @@ module _ {D : Type 0} (d : device.Ghosts D) where
   found-map before now why other reads others f found = record { why_is = some-then why other (d.bytes before) f found.why_is; counts = found.counts; no_fault = found.no_fault }
 
   pub found-more : (before now : D) (why : List ℕ → Type 0) (q total others : ℕ) → q ≤ total → IsFound d before now why q others → IsFound d before now why total others
-  found-more before now why q total others within found = record { why_is = found.why_is; counts = reads-more (d.counts before) (d.counts now) q total others within found.counts; no_fault = found.no_fault }
+  found-more before now why q total others within found = record { why_is = found.why_is; counts = spends-more found.counts within (omega arith) (omega arith); no_fault = found.no_fault }
 
   -- behind steps that met no fault, others that make reads alone
   module _ (from mid now : D) (why : List ℕ → Type 0) (q r total others : ℕ) (within : q + r ≤ total) (first : IsFound d from mid why q others) (stay : d.bytes mid ≡ d.bytes from) where
-    pub counts-then : CountsReads (d.counts mid) (d.counts now) r 0 → CountsReads (d.counts from) (d.counts now) total others
-    counts-then next = reads-then (d.counts from) (d.counts mid) (d.counts now) q r total others 0 others within (omega arith) first.counts next
+    pub counts-then : Spends (d.counts mid) (d.counts now) r 0 0 → Spends (d.counts from) (d.counts now) total 0 others
+    counts-then next = spends-then first.counts next within (omega arith) (omega arith)
 
     pub found-then : (more : List ℕ → Type 0) → IsFound d mid now more r 0 → IsFound d from now more total others
     found-then more next = record {
@@ -129,8 +68,8 @@ module _ {D E : Type 0} (d : device.Ghosts D) (e : device.Ghosts E) (header : Fi
   block-not_loaded from now to first high wide NotClosed begun load = absurd load
   block-not_loaded from now to first high wide OutOfMemory begun load = absurd load
   block-not_loaded from now to first high wide NotEmpty begun load = absurd load
-  block-not_loaded from now to first high wide Device begun load = record { cause = inl load.cause; begun = begun; reads_are = load.counts; writes_are = writes-none (e.counts to) 1 0 }
-  block-not_loaded from now to first high wide (BadCell number) begun load = record { source = load; begun = begun; writes_are = writes-none (e.counts to) 1 0; no_fault = refl }
+  block-not_loaded from now to first high wide Device begun load = record { cause = inl load.cause; begun = begun; reads_are = load.counts; writes_are = spends-none }
+  block-not_loaded from now to first high wide (BadCell number) begun load = record { source = load; begun = begun; writes_are = spends-none; no_fault = refl }
 
   -- ---- blocks in turn
 
@@ -139,13 +78,13 @@ module _ {D E : Type 0} (d : device.Ghosts D) (e : device.Ghosts E) (header : Fi
   blocks-none from to high order begun = record {
     source = record {
       why_is = some-any (AreSpelled header (block_cells header) high) (d.bytes from) (λ old n low below. absurd (omega (arith, order, low, below)));
-      counts = record { faults_stay = omega arith; reads_stay = omega arith; reads_rise = omega arith; writes_is = refl; others_stay = omega arith; others_rise = omega arith };
+      counts = spends-none;
       no_fault = refl;
     };
     copied = some-any (λ old. IfSome (e.bytes to) (AreCopied header (block_cells header) high old)) (d.bytes from)
         (λ old. some-any (AreCopied header (block_cells header) high old) (e.bytes to) (λ new n low below. absurd (omega (arith, order, low, below))));
     begun = begun;
-    counts = writes-none (e.counts to) 0 0;
+    counts = spends-none;
     no_fault = refl;
   }
 
@@ -155,7 +94,7 @@ module _ {D E : Type 0} (d : device.Ghosts D) (e : device.Ghosts E) (header : Fi
       source = found-both d from mid now (AreSpelled header low middle) q r total 0 within before.source stay (AreSpelled header middle high) (AreSpelled header low high) (λ old x y. spelled-join header old low middle high x y) next.source;
       copied = subst (λ (t : Option (List ℕ)). IfSome t (λ old. IfSome (e.bytes last) (AreCopied header (block_cells header) high old))) stay next.copied;
       begun = next.begun;
-      counts = writes-then (e.counts to) (e.counts other) (e.counts last) q r total 0 0 0 within (omega arith) before.counts next.counts;
+      counts = spends-then before.counts next.counts (omega arith) within (omega arith);
       no_fault = next.no_fault ∙ before.no_fault;
     }
 
@@ -172,13 +111,13 @@ module _ {D E : Type 0} (d : device.Ghosts D) (e : device.Ghosts E) (header : Fi
         | inr others ↦ inr (rose-after (e.counts to).faults (e.counts other).faults (e.counts last).faults before.no_fault others)
       ];
       begun = next.begun;
-      reads_are = reads-then (d.counts from) (d.counts mid) (d.counts now) q r total 0 0 0 within (omega arith) before.source.counts next.reads_are;
-      writes_are = writes-then (e.counts to) (e.counts other) (e.counts last) q r total 0 0 0 within (omega arith) before.counts next.writes_are;
+      reads_are = spends-then before.source.counts next.reads_are within (omega arith) (omega arith);
+      writes_are = spends-then before.counts next.writes_are (omega arith) within (omega arith);
     }
     blocks-fail end (BadCell number) order next = record {
       source = found-both d from mid now (AreSpelled header low middle) q r total 0 within before.source stay (IsLowestBad header middle number) (IsLowestBad header low number) (λ old x y. bad-later header old low middle number order x y) next.source;
       begun = next.begun;
-      writes_are = writes-then (e.counts to) (e.counts other) (e.counts last) q r total 0 0 0 within (omega arith) before.counts next.writes_are;
+      writes_are = spends-then before.counts next.writes_are (omega arith) within (omega arith);
       no_fault = next.no_fault ∙ before.no_fault;
     }
 
@@ -199,13 +138,13 @@ module _ {D E : Type 0} (d : device.Ghosts D) (e : device.Ghosts E) (header : Fi
       | inr others ↦ inr others
     ];
     begun = next.begun;
-    reads_are = reads-then (d.counts from) (d.counts mid) (d.counts now) 1 q reads 0 0 0 within (omega arith) first.counts next.reads_are;
-    writes_are = writes-then (e.counts to) (e.counts to) (e.counts last) 0 q writes 0 0 0 (omega (arith, some)) (omega arith) (writes-none (e.counts to) 0 0) next.writes_are;
+    reads_are = spends-then first.counts next.reads_are within (omega arith) (omega arith);
+    writes_are = spends-more next.writes_are (omega arith) some (omega arith);
   })
   blocks-refused from mid now to last high q reads writes head (BadCell number) within some stay first next = record {
     source = found-both d from mid now (AreSpelled header 0 (block_cells header)) 1 q reads 0 within first stay (IsLowestBad header (block_cells header) number) (IsLowestBad header 0 number) (λ old x y. bad-later header old 0 (block_cells header) number (omega arith) x y) next.source;
     begun = next.begun;
-    writes_are = writes-then (e.counts to) (e.counts to) (e.counts last) 0 q writes 0 0 0 (omega (arith, some)) (omega arith) (writes-none (e.counts to) 0 0) next.writes_are;
+    writes_are = spends-more next.writes_are (omega arith) some (omega arith);
     no_fault = next.no_fault;
   }
 
@@ -219,15 +158,15 @@ module _ {D E : Type 0} (d : device.Ghosts D) (e : device.Ghosts E) (header : Fi
   first-not_loaded from now to head wide reads writes OutOfMemory within begun load = absurd load
   first-not_loaded from now to head wide reads writes NotEmpty within begun load = absurd load
   first-not_loaded from now to head wide reads writes Device within begun load =
-      inl (record { cause = inl load.cause; begun = begun; reads_are = reads-more (d.counts from) (d.counts now) 1 reads 0 within load.counts; writes_are = writes-none (e.counts to) writes 0 })
+      inl (record { cause = inl load.cause; begun = begun; reads_are = spends-more load.counts within (omega arith) (omega arith); writes_are = spends-none })
   first-not_loaded from now to head wide reads writes (BadCell number) within begun load =
-      record { source = found-more d from now (IsLowestBad header 0 number) 1 reads 0 within load; begun = begun; writes_are = writes-none (e.counts to) writes 0; no_fault = refl }
+      record { source = found-more d from now (IsLowestBad header 0 number) 1 reads 0 within load; begun = begun; writes_are = spends-none; no_fault = refl }
 
   -- copying all, behind steps that met no fault
   module _ (from mid now : D) (to other last : E) (why : List ℕ → Type 0) (head : List ℕ) (q r reads asks w v writes others : ℕ) (within : q + r ≤ reads) (few : w + v ≤ writes) (first : IsFound d from mid why q asks)
-      (stay : d.bytes mid ≡ d.bytes from) (counted : CountsWrites (e.counts to) (e.counts other) w others) (calm : (e.counts other).faults ≡ (e.counts to).faults) where
-    counts-behind : (more all : ℕ) → others + more ≤ all → CountsWrites (e.counts other) (e.counts last) v more → CountsWrites (e.counts to) (e.counts last) writes all
-    counts-behind more all in_all next = writes-then (e.counts to) (e.counts other) (e.counts last) w v writes others more all few in_all counted next
+      (stay : d.bytes mid ≡ d.bytes from) (counted : Spends (e.counts to) (e.counts other) 0 w others) (calm : (e.counts other).faults ≡ (e.counts to).faults) where
+    counts-behind : (more all : ℕ) → others + more ≤ all → Spends (e.counts other) (e.counts last) 0 v more → Spends (e.counts to) (e.counts last) 0 writes all
+    counts-behind more all in_all next = spends-then counted next (omega arith) few in_all
 
     failed-copying : FailedCopying d e header mid now other last r 0 v 0 → FailedCopying d e header from now to last reads asks writes others
     failed-copying next = record {
@@ -298,7 +237,7 @@ module _ {D E : Type 0} (d : device.Ghosts D) (e : device.Ghosts E) (header : Fi
       size = first-size header (splice wide 0 head) size within (e.bytes to) (e.bytes last) begun {T = Unit {0}} {E = UpgradeFault} (Ok value) wrote;
       filled = first-whole UpgradeFault value header head wide (d.bytes from) (e.bytes to) (e.bytes last) many some long wrote copied loaded.why_is;
       settled = settled;
-      writes_are = called-writes {T = Unit {0}} {E = UpgradeFault} (Ok value) (e.counts to) (e.counts last) 1 1 (omega arith) called;
+      writes_are = called-spends called;
       no_fault = called.none_hidden;
     }
     first-written (Err Small) wrote settled called fault = cc
@@ -312,7 +251,7 @@ module _ {D E : Type 0} (d : device.Ghosts D) (e : device.Ghosts E) (header : Fi
       source = all-spelled;
       size = first-size header (splice wide 0 head) size within (e.bytes to) (e.bytes last) begun {T = Unit {0}} {E = UpgradeFault} (Err Device) wrote;
       copied = first-behind header (splice wide 0 head) size within (e.bytes to) (e.bytes last) begun {T = Unit {0}} {E = UpgradeFault} (Err Device) (d.bytes from) wrote copied;
-      writes_are = called-writes {T = Unit {0}} {E = UpgradeFault} (Err Device) (e.counts to) (e.counts last) 1 1 (omega arith) called;
+      writes_are = called-spends called;
     })
     first-written (Err (BadCell number)) wrote settled called fault = cc
 

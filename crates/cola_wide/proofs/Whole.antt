@@ -1,23 +1,26 @@
 -- An upgrade, put together of its steps.
-use Rattle.std.proofs.Common.{◌≡◌, ℕ, ◌+◌, ◌*◌, ◌^◌, ◌<◌, ◌≤◌, inl, inr, true, false, List, length, take, replicate, Option, Some, None, Result, Ok, Err, refl, sym, ap, subst, ◌∙◌, arith}
+use Rattle.std.proofs.Common.{◌≡◌, ℕ, ◌+◌, ◌*◌, ◌<◌, ◌≤◌, inl, inr, true, false, List, length, take, replicate, Option, Some, None, Result, Ok, Err, refl, sym, ap, subst, ◌∙◌, arith}
 use Rattle.std.specs.Prelude.{IfSome, IsSomeAnd}
 use Rattle.std.proofs.lemmas.List.{length-replicate, take-replicate}
-use Rattle.std.proofs.Math.Pow.{pow_mono}
 use Rattle.cola_cell.specs.declared.format.Format.{Format}
 use Rattle.cola_cell.specs.declared.format.Format.TheVariants.{One, Two}
+use Rattle.cola_device.specs.declared.counts.Counts.{Counts}
 use Rattle.cola_device.specs.declared.device.Device as device
 use Rattle.cola_device.specs.Bytes.{HasRange}
 use Rattle.cola_layout.specs.declared.header.Header.{Header}
 use Rattle.cola_layout.specs.Fields.{fields_of}
 use Rattle.cola_layout.specs.Header.{Fields, IsSpelling}
 use Rattle.cola_layout.proofs.Refusing.{spelling-one}
+use Rattle.cola_opening.specs.Counted.{Spends}
+use Rattle.cola_opening.specs.Judged.{file_size, IsSmall, IsNoStore}
+use Rattle.cola_opening.proofs.Sizes.{header_fits}
 use Rattle.cola_spec.specs.Map.{Map}
 use Rattle.cola_image.specs.Standing.{HeaderStandsFor}
 use Rattle.cola_wide.specs.declared.fault.UpgradeFault.{UpgradeFault}
 use Rattle.cola_wide.specs.declared.fault.UpgradeFault.TheVariants.{Small, NotStore, Already, NotClosed, OutOfMemory, NotEmpty, Device, BadCell}
 use Rattle.cola_wide.specs.Copied.{cells_of, block_count, wide_size, with_version, IsLowestBad, IsBegun, IsFilled, IsCopyOf}
 use Rattle.cola_cell.specs.Format.{width}
-use Rattle.cola_wide.specs.Upgrade.{file_size, IsClosedFile, IsSmall, IsNoStore, IsWide, IsInUse, IsFound, FindsHeader, LaysOut, IsLaidOut, HadBytes, reading_others, laying_others, writing_others, FailedCopying, FailedLast, CopiesAll, WasBegun, IsWhole, Upgrades, CanBeUpgraded, IsDoneForMemory}
+use Rattle.cola_wide.specs.Upgrade.{IsClosedFile, IsWide, IsInUse, IsFound, FindsClosed, LaysOut, IsLaidOut, HadBytes, reading_others, laying_others, writing_others, FailedCopying, FailedLast, CopiesAll, WasBegun, IsWhole, Upgrades, CanBeUpgraded, IsDoneForMemory}
 use Rattle.cola_wide.proofs.Told.{some-then, some-both}
 use Rattle.cola_wide.proofs.Header.{copy-of, stands-not_bad}
 use Rattle.cola_wide.proofs.Writes.{span-some, span-within}
@@ -26,7 +29,7 @@ use Rattle.cola_wide.proofs.Steps.{found-map, all-later}
 -- ---- refusals
 
 module _ {D E : Type 0} (d : device.Ghosts D) (e : device.Ghosts E) (from mid : D) (to : E) where
-  pub not-found : (head : List ℕ) (fault : UpgradeFault) → FindsHeader d from mid head (Err fault) → Upgrades d e from mid to to (Err fault)
+  pub not-found : (head : List ℕ) (fault : UpgradeFault) → FindsClosed d from mid head (Err fault) → Upgrades d e from mid to to (Err fault)
   not-found head Small found = record { source = found; untouched = refl }
   not-found head NotStore found = record { source = found; untouched = refl }
   not-found head Already found = record { source = found; untouched = refl }
@@ -104,23 +107,27 @@ module _ {D E : Type 0} (d : device.Ghosts D) (e : device.Ghosts E) (from mid : 
 
 -- ---- what an upgrade may answer where all is well
 
+-- a device that makes no write has as many as before
+none-written : {before now : Counts} {reads others : ℕ} → Spends before now reads 0 others → now.writes ≡ before.writes
+none-written spends = omega (arith, spends.writes_stay, spends.writes_rise)
+
 -- the device that is read is not written
 pub no-write : {D E : Type 0} (d : device.Ghosts D) (e : device.Ghosts E) (from now : D) (to last : E) (result : Result (Unit {0}) UpgradeFault) → Upgrades d e from now to last result → (d.counts now).writes ≡ (d.counts from).writes
-no-write d e from now to last (Ok value) is = is.1.copy_is.source.counts.writes_is
-no-write d e from now to last (Err Small) is = is.source.counts.writes_is
-no-write d e from now to last (Err NotStore) is = is.source.counts.writes_is
-no-write d e from now to last (Err Already) is = is.source.counts.writes_is
-no-write d e from now to last (Err NotClosed) is = is.source.counts.writes_is
-no-write d e from now to last (Err OutOfMemory) is = is.1.source.counts.writes_is
-no-write d e from now to last (Err NotEmpty) is = is.1.source.counts.writes_is
+no-write d e from now to last (Ok value) is = none-written is.1.copy_is.source.counts
+no-write d e from now to last (Err Small) is = none-written is.source.counts
+no-write d e from now to last (Err NotStore) is = none-written is.source.counts
+no-write d e from now to last (Err Already) is = none-written is.source.counts
+no-write d e from now to last (Err NotClosed) is = none-written is.source.counts
+no-write d e from now to last (Err OutOfMemory) is = none-written is.1.source.counts
+no-write d e from now to last (Err NotEmpty) is = none-written is.1.source.counts
 no-write d e from now to last (Err Device) is = elim is [
-  | inl first ↦ first.source.counts.writes_is
+  | inl first ↦ none-written first.source.counts
   | inr later ↦ elim later.1 [
-    | inl layout ↦ layout.source.counts.writes_is
-    | inr copying ↦ elim copying [ inl before ↦ before.copy_is.reads_are.writes_is | inr written ↦ written.copy_is.source.counts.writes_is ]
+    | inl layout ↦ none-written layout.source.counts
+    | inr copying ↦ elim copying [ inl before ↦ none-written before.copy_is.reads_are | inr written ↦ none-written written.copy_is.source.counts ]
   ]
 ]
-no-write d e from now to last (Err (BadCell number)) is = is.1.copy_is.source.counts.writes_is
+no-write d e from now to last (Err (BadCell number)) is = none-written is.1.copy_is.source.counts
 
 -- a file that stands for a map in format One
 abbrev StandsInOne : Map → List ℕ → Type 0
@@ -135,13 +142,9 @@ same-header bytes m other s spelled = spelling-one other s.0 (take 512 bytes) sp
 
 not-small : (m : Map) (bytes : List ℕ) → StandsInOne m bytes → IsSmall bytes → ⊥
 not-small m bytes s (inl short) =
-    let whole = s.1.0.whole in
-    let three : 3 ≤ s.0.bottom = s.1.0.spelled.sound.bottom_fits.three in
-    let grows : 2 ^ 7 ≤ 2 ^ (s.0.bottom + 4) = pow_mono {i = 7} {j = s.0.bottom + 4} (omega (arith, three)) in
-    let size : 64 * 2 ^ (s.0.bottom + 4) ≤ length bytes = subst (λ (f : Format). width f * 2 ^ (s.0.bottom + 4) ≤ length bytes) s.1.1 whole in
-    omega (arith, short, grows, size)
+    omega (arith, short, s.1.0.whole, header_fits s.0.format s.0.bottom s.1.0.spelled.sound.bottom_fits.three)
 not-small m bytes s (inr (header, (spelled, few))) =
-    let small : length bytes < file_size s.0 = subst (λ (f : Fields). length bytes < file_size f) (same-header bytes m header s spelled) few in
+    let small : length bytes < file_size s.0.format s.0.bottom = subst (λ (f : Fields). length bytes < file_size f.format f.bottom) (same-header bytes m header s spelled) few in
     omega (arith, small, s.1.0.whole)
 
 not-none : (m : Map) (bytes : List ℕ) → StandsInOne m bytes → IsNoStore bytes → ⊥

@@ -1,38 +1,20 @@
 -- What an upgrade answers, with the cause of each answer, and what both devices have then.
-use Rattle.std.specs.Prelude.{◌≡◌, ◌⊎◌, ℕ, ◌+◌, ◌*◌, ◌<◌, ◌≤◌, true, false, List, length, take, replicate, Result, Ok, Err, IfSome, IsSomeAnd, ⊤}
+use Rattle.std.specs.Prelude.{◌≡◌, ◌⊎◌, ℕ, ◌+◌, ◌<◌, ◌≤◌, true, false, List, length, take, replicate, Result, Ok, Err, IfSome, IsSomeAnd, ⊤}
 use Rattle.cola_outside.specs.Faults.{Rose}
 use Rattle.cola_cell.specs.declared.format.Format.TheVariants.{One, Two}
-use Rattle.cola_cell.specs.Format.{width}
-use Rattle.cola_device.specs.declared.counts.Counts.{Counts}
 use Rattle.cola_device.specs.declared.device.Device as device
 use Rattle.cola_device.specs.Bytes.{IsEmpty}
 use Rattle.cola_device.specs.Settling.{IsSettled}
 use Rattle.cola_layout.specs.declared.header.Header.{Header}
 use Rattle.cola_layout.specs.Fields.{fields_of}
-use Rattle.cola_layout.specs.Header.{Fields, IsSpelling, IsNoSpelling}
+use Rattle.cola_layout.specs.Header.{Fields, IsSpelling}
+use Rattle.cola_opening.specs.Counted.{Spends}
+use Rattle.cola_opening.specs.Judged.{HasHeader, IsSmall, IsNoStore}
 use Rattle.cola_spec.specs.Map.{Map}
 use Rattle.cola_image.specs.Standing.{HeaderStandsFor}
 use Rattle.cola_wide.specs.declared.fault.UpgradeFault.{UpgradeFault}
 use Rattle.cola_wide.specs.declared.fault.UpgradeFault.TheVariants.{Small, NotStore, Already, NotClosed, OutOfMemory, NotEmpty, Device, BadCell}
 use Rattle.cola_wide.specs.Copied.{cells_of, block_cells, block_count, wide_size, IsBlockOf, AreSpelled, AreCopied, IsLowestBad, IsBegun, IsFilled, IsCopyOf}
-
--- the bytes of a file with this header
-abbrev pub file_size : Fields → ℕ
-file_size header = width header.format * cells_of header
-
--- a file has this header, and all cells of its store
-pub record HasHeader (header : Fields) (bytes : List ℕ) : Type 0 where
-  pub spelled : IsSpelling header (take 512 bytes)
-  pub whole : file_size header ≤ length bytes
-
--- a file has no room for a header, or none for the cells of the store whose header it has
-abbrev pub IsSmall : List ℕ → Type 0
-IsSmall bytes = (length bytes < 512) ⊎ ((header : Fields) × (IsSpelling header (take 512 bytes) × (length bytes < file_size header)))
-
--- a file has room for a header, but its first bytes are none
-pub record IsNoStore (bytes : List ℕ) : Type 0 where
-  pub long : 512 ≤ length bytes
-  pub none : IsNoSpelling (take 512 bytes)
 
 -- a file has a header and all cells, and is in format Two
 abbrev pub IsWide : List ℕ → Type 0
@@ -47,24 +29,6 @@ pub record IsClosedFile (header : Fields) (bytes : List ℕ) : Type 0 where
   pub has : HasHeader header bytes
   pub narrow : header.format ≡ One
   pub closed : header.closed ≡ true
-
--- what a device counts that is only read: at most so many reads and so many other calls, no write, and no count falls
-pub record CountsReads (before now : Counts) (reads others : ℕ) : Type 0 where
-  pub faults_stay : before.faults ≤ now.faults
-  pub reads_stay : before.reads ≤ now.reads
-  pub reads_rise : now.reads ≤ before.reads + reads
-  pub writes_is : now.writes ≡ before.writes
-  pub others_stay : before.others ≤ now.others
-  pub others_rise : now.others ≤ before.others + others
-
--- what a device counts that is only written: no read, at most so many writes and so many other calls, and no count falls
-pub record CountsWrites (before now : Counts) (writes others : ℕ) : Type 0 where
-  pub faults_stay : before.faults ≤ now.faults
-  pub reads_is : now.reads ≡ before.reads
-  pub writes_stay : before.writes ≤ now.writes
-  pub writes_rise : now.writes ≤ before.writes + writes
-  pub others_stay : before.others ≤ now.others
-  pub others_rise : now.others ≤ before.others + others
 
 -- how many reads an upgrade makes at most by a header: its first 512 bytes, each block, and the first block once more
 abbrev pub upgrade_reads : Fields → ℕ
@@ -82,46 +46,31 @@ laying_others = 2
 abbrev pub writing_others : ℕ
 writing_others = laying_others + 1
 
--- what the first bytes of a file of this size answer: the header of a closed file of format One that has its cells, or why
--- it is none
-abbrev pub FirstBytesSay : ℕ → List ℕ → Result Header UpgradeFault → Type 0
-FirstBytesSay size bytes (Ok header) =
-    IsSpelling (fields_of header) bytes × ((header.geometry.format ≡ One) × ((header.closed ≡ true) × (file_size (fields_of header) ≤ size)))
-FirstBytesSay size bytes (Err Small) = (header : Fields) × (IsSpelling header bytes × (size < file_size header))
-FirstBytesSay size bytes (Err NotStore) = IsNoSpelling bytes
-FirstBytesSay size bytes (Err Already) = (header : Fields) × (IsSpelling header bytes × ((header.format ≡ Two) × (file_size header ≤ size)))
-FirstBytesSay size bytes (Err NotClosed) =
-    (header : Fields) × (IsSpelling header bytes × ((header.format ≡ One) × ((header.closed ≡ false) × (file_size header ≤ size))))
-FirstBytesSay size bytes (Err OutOfMemory) = ⊥
-FirstBytesSay size bytes (Err NotEmpty) = ⊥
-FirstBytesSay size bytes (Err Device) = ⊥
-FirstBytesSay size bytes (Err (BadCell number)) = ⊥
-
 module _ {D : Type 0} (d : device.Ghosts D) (before now : D) where
   -- the device that is read has this, where it tells its bytes, was called at most so many times, and met no fault
   pub record IsFound (why : List ℕ → Type 0) (reads others : ℕ) : Type 0 where
     pub why_is : IfSome (d.bytes before) why
-    pub counts : CountsReads (d.counts before) (d.counts now) reads others
+    pub counts : Spends (d.counts before) (d.counts now) reads 0 others
     pub no_fault : (d.counts now).faults ≡ (d.counts before).faults
 
   -- it failed in one of at most so many reads and other calls
   pub record FailedReading (reads others : ℕ) : Type 0 where
     pub cause : Rose (d.counts before).faults (d.counts now).faults
-    pub counts : CountsReads (d.counts before) (d.counts now) reads others
+    pub counts : Spends (d.counts before) (d.counts now) reads 0 others
 
-  -- what reading the header answered, where its bytes are these now
-  abbrev pub FindsHeader : List ℕ → Result Header UpgradeFault → Type 0
-  FindsHeader head (Ok header) =
+  -- what looking for the header of a closed file of format One answered, where the bytes that were read are these
+  abbrev pub FindsClosed : List ℕ → Result Header UpgradeFault → Type 0
+  FindsClosed head (Ok header) =
       IsFound (λ bytes. IsClosedFile (fields_of header) bytes × (head ≡ take 512 bytes)) 1 reading_others
       × (IsSpelling (fields_of header) head × ((header.geometry.format ≡ One) × (header.closed ≡ true)))
-  FindsHeader head (Err Small) = IsFound IsSmall 1 reading_others
-  FindsHeader head (Err NotStore) = IsFound IsNoStore 1 reading_others
-  FindsHeader head (Err Already) = IsFound IsWide 1 reading_others
-  FindsHeader head (Err NotClosed) = IsFound IsInUse 1 reading_others
-  FindsHeader head (Err OutOfMemory) = ⊥
-  FindsHeader head (Err NotEmpty) = ⊥
-  FindsHeader head (Err Device) = FailedReading 1 reading_others
-  FindsHeader head (Err (BadCell number)) = ⊥
+  FindsClosed head (Err Small) = IsFound IsSmall 1 reading_others
+  FindsClosed head (Err NotStore) = IsFound IsNoStore 1 reading_others
+  FindsClosed head (Err Already) = IsFound IsWide 1 reading_others
+  FindsClosed head (Err NotClosed) = IsFound IsInUse 1 reading_others
+  FindsClosed head (Err OutOfMemory) = ⊥
+  FindsClosed head (Err NotEmpty) = ⊥
+  FindsClosed head (Err Device) = FailedReading 1 reading_others
+  FindsClosed head (Err (BadCell number)) = ⊥
 
   -- what reading a block whose first cell has this number, and copying its cells, answered
   abbrev pub LoadsBlock : Fields → ℕ → List ℕ → Result (Unit {0}) UpgradeFault → Type 0
@@ -142,7 +91,7 @@ module _ {D E : Type 0} (d : device.Ghosts D) (e : device.Ghosts E) (header : Fi
     pub source : IsFound d from from_now (AreSpelled header low high) blocks 0
     pub copied : IfSome (d.bytes from) (λ old. IfSome (e.bytes to_now) (AreCopied header (block_cells header) high old))
     pub begun : IfSome (e.bytes to_now) (IsBegun header)
-    pub counts : CountsWrites (e.counts to) (e.counts to_now) blocks 0
+    pub counts : Spends (e.counts to) (e.counts to_now) 0 blocks 0
     pub no_fault : (e.counts to_now).faults ≡ (e.counts to).faults
 
   -- a device failed before the last write, so the copy has no header. So many reads and other calls were made of the one
@@ -150,8 +99,8 @@ module _ {D E : Type 0} (d : device.Ghosts D) (e : device.Ghosts E) (header : Fi
   pub record FailedCopying (reads asks writes others : ℕ) : Type 0 where
     pub cause : Rose (d.counts from).faults (d.counts from_now).faults ⊎ Rose (e.counts to).faults (e.counts to_now).faults
     pub begun : IfSome (e.bytes to_now) (IsBegun header)
-    pub reads_are : CountsReads (d.counts from) (d.counts from_now) reads asks
-    pub writes_are : CountsWrites (e.counts to) (e.counts to_now) writes others
+    pub reads_are : Spends (d.counts from) (d.counts from_now) reads 0 asks
+    pub writes_are : Spends (e.counts to) (e.counts to_now) 0 writes others
 
   -- the device that is written failed in the last write, or as it settled: all behind the first block is copied
   pub record FailedLast (reads asks writes others : ℕ) : Type 0 where
@@ -159,13 +108,13 @@ module _ {D E : Type 0} (d : device.Ghosts D) (e : device.Ghosts E) (header : Fi
     pub source : IsFound d from from_now (AreSpelled header 0 (cells_of header)) reads asks
     pub size : IfSome (e.bytes to_now) (λ new. length new ≡ wide_size header)
     pub copied : IfSome (d.bytes from) (λ old. IfSome (e.bytes to_now) (AreCopied header (block_cells header) (cells_of header) old))
-    pub writes_are : CountsWrites (e.counts to) (e.counts to_now) writes others
+    pub writes_are : Spends (e.counts to) (e.counts to_now) 0 writes others
 
   -- this cell is the lowest of the runs, from a number on, that is no spelling; the copy has no header, and no fault was met
   pub record MeetsBadCell (low number reads asks writes others : ℕ) : Type 0 where
     pub source : IsFound d from from_now (IsLowestBad header low number) reads asks
     pub begun : IfSome (e.bytes to_now) (IsBegun header)
-    pub writes_are : CountsWrites (e.counts to) (e.counts to_now) writes others
+    pub writes_are : Spends (e.counts to) (e.counts to_now) 0 writes others
     pub no_fault : (e.counts to_now).faults ≡ (e.counts to).faults
 
   -- all is copied, these are the first bytes of the copy, and its device settled with it
@@ -174,7 +123,7 @@ module _ {D E : Type 0} (d : device.Ghosts D) (e : device.Ghosts E) (header : Fi
     pub size : IfSome (e.bytes to_now) (λ new. length new ≡ wide_size header)
     pub filled : IfSome (d.bytes from) (λ old. IfSome (e.bytes to_now) (IsFilled header head old))
     pub settled : IsSettled e to_now
-    pub writes_are : CountsWrites (e.counts to) (e.counts to_now) writes others
+    pub writes_are : Spends (e.counts to) (e.counts to_now) 0 writes others
     pub no_fault : (e.counts to_now).faults ≡ (e.counts to).faults
 
   -- what copying blocks answered, from one number up to another
@@ -207,21 +156,21 @@ module _ {E : Type 0} (e : device.Ghosts E) (size : ℕ) (before now : E) where
   pub record IsLaidOut : Type 0 where
     pub was_empty : IsEmpty (e.bytes before)
     pub zero : IfSome (e.bytes now) (λ new. new ≡ replicate size 0)
-    pub counts : CountsWrites (e.counts before) (e.counts now) 0 laying_others
+    pub counts : Spends (e.counts before) (e.counts now) 0 0 laying_others
     pub no_fault : (e.counts now).faults ≡ (e.counts before).faults
 
   -- the device had bytes; they stay, and it met no fault, read and wrote nothing, and was asked for its size alone
   pub record HadBytes : Type 0 where
     pub some : IfSome (e.bytes before) (λ bytes. 0 < length bytes)
     pub bytes_stay : e.bytes now ≡ e.bytes before
-    pub counts : CountsWrites (e.counts before) (e.counts now) 0 1
+    pub counts : Spends (e.counts before) (e.counts now) 0 0 1
     pub no_fault : (e.counts now).faults ≡ (e.counts before).faults
 
   -- the device failed: as its size was asked, and its bytes stay; or as it was laid out, and it has at most so many bytes
   pub record FailedLayingOut : Type 0 where
     pub cause : Rose (e.counts before).faults (e.counts now).faults
     pub left : (e.bytes now ≡ e.bytes before) ⊎ (IsEmpty (e.bytes before) × IfSome (e.bytes now) (λ new. length new ≤ size))
-    pub counts : CountsWrites (e.counts before) (e.counts now) 0 laying_others
+    pub counts : Spends (e.counts before) (e.counts now) 0 0 laying_others
 
   -- what laying out answered
   abbrev pub LaysOut : Result (Unit {0}) UpgradeFault → Type 0
@@ -277,7 +226,7 @@ module _ {D E : Type 0} (d : device.Ghosts D) (e : device.Ghosts E) (from from_n
     pub size : IfSome (e.bytes to_now) (λ new. length new ≡ wide_size header)
     pub copy : IfSome (d.bytes from) (λ old. IfSome (e.bytes to_now) (IsCopyOf header old))
     pub settled : IsSettled e to_now
-    pub writes_are : CountsWrites (e.counts to) (e.counts to_now) (block_count header) writing_others
+    pub writes_are : Spends (e.counts to) (e.counts to_now) 0 (block_count header) writing_others
     pub no_fault : (e.counts to_now).faults ≡ (e.counts to).faults
 
   -- what an upgrade answered, with its cause, and what both devices have

@@ -7,7 +7,7 @@ ghost use Rattle.cola_wide.specs.Upgrade.{Upgrades, CanBeUpgraded, IsDoneForMemo
 
 use crate::copying::{cells_of_block, copy_all};
 use crate::fault::UpgradeFault;
-use crate::head::read_header;
+use crate::head::read_closed;
 use crate::laying::lay_out;
 use cola_device::Device;
 use cola_layout::Header;
@@ -69,7 +69,7 @@ pub fn upgrade<D: Device, E: Device>(
     ensures complete { (m : Map) → CanBeUpgraded D.Device E.Device from.old from.new to.old to.new m → IsDoneForMemory result }
 {
     let mut head = [0u8; 512];
-    let header = match read_header(from, &mut head) {
+    let header = match read_closed(from, &mut head) {
         Ok(header) => header,
         Err(fault) => return Err(fault),
     };

@@ -1,6 +1,5 @@
-use Rattle.cola_store.specs.contracts.table.StoreTable.TheImpl.{ghosts}
 use Rattle.cola_command.proofs.Known.{served-known}
 use Rattle.cola_command.proofs.laws.statuses_are_known.Goals as goal
 
 pub returns : goal.returns
-returns g c = served-known g.S.Source g.K.Sink g.D.Device (ghosts g.row.D g.D.Device g.D.Device-dict)
+returns g c = served-known g.S.Source g.K.Sink g.D.Device

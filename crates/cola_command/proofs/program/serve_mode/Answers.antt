@@ -2,7 +2,6 @@
 use Rattle.std.proofs.Common.{◌≡◌, ◌∙◌, Option, Some, refl, sym, ap, subst}
 use Rattle.cola_words.specs.declared.mode.Mode.{Mode}
 use Rattle.cola_words.specs.declared.mode.Mode.TheVariants.{Gen, Run}
-use Rattle.cola_store.specs.contracts.table.StoreTable.TheImpl.{ghosts}
 use Rattle.cola_command.specs.Serves.{Serves}
 use Rattle.cola_command.proofs.program.serve_mode.Goals as goal
 
@@ -11,7 +10,7 @@ returns-in-Some-Gen g c =
     let named = rw c.in-Some-Gen.is at c.in-Some-Gen.field-0-is in
     let e : c.args.mode ≡ Some (Gen c.in-Some-Gen.keys) = c.in-Some-Gen.is ∙ ap (λ (m : Mode). Some m) named in
     subst
-    (λ (m : Option Mode). Serves g.S.Source g.K.Sink g.D.Device (ghosts g.row.D g.D.Device g.D.Device-dict) c.args.source.now c.args.source.now c.args.sink.now c.serve_workload-device.new.sink c.args.device c.serve_workload-device.result.0
+    (λ (m : Option Mode). Serves g.S.Source g.K.Sink g.D.Device c.args.source.now c.args.source.now c.args.sink.now c.serve_workload-device.new.sink c.args.device c.serve_workload-device.result.0
     c.args.second c.args.second c.args.steps.now c.serve_workload-device.new.steps c.serve_workload-device.result.1 m)
     (sym e)
     (record {
@@ -28,6 +27,6 @@ returns-in-Some-Run g c =
     let named = rw c.in-Some-Run.is at c.in-Some-Run.field-0-is in
     let e : c.args.mode ≡ Some (Run c.in-Some-Run.cache c.in-Some-Run.cost c.in-Some-Run.mirror) = c.in-Some-Run.is ∙ ap (λ (m : Mode). Some m) named in
     subst
-    (λ (m : Option Mode). Serves g.S.Source g.K.Sink g.D.Device (ghosts g.row.D g.D.Device g.D.Device-dict) c.args.source.now c.serve_run.new.source c.args.sink.now c.serve_run.new.sink c.args.device c.serve_run.result.device
+    (λ (m : Option Mode). Serves g.S.Source g.K.Sink g.D.Device c.args.source.now c.serve_run.new.source c.args.sink.now c.serve_run.new.sink c.args.device c.serve_run.result.device
     c.args.second c.serve_run.result.second c.args.steps.now c.serve_run.new.steps c.serve_run.result.status m)
     (sym e) c.serve_run.ensures

@@ -8,8 +8,7 @@ use Rattle.cola_device.specs.declared.device.DeviceFault.{DeviceFault}
 use Rattle.cola_image.specs.Standing.{with_state}
 use Rattle.cola_run.specs.Store.{Kept}
 use Rattle.cola_run.specs.Saving.{LoadAnswers}
-use Rattle.cola_store.proofs.Opened.{marked, left-state}
-use Rattle.cola_store.proofs.Marking.{load-spends, both-spend, marked-spots}
+use Rattle.cola_store.proofs.Marking.{marked, left-state, load-spends, both-spend, marked-spots}
 use Rattle.cola_store.proofs.opening.load_and_mark.Goals as goal
 
 pub load-requires : goal.load-requires

@@ -7,28 +7,28 @@ use Rattle.cola_store.proofs.Marking.{not-found, inside, no-memory, opens, refus
 use Rattle.cola_store.proofs.opening.open_runs.Goals as goal
 
 pub returns-in-Err-clause-opened : goal.returns-in-Err-clause-opened
-returns-in-Err-clause-opened g c = not-found g.D.Device c.args.cache c.args.device c.read_header.new.device c.in-Err.fault c.in-Err.ensures.found
+returns-in-Err-clause-opened g c = not-found g.D.Device c.args.cache c.args.device c.read_closed.new.device c.in-Err.fault c.in-Err.ensures.found
 
 pub returns-in-Err-clause-kept : goal.returns-in-Err-clause-kept
-returns-in-Err-clause-kept g c = c.read_header.ensures.kept
+returns-in-Err-clause-kept g c = c.read_closed.ensures.kept
 
-pub new-requires-clause-cache : goal.new-requires-clause-cache
-new-requires-clause-cache g c = c.requires
+pub take_memory-requires-clause-cache : goal.take_memory-requires-clause-cache
+take_memory-requires-clause-cache g c = c.requires
 
-pub new-requires-clause-inside : goal.new-requires-clause-inside
-new-requires-clause-inside g c =
+pub take_memory-requires-clause-inside : goal.take_memory-requires-clause-inside
+take_memory-requires-clause-inside g c =
     let found = c.in-Ok.ensures.found in
     subst (λ (t : Option (List ℕ)). HasRange t 0 (file_bytes c.in-Ok.header.geometry)) (sym found.0.bytes_stay) (inside c.in-Ok.header (g.D.Device.bytes c.args.device) found.0.why_is)
 
-pub returns-in-Err-new-clause-opened : goal.returns-in-Err-new-clause-opened
-returns-in-Err-new-clause-opened g c =
-    no-memory g.D.Device c.args.device c.read_header.new.device c.in-Err-new.device c.in-Ok.header c.in-Err-new.ensures.back c.in-Ok.ensures.found.0
+pub returns-in-Err-take_memory-clause-opened : goal.returns-in-Err-take_memory-clause-opened
+returns-in-Err-take_memory-clause-opened g c =
+    no-memory g.D.Device c.args.device c.read_closed.new.device c.in-Err-take_memory.device c.in-Ok.header c.in-Err-take_memory.ensures.back c.in-Ok.ensures.found.0
 
-pub returns-in-Err-new-clause-kept : goal.returns-in-Err-new-clause-kept
-returns-in-Err-new-clause-kept g c = ap g.D.Device.kept c.in-Err-new.ensures.back ∙ c.read_header.ensures.kept
+pub returns-in-Err-take_memory-clause-kept : goal.returns-in-Err-take_memory-clause-kept
+returns-in-Err-take_memory-clause-kept g c = ap g.D.Device.kept c.in-Err-take_memory.ensures.back ∙ c.read_closed.ensures.kept
 
 pub load_and_mark-requires : goal.load_and_mark-requires
-load_and_mark-requires g c = sym (ap (λ (s : Store _). s.geometry) c.in-Ok-new.ensures.made)
+load_and_mark-requires g c = sym (ap (λ (s : Store _). s.geometry) c.in-Ok-take_memory.ensures.made)
 
 pub returns-in-Ok-load_and_mark-clause-opened : goal.returns-in-Ok-load_and_mark-clause-opened
 returns-in-Ok-load_and_mark-clause-opened g c =
@@ -36,11 +36,11 @@ returns-in-Ok-load_and_mark-clause-opened g c =
     let header = c.in-Ok.header in
     let found = c.in-Ok.ensures.found in
     let store = c.load_and_mark.new.runs in
-    opens d c.args.cache c.args.device c.read_header.new.device header found.0 store found.1 (subst (λ (s : Store _). IsMarked d header s store) c.in-Ok-new.ensures.made c.in-Ok-load_and_mark.ensures.loaded)
+    opens d c.args.cache c.args.device c.read_closed.new.device header found.0 store found.1 (subst (λ (s : Store _). IsMarked d header s store) c.in-Ok-take_memory.ensures.made c.in-Ok-load_and_mark.ensures.loaded)
 
 pub returns-in-Ok-load_and_mark-clause-kept : goal.returns-in-Ok-load_and_mark-clause-kept
 returns-in-Ok-load_and_mark-clause-kept g c =
-    c.load_and_mark.ensures.kept ∙ ap (λ (s : Store _). g.D.Device.kept s.buffers.cache.device) c.in-Ok-new.ensures.made ∙ c.read_header.ensures.kept
+    c.load_and_mark.ensures.kept ∙ ap (λ (s : Store _). g.D.Device.kept s.buffers.cache.device) c.in-Ok-take_memory.ensures.made ∙ c.read_closed.ensures.kept
 
 pub returns-in-Err-load_and_mark-clause-opened : goal.returns-in-Err-load_and_mark-clause-opened
 returns-in-Err-load_and_mark-clause-opened g c =
@@ -50,8 +50,8 @@ returns-in-Err-load_and_mark-clause-opened g c =
     let store = c.load_and_mark.new.runs in
     let fault = c.in-Err-load_and_mark.fault in
     subst (λ x. Opens d c.args.device c.args.cache (Err (x, fault))) (sym c.into_device.ensures)
-    (refuses d c.args.cache c.args.device c.read_header.new.device header found.0 store fault (subst (λ (s : Store _). LoadsAndMarks d header s store (Err fault)) c.in-Ok-new.ensures.made c.in-Err-load_and_mark.ensures.loaded))
+    (refuses d c.args.cache c.args.device c.read_closed.new.device header found.0 store fault (subst (λ (s : Store _). LoadsAndMarks d header s store (Err fault)) c.in-Ok-take_memory.ensures.made c.in-Err-load_and_mark.ensures.loaded))
 
 pub returns-in-Err-load_and_mark-clause-kept : goal.returns-in-Err-load_and_mark-clause-kept
 returns-in-Err-load_and_mark-clause-kept g c =
-    ap g.D.Device.kept c.into_device.ensures ∙ c.load_and_mark.ensures.kept ∙ ap (λ (s : Store _). g.D.Device.kept s.buffers.cache.device) c.in-Ok-new.ensures.made ∙ c.read_header.ensures.kept
+    ap g.D.Device.kept c.into_device.ensures ∙ c.load_and_mark.ensures.kept ∙ ap (λ (s : Store _). g.D.Device.kept s.buffers.cache.device) c.in-Ok-take_memory.ensures.made ∙ c.read_closed.ensures.kept

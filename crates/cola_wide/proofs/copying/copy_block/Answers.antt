@@ -1,10 +1,11 @@
 use Rattle.std.proofs.Common.{◌≡◌, ◌∙◌, inr, ◌+◌, ◌*◌, ◌≤◌, Ok, Err, length, arith}
 use Rattle.cola_device.specs.declared.device.DeviceFault.{DeviceFault}
 use Rattle.cola_layout.specs.Fields.{fields_of}
+use Rattle.cola_opening.proofs.Spending.{called-spends}
 use Rattle.cola_wide.specs.Copied.{block_cells, IsBlockOf, AreSpelled}
 use Rattle.cola_wide.proofs.Blocks.{spelled-of}
 use Rattle.cola_wide.proofs.Writes.{span-some, span-most, write-inside, begun-after, copied-after}
-use Rattle.cola_wide.proofs.Steps.{called-writes, found-map, block-not_loaded}
+use Rattle.cola_wide.proofs.Steps.{found-map, block-not_loaded}
 use Rattle.cola_wide.proofs.copying.copy_block.Goals as goal
 
 pub returns-in-Err-clause-copied : goal.returns-in-Err-clause-copied
@@ -37,7 +38,7 @@ returns-in-Ok-write-clause-copied g c =
       source = found-map g.D.Device c.args.from.now c.load_block.new.from (λ bytes. IsBlockOf header first bytes wide) (AreSpelled header first (first + block_cells header)) 1 0 (λ bytes block. spelled-of header bytes wide first block) loaded;
       copied = copied-after header first wide long c.requires.inside before now DeviceFault c.in-Ok-write.field-0 old (block_cells header) c.in-Ok-write.ensures.wrote c.requires.begun c.requires.copied loaded.why_is;
       begun = begun-after header first wide long c.requires.inside before now {T = Unit {0}} {E = DeviceFault} (Ok c.in-Ok-write.field-0) behind c.in-Ok-write.ensures.wrote c.requires.begun;
-      counts = called-writes {T = Unit {0}} {E = DeviceFault} (Ok c.in-Ok-write.field-0) (g.E.Device.counts c.args.to.now) (g.E.Device.counts c.write.new.self) 1 1 (omega arith) c.in-Ok-write.ensures.counts;
+      counts = called-spends c.in-Ok-write.ensures.counts;
       no_fault = c.in-Ok-write.ensures.counts.none_hidden;
     }
 
@@ -55,5 +56,5 @@ returns-in-Err-write-clause-copied g c =
       cause = inr c.in-Err-write.ensures.counts.cause;
       begun = begun-after header first wide long c.requires.inside before now {T = Unit {0}} {E = DeviceFault} (Err c.in-Err-write.field-0) behind c.in-Err-write.ensures.wrote c.requires.begun;
       reads_are = loaded.counts;
-      writes_are = called-writes {T = Unit {0}} {E = DeviceFault} (Err c.in-Err-write.field-0) (g.E.Device.counts c.args.to.now) (g.E.Device.counts c.write.new.self) 1 1 (omega arith) c.in-Err-write.ensures.counts;
+      writes_are = called-spends c.in-Err-write.ensures.counts;
     }

@@ -1,11 +1,10 @@
-use Rattle.std.proofs.Common.{◌≡◌, ◌∙◌, ◌+◌, ◌*◌, ◌≤◌, ℕ, Ok, length, ap, arith}
-use Rattle.cola_device.specs.declared.device.DeviceFault.{DeviceFault}
+use Rattle.std.proofs.Common.{◌≡◌, ◌∙◌, ◌+◌, ◌*◌, ◌≤◌, ℕ, length, ap, arith}
 use Rattle.cola_device.specs.Bytes.{part}
 use Rattle.cola_layout.specs.Fields.{fields_of}
+use Rattle.cola_opening.proofs.Spending.{called-spends}
 use Rattle.cola_wide.specs.Copied.{cells_of, IsBlockOf, IsLowestBad}
 use Rattle.cola_wide.proofs.Told.{some-then, range-in}
 use Rattle.cola_wide.proofs.Blocks.{block-of, bad-of}
-use Rattle.cola_wide.proofs.Steps.{called-reads}
 use Rattle.cola_wide.proofs.copying.load_block.Goals as goal
 
 pub read-requires-clause-inside : goal.read-requires-clause-inside
@@ -37,7 +36,7 @@ returns-in-Ok-copy_cells-clause-loaded g c =
     record {
       why_is = some-then (λ bytes. narrow ≡ part bytes (64 * c.args.first) (length narrow)) (λ old. IsBlockOf header c.args.first old c.copy_cells.new.wide) told
           (λ old given. block-of header old narrow c.copy_cells.new.wide c.args.first count given long c.cells_of_block-count.ensures.value c.in-Ok-copy_cells.ensures.copied) c.in-Ok.ensures.given;
-      counts = called-reads {T = Unit {0}} {E = DeviceFault} (Ok c.in-Ok.field-0) (g.D.Device.counts c.args.from.now) (g.D.Device.counts c.read.new.self) 1 1 (omega arith) c.in-Ok.ensures.counts;
+      counts = called-spends c.in-Ok.ensures.counts;
       no_fault = c.in-Ok.ensures.counts.none_hidden;
     }
 
@@ -52,6 +51,6 @@ returns-in-Err-copy_cells-clause-loaded g c =
     record {
       why_is = some-then (λ bytes. narrow ≡ part bytes (64 * c.args.first) (length narrow)) (IsLowestBad header c.args.first c.in-Err-copy_cells.number) told
           (λ old given. bad-of header old narrow c.args.first count c.in-Err-copy_cells.number given long within c.in-Err-copy_cells.ensures.copied) c.in-Ok.ensures.given;
-      counts = called-reads {T = Unit {0}} {E = DeviceFault} (Ok c.in-Ok.field-0) (g.D.Device.counts c.args.from.now) (g.D.Device.counts c.read.new.self) 1 1 (omega arith) c.in-Ok.ensures.counts;
+      counts = called-spends c.in-Ok.ensures.counts;
       no_fault = c.in-Ok.ensures.counts.none_hidden;
     }

@@ -1,5 +1,6 @@
 use Rattle.std.proofs.Common.{◌≡◌, ℕ, List, length, sym, ap, subst, ◌∙◌, arith}
 use Rattle.std.specs.Prelude.{IfSome}
+use Rattle.arrayvec.specs.declared.array_vec.ArrayVec.{ArrayVec}
 use Rattle.cola_spec.specs.Map.{Map}
 use Rattle.cola_cell.specs.Held.{IsTelling}
 use Rattle.cola_layout.specs.declared.marks.Marks.{Marks}
@@ -17,17 +18,17 @@ use Rattle.cola_chain.proofs.Account.{paid-begins}
 use Rattle.cola_chain.proofs.Beginning.{chain-begins, all-saved, stands-begin}
 use Rattle.cola_chain.proofs.chains.Chain.new.Goals as goal
 
-levels-are : (g : _) (c : goal.After-levels_of g) → c.levels_of.result.items ≡ levels_with (all_numbers c.args.header.now.levels.items)
-levels-are g c = c.levels_of.ensures ∙ ap (λ (ms : List Marks). levels_with (all_numbers ms)) c.as_slice.ensures.value
+levels-are : (g : _) (c : goal.After-with g) → c.with.result.value.items ≡ levels_with (all_numbers c.args.header.now.levels.items)
+levels-are g c = ap (λ (a : ArrayVec Level 23 Unit). a.items) c.with.ensures ∙ c.levels_of.ensures ∙ ap (λ (ms : List Marks). levels_with (all_numbers ms)) c.as_slice.ensures.value
 
-chain : (g : _) (c : goal.After-levels_of g) → IsChain (run.held_of g.D.Device.bytes c.args.runs) c.args.header.now.clock c.levels_of.result.items
+chain : (g : _) (c : goal.After-with g) → IsChain (run.held_of g.D.Device.bytes c.args.runs) c.args.header.now.clock c.with.result.value.items
 chain g c = subst (λ (ls : List Level). IsChain (run.held_of g.D.Device.bytes c.args.runs) c.args.header.now.clock ls) (sym (levels-are g c)) (chain-begins g.D.Device.bytes c.args.header.now c.args.runs _ c.requires.geometry c.requires.loaded)
 
-paid : (g : _) (c : goal.After-levels_of g) →
-    ArePaid (run.held_of g.D.Device.bytes c.args.runs).fixed.doublings 0 c.args.header.now.clock c.levels_of.result.items (sums_of (run.held_of g.D.Device.bytes c.args.runs) (run.spent_of g.D.Device.counts c.args.runs) 0 0)
+paid : (g : _) (c : goal.After-with g) →
+    ArePaid (run.held_of g.D.Device.bytes c.args.runs).fixed.doublings 0 c.args.header.now.clock c.with.result.value.items (sums_of (run.held_of g.D.Device.bytes c.args.runs) (run.spent_of g.D.Device.counts c.args.runs) 0 0)
 paid g c =
     let e = ap (λ (ls : List Level). length ls) (levels-are g c) in
-    paid-begins (run.held_of g.D.Device.bytes c.args.runs) (run.spent_of g.D.Device.counts c.args.runs) c.args.header.now.clock c.levels_of.result.items (chain g c)
+    paid-begins (run.held_of g.D.Device.bytes c.args.runs) (run.spent_of g.D.Device.counts c.args.runs) c.args.header.now.clock c.with.result.value.items (chain g c)
     (λ l h. all-saved g.D.Device.bytes c.args.header.now c.args.runs _ c.requires.geometry c.requires.loaded l (omega (arith, e, h)))
 
 pub invariant_of-result : goal.invariant_of-result

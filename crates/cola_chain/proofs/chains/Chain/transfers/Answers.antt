@@ -11,4 +11,4 @@ pub returns-clause-bounds : goal.returns-clause-bounds
 returns-clause-bounds g c =
     let s = c.self.inside in
     subst (λ (x : Contents g.row.D.Denot). IsPaid g.D.Device.bytes g.D.Device.counts x → IsBounded x) c.self.view_is
-    (λ paid few few_reads few_writes. bounded s.runs.geometry s.accepted s.reads s.writes s.clock 0 s.levels.items _ c.self.invariant.stands.counted few few_reads few_writes paid.paid)
+    (λ paid few few_reads few_writes. bounded s.runs.geometry s.accepted s.reads s.writes s.clock 0 s.levels.value.items _ c.self.invariant.stands.counted few few_reads few_writes paid.paid)

@@ -1,4 +1,5 @@
 use Rattle.std.proofs.Common.{ℕ, List, length, All, Option, sym, ap, subst, ◌∙◌, arith}
+use Rattle.arrayvec.specs.declared.array_vec.ArrayVec.{ArrayVec}
 use Rattle.cola_cell.specs.declared.cell.Run.{Run}
 use Rattle.cola_cell.specs.Held.{Stamped}
 use Rattle.cola_look.specs.Runs.{HasRun}
@@ -13,22 +14,22 @@ use Rattle.cola_chain.proofs.chains.Chain.visible.Goals as goal
 
 pub runs_of-requires-clause-clock_in : goal.runs_of-requires-clause-clock_in
 runs_of-requires-clause-clock_in g c =
-    let e = ap (λ (ls : List Level). length ls) c.as_slice.ensures.value in
+    let e = ap (λ (ls : List Level). length ls) (c.as_slice.ensures.value ∙ ap (λ (a : ArrayVec Level 23 Unit). a.items) c.deref.ensures) in
     let f = c.as_slice.ensures.fits in
-    clock-few c.self.inside.clock (length c.self.inside.levels.items) c.self.invariant.stands.clock_in (omega (arith, e, f))
+    clock-few c.self.inside.clock (length c.self.inside.levels.value.items) c.self.invariant.stands.clock_in (omega (arith, e, f))
 
 pub returns-clause-has : goal.returns-clause-has
 returns-clause-has g c =
     subst (λ (x : Contents g.row.D.Denot). All (HasRun (held_of g.D.Device.bytes x)) c.runs_of.result.items) c.self.view_is
-    (visible-has (run.held_of g.D.Device.bytes c.self.inside.runs) c.self.inside.clock c.self.inside.levels.items c.runs_of.result.items c.self.invariant.stands (c.runs_of.ensures ∙ ap (visible_runs c.self.inside.clock 0) c.as_slice.ensures.value))
+    (visible-has (run.held_of g.D.Device.bytes c.self.inside.runs) c.self.inside.clock c.self.inside.levels.value.items c.runs_of.result.items c.self.invariant.stands (c.runs_of.ensures ∙ ap (visible_runs c.self.inside.clock 0) (c.as_slice.ensures.value ∙ ap (λ (a : ArrayVec Level 23 Unit). a.items) c.deref.ensures)))
 
 pub returns-clause-searched : goal.returns-clause-searched
 returns-clause-searched g c =
     subst (λ (x : Contents g.row.D.Denot). (most : ℕ) (m : List ℕ → Option Stamped) → StandsFor (held_of g.D.Device.bytes x) most x.clock x.levels m →
     AreSearched (held_of g.D.Device.bytes x) c.runs_of.result.items (visible_lists (held_of g.D.Device.bytes x) x.clock x.levels) m) c.self.view_is
     (λ most m stands.
-    subst (λ (rs : List Run). AreSearched (run.held_of g.D.Device.bytes c.self.inside.runs) rs (visible_lists (run.held_of g.D.Device.bytes c.self.inside.runs) c.self.inside.clock c.self.inside.levels.items) m) (sym (c.runs_of.ensures ∙ ap (visible_runs c.self.inside.clock 0) c.as_slice.ensures.value))
-    (searched (run.held_of g.D.Device.bytes c.self.inside.runs) most c.self.inside.clock c.self.inside.levels.items m c.self.invariant.stands stands))
+    subst (λ (rs : List Run). AreSearched (run.held_of g.D.Device.bytes c.self.inside.runs) rs (visible_lists (run.held_of g.D.Device.bytes c.self.inside.runs) c.self.inside.clock c.self.inside.levels.value.items) m) (sym (c.runs_of.ensures ∙ ap (visible_runs c.self.inside.clock 0) (c.as_slice.ensures.value ∙ ap (λ (a : ArrayVec Level 23 Unit). a.items) c.deref.ensures)))
+    (searched (run.held_of g.D.Device.bytes c.self.inside.runs) most c.self.inside.clock c.self.inside.levels.value.items m c.self.invariant.stands stands))
 
 pub returns-clause-sound : goal.returns-clause-sound
 returns-clause-sound g c = subst (λ (x : Contents g.row.D.Denot). IsContents g.D.Device.bytes g.D.Device.counts x) c.self.view_is c.self.invariant

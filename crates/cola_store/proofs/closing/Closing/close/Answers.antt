@@ -2,9 +2,9 @@ use Rattle.std.proofs.Common.{◌∙◌, ◌≤◌, length, Ok, Err, refl, sym, 
 use Rattle.std.specs.Prelude.{IfSome}
 use Rattle.cola_outside.specs.Told.{Both}
 use Rattle.cola_layout.specs.declared.geometry.Geometry.{Geometry}
+use Rattle.cola_opening.specs.Judged.{file_size}
 use Rattle.cola_run.specs.Store.{held_of}
 use Rattle.cola_run.specs.Saving.{IsFrontLast, SameBehind, SettlesTwice}
-use Rattle.cola_store.specs.Create.{file_size}
 use Rattle.cola_store.specs.Close.{IsClosed}
 use Rattle.cola_store.proofs.Closed.{told-file, stands-still, closing-spends}
 use Rattle.cola_store.proofs.Whole.{file-map}

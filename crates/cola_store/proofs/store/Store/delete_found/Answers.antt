@@ -2,8 +2,8 @@ use Rattle.std.proofs.Common.{◌≡◌, None, sym, subst, ◌∙◌}
 use Rattle.cola_spec.specs.Map.{Map, value_of}
 use Rattle.cola_store.specs.Store.{Holds, geometry_of}
 use Rattle.cola_store.specs.Calls.{value_found}
-use Rattle.cola_store.proofs.Looking.{value-found}
-use Rattle.cola_store.proofs.Deleting.{held-value, absent-delete}
+use Rattle.cola_store.proofs.Storing.{value-found}
+use Rattle.cola_store.proofs.Putting.{held-value, absent-delete}
 use Rattle.cola_store.proofs.store.Store.delete_found.Goals as goal
 
 pub returns-in-None-clause-answer : goal.returns-in-None-clause-answer

@@ -3,7 +3,7 @@ use Rattle.cola_spec.specs.Map.{Map}
 use Rattle.cola_table.specs.Terms.{shape}
 use Rattle.cola_store.specs.Store.{Holds, terms_of}
 use Rattle.cola_store.specs.Calls.{stamped_found}
-use Rattle.cola_store.proofs.Deleting.{seen-outcome, seen-after}
+use Rattle.cola_store.proofs.Putting.{seen-outcome, seen-after}
 use Rattle.cola_store.proofs.store.Store.put_if_found.Goals as goal
 
 pub returns-in-Ok-clause-answer : goal.returns-in-Ok-clause-answer

@@ -12,13 +12,13 @@ use Rattle.cola_store.proofs.store.Store.search.Goals as goal
 pub invariant_of-self : goal.invariant_of-self
 invariant_of-self g c =
     let s : Stored g.row.D.Denot = record { chain = c.self.inside.chain; count = c.self.inside.count; last = c.self.inside.last; account = c.self.inside.account } in
-    let account : Account = record { searches = c.one_more-self-inside.result; steps = c.self.inside.account.steps; opened = c.self.inside.account.opened; calm = c.self.inside.account.calm } in
-    read-is g.D.Device.bytes g.D.Device.counts g.D.Device.kept s c.find.new.work account refl refl refl c.self.invariant c.find.ensures.cells_stay c.find.ensures.kept c.find.ensures.costs.written_is c.find.ensures.others_stay
+    let account : Account = record { searches = c.one_more-self-inside.result; opened = c.self.inside.account.opened; calm = c.self.inside.account.calm } in
+    read-is g.D.Device.bytes g.D.Device.counts g.D.Device.kept s c.find.new.work account refl refl c.self.invariant c.find.ensures.cells_stay c.find.ensures.kept c.find.ensures.costs.written_is c.find.ensures.others_stay
 
 pub returns-clause-searches : goal.returns-clause-searches
 returns-clause-searches g c =
     let s : Stored g.row.D.Denot = record { chain = c.self.inside.chain; count = c.self.inside.count; last = c.self.inside.last; account = c.self.inside.account } in
-    let account : ℕ → Account = λ n. record { searches = n; steps = c.self.inside.account.steps; opened = c.self.inside.account.opened; calm = c.self.inside.account.calm } in
+    let account : ℕ → Account = λ n. record { searches = n; opened = c.self.inside.account.opened; calm = c.self.inside.account.calm } in
     subst (λ (x : Stored g.row.D.Denot). Searches g.D.Device.bytes g.D.Device.counts x (record { chain = c.find.new.work; count = c.self.inside.count; last = c.self.inside.last; account = account c.one_more-self-inside.result }) c.args.key.now c.find.result) c.self.view_is
     (subst (λ (n : ℕ). Searches g.D.Device.bytes g.D.Device.counts s (record { chain = c.find.new.work; count = c.self.inside.count; last = c.self.inside.last; account = account n }) c.args.key.now c.find.result) (sym c.one_more-self-inside.ensures)
     (searched g.D.Device.bytes g.D.Device.counts g.D.Device.kept s c.find.new.work c.visible-runs.result.items c.args.key.now c.find.result c.args.steps.now c.find.new.steps c.self.invariant c.visible-runs.ensures.runs

@@ -4,7 +4,7 @@ use Rattle.cola_spec.proofs.MapLaws.{after_delete_is_map}
 use Rattle.cola_table.specs.Terms.{shape}
 use Rattle.cola_mutation.proofs.MapLemmas.{found-delete}
 use Rattle.cola_store.specs.Store.{terms_of}
-use Rattle.cola_store.proofs.Deleting.{fewer-keys}
+use Rattle.cola_store.proofs.Putting.{fewer-keys}
 use Rattle.cola_store.proofs.store.Store.take_out.Goals as goal
 
 pub returns-in-Ok-clause-answer : goal.returns-in-Ok-clause-answer

@@ -12,31 +12,27 @@ use Rattle.cola_table.specs.Terms.{shape}
 use Rattle.cola_image.specs.Standing.{found_in}
 use Rattle.cola_run.specs.Store as run
 use Rattle.cola_store.specs.declared.account.Account.{Account}
-use Rattle.cola_store.specs.Store.{Stored, IsStored, Holds, terms_of, geometry_of}
+use Rattle.cola_store.specs.Store.{Stored, Holds, terms_of, geometry_of}
 use Rattle.cola_store.specs.Calls as calls
 use Rattle.cola_store.specs.Walks.{Stands, Ahead}
-use Rattle.cola_store.proofs.Storing.{holds-after, refused-right, stored-after, stored-still}
-use Rattle.cola_store.proofs.Refusals.{walks-refused}
+use Rattle.cola_store.proofs.Storing.{holds-after, refused-right, stored-after, stored-still, walks-refused}
 use Rattle.cola_store.proofs.store.Store.write.Goals as goal
 
 pub invariant_of-self : goal.invariant_of-self
 invariant_of-self g c =
     let s : Stored g.row.D.Denot = record { chain = c.self.inside.chain; count = c.self.inside.count; last = c.self.inside.last; account = c.self.inside.account } in
-    let account : ℕ → Account = λ n. record { searches = c.self.inside.account.searches; steps = n; opened = c.self.inside.account.opened; calm = c.self.inside.account.calm } in
-    subst (λ (n : ℕ). IsStored g.D.Device.bytes g.D.Device.counts (record { chain = c.step.new.self; count = c.args.count; last = c.args.last; account = account n })) (sym c.one_more-self-inside.ensures)
-    (stored-after g.D.Device.bytes g.D.Device.counts g.D.Device.kept s c.step.new.self c.self.invariant c.in-Ok.ensures.kept tt c.args.count c.args.last c.in-Ok.ensures.many c.in-Ok.ensures.fixed
+    stored-after g.D.Device.bytes g.D.Device.counts g.D.Device.kept s c.step.new.self c.self.invariant c.in-Ok.ensures.kept tt c.args.count c.args.last c.in-Ok.ensures.many c.in-Ok.ensures.fixed
     (subst (λ (x : Stored g.row.D.Denot). c.args.count ≤ (geometry_of x).keys) (sym c.self.view_is) c.requires.count_fits) (subst (λ (x : Stored g.row.D.Denot). c.args.last ≤ stamp_limit (geometry_of x).format) (sym c.self.view_is) c.requires.last_fits)
-    c.in-Ok.ensures.costs.written_stays c.in-Ok.ensures.counts c.in-Ok.ensures.paid)
+    c.in-Ok.ensures.costs.written_stays c.in-Ok.ensures.counts c.in-Ok.ensures.paid
 
 pub invariant_of-self-in-Err : goal.invariant_of-self-in-Err
 invariant_of-self-in-Err g c =
     let s : Stored g.row.D.Denot = record { chain = c.self.inside.chain; count = c.self.inside.count; last = c.self.inside.last; account = c.self.inside.account } in
-    stored-still g.D.Device.bytes g.D.Device.counts g.D.Device.kept s c.step.new.self c.self.invariant c.in-Err.ensures.kept c.in-Err.ensures.many c.in-Err.ensures.counts.0 c.in-Err.ensures.fixed
+    stored-still g.D.Device.bytes g.D.Device.counts g.D.Device.kept s c.step.new.self c.self.invariant c.in-Err.ensures.kept c.in-Err.ensures.many c.in-Err.ensures.fixed
 
 pub returns-in-Ok-clause-steps : goal.returns-in-Ok-clause-steps
 returns-in-Ok-clause-steps g c =
-    let account : ℕ → Account = λ n. record { searches = c.self.inside.account.searches; steps = n; opened = c.self.inside.account.opened; calm = c.self.inside.account.calm } in
-    let now : Stored g.row.D.Denot = record { chain = c.step.new.self; count = c.args.count; last = c.args.last; account = account c.one_more-self-inside.result } in
+    let now : Stored g.row.D.Denot = record { chain = c.step.new.self; count = c.args.count; last = c.args.last; account = c.self.inside.account } in
     let done : Result (Unit {0}) StepFault = Ok tt in
     subst (λ (x : Stored g.row.D.Denot). calls.Steps g.D.Device.bytes g.D.Device.counts x now c.args.key.now c.args.item.now c.args.count c.args.last done) c.self.view_is
     (record {
@@ -45,7 +41,7 @@ returns-in-Ok-clause-steps g c =
         changes = c.in-Ok.ensures.changes;
         count_is = refl;
         last_is = refl;
-        account_is = ap account c.one_more-self-inside.ensures;
+        account_is = refl;
       };
       geometry_is = ap (λ (k : run.Kept _). k.geometry) c.in-Ok.ensures.kept;
       counts_step = c.in-Ok.ensures.counts;
@@ -56,17 +52,16 @@ returns-in-Ok-clause-steps g c =
 pub returns-in-Ok-clause-right : goal.returns-in-Ok-clause-right
 returns-in-Ok-clause-right g c =
     let s : Stored g.row.D.Denot = record { chain = c.self.inside.chain; count = c.self.inside.count; last = c.self.inside.last; account = c.self.inside.account } in
-    let account : Account = record { searches = c.self.inside.account.searches; steps = c.one_more-self-inside.result; opened = c.self.inside.account.opened; calm = c.self.inside.account.calm } in
-    let now : Stored g.row.D.Denot = record { chain = c.step.new.self; count = c.args.count; last = c.args.last; account = account } in
+    let now : Stored g.row.D.Denot = record { chain = c.step.new.self; count = c.args.count; last = c.args.last; account = c.self.inside.account } in
     subst (λ (x : Stored g.row.D.Denot). (m after : Map) → Holds g.D.Device.bytes x m → IsMap (shape (terms_of x)) after → found_in after ≡ updated key_cmp c.args.key.now (as_item c.args.item.now) (found_in m) →
     c.args.count ≡ map.count after → c.args.last ≡ after.last → Holds g.D.Device.bytes now after) c.self.view_is
     (λ m after holds is_map found number last.
-    holds-after g.D.Device.bytes g.D.Device.counts g.D.Device.kept s c.step.new.self c.self.invariant c.in-Ok.ensures.kept account c.args.key.now c.args.item.now c.args.count c.args.last m after holds is_map found number last c.in-Ok.ensures.changes)
+    holds-after g.D.Device.bytes g.D.Device.counts g.D.Device.kept s c.step.new.self c.self.invariant c.in-Ok.ensures.kept c.self.inside.account c.args.key.now c.args.item.now c.args.count c.args.last m after holds is_map found number last c.in-Ok.ensures.changes)
 
 pub returns-in-Err-clause-right : goal.returns-in-Err-clause-right
 returns-in-Err-clause-right g c =
     let s : Stored g.row.D.Denot = record { chain = c.self.inside.chain; count = c.self.inside.count; last = c.self.inside.last; account = c.self.inside.account } in
-    let account : Account = record { searches = c.self.inside.account.searches; steps = c.self.inside.account.steps; opened = c.self.inside.account.opened; calm = false } in
+    let account : Account = record { searches = c.self.inside.account.searches; opened = c.self.inside.account.opened; calm = false } in
     let now : Stored g.row.D.Denot = record { chain = c.step.new.self; count = c.self.inside.count; last = c.self.inside.last; account = account } in
     subst (λ (x : Stored g.row.D.Denot). (m after : Map) → Holds g.D.Device.bytes x m → IsMap (shape (terms_of x)) after → found_in after ≡ updated key_cmp c.args.key.now (as_item c.args.item.now) (found_in m) →
     c.args.count ≡ map.count after → c.args.last ≡ after.last → OnlyDevice c.in-Err.fault × Holds g.D.Device.bytes now m) c.self.view_is
@@ -76,7 +71,7 @@ returns-in-Err-clause-right g c =
 pub returns-in-Err-clause-walks : goal.returns-in-Err-clause-walks
 returns-in-Err-clause-walks g c =
     let s : Stored g.row.D.Denot = record { chain = c.self.inside.chain; count = c.self.inside.count; last = c.self.inside.last; account = c.self.inside.account } in
-    let account : Account = record { searches = c.self.inside.account.searches; steps = c.self.inside.account.steps; opened = c.self.inside.account.opened; calm = false } in
+    let account : Account = record { searches = c.self.inside.account.searches; opened = c.self.inside.account.opened; calm = false } in
     let now : Stored g.row.D.Denot = record { chain = c.step.new.self; count = c.self.inside.count; last = c.self.inside.last; account = account } in
     subst (λ (x : Stored g.row.D.Denot). KeepsWalks (Stands g.D.Device.bytes x) (Stands g.D.Device.bytes now) (Ahead g.D.Device.bytes x) (Ahead g.D.Device.bytes now)) c.self.view_is
     (walks-refused g.D.Device.bytes s c.step.new.self c.in-Err.ensures.clock c.in-Err.ensures.progress c.in-Err.ensures.fixed c.in-Err.ensures.visible account)

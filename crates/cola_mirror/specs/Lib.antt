@@ -1,0 +1,7 @@
+pub mod Sides
+pub mod Mirror
+pub mod Told
+pub mod Device
+pub mod Settled
+pub mod Differ
+pub mod Rebuild

@@ -1,0 +1,3 @@
+mod Working
+mod OnEmpty
+pub mod Known

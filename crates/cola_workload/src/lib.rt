@@ -1,0 +1,6 @@
+//! The stated workload over a new file of a device.
+#![tactic(auto)]
+
+mod workload;
+
+pub use workload::{new_workloads_complete, serve_workload};
