@@ -23,48 +23,17 @@ use Rattle.cola_line.specs.Replied.{Wrote, KindFaults, StepsFrom}
 use Rattle.cola_line.specs.Answered.{Answered}
 use Rattle.cola_run.specs.Store.{Beside, beside}
 use Rattle.cola_store.specs.declared.closing.Closing.{Closing as ClosingStore}
+use Rattle.cola_session.proofs.OfTable.{by-table, cut-table, map_of, shut-reply, shut-closed}
 use Rattle.cola_command.specs.declared.place.Place.{Place}
 use Rattle.cola_command.specs.declared.place.Place.TheVariants.{Open, Closing, Closed}
 use Rattle.cola_store.specs.Store.{Stored, Holds, geometry_of, levels_of, kept_of, spent_of}
 use Rattle.cola_store.specs.Table.{store_table}
 use Rattle.cola_command.specs.declared.file.Session.{Session}
 use Rattle.cola_command.specs.File.{Sizes, sizes_of, shape, KeepsBehind, table_in, format_of, faults_of, IsAt}
-use Rattle.cola_command.specs.Home as home
-use Rattle.cola_command.specs.Home.{cut_by_request, depth_in}
+use Rattle.cola_session.specs.Home as home
+use Rattle.cola_session.specs.Home.{cut_by_request, depth_in}
 use Rattle.cola_command.specs.Turns.{Keeps, KeepsFormat, KeepsSession, file_home}
 use Rattle.cola_command.proofs.PlaceTurns.{StepsTo, TurnFacts, stays, session-keeps}
-
--- a command of a table is neither to close nor to open
-pub by-table : (A B : Type 0) {C : Type 0} (command : Command) → IsOfTable command → C → by_command (spoken command) A B C
-by-table A B (code.Put key value) is c = c
-by-table A B (code.PutIf key seen value) is c = c
-by-table A B (code.Del key) is c = c
-by-table A B (code.Get key) is c = c
-by-table A B (code.Stamp key) is c = c
-by-table A B (code.Range low high) is c = c
-by-table A B (code.Scan low most) is c = c
-by-table A B code.Count is c = c
-by-table A B code.Close is c = absurd is
-by-table A B code.Reopen is c = absurd is
-
--- and cuts no session off
-pub cut-table : (command : Command) → IsOfTable command → (answer : Reply) (cut : Bool) → cut ≡ cut_by_request (Some (spoken command)) answer cut
-cut-table (code.Put key value) is answer cut = refl
-cut-table (code.PutIf key seen value) is answer cut = refl
-cut-table (code.Del key) is answer cut = refl
-cut-table (code.Get key) is answer cut = refl
-cut-table (code.Stamp key) is answer cut = refl
-cut-table (code.Range low high) is answer cut = refl
-cut-table (code.Scan low most) is answer cut = refl
-cut-table code.Count is answer cut = refl
-cut-table code.Close is answer cut = absurd is
-cut-table code.Reopen is answer cut = absurd is
-
--- the map of a state
-abbrev pub map_of : State → Map
-map_of (machine.Open m) = m
-map_of (machine.Closing m) = m
-map_of (machine.Closed m byte) = m
 
 -- ---- an open store
 
@@ -181,31 +150,6 @@ module _ {D K A E : Type 0} (d : device.Ghosts D) (k : sink.Ghosts K) (state : S
   turned command answer wrote facts cause cache cost format cut =
       session-turned d k state (Some command) result old new sink sink' steps steps' (turn_of command answer 0) refl wrote (omega (arith, same)) (omega arith) facts.faults cause (record { place = facts.keeps; cache_is = cache; cost_is = cost; format_is = format }) cut
       (λ sizes at. facts.steps sizes state at)
-
--- a command of a table is shut out
-pub shut-reply : (command : Command) → IsOfTable command → (shape : Shape) (m : Map) → (reply.Shut ≡ command_reply shape (machine.Closing m) (spoken command)) × (machine.Closing m ≡ command_after shape (machine.Closing m) (spoken command))
-shut-reply (code.Put key value) is shape m = (refl, refl)
-shut-reply (code.PutIf key seen value) is shape m = (refl, refl)
-shut-reply (code.Del key) is shape m = (refl, refl)
-shut-reply (code.Get key) is shape m = (refl, refl)
-shut-reply (code.Stamp key) is shape m = (refl, refl)
-shut-reply (code.Range low high) is shape m = (refl, refl)
-shut-reply (code.Scan low most) is shape m = (refl, refl)
-shut-reply code.Count is shape m = (refl, refl)
-shut-reply code.Close is shape m = absurd is
-shut-reply code.Reopen is shape m = absurd is
-
-pub shut-closed : (command : Command) → IsOfTable command → (shape : Shape) (m : Map) (byte : ℕ) → (reply.Shut ≡ command_reply shape (machine.Closed m byte) (spoken command)) × (machine.Closed m byte ≡ command_after shape (machine.Closed m byte) (spoken command))
-shut-closed (code.Put key value) is shape m byte = (refl, refl)
-shut-closed (code.PutIf key seen value) is shape m byte = (refl, refl)
-shut-closed (code.Del key) is shape m byte = (refl, refl)
-shut-closed (code.Get key) is shape m byte = (refl, refl)
-shut-closed (code.Stamp key) is shape m byte = (refl, refl)
-shut-closed (code.Range low high) is shape m byte = (refl, refl)
-shut-closed (code.Scan low most) is shape m byte = (refl, refl)
-shut-closed code.Count is shape m byte = (refl, refl)
-shut-closed code.Close is shape m byte = absurd is
-shut-closed code.Reopen is shape m byte = absurd is
 
 module _ {D : Type 0} (d : device.Ghosts D) (command : Command) (of_table : IsOfTable command) where
   pub shut-while_closing : (closing : ClosingStore D d) → TurnFacts d (spoken command) (Closing closing) reply.Shut (Closing closing)

@@ -41,11 +41,11 @@ use Rattle.cola_command.specs.declared.place.Place.TheVariants.{Open, Closing, C
 use Rattle.cola_command.specs.File.{Sizes, sizes_of, HasSizes, faults_of, IsOfSizes}
 use Rattle.cola_command.specs.RunTransfers.{mutated, searched, opens, refusal_reads, request_reads, refused_reads, by_store, levels, file_blocks, cached_reads, FewCachedReads}
 use Rattle.cola_command.specs.Moves.{AreFew, KeepsCache}
-use Rattle.cola_command.specs.Home.{Point, LineLeads}
+use Rattle.cola_session.specs.Home.{Point, LineLeads}
 use Rattle.cola_command.specs.Turns.{Keeps, CloseCause, OpenCause, file_home, refused_reply}
 use Rattle.cola_command.proofs.PlaceCauses.{which, AskCause, Cause, cause-place}
 use Rattle.cola_command.specs.Headline.{last_close}
-use Rattle.cola_command.proofs.CutOff.{not-faulted}
+use Rattle.cola_session.proofs.CutOff.{not-faulted}
 use Rattle.cola_command.proofs.Counting.{Means, rows-calls}
 use Rattle.cola_command.proofs.Moving.{kind-stays}
 use Rattle.cola_command.proofs.StateByte.{size-large}

@@ -27,13 +27,13 @@ use Rattle.cola_command.specs.declared.file.Session.{Session}
 use Rattle.cola_command.specs.declared.place.Place.{Place}
 use Rattle.cola_command.specs.declared.place.Place.TheVariants as place
 use Rattle.cola_command.specs.File.{Sizes, shape, KeepsBehind, device_of, table_in, format_of, faults_of, IsOfSizes}
-use Rattle.cola_command.specs.Home.{FaultsOver, cut_after, cut_by_request, Point, point, depth_in, LineLeads, LinesLead, FrontLeads}
+use Rattle.cola_session.specs.Home.{FaultsOver, cut_after, cut_by_request, Point, point, depth_in, LineLeads, LinesLead, FrontLeads}
 use Rattle.cola_command.specs.Turns.{KeepsFormat, SessionAt, file_home}
 use Rattle.cola_command.specs.Headline.{Known, sizes_known, state_known, asked, AreAsked, WroteLines}
 use Rattle.cola_command.specs.Moves.{AllMove}
-use Rattle.cola_command.proofs.CutOff.{quiet-run}
+use Rattle.cola_session.proofs.CutOff.{quiet-run}
 use Rattle.cola_command.proofs.Caching.{AllCaused, caused-append, line-caused}
-use Rattle.cola_command.proofs.Leading.{led-by}
+use Rattle.cola_session.proofs.Leading.{led-by}
 use Rattle.cola_command.proofs.Moving.{moves-append, line-moves}
 use Rattle.cola_command.proofs.PlaceCauses.{caused-place}
 use Rattle.cola_command.proofs.Settling.{IsSettledAt, line-settles}

@@ -23,15 +23,15 @@ use Rattle.cola_store.specs.declared.fault.OpenFault.{OpenFault}
 use Rattle.cola_store.specs.declared.fault.OpenFault.TheVariants as fault
 use Rattle.cola_store.specs.Sessions.{MetFault}
 use Rattle.cola_store.proofs.OpenLaws.{opens-to}
-use Rattle.cola_command.specs.Ends.{Ending, Well, Ill, ReadToEnd, NothingFails, SessionEnds, NotBegun, Status0, Status3, Status4, Status5, Status9}
-use Rattle.cola_command.specs.Reading.{input_limit}
+use Rattle.cola_session.specs.Ends.{Ending, Well, Ill, ReadToEnd, NothingFails, SessionEnds, NotBegun, Status0, Status3, Status4, Status5, Status9}
+use Rattle.cola_session.specs.Reading.{input_limit}
 use Rattle.cola_command.specs.File.{Sizes, shape, sizes_in}
 use Rattle.cola_status.specs.Statuses.{refusal_status}
 use Rattle.cola_command.specs.Headline.{FileEnds, StandsAs, NotOpened, WroteAll, CarriesAll, asked, last_close}
 use Rattle.cola_command.specs.HeadlineLaws.{PlainRun, NoneFails, AnsweredPlainly, TransferredFew, Completes, Answered, OutOfMemory}
-use Rattle.cola_command.proofs.CutOff.{not-faulted, only-reopened}
+use Rattle.cola_session.proofs.CutOff.{not-faulted, only-reopened}
 use Rattle.cola_command.proofs.Carrying.{faulted-append}
-use Rattle.cola_command.proofs.Sessions.{with-carried}
+use Rattle.cola_session.proofs.Sessions.{with-carried}
 use Rattle.cola_command.proofs.HeadlineLaws.{by-count, faults-rise, ill-counts}
 
 -- Plain turns

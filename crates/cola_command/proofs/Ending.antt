@@ -23,23 +23,23 @@ use Rattle.cola_store.specs.Table.{store_table}
 use Rattle.cola_command.specs.declared.file.Session.{Session}
 use Rattle.cola_command.specs.declared.place.Place.{Place}
 use Rattle.cola_command.specs.declared.place.Place.TheVariants as place
-use Rattle.cola_command.specs.Ends.{Ending, Well, Ill, Anyhow, ReadToEnd, NotBegun, Status0, Status3, Status4, Status5, Status9}
+use Rattle.cola_session.specs.Ends.{Ending, Well, Ill, Anyhow, ReadToEnd, NotBegun, Status0, Status3, Status4, Status5, Status9}
 use Rattle.cola_command.specs.File.{Sizes, shape, KeepsBehind, StandsBut, device_of, format_of, faults_of, IsOfSizes, IsAt}
 use Rattle.cola_command.specs.Headline.{StandsAs, Known, IsKnown, sizes_known, state_known, IsLeft, IsLeftWhole, LeftBy, EndsBy, last_close, StaysWithin, RunsToEnd, CarriedOut, WroteLines, WroteAll, WroteSome, CarriesAll, CarriesFront, FileEnds}
-use Rattle.cola_command.specs.Home.{FaultsOver, cut_after, Point, point, IsAtSome, LinesLead, FrontLeads, AllLead, FrontLead, LinesEnd}
+use Rattle.cola_session.specs.Home.{FaultsOver, cut_after, Point, point, IsAtSome, LinesLead, FrontLeads, AllLead, FrontLead, LinesEnd}
 use Rattle.cola_command.specs.Moves.{AreFew, Moves, AllMove}
-use Rattle.cola_command.specs.Reading.{input_limit}
+use Rattle.cola_session.specs.Reading.{input_limit}
 use Rattle.cola_command.specs.RunTransfers.{short, FewTransfers, FewCachedReads}
 use Rattle.cola_command.specs.Turns.{CloseCause, Begun, Ended, EndsAfter, is_closed, end_status, file_home}
 use Rattle.cola_command.proofs.Caching.{AllCaused, few-cached}
 use Rattle.cola_command.proofs.Carrying.{BeginsAt, StillOf, RunsSoFar, SoFar, lines-then, front-then, both-then, faults-append, faulted-append}
 use Rattle.cola_command.proofs.Counting.{table-means}
-use Rattle.cola_command.proofs.CutOff.{Safe, safe-run, safe-step, not-faulted, quiet-run}
+use Rattle.cola_session.proofs.CutOff.{Safe, safe-run, safe-step, not-faulted, quiet-run}
 use Rattle.cola_command.proofs.HeadlineLaws.{by-count, faults-rise}
 use Rattle.cola_command.proofs.Moving.{kind-stays, closes-moves}
 use Rattle.cola_command.proofs.PlaceTurns.{StepsTo, TurnFacts, stands-now, close-facts}
 use Rattle.cola_command.proofs.Reopening.{open-facts}
-use Rattle.cola_command.proofs.Sessions.{with-carried, with-failed, with-front, with-spent}
+use Rattle.cola_session.proofs.Sessions.{with-carried, with-failed, with-front, with-spent}
 use Rattle.cola_command.proofs.Settling.{IsSettledAt, close-settles}
 use Rattle.cola_command.proofs.Transferring.{few-transfers}
 

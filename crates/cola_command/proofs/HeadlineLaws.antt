@@ -12,8 +12,8 @@ use Rattle.cola_spec.specs.Bounds.{request_bound}
 use Rattle.cola_spec.specs.Kinds.{requests_bound}
 use Rattle.cola_spec.specs.Told.{is_costed, printed_cost}
 use Rattle.cola_line.specs.Replied.{KindFaults}
-use Rattle.cola_command.specs.Home.{FaultsOver, cut_by, cut_by_request, cut_after}
-use Rattle.cola_command.specs.Ends.{Ill}
+use Rattle.cola_session.specs.Home.{FaultsOver, cut_by, cut_by_request, cut_after}
+use Rattle.cola_session.specs.Ends.{Ill}
 use Rattle.cola_command.specs.Headline.{EndsBy, asked, last_close}
 use Rattle.cola_command.specs.HeadlineLaws.{NoneFaulted, AreWithin, printed_sum, unprinted_bound}
 use Rattle.cola_command.proofs.Carrying.{faulted-append}

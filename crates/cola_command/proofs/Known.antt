@@ -17,7 +17,7 @@ use Rattle.cola_status.specs.declared.status.Status.TheVariants as known
 use Rattle.cola_status.specs.Statuses.{IsStatus}
 use Rattle.cola_status.proofs.Known.{one, opening-known}
 use Rattle.cola_workload.proofs.Known.{gen-known}
-use Rattle.cola_command.specs.Ends.{Ending, SessionEnds, NotBegun, Status0, Status3, Status4, Status5, Status9}
+use Rattle.cola_session.specs.Ends.{Ending, SessionEnds, NotBegun, Status0, Status3, Status4, Status5, Status9}
 use Rattle.cola_command.specs.Mirrored.{mirrored_status, rebuild_status, MirrorEnds, NotCompared, Differ, Mirrored}
 use Rattle.cola_command.specs.Serves as made
 use Rattle.cola_command.specs.Serves.{CreateEnds, Serves, upgrade_status}

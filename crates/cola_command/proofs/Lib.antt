@@ -1,16 +1,9 @@
-pub mod InMemory
-pub mod InMemoryTurns
-pub mod Leading
-pub mod Sessions
-pub mod Joined
 pub mod NewFiles
 pub mod StateByte
 pub mod PlaceCauses
 pub mod PlaceTurns
 pub mod Reopening
 pub mod Asking
-pub mod ReadingOn
-pub mod CutOff
 pub mod Settling
 pub mod Counting
 pub mod Moving

@@ -28,10 +28,10 @@ use Rattle.cola_command.specs.declared.place.Place.TheVariants.{Open, Closing, C
 use Rattle.cola_command.specs.File.{Sizes, sizes_of, shape, faults_of, IsAt}
 use Rattle.cola_command.specs.RunTransfers.{searched, short, opens}
 use Rattle.cola_command.specs.Moves.{IsQuiet, CountsCall, AreFew, KeepsCache, Moves, AllMove}
-use Rattle.cola_command.specs.Home.{Point, LineLeads}
+use Rattle.cola_session.specs.Home.{Point, LineLeads}
 use Rattle.cola_command.specs.Turns.{CloseCause, OpenCause, file_home, refused_reply}
 use Rattle.cola_command.proofs.PlaceCauses.{which, AskCause, Cause, cause-place}
-use Rattle.cola_command.proofs.CutOff.{Quiet, not-faulted}
+use Rattle.cola_session.proofs.CutOff.{Quiet, not-faulted}
 use Rattle.cola_command.proofs.Counting.{NotFailed, Means, table-means, calls-none, turn-counts}
 
 -- Answers

@@ -13,7 +13,7 @@ use Rattle.cola_command.specs.declared.file.Session.{Session}
 use Rattle.cola_command.specs.declared.place.Place.{Place}
 use Rattle.cola_command.specs.declared.place.Place.TheVariants.{Open, Closing, Closed}
 use Rattle.cola_command.specs.File.{table_in}
-use Rattle.cola_command.specs.Home as home
+use Rattle.cola_session.specs.Home as home
 use Rattle.cola_command.specs.Turns.{CloseCause, OpenCause, file_home}
 
 -- what a command does, by whether it closes, opens or asks

@@ -18,7 +18,7 @@ use Rattle.cola_store.specs.Open.{Opens}
 use Rattle.cola_store.specs.Store.{Stored}
 use Rattle.cola_command.specs.declared.place.Place.{Place}
 use Rattle.cola_command.specs.declared.place.Place.TheVariants as place
-use Rattle.cola_command.specs.Home.{cut_by, cut_by_request, cut_after}
+use Rattle.cola_session.specs.Home.{cut_by, cut_by_request, cut_after}
 use Rattle.cola_command.specs.Turns.{CloseCause, OpenCause, refused_reply}
 use Rattle.cola_command.proofs.PlaceCauses.{whether, AskCause, Cause, CausedBy}
 

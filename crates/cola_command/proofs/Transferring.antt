@@ -15,7 +15,7 @@ use Rattle.cola_store.specs.Transfers.{IsCounting}
 use Rattle.cola_command.specs.declared.place.Place.{Place}
 use Rattle.cola_command.specs.declared.place.Place.TheVariants.{Open, Closing, Closed}
 use Rattle.cola_command.specs.File.{Sizes, sizes_of, faults_of}
-use Rattle.cola_command.specs.Reading.{input_limit}
+use Rattle.cola_session.specs.Reading.{input_limit}
 use Rattle.cola_command.specs.RunTransfers.{mutated, searched, short, opens, mutations, searches, shorts, AsksNoRows, AskNoRows, before_all, begin_where, by_store, levels, block_cells, file_blocks, most_writes, most_reads, cached_reads, FewTransfers}
 use Rattle.cola_command.specs.Moves.{Answers, Closes, Rests, Moves, AllMove}
 

@@ -29,10 +29,10 @@ use Rattle.cola_store.specs.Sessions.{OpensStore, IsStoreOpened}
 use Rattle.cola_store.specs.Table.{store_table}
 use Rattle.cola_command.specs.File.{Sizes, shape, sizes_in, KeepsBehind, StandsBut, IsOfSizes}
 use Rattle.cola_command.specs.RunTransfers.{FewTransfers, FewCachedReads}
-use Rattle.cola_command.specs.Home.{FaultsOver, cut_after, point, LinesLead, FrontLeads}
+use Rattle.cola_session.specs.Home.{FaultsOver, cut_after, point, LinesLead, FrontLeads}
 use Rattle.cola_command.specs.Turns.{file_home, WasLed}
-use Rattle.cola_command.specs.Reading.{input_limit}
-use Rattle.cola_command.specs.Ends.{Untouched, Ending, Well, Ill, Anyhow, SessionEnds, WroteFront}
+use Rattle.cola_session.specs.Reading.{input_limit}
+use Rattle.cola_session.specs.Ends.{Untouched, Ending, Well, Ill, Anyhow, SessionEnds, WroteFront}
 
 -- The file
 

@@ -15,7 +15,7 @@ use Rattle.cola_spec.specs.Bounds.{request_bound}
 use Rattle.cola_spec.specs.Told.{is_costed, printed_cost}
 use Rattle.cola_image.specs.Standing.{FileStandsFor}
 use Rattle.cola_command.specs.File.{Sizes, shape}
-use Rattle.cola_command.specs.Ends.{ReadToEnd, NothingFails}
+use Rattle.cola_session.specs.Ends.{ReadToEnd, NothingFails}
 use Rattle.cola_command.specs.RunTransfers.{FewTransfers}
 use Rattle.cola_command.specs.Headline.{StandsAs, IsLeftWhole, NotOpened, asked}
 

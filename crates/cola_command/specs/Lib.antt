@@ -1,7 +1,3 @@
-pub mod Reading
-pub mod Ends
-pub mod Home
-pub mod Memory
 pub mod File
 pub mod RunTransfers
 pub mod Moves

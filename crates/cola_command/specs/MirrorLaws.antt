@@ -9,7 +9,7 @@ use Rattle.cola_spec.specs.Map.{Map}
 use Rattle.cola_image.specs.Standing.{FileStandsFor}
 use Rattle.cola_mirror.specs.Mirror.{bytes_of}
 use Rattle.cola_mirror.specs.Device.{mirror_device, new_pair}
-use Rattle.cola_command.specs.Ends.{ReadToEnd, NothingFails}
+use Rattle.cola_session.specs.Ends.{ReadToEnd, NothingFails}
 use Rattle.cola_command.specs.HeadlineLaws.{AnsweredPlainly}
 use Rattle.cola_command.specs.Mirrored.{IsCompared, IsMirrored}
 

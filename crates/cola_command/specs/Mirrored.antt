@@ -12,7 +12,7 @@ use Rattle.cola_mirror.specs.Differ.{first_difference, Compares, OnlyCompared}
 use Rattle.cola_mirror.specs.Mirror.{Pair, IsSound}
 use Rattle.cola_mirror.specs.Device.{mirror_device, new_pair}
 use Rattle.cola_mirror.specs.Rebuild.{Rebuilds, OnlyCopied, CanBeRebuilt}
-use Rattle.cola_command.specs.Ends.{Untouched}
+use Rattle.cola_session.specs.Ends.{Untouched}
 use Rattle.cola_command.specs.Headline.{FileEnds}
 
 -- the status of a session over two files, by that of its lines and the sides that are in use at the end: in place of 0 alone, 17 where the first is lost, and 18 where the second is

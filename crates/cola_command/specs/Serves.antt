@@ -11,8 +11,8 @@ use Rattle.cola_wide.specs.declared.fault.UpgradeFault.TheVariants as upgrade
 use Rattle.cola_wide.specs.Upgrade.{Upgrades, CanBeUpgraded, IsDoneForMemory}
 use Rattle.cola_words.specs.declared.mode.Mode.{Mode}
 use Rattle.cola_words.specs.declared.mode.Mode.TheVariants.{Mem, Create, Run, Gen, Upgrade, Rebuild}
-use Rattle.cola_command.specs.Ends.{Untouched}
-use Rattle.cola_command.specs.Memory.{MemoryEnds}
+use Rattle.cola_session.specs.Ends.{Untouched}
+use Rattle.cola_session.specs.Memory.{MemoryEnds}
 use Rattle.cola_store.specs.Table.{store_table}
 use Rattle.cola_command.specs.Headline.{FileEnds}
 use Rattle.cola_command.specs.Mirrored.{MirrorEnds, RebuildEnds}

@@ -16,7 +16,7 @@ use Rattle.cola_store.specs.Store.{Stored}
 use Rattle.cola_store.specs.Sessions.{OpensStore, IsStoreOpened, ClosesStore}
 use Rattle.cola_workload.specs.Workload.{ClosesAgain}
 use Rattle.cola_command.specs.File.{Sizes, shape, KeepsBehind, device_of, table_in, format_of, faults_of, IsOfSizes, IsAt}
-use Rattle.cola_command.specs.Home.{Home}
+use Rattle.cola_session.specs.Home.{Home}
 use Rattle.cola_command.specs.Moves.{KeepsCache, AreFew}
 
 -- Replies

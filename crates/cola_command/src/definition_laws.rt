@@ -32,14 +32,14 @@ ghost use Rattle.cola_store.specs.declared.fault.OpenFault.TheVariants as fault;
 ghost use Rattle.cola_cell.specs.declared.format.Format.{Format};
 ghost use Rattle.cola_words.specs.declared.mode.Mode.TheVariants.{Mem, Create, Run as RunMode, Gen, Upgrade, Rebuild};
 ghost use Rattle.cola_command.specs.declared.place.Place.TheVariants as place;
-ghost use Rattle.cola_command.specs.Ends.{Ending, Well, Ill, Anyhow, WroteFront};
+ghost use Rattle.cola_session.specs.Ends.{Ending, Well, Ill, Anyhow, WroteFront};
 ghost use Rattle.cola_command.specs.File.{Sizes, IsOfSizes, device_of, format_of, shape, sizes_in, table_in};
 ghost use Rattle.cola_status.specs.Statuses.{refusal_status};
 ghost use Rattle.cola_command.specs.Headline.{AreAsked, CarriedOut, CarriesAll, CarriesFront, EndsBy, FileEnds, FrontLed, IsKnown, IsLeft, IsLeftWhole, Known, LeftBy, LinesLed, NotOpened, WroteAll, WroteLines, WroteSome, asked, sizes_known};
-ghost use Rattle.cola_command.specs.Home.{FaultsOver, LineLeads, Point, cut_after, depth_in};
-ghost use Rattle.cola_command.specs.Memory.{MemoryEnds, Replied, RepliedFront, StepsWithin, lines_bound, replies};
+ghost use Rattle.cola_session.specs.Home.{FaultsOver, LineLeads, Point, cut_after, depth_in};
+ghost use Rattle.cola_session.specs.Memory.{MemoryEnds, Replied, RepliedFront, StepsWithin, lines_bound, replies};
 ghost use Rattle.cola_command.specs.Mirrored.{MirrorEnds, RebuildEnds};
-ghost use Rattle.cola_command.specs.Reading.{AllAnswered, AreFirstLines, ReadFor};
+ghost use Rattle.cola_session.specs.Reading.{AllAnswered, AreFirstLines, ReadFor};
 ghost use Rattle.cola_command.specs.RunTransfers.{AskNoRows, FewCachedReads, FewTransfers, example, example_sizes};
 ghost use Rattle.cola_command.specs.Serves.{CreateEnds, Serves, UpgradeEnds};
 ghost use Rattle.cola_command.specs.Turns.{Begun, CloseCause, KeepsFormat, OpenCause, WasLed, file_home};
@@ -53,23 +53,6 @@ ghost use Rattle.cola_workload.specs.Workload.{EndsOnEmpty, FaultsCaused, GenEnd
 
 use cola_device::Device;
 use cola_io::{Sink, Source};
-
-/// All lines that have ended are answered: with a line that ended and no answer they are not, nor with two lines and one
-/// answer; a line that has not ended needs none.
-pub fn all_answered_is_no_line_ahead()
-    ensures none { AllAnswered [] (97 ∷ 10 ∷ []) → ⊥ }
-    ensures one_of_two { AllAnswered (Text (97 ∷ []) ∷ []) (97 ∷ 10 ∷ 98 ∷ 10 ∷ 99 ∷ []) → ⊥ }
-    ensures pending { AllAnswered (Text (97 ∷ []) ∷ []) (97 ∷ 10 ∷ 98 ∷ []) }
-{}
-
-/// The reads for lines: each asks for 512 bytes or for what is left of 2^40, while no line that has ended is unanswered and
-/// behind reads that gave bytes alone; the source lost the bytes that they gave, and is at its end where the last met it.
-pub fn reads_are_for_lines<S: Source>()
-    ensures last { (answered : List Line) (source source' : S) (read : Read) (earlier : List Read) → ReadFor S.Source answered source (read ∷ earlier) source' →
-        (length (all_ended_lines (bytes_read earlier)) ≤ length answered) × ((read.asked ≡ min 512 (2 ^ 40 - length (bytes_read earlier))) × ((length (bytes_read earlier) < 2 ^ 40) × GaveSome earlier)) }
-    ensures reads { (answered : List Line) (source source' : S) (reads : List Read) → ReadFor S.Source answered source reads source' →
-        WasRead S.Source source reads source' × (Taken (bytes_read reads) (S.left source) (S.left source') × (met_end reads ≡ true → IsAtEnd (S.left source'))) }
-{}
 
 /// Where a reply was not written whole, the texts of the turns of all lines before the last were, and of all turns some front.
 pub fn fronts_have_all_before_the_last()

@@ -3,25 +3,20 @@
 
 mod definition_laws;
 mod file;
-mod home;
 mod laws;
 mod lines;
-mod memory;
 mod mirror_laws;
 mod mirrored;
 mod place;
 mod program;
-mod reading;
 mod serving;
 mod serving_laws;
-mod session;
 mod upgrading;
 
 pub use definition_laws::{
-    all_answered_is_no_line_ahead, carried_out, file_sessions_end, files_are_left,
-    fronts_have_all_before_the_last, memory_sessions_end, modes_are_served, new_files_end,
-    reads_are_for_lines, refusals_have_statuses, sessions_are_led, stores_read_each_block_once,
-    transfers_of_turns,
+    carried_out, file_sessions_end, files_are_left, fronts_have_all_before_the_last,
+    memory_sessions_end, modes_are_served, new_files_end, refusals_have_statuses, sessions_are_led,
+    stores_read_each_block_once, transfers_of_turns,
 };
 pub use file::Session;
 pub use laws::{

@@ -9,7 +9,7 @@ ghost use Rattle.cola_mirror.specs.Sides.{has_first, has_second};
 ghost use Rattle.cola_mirror.specs.declared.fault.RebuildFault.TheVariants as rebuild;
 ghost use Rattle.cola_mirror.specs.declared.sides.Sides.{Sides};
 ghost use Rattle.cola_mirror.specs.declared.sides.Sides.TheVariants.{Both, First, Second};
-ghost use Rattle.cola_command.specs.Home.{FaultsOver};
+ghost use Rattle.cola_session.specs.Home.{FaultsOver};
 ghost use Rattle.cola_command.specs.Mirrored.{MirrorEnds, mirrored_status, rebuild_status};
 ghost use Rattle.cola_command.specs.MirrorLaws.{LeftOn, OneAnswers, MirrorCompletes};
 

@@ -6,7 +6,6 @@ ghost use Rattle.cola_words.specs.Modes.{HasSizes, mode_of};
 ghost use Rattle.cola_words.specs.declared.mode.Mode.TheVariants.{Run};
 ghost use Rattle.cola_words.specs.Sizes.{SuitStore};
 
-use crate::memory::serve_memory;
 use crate::mirrored::{rebuild_file, serve_mirror};
 use crate::serving::serve_file;
 use crate::upgrading::upgrade_file;
@@ -14,6 +13,7 @@ use cola_cell::Format;
 use cola_device::Device;
 use cola_io::{Sink, Source};
 use cola_outside::Steps;
+use cola_session::serve_memory;
 use cola_status::Status;
 use cola_store::{CreateFault, create_as};
 use cola_words::{Mode, read_words};

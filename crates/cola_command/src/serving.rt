@@ -4,10 +4,10 @@ ghost use Rattle.cola_command.specs.Headline.{FileEnds};
 ghost use Rattle.cola_command.specs.Turns.{EndsAfter};
 
 use crate::file::Session;
-use crate::session::serve_lines;
 use cola_device::Device;
 use cola_io::{Sink, Source};
 use cola_outside::Steps;
+use cola_session::serve_lines;
 use cola_status::{Status, opening_status};
 use std::alloc::Global;
 use std::sync::ledger::Ledger;

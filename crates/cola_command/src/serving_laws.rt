@@ -8,9 +8,9 @@ ghost use Rattle.cola_spec.specs.Map.{Map};
 ghost use Rattle.cola_spec.specs.Told.{printed_cost};
 ghost use Rattle.cola_image.specs.Standing.{FileStandsFor};
 ghost use Rattle.cola_command.specs.File.{Sizes};
-ghost use Rattle.cola_command.specs.Home.{FaultsOver};
+ghost use Rattle.cola_session.specs.Home.{FaultsOver};
 ghost use Rattle.cola_command.specs.Headline.{FileEnds, StandsAs, asked};
-ghost use Rattle.cola_command.specs.Ends.{ReadToEnd};
+ghost use Rattle.cola_session.specs.Ends.{ReadToEnd};
 ghost use Rattle.cola_command.specs.RunTransfers.{mutations, searches, by_store, most_writes, most_reads, cached_reads, example, example_sizes};
 ghost use Rattle.cola_command.specs.HeadlineLaws.{NoneFails, TransferredFew, Completes, NoneFaulted, AreWithin, printed_sum, unprinted_bound};
 

@@ -10,7 +10,7 @@ use Rattle.cola_table.specs.Replies.{turn_of}
 use Rattle.cola_command.specs.declared.file.Session.{Session}
 use Rattle.cola_command.specs.declared.place.Place.{Place}
 use Rattle.cola_command.specs.File.{table_in}
-use Rattle.cola_command.specs.Home.{Asked, Point}
+use Rattle.cola_session.specs.Home.{Asked, Point}
 use Rattle.cola_command.specs.Turns.{file_home}
 use Rattle.cola_command.proofs.definition_laws.lines_have_causes.Goals as goal
 

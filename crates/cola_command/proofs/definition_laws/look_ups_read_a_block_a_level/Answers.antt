@@ -4,7 +4,7 @@ use Rattle.cola_store.specs.Store.{Stored}
 use Rattle.cola_store.specs.Table.{store_table}
 use Rattle.cola_command.specs.declared.place.Place.{Place}
 use Rattle.cola_command.specs.File.{table_in}
-use Rattle.cola_command.specs.Home.{Asked}
+use Rattle.cola_session.specs.Home.{Asked}
 use Rattle.cola_command.specs.Turns.{file_home}
 use Rattle.cola_spec.specs.Command.{Get, Stamp}
 use Rattle.cola_table.specs.Replies.{turn_of}

@@ -1,5 +1,5 @@
 use Rattle.cola_io.specs.Reads.{bytes_read}
-use Rattle.cola_command.proofs.InMemory.{taken_of}
+use Rattle.cola_session.proofs.InMemory.{taken_of}
 use Rattle.cola_command.proofs.laws.few_bytes_are_read.Goals as goal
 
 pub returns : goal.returns

@@ -1,8 +1,8 @@
 use Rattle.std.proofs.Common.{◌≡◌, ◌⊎◌, inl, inr, ℕ}
 use Rattle.cola_io.specs.declared.source.Source as source
 use Rattle.cola_io.specs.declared.sink.Sink as sink
-use Rattle.cola_command.specs.Ends.{NothingFails, ReadToEnd, Untouched}
-use Rattle.cola_command.specs.Memory.{MemoryEnds, Replied}
+use Rattle.cola_session.specs.Ends.{NothingFails, ReadToEnd, Untouched}
+use Rattle.cola_session.specs.Memory.{MemoryEnds, Replied}
 use Rattle.cola_command.proofs.Completing.{met-end}
 use Rattle.cola_command.proofs.laws.memory_sessions_complete.Goals as goal
 

@@ -1,7 +1,7 @@
 use Rattle.std.proofs.Common.{refl, subst}
-use Rattle.cola_command.specs.Ends.{NotBegun}
+use Rattle.cola_session.specs.Ends.{NotBegun}
 use Rattle.cola_store.specs.Table.{store_table}
-use Rattle.cola_command.specs.Home.{LinesEnd}
+use Rattle.cola_session.specs.Home.{LinesEnd}
 use Rattle.cola_command.specs.Turns.{file_home}
 use Rattle.cola_command.proofs.Ending.{serves}
 use Rattle.cola_command.proofs.serving.serve_file.Goals as goal

@@ -5,7 +5,8 @@ use Rattle.cola_table.specs.Replies.{turn_of}
 use Rattle.cola_command.specs.declared.place.Place.{Place}
 use Rattle.cola_command.specs.declared.place.Place.TheVariants.{Closing, Closed}
 use Rattle.cola_command.specs.File.{format_of}
-use Rattle.cola_command.proofs.Asking.{map_of, ask-turned, shut-turned, shut-while_closing, shut-while_closed}
+use Rattle.cola_session.proofs.OfTable.{map_of}
+use Rattle.cola_command.proofs.Asking.{ask-turned, shut-turned, shut-while_closing, shut-while_closed}
 use Rattle.cola_command.proofs.lines.SessionHome.ask.Goals as goal
 
 pub answer-requires-clause-fits : goal.answer-requires-clause-fits

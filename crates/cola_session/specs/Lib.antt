@@ -1,0 +1,4 @@
+pub mod Reading
+pub mod Ends
+pub mod Home
+pub mod Memory
