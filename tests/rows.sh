@@ -1,8 +1,9 @@
 #!/usr/bin/env bash
 # Sessions as text: each file tests/rows/SUBJECT/NAME.row is given to the program cola_rows, and what it prints is compared
-# with NAME.out beside it. Then made lines are compared with the plain session.
+# with NAME.out beside it. Then made lines are compared with the plain session, and what check says of changed files with
+# the plain program.
 #
-#     tests/rows.sh              all subjects, then made lines, in about a minute and a half
+#     tests/rows.sh              all subjects, then made lines and changed files, in about two minutes
 #     tests/rows.sh SUBJECT..    the rows of these folders alone
 #     tests/rows.sh --long N     N made lines of each kind, from another seed than any before
 #     tests/rows.sh --statuses   no rows: the statuses of the program cola, a line for each with its number and its meaning
@@ -18,6 +19,8 @@ passed=0 failed=0
 
 # Made lines of each kind, for about 100 seconds together.
 lines=250000
+# Changed files.
+files=1000
 seed=1
 
 # check WHAT COMMAND..: counts whether the command ends with 0.
@@ -101,6 +104,10 @@ made() {
     "$program" made "$1" "$2"
 }
 
+judged() {
+    "$program" judged "$1" "$2"
+}
+
 is_current || build >&2 || exit 1
 if [ "${1-}" = --statuses ]; then
     "$program" statuses
@@ -115,6 +122,7 @@ case ${1-} in
 '')
     run_rows "$root"/tests/rows/*/*.row
     check "made $seed $lines" made "$seed" "$lines"
+    check "judged $seed $files" judged "$seed" "$files"
     ;;
 *)
     for subject in "$@"; do

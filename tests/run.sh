@@ -52,6 +52,12 @@ check 'a closed file says so' has_state notes 0
 check 'what was written is found in the next run' replies 0 'count 2,gone Ada,none,' 'count,del user:1001,get user:1001,' run notes
 check 'behind a cache too' replies 0 'val Grace,' 'get user:1002,' run notes --cache 64
 check 'costs are printed' replies 0 'none # 1,' 'get a,' run notes --cost
+cp notes before
+check 'what a session leaves is sound' replies 0 'sound 1,' '' check notes
+check 'a test writes nothing' is_same notes before
+printf '\002' | dd of=notes bs=1 seek=24 conv=notrunc 2>/dev/null
+check 'a file with another count is broken' replies 13 'broken count 0 0,' '' check notes
+cp before notes
 "$root/cola" create one --keys 1 || exit 1
 check 'a put is full where a new key meets the limit' replies 0 'new,full,old 1,gone 3,new,none,' \
     'put a 1,put b 2,put a 3,del a,put b 2,get a,' run one

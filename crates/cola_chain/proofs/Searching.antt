@@ -17,8 +17,7 @@ use Rattle.cola_told.specs.Cells.{cells}
 use Rattle.cola_told.proofs.CellLists.{length-cells}
 use Rattle.cola_told.proofs.ToldRuns.{told_is}
 use Rattle.cola_image.specs.Standing.{AreRunsTold}
-use Rattle.cola_look.specs.Runs.{HasRun, AreRuns}
-use Rattle.cola_search.specs.Find.{BeginsNear}
+use Rattle.cola_look.specs.Runs.{HasRun, AreRuns, BeginsNear}
 use Rattle.cola_level.specs.declared.level.Level.{Level}
 use Rattle.cola_level.specs.Aims.{visible_run}
 use Rattle.cola_level.specs.Marks.{all_marks_of}

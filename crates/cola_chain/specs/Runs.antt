@@ -9,8 +9,7 @@ use Rattle.cola_level.specs.declared.level.Level.{Level}
 use Rattle.cola_level.specs.Aims.{visible_run}
 use Rattle.cola_level.specs.Marks.{all_marks_of}
 use Rattle.cola_level.specs.Standing.{all_stood}
-use Rattle.cola_look.specs.Runs.{AreRuns}
-use Rattle.cola_search.specs.Find.{BeginsNear}
+use Rattle.cola_look.specs.Runs.{AreRuns, BeginsNear}
 
 -- the visible run of each level from level j on, at clock t
 abbrev pub visible_runs : ℕ → ℕ → List Level → List Run

@@ -18,6 +18,14 @@ use Rattle.cola_status.specs.Statuses.{IsStatus}
 use Rattle.cola_status.proofs.Known.{one, opening-known}
 use Rattle.cola_workload.proofs.Known.{gen-known}
 use Rattle.cola_session.specs.Ends.{Ending, SessionEnds, NotBegun, Status0, Status3, Status4, Status5, Status9}
+use Rattle.cola_check.specs.declared.fault.CheckFault.{CheckFault}
+use Rattle.cola_check.specs.declared.fault.CheckFault.TheVariants as check
+use Rattle.cola_report.specs.Line.LineEnds.{WroteLine, WroteFront}
+use Rattle.cola_report.specs.Line.{LineEnds}
+use Rattle.cola_verdict.specs.declared.verdict.Verdict.{Verdict}
+use Rattle.cola_verdict.specs.declared.verdict.Verdict.TheVariants.{Sound, Broken}
+use Rattle.cola_command.specs.Checked.{verdict_line, verdict_status, check_status, CheckEnds}
+use Rattle.cola_command.specs.Checked.CheckEnds.{Judged, NotJudged}
 use Rattle.cola_command.specs.Mirrored.{mirrored_status, rebuild_status, MirrorEnds, NotCompared, Differ, Mirrored}
 use Rattle.cola_command.specs.Serves as made
 use Rattle.cola_command.specs.Serves.{CreateEnds, Serves, upgrade_status}
@@ -43,6 +51,17 @@ rebuild-known (Err rebuild.NotClosed) n is = one known.NotClosed n is
 rebuild-known (Err (rebuild.Other many)) n is = one known.NotEmpty n is
 rebuild-known (Err rebuild.Device) n is = one known.DeviceFailed n is
 
+check-known : (fault : CheckFault) (n : ℕ) → n ≡ check_status fault → IsStatus n
+check-known check.NotStore n is = one known.NotStore n is
+check-known check.NotClosed n is = one known.NotClosed n is
+check-known check.Small n is = one known.NotStore n is
+check-known check.Device n is = one known.DeviceFailed n is
+check-known check.OutOfMemory n is = one known.OutOfMemory n is
+
+verdict-known : (verdict : Verdict) (n : ℕ) → n ≡ verdict_status verdict → IsStatus n
+verdict-known (Sound keys) n is = one known.Done n is
+verdict-known (Broken why level cell) n is = one known.Broken n is
+
 mirrored-known : (of_lines : ℕ) (sides : Sides) (n : ℕ) → n ≡ mirrored_status of_lines sides → IsStatus of_lines → IsStatus n
 mirrored-known zero Both n is known_so = one known.Done n is
 mirrored-known zero First n is known_so = one known.SecondLost n is
@@ -65,6 +84,11 @@ module _ {S K D : Type 0} (g : source.Ghosts S) (h : sink.Ghosts K) (d : device.
   created-known format keys block_exp device device' n (made.Status5 is r) = one known.DeviceFailed n is
   created-known format keys block_exp device device' n (made.Status8 is r) = one known.NotEmpty n is
 
+  checked-known : (device device' : D) (sink sink' : K) (steps steps' n : ℕ) → CheckEnds h d device device' sink sink' steps steps' n → IsStatus n
+  checked-known device device' sink sink' steps steps' n (Judged verdict checks (WroteLine is wrote counted)) = verdict-known verdict n is
+  checked-known device device' sink sink' steps steps' n (Judged verdict checks (WroteFront is k wrote counted)) = one known.SinkFailed n is
+  checked-known device device' sink sink' steps steps' n (NotJudged fault is checks stays) = check-known fault n is
+
   mirror-known : (cache : ℕ) (cost : Bool) (source source' : S) (sink sink' : K) (device device' second second' : D) (steps steps' n : ℕ) → MirrorEnds g h d cache cost source source' sink sink' device device' second second' steps steps' n → IsStatus n
   mirror-known cache cost source source' sink sink' device device' second second' steps steps' n (NotCompared is why compared) = one known.DeviceFailed n is
   mirror-known cache cost source source' sink sink' device device' second second' steps steps' n (Differ is place compared) = one known.FilesDiffer n is
@@ -80,7 +104,7 @@ module _ {S K D : Type 0} (g : source.Ghosts S) (h : sink.Ghosts K) (d : device.
   served-known source source' sink sink' device device' second second' steps steps' n (Some (Run cache cost (Some place))) served = mirror-known cache cost source source' sink sink' device device' second second' steps steps' n served.ends
   served-known source source' sink sink' device device' second second' steps steps' n (Some (Gen keys)) served = gen-known h d keys device device' sink sink' steps steps' n served.ends
   served-known source source' sink sink' device device' second second' steps steps' n (Some Upgrade) served = upgrade-known served.ends.answer n served.ends.status_is
-  served-known source source' sink sink' device device' second second' steps steps' n (Some Check) served = one known.WrongWords n served.status_is
+  served-known source source' sink sink' device device' second second' steps steps' n (Some Check) served = checked-known device device' sink sink' steps steps' n served.ends
   served-known source source' sink sink' device device' second second' steps steps' n (Some (Load keys block_exp format)) served = one known.WrongWords n served.status_is
   served-known source source' sink sink' device device' second second' steps steps' n (Some (Grow keys block_exp)) served = one known.WrongWords n served.status_is
   served-known source source' sink sink' device device' second second' steps steps' n (Some Rebuild) served = rebuild-known served.ends.answer n served.ends.status_is

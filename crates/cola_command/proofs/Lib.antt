@@ -13,6 +13,7 @@ pub mod Carrying
 pub mod HeadlineLaws
 pub mod Ending
 pub mod Completing
+pub mod Checking
 pub mod Mirroring
 pub mod Looks
 pub mod Known

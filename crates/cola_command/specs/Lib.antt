@@ -4,6 +4,7 @@ pub mod Moves
 pub mod Turns
 pub mod Headline
 pub mod Mirrored
+pub mod Checked
 pub mod HeadlineLaws
 pub mod MirrorLaws
 pub mod Serves

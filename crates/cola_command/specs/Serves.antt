@@ -10,10 +10,11 @@ use Rattle.cola_wide.specs.declared.fault.UpgradeFault.{UpgradeFault}
 use Rattle.cola_wide.specs.declared.fault.UpgradeFault.TheVariants as upgrade
 use Rattle.cola_wide.specs.Upgrade.{Upgrades, CanBeUpgraded, IsDoneForMemory}
 use Rattle.cola_words.specs.declared.mode.Mode.{Mode}
-use Rattle.cola_words.specs.declared.mode.Mode.TheVariants.{Mem, Create, Run, Gen, Upgrade, Rebuild}
+use Rattle.cola_words.specs.declared.mode.Mode.TheVariants.{Mem, Create, Run, Gen, Upgrade, Check, Rebuild}
 use Rattle.cola_session.specs.Ends.{Untouched}
 use Rattle.cola_session.specs.Memory.{MemoryEnds}
 use Rattle.cola_store.specs.Table.{store_table}
+use Rattle.cola_command.specs.Checked.{CheckEnds}
 use Rattle.cola_command.specs.Headline.{FileEnds}
 use Rattle.cola_command.specs.Mirrored.{MirrorEnds, RebuildEnds}
 use Rattle.cola_workload.specs.Workload.{GenEnds, FaultsCaused, EndsOnEmpty}
@@ -97,6 +98,14 @@ module _ {S K D : Type 0} (g : source.Ghosts S) (h : sink.Ghosts K) (d : device.
     pub ends : RebuildEnds d device device' second second' status
     pub untouched : Untouched source source' sink sink' steps steps'
 
+  -- the file of the first device was tested or was not, and that device and the sink alone were called; the device was not written
+  pub record CheckedFile : Type 0 where
+    pub ends : CheckEnds h d device device' sink sink' steps steps' status
+    pub no_write : (d.counts device').writes ≡ (d.counts device).writes
+    pub kept : d.kept device' ≡ d.kept device
+    pub source_stays : source' ≡ source
+    pub second_stays : second' ≡ second
+
   -- by the mode that the words name. Every other mode is refused as words that name none
   abbrev pub Serves : Option Mode → Type 0
   Serves (Some (Mem keys)) = ServedInMemory keys
@@ -106,4 +115,5 @@ module _ {S K D : Type 0} (g : source.Ghosts S) (h : sink.Ghosts K) (d : device.
   Serves (Some (Run cache cost (Some place))) = ServedMirror cache cost
   Serves (Some Upgrade) = UpgradedFile
   Serves (Some Rebuild) = RebuiltFile
+  Serves (Some Check) = CheckedFile
   Serves _ = Refused

@@ -1,6 +1,8 @@
 //! The session over the lines of a source, and the one call that the program makes.
 #![tactic(auto)]
 
+mod check_laws;
+mod checked;
 mod definition_laws;
 mod file;
 mod laws;
@@ -13,6 +15,7 @@ mod serving;
 mod serving_laws;
 mod upgrading;
 
+pub use check_laws::checked_files_are_judged;
 pub use definition_laws::{
     carried_out, file_sessions_end, files_are_left, fronts_have_all_before_the_last,
     memory_sessions_end, modes_are_served, new_files_end, refusals_have_statuses, sessions_are_led,

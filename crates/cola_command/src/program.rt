@@ -6,6 +6,7 @@ ghost use Rattle.cola_words.specs.Modes.{HasSizes, mode_of};
 ghost use Rattle.cola_words.specs.declared.mode.Mode.TheVariants.{Run};
 ghost use Rattle.cola_words.specs.Sizes.{SuitStore};
 
+use crate::checked::check_file;
 use crate::mirrored::{rebuild_file, serve_mirror};
 use crate::serving::serve_file;
 use crate::upgrading::upgrade_file;
@@ -117,6 +118,14 @@ fn serve_mode<S: Source, K: Sink, D: Device, L: Ledger>(
                 second,
             };
         }
+        Some(Mode::Check) => {
+            let (device, status) = check_file(alloc, sink, device, steps);
+            return Served {
+                status,
+                device,
+                second,
+            };
+        }
         Some(Mode::Upgrade) => upgrade_file(alloc, &mut device, &mut second),
         Some(Mode::Rebuild) => rebuild_file(&mut device, &mut second),
         _ => Status::WrongWords as u8,
@@ -167,6 +176,12 @@ fn serve_mode<S: Source, K: Sink, D: Device, L: Ledger>(
 /// `rebuild FILE TO` makes the file of the second device equal to the closed file of the first, and touches neither the source
 /// nor the sink. It ends with 0 where that is done, with 5 where a device refused a call, with 6 where the first has no store
 /// or not all of one, with 7 where its store is in use, and with 8 where the second has another number of bytes.
+///
+/// `check FILE` tests the closed file of the device and writes one line: `sound N` where it stands for a map of N keys, or
+/// `broken FLAW J C` with the first test that it fails, the level and the cell. It reads no source and writes nothing to the
+/// device. It ends with 0 where the file is sound and 13 where it is not, with 4 where the sink failed, and, with nothing
+/// written, with 1 where there is no memory, with 5 where the device refused a call, with 6 where the device has no store or
+/// not all of one, and with 7 where its store is in use.
 ///
 /// All other words end with 2, and nothing is touched: the modes that `cola_words` knows beside these are not built. No mode
 /// but `upgrade`, `rebuild` and `run` with `--mirror` touches the second device.

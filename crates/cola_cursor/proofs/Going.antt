@@ -24,19 +24,20 @@ use Rattle.cola_cursor.specs.declared.cursor.Cursor.{Cursor}
 use Rattle.cola_cursor.specs.Lines.{LineFits, IsReady, Reading, all_left}
 use Rattle.cola_cursor.specs.Passing.{PassAll}
 use Rattle.cola_cursor.specs.Results.{FetchAll, HasBadLine, LinesCause, least_from}
-use Rattle.cola_cursor.specs.Standing.{runs_of, rests, befores, AreSearched, AreApart, Stands, Ahead, TakesNext, AnswerCause, IsPassed, answered_key, HeadEnds, LineEnds, LinesPassed, none_hidden}
+use Rattle.cola_cursor.specs.Standing.{runs_of, rests, befores, AreApart, Stands, Ahead, TakesNext, AnswerCause, IsPassed, answered_key, HeadEnds, LineEnds, LinesPassed, none_hidden}
 use Rattle.cola_cursor.specs.Giving.{NextGives}
 use Rattle.cola_cursor.proofs.Least.{HeadPast, AnyHas, IsLeast, least_is, least_none}
 use Rattle.cola_cursor.proofs.Stepping.{fetch_runs, fetch_fit, fetch_ready, fetch_bad, fetch_rests, fetch_befores, pass_runs, pass_fit, pass_ready, pass_bad, heads_from, heads_past, rising_rests, step_lives, step_apart}
 use Rattle.cola_cursor.proofs.Behind.{fetch_passes, passes_then, look_passes, tombstone_passes, answer_passes}
 
--- what a cursor has passed on its way from some lines to others: no pair, and no key is left between
+-- what a cursor has passed on its way from some lines to others: no pair, and keys that were apart stay so
 pub record Going (held : Held) (end : Option (List ℕ)) (olds news : List Line) (answered : Option (List ℕ)) : Type 0 where
   pub fit : AllByRecursion (LineFits held) news
   pub ready : AllByRecursion IsReady news
   pub runs_are : runs_of news ≡ runs_of olds
   pub bad : (number : ℕ) → HasBadLine held number news → HasBadLine held number olds
-  pub apart : (lists : List (List LawCell)) → AreRuns held (runs_of olds) lists → AreSearched lists → AreApart (befores news lists) (rests news lists)
+  pub apart : (lists : List (List LawCell)) → AreRuns held (runs_of olds) lists → AllByRecursion (laws.IsRising key_cmp) lists →
+      AreApart (befores olds lists) (rests olds lists) → AreApart (befores news lists) (rests news lists)
   pub passed : LinesPassed held answered none_hidden olds news
 
 -- and no live pair was passed
@@ -45,7 +46,7 @@ pub record Quiet (held : Held) (end : Option (List ℕ)) (olds news : List Line)
   pub lives : (lists : List (List LawCell)) → AreRuns held (runs_of olds) lists → AllByRecursion (laws.IsRising key_cmp) lists →
       live key_cmp (below_end key_cmp end) (rests olds lists) ≡ live key_cmp (below_end key_cmp end) (rests news lists)
 
-module _ (held : Held) (cursor : Cursor) (s : Stands held cursor) where
+module _ (held : Held) (cursor : Cursor) where
   pub quiet_begins : (news : List Line) → FetchAll held cursor.lines.items news → Quiet held cursor.end cursor.lines.items news
   quiet_begins news f = record {
     going = record {
@@ -53,7 +54,7 @@ module _ (held : Held) (cursor : Cursor) (s : Stands held cursor) where
       ready = fetch_ready held cursor.lines.items news f;
       runs_are = fetch_runs held cursor.lines.items news f;
       bad = λ number b. fetch_bad held cursor.lines.items news number f b;
-      apart = λ lists r a. apart_of lists (s.apart lists r a);
+      apart = λ lists r h a. apart_of lists a;
       passed = fetch_passes held None none_hidden cursor.lines.items news f;
     };
     lives = λ lists r h. ap (live key_cmp (below_end key_cmp cursor.end)) (sym (fetch_rests held cursor.lines.items news lists f));
@@ -95,7 +96,7 @@ module _ {held : Held} {end : Option (List ℕ)} {olds mids : List Line} (q : Qu
     ready = pass_ready held k mids news item p;
     runs_are = pass_runs held k mids news item p ∙ q.going.runs_are;
     bad = λ number b. q.going.bad number (pass_bad held k mids news item number p b);
-    apart = λ lists r a. step_apart k held mids news item lists p (in_mids lists r) (sampled_rise key_cmp lists a.sampled) (heads lists r) (q.going.apart lists r a);
+    apart = λ lists r h a. step_apart k held mids news item lists p (in_mids lists r) h (heads lists r) (q.going.apart lists r h a);
     passed = passes_then held answered none_hidden none_hidden none_hidden olds mids news q.going.passed l (λ x y. y) (λ x y. y);
   }
 
@@ -126,26 +127,30 @@ module _ {held : Held} {end : Option (List ℕ)} {olds mids : List Line} (q : Qu
   answer_lives news item value stamp p e lists r h = step_live news item p lists r h ∙ ap (λ x. with_answer k (option_map as_item x) (live key_cmp (below_end key_cmp end) (rests news lists))) e
 
 -- where a cursor stands then
-pub stands_then : {held : Held} {end answered : Option (List ℕ)} {olds : List Line} (cursor : Cursor) → Going held end olds cursor.lines.items answered → Stands held cursor
-stands_then {held} {end} {answered} {olds} cursor g = record {
+pub stands_then : {held : Held} {end answered : Option (List ℕ)} (old new : Cursor) → Stands held old → Going held end old.lines.items new.lines.items answered → Stands held new
+stands_then {held} old new s g = record {
   fit = g.fit;
-  apart = λ lists r a. g.apart lists (subst (λ (x : List Run). AreRuns held x lists) g.runs_are r) a;
+  apart = λ lists r a.
+      let told : AreRuns held (runs_of old.lines.items) lists = subst (λ (x : List Run). AreRuns held x lists) g.runs_are r in
+      g.apart lists told (sampled_rise key_cmp lists (a []).sampled) (s.apart lists told a);
 }
 
 -- the pair that is taken
 pub takes_pair : {held : Held} {mids : List Line} (old new : Cursor) (q : Quiet held old.end old.lines.items mids) (k : List ℕ) (least : least_from old.end None mids ≡ Some k) (item : Option Item) (value : List ℕ) (stamp : ℕ) →
     new.end ≡ old.end → PassAll held k mids new.lines.items item → item ≡ Some (Value value stamp) →
     (pairs : List (List ℕ × Stamped)) → Ahead held old pairs → TakesNext (Ahead held new) pairs (Ok (Some (k, value, stamp)))
-takes_pair {held} old new q k least item value stamp e p i pairs a = (
-  live key_cmp (below_end key_cmp old.end) (rests new.lines.items a.lists),
-  a.pairs_are ∙ answer_lives q k least new.lines.items item value stamp p i a.lists a.told a.rising,
-  record {
-    lists = a.lists;
-    told = subst (λ (x : List Run). AreRuns held x a.lists) (sym (going_on q k least (Some k) new.lines.items item p (answer_passes held k none_hidden _ new.lines.items item p)).runs_are) a.told;
-    rising = a.rising;
-    pairs_are = ap (λ x. live key_cmp (below_end key_cmp x) (rests new.lines.items a.lists)) (sym e);
-  },
-)
+takes_pair {held} old new q k least item value stamp e p i pairs a =
+    let g = answer_going q k least new.lines.items item p in (
+      live key_cmp (below_end key_cmp old.end) (rests new.lines.items a.lists),
+      a.pairs_are ∙ answer_lives q k least new.lines.items item value stamp p i a.lists a.told a.rising,
+      record {
+        lists = a.lists;
+        told = subst (λ (x : List Run). AreRuns held x a.lists) (sym g.runs_are) a.told;
+        rising = a.rising;
+        apart = g.apart a.lists a.told a.rising a.apart;
+        pairs_are = ap (λ x. live key_cmp (below_end key_cmp x) (rests new.lines.items a.lists)) (sym e);
+      },
+    )
 
 pub takes_none : {held : Held} (old new : Cursor) (q : Quiet held old.end old.lines.items new.lines.items) → new.end ≡ old.end → least_from old.end None new.lines.items ≡ None →
     (pairs : List (List ℕ × Stamped)) → Ahead held old pairs → TakesNext (Ahead held new) pairs (Ok None)
@@ -155,7 +160,13 @@ takes_none {held} old new q e l pairs a =
     live_ends nat_list_cmp_total old.end (rests new.lines.items a.lists) (rising_rests new.lines.items a.lists a.rising)
     (heads_past held old.end new.lines.items a.lists q.going.fit q.going.ready told (least_none old.end None new.lines.items l).1) in (
       a.pairs_are ∙ q.lives a.lists a.told a.rising ∙ none,
-      record { lists = a.lists; told = told; rising = a.rising; pairs_are = sym none ∙ ap (λ x. live key_cmp (below_end key_cmp x) (rests new.lines.items a.lists)) (sym e) },
+      record {
+        lists = a.lists;
+        told = told;
+        rising = a.rising;
+        apart = q.going.apart a.lists a.told a.rising a.apart;
+        pairs_are = sym none ∙ ap (λ x. live key_cmp (below_end key_cmp x) (rests new.lines.items a.lists)) (sym e);
+      },
     )
 
 -- none is left
@@ -212,15 +223,15 @@ calm_for T U between before now fault (BadCell number) e is calm = subst (λ (f 
 module _ {W : Type 0} (w : source.Ghosts W) (before now : W) (old new : Cursor) (ticks ticks_now : ℕ) (stay : w.held now ≡ w.held before) (kept : w.kept now ≡ w.kept before)
     (reading : Reading (w.spent before) (w.spent now) ticks ticks_now) where
   -- a step that was carried out
-  pub went : (found : Option (List ℕ × List ℕ × ℕ)) → (w.spent now).faults ≡ (w.spent before).faults → ticks_now + all_left new.lines.items ≤ ticks + all_left old.lines.items → new.end ≡ old.end →
+  pub went : (found : Option (List ℕ × List ℕ × ℕ)) → Stands (w.held before) old → (w.spent now).faults ≡ (w.spent before).faults → ticks_now + all_left new.lines.items ≤ ticks + all_left old.lines.items → new.end ≡ old.end →
       Going (w.held before) old.end old.lines.items new.lines.items (answered_key found) → AnswerCause new (answered_key found) → IsPassed (w.held before) old.lines.items new.lines.items found →
       ((pairs : List (List ℕ × Stamped)) → Ahead (w.held before) old pairs → TakesNext (Ahead (w.held before) new) pairs (Ok found)) → NextGives w before now old new ticks ticks_now (Ok found)
-  went found calm left end going answers pair takes = record {
+  went found stood calm left end going answers pair takes = record {
     takes = λ pairs ahead. subst (λ (h : Held). TakesNext (Ahead h new) pairs (Ok found)) (sym stay) (takes pairs ahead);
     answers = answers;
     pair = pair;
     passes = going.passed;
-    stands = subst (λ (h : Held). Stands h new) (sym stay) (stands_then new going);
+    stands = subst (λ (h : Held). Stands h new) (sym stay) (stands_then old new stood going);
     end_stays = end;
     refused = tt;
     left = left;

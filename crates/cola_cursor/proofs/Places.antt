@@ -7,7 +7,6 @@ use Rattle.std.specs.List.{AllByRecursion}
 use Rattle.std.specs.List.Sorted.{IsStrictlySortedBy}
 use Rattle.cola_runs.specs.Cells as laws
 use Rattle.cola_runs.specs.Search.{place, link_at, first_len}
-use Rattle.cola_runs.proofs.Searches.{place_in}
 use Rattle.std.proofs.lemmas.List.Elements.{All-head, All-tail}
 use Rattle.cola_cell.specs.declared.cell.Run.{Run}
 use Rattle.cola_cell.specs.declared.fault.ReadFault.{ReadFault}
@@ -32,14 +31,11 @@ places_are key start (cells ∷ lists) h =
     ap (λ n. n ∷ places_from key (link_at cells (first_len lists) n) lists) h.0
     ∙ ap (λ z. place key_cmp key cells ∷ z) (places_are key (link_at cells (first_len lists) (place key_cmp key cells)) lists h.1)
 
-begins_near : (key : List ℕ) (lists : List (List LawCell)) → AreSearched lists → StopsAtPlaces key_cmp key 0 lists
+begins_near : (key : List ℕ) (lists : List (List LawCell)) → AreSearched key lists → StopsAtPlaces key_cmp key 0 lists
 begins_near key [] h = tt
-begins_near key (cells ∷ lists) h =
-    let p = place_in key_cmp key cells in
-    let n = h.near in
-    stops_at_places nat_list_cmp_total key 0 cells lists h.sampled (omega arith) (omega arith)
+begins_near key (cells ∷ lists) h = let n = h.near in stops_at_places nat_list_cmp_total key 0 cells lists h.sampled (omega arith) (omega arith)
 
-pub at_places : (key : List ℕ) (lines : List Line) (lists : List (List LawCell)) → AreSearched lists → map (λ (x : Line). x.place) lines ≡ places_from key 0 lists →
+pub at_places : (key : List ℕ) (lines : List Line) (lists : List (List LawCell)) → AreSearched key lists → map (λ (x : Line). x.place) lines ≡ places_from key 0 lists →
     map (λ (x : Line). x.place) lines ≡ map (place key_cmp key) lists
 at_places key lines lists h e = e ∙ places_are key 0 lists (begins_near key lists h)
 
@@ -117,21 +113,24 @@ apart_at_places key lines lists h e =
 same_runs : (held : Held) {runs others : List Run} (lists : List (List LawCell)) → runs ≡ others → AreRuns held runs lists → AreRuns held others lists
 same_runs held lists e r = subst (λ (x : List Run). AreRuns held x lists) e r
 
+-- where a cursor begins at a key, its places keep the keys apart
+begun_apart : (key : List ℕ) (cursor : Cursor) (lists : List (List LawCell)) → AreSearched key lists → map (λ (x : Line). x.place) cursor.lines.items ≡ places_from key 0 lists →
+    AreApart (befores cursor.lines.items lists) (rests cursor.lines.items lists)
+begun_apart key cursor lists a p = apart_at_places key cursor.lines.items lists (sampled_rise key_cmp lists a.sampled) (at_places key cursor.lines.items lists a p)
+
 -- where a cursor stands that begins at a key, in lines that stand in its runs
 pub begun_stands : (held : Held) (key : List ℕ) (runs : List Run) (cursor : Cursor) → AllByRecursion (LineFits held) cursor.lines.items → runs_of cursor.lines.items ≡ runs →
     ((lists : List (List LawCell)) → AreRuns held runs lists → map (λ (x : Line). x.place) cursor.lines.items ≡ places_from key 0 lists) → Stands held cursor
-begun_stands held key runs cursor f e p = record {
-  fit = f;
-  apart = λ lists r a. apart_at_places key cursor.lines.items lists (sampled_rise key_cmp lists a.sampled) (at_places key cursor.lines.items lists a (p lists (same_runs held lists e r)));
-}
+begun_stands held key runs cursor f e p = record { fit = f; apart = λ lists r a. begun_apart key cursor lists (a key) (p lists (same_runs held lists e r)) }
 
 -- and the pairs that are ahead of it
-pub begun_ahead : (held : Held) (key : List ℕ) (runs : List Run) (cursor : Cursor) → runs_of cursor.lines.items ≡ runs → (lists : List (List LawCell)) → AreRuns held runs lists → AreSearched lists →
+pub begun_ahead : (held : Held) (key : List ℕ) (runs : List Run) (cursor : Cursor) → runs_of cursor.lines.items ≡ runs → (lists : List (List LawCell)) → AreRuns held runs lists → AreSearched key lists →
     map (λ (x : Line). x.place) cursor.lines.items ≡ places_from key 0 lists → Ahead held cursor (live key_cmp (between key_cmp key cursor.end) lists)
 begun_ahead held key runs cursor e lists r a p = record {
   lists = lists;
   told = same_runs held lists (sym e) r;
   rising = sampled_rise key_cmp lists a.sampled;
+  apart = begun_apart key cursor lists a p;
   pairs_are = live_from nat_list_cmp_total key cursor.end lists (sampled_rise key_cmp lists a.sampled)
       ∙ ap (live key_cmp (below_end key_cmp cursor.end)) (sym (rests_places key cursor.lines.items lists (at_places key cursor.lines.items lists a p)));
 }

@@ -42,4 +42,4 @@ stands_stay old new cursor e s h = record {
 }
 
 pub ahead_stays : (old new : Held) (cursor : Cursor) (pairs : List (List ℕ × Stamped)) → RunsStay old new cursor.lines.items → Ahead old cursor pairs → Ahead new cursor pairs
-ahead_stays old new cursor pairs s a = record { lists = a.lists; told = runs_then old new cursor.lines.items a.lists s a.told; rising = a.rising; pairs_are = a.pairs_are }
+ahead_stays old new cursor pairs s a = record { lists = a.lists; told = runs_then old new cursor.lines.items a.lists s a.told; rising = a.rising; apart = a.apart; pairs_are = a.pairs_are }

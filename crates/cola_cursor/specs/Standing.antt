@@ -3,14 +3,14 @@ use Rattle.std.specs.Prelude.{◌≡◌, ◌⊎◌, ℕ, ◌≤◌, ◌<◌, Boo
 use Rattle.std.specs.List.{AllByRecursion}
 use Rattle.std.specs.declared.cmp.Ordering.TheVariants.{Less}
 use Rattle.cola_runs.specs.Cells as laws
-use Rattle.cola_runs.specs.Search.{AreSampled, first_len}
+use Rattle.cola_runs.specs.Search.{AreSampled}
 use Rattle.cola_cell.specs.declared.cell.Cell.{Cell}
 use Rattle.cola_cell.specs.declared.cell.Run.{Run}
 use Rattle.cola_cell.specs.declared.fault.ReadFault.{ReadFault}
 use Rattle.cola_cell.specs.Cell.{key_of}
 use Rattle.cola_cell.specs.Held.{Held, Told, Tells, LawCell, Stamped}
 use Rattle.cola_cell.specs.Order.{key_cmp}
-use Rattle.cola_look.specs.Runs.{AreRuns}
+use Rattle.cola_look.specs.Runs.{AreRuns, BeginsNear}
 use Rattle.cola_pairs.specs.Live.{live, below_end}
 use Rattle.cola_cursor.specs.declared.line.Line.{Line}
 use Rattle.cola_cursor.specs.declared.cursor.Cursor.{Cursor}
@@ -32,27 +32,28 @@ befores [] lists = []
 befores (line ∷ lines) [] = []
 befores (line ∷ lines) (cells ∷ lists) = take line.place cells ∷ befores lines lists
 
--- runs as a search wants them: each is well formed and has the sample of the next, and the first has at most seven cells
-pub record AreSearched (lists : List (List LawCell)) : Type 0 where
+-- runs as the search of a key wants them: each is well formed and has the sample of the next, and the key's place in the first, of which the search begins at the first cell, is near enough
+pub record AreSearched (key : List ℕ) (lists : List (List LawCell)) : Type 0 where
   pub sampled : AreSampled key_cmp lists
-  pub near : first_len lists ≤ 7
+  pub near : BeginsNear key lists
 
 -- every key before one of the places is below every key at or after any of them
 abbrev pub AreApart : List (List LawCell) → List (List LawCell) → Type 0
 AreApart befores rests =
     AllByRecursion (AllByRecursion (λ c. AllByRecursion (AllByRecursion (λ d. key_cmp (laws.key_of c) (laws.key_of d) ≡ Less)) rests)) befores
 
--- a cursor over an object: its lines stand in runs of the object, and where these are told to be runs as a search wants them, every key before one of its places is below every key at or after any of them
+-- a cursor over an object: its lines stand in runs of the object, and where these are told to be runs as the search of any key wants them, every key before one of its places is below every key at or after any of them
 pub record Stands (held : Held) (cursor : Cursor) : Type 0 where
   pub fit : AllByRecursion (LineFits held) cursor.lines.items
-  pub apart : (lists : List (List LawCell)) → AreRuns held (runs_of cursor.lines.items) lists → AreSearched lists →
+  pub apart : (lists : List (List LawCell)) → AreRuns held (runs_of cursor.lines.items) lists → ((key : List ℕ) → AreSearched key lists) →
       AreApart (befores cursor.lines.items lists) (rests cursor.lines.items lists)
 
--- these pairs, each with its stamp, are ahead of a cursor: its runs are told and in order, and the pairs are the live pairs below its upper end in their rests
+-- these pairs, each with its stamp, are ahead of a cursor: its runs are told and in order, every key before one of its places is below every key at or after any of them, and the pairs are the live pairs below its upper end in the rests
 pub record Ahead (held : Held) (cursor : Cursor) (pairs : List (List ℕ × Stamped)) : Type 0 where
   pub lists : List (List LawCell)
   pub told : AreRuns held (runs_of cursor.lines.items) lists
   pub rising : AllByRecursion (laws.IsRising key_cmp) lists
+  pub apart : AreApart (befores cursor.lines.items lists) (rests cursor.lines.items lists)
   pub pairs_are : pairs ≡ live key_cmp (below_end key_cmp cursor.end) (rests cursor.lines.items lists)
 
 -- an answer takes the first of the pairs that were ahead, if there is one, and leaves the others ahead; a refusal takes none

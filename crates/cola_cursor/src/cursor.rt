@@ -41,8 +41,8 @@ impl Cursor {
         requires runs { All (HasRun (W.held work.old)) runs.now.items }
         requires levels { LevelsRise 0 runs.now.items }
 
-        // On runs as a search wants them the live pairs of the interval are ahead.
-        ensures ahead { (lists : List (List LawCell)) → AreRuns (W.held work.old) runs.now.items lists → AreSearched lists →
+        // On runs as the search of `lo` wants them the live pairs of the interval are ahead.
+        ensures ahead { (lists : List (List LawCell)) → AreRuns (W.held work.old) runs.now.items lists → AreSearched lo.now lists →
             IfOk result (λ cursor. Ahead (W.held work.old) cursor (live key_cmp (between key_cmp lo.now (option_copied hi.entry)) lists)) }
         // On all told runs, in order or not, each place is where the search of its run stops.
         ensures places { (lists : List (List LawCell)) → AreRuns (W.held work.old) runs.now.items lists →

@@ -34,6 +34,7 @@ use Rattle.cola_merge.specs.States.{State, len_of, Goes, Took, Refused, IsOverfu
 use Rattle.cola_merge.specs.Advance.{Consumes, whole_run, IsGoing, GoesBy, GoesFurther, Gone, IsWhole, HasStepCause, IsCalm, IsDeviceFault, cells_read, refused_push, IsThrifty, IsSavedByBlocks}
 use Rattle.cola_told.proofs.CellLists.{length-cells}
 use Rattle.cola_merge.proofs.Kept.{feed_cells-stay, feeds_told-stay}
+use Rattle.cola_merge.proofs.Reading.{heads_of}
 use Rattle.cola_merge.proofs.Ruling.{action_of_heads}
 use Rattle.cola_merge.proofs.Stepping.{all_read}
 
@@ -170,7 +171,7 @@ never_overfull : {aim : Aim} {t : State} {level : ℕ} → IsReady t.held aim t.
 never_overfull {aim} {t} {level} r going fits o =
     let e = emits_is (next_action aim t.merger) o.emits in
     let room = has_room nat_list_cmp_total (part_of aim) (feed_cells t.held aim.own) (feed_cells t.held aim.incoming) (feed_keys t.held aim.sample) going.own_rises going.incoming_rises going.keys_rise
-    (build_of t.held aim t.merger) going.under_way e.0 e.1 (sym (action_of_heads t.held aim t.merger r o.fetched going.feeds) ∙ e.2) in
+    (build_of t.held aim t.merger) going.under_way e.0 e.1 (sym (action_of_heads t.held aim t.merger (heads_of r) o.fetched going.feeds) ∙ e.2) in
     let len : length (shadow_cells t.held aim.level) ≡ (t.held.shadows aim.level).len = length-cells (t.held.spots aim.level (t.held.shadows aim.level).slot) 0 (t.held.shadows aim.level).len in
     no_room (length (shadow_cells t.held aim.level)) (t.held.shadows aim.level).len (slot_size aim.level) (length (whole_run t.held aim)) len o.full room fits
   where
@@ -231,7 +232,7 @@ thrifty_ok : {aim : Aim} {s t : State} {count : ℕ} (result : Result Progress S
     IsThrifty aim s.steps t.steps (len_of aim s) (len_of aim t) result
 thrifty_ok {aim} {s} {t} result k l e =
     let none : fetched aim s.merger ≡ 0 = fresh_fetched aim s.merger e in
-    let all : fetched aim t.merger ≤ cells_read aim = all_read k.goes.ready in
+    let all : fetched aim t.merger ≤ cells_read aim = all_read (heads_of k.goes.ready) in
     record {
       pushes = first t.steps s.steps (fetched aim s.merger) (fetched aim t.merger) (len_of aim s) (len_of aim t) (cells_read aim) (refused_push result) none all k.reads;
       places = second t.steps s.steps (fetched aim s.merger) (fetched aim t.merger) (len_of aim s) (len_of aim t) (cells_read aim) (slot_size aim.level) none all k.reads (k.goes.grows.len_fits l);

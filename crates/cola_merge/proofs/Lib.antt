@@ -7,4 +7,6 @@ pub mod Pushing
 pub mod Stepping
 pub mod Taking
 pub mod Advancing
+pub mod Ahead
+pub mod Pulling
 pub mod ToldRuns

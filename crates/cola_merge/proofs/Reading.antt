@@ -10,7 +10,7 @@ use Rattle.cola_cell.specs.declared.cell.Cell.{Cell}
 use Rattle.cola_cell.specs.declared.fault.ReadFault.{ReadFault}
 use Rattle.cola_cell.specs.declared.fault.ReadFault.TheVariants as read
 use Rattle.cola_cell.specs.Fault.{step_of_read}
-use Rattle.cola_cell.specs.Places.{slot_size, Block, block_of}
+use Rattle.cola_cell.specs.Places.{block_of}
 use Rattle.cola_cell.specs.Held.{Held}
 use Rattle.cola_cell.specs.Format.{CellFits}
 use Rattle.cola_cell.specs.Spent.{Buffer, By, Spent, Reads, ReadAnswers, ReadCalm}
@@ -19,13 +19,14 @@ use Rattle.cola_merge.specs.declared.aims.Feed.TheVariants as feed
 use Rattle.cola_merge.specs.declared.aims.Aim.{Aim}
 use Rattle.cola_merge.specs.declared.heads.Head.{Head}
 use Rattle.cola_merge.specs.declared.merging.Merger.{Merger}
-use Rattle.cola_told.specs.Cells.{shadow_cells}
-use Rattle.cola_merge.specs.Feeds.{feed_of, feed_len, read_len, IsBadAt}
-use Rattle.cola_merge.specs.Heads.{head_of, with_head, consumed, IsHeldCell, IsHead, IsReady, IsFetched, missing_head, missing, held_head, fetched_of, fetched, build_of}
-use Rattle.cola_merge.specs.Blocks.{Lasts, is_last, run_left, feed_left, blocks_left}
-use Rattle.cola_merge.specs.States.{Spends, IsOther, IsBeside, ReadFailed, Fetch, State, state, len_of, Goes, Took, Refused, StepCause, StepCalm, failed_push}
+use Rattle.cola_merge.specs.Feeds.{feed_of, feed_len, read_len, IsFeed, IsBadAt}
+use Rattle.cola_merge.specs.Heads.{head_of, with_head, consumed, IsHeldCell, IsHead, HasHeads, IsReady, IsFetched, missing_head, missing, held_head, fetched_of, fetched}
+use Rattle.cola_merge.specs.Blocks.{Lasts, run_left, feed_left, blocks_left}
+use Rattle.cola_merge.specs.States.{Spends, IsOther, IsBeside, ReadFailed, Fetch, state, StepCause, StepCalm}
+use Rattle.cola_merge.specs.Advance.{cells_read}
+use Rattle.cola_merge.specs.Pulls.{Looks, Looked, Unread}
 use Rattle.cola_merge.proofs.Groups.{read_left, sampled_block}
-use Rattle.cola_merge.proofs.Kept.{grows_none, left-beside}
+use Rattle.cola_merge.proofs.Kept.{left-beside}
 use Rattle.cola_merge.proofs.Sums.{spends_none}
 
 -- ---- one read
@@ -179,8 +180,12 @@ one_is_fetched spent reader c at was n a e h f = record {
 
 -- ---- one head of three
 
-pub ready_with : {held : Held} {aim : Aim} {m : Merger} {head : Head} (reader : Reader) → IsReady held aim m → IsHead held (feed_of aim reader) head → IsReady held aim (with_head m reader head)
-ready_with Own r h = record {
+pub heads_of : {held : Held} {aim : Aim} {m : Merger} → IsReady held aim m → HasHeads held aim m
+heads_of r = record { own_feed = r.own_feed; incoming_feed = r.incoming_feed; sample_feed = r.sample_feed; own = r.own; incoming = r.incoming; sample = r.sample }
+
+-- other heads of the same feeds
+pub ready_by : {held : Held} {aim : Aim} {m n : Merger} → IsReady held aim m → HasHeads held aim n → IsReady held aim n
+ready_by r h = record {
   level_in = r.level_in;
   slot_is = r.slot_is;
   own_feed = r.own_feed;
@@ -189,41 +194,25 @@ ready_with Own r h = record {
   own_apart = r.own_apart;
   incoming_apart = r.incoming_apart;
   sample_apart = r.sample_apart;
-  own = h;
-  incoming = r.incoming;
-  sample = r.sample;
-}
-ready_with Incoming r h = record {
-  level_in = r.level_in;
-  slot_is = r.slot_is;
-  own_feed = r.own_feed;
-  incoming_feed = r.incoming_feed;
-  sample_feed = r.sample_feed;
-  own_apart = r.own_apart;
-  incoming_apart = r.incoming_apart;
-  sample_apart = r.sample_apart;
-  own = r.own;
-  incoming = h;
-  sample = r.sample;
-}
-ready_with Sample r h = record {
-  level_in = r.level_in;
-  slot_is = r.slot_is;
-  own_feed = r.own_feed;
-  incoming_feed = r.incoming_feed;
-  sample_feed = r.sample_feed;
-  own_apart = r.own_apart;
-  incoming_apart = r.incoming_apart;
-  sample_apart = r.sample_apart;
-  own = r.own;
-  incoming = r.incoming;
-  sample = h;
+  own = h.own;
+  incoming = h.incoming;
+  sample = h.sample;
 }
 
-pub ready_head : {held : Held} {aim : Aim} {m : Merger} (reader : Reader) → IsReady held aim m → IsHead held (feed_of aim reader) (head_of m reader)
-ready_head Own r = r.own
-ready_head Incoming r = r.incoming
-ready_head Sample r = r.sample
+pub heads_with : {held : Held} {aim : Aim} {m : Merger} {head : Head} (reader : Reader) → HasHeads held aim m → IsHead held (feed_of aim reader) head → HasHeads held aim (with_head m reader head)
+heads_with Own r h = record { own_feed = r.own_feed; incoming_feed = r.incoming_feed; sample_feed = r.sample_feed; own = h; incoming = r.incoming; sample = r.sample }
+heads_with Incoming r h = record { own_feed = r.own_feed; incoming_feed = r.incoming_feed; sample_feed = r.sample_feed; own = r.own; incoming = h; sample = r.sample }
+heads_with Sample r h = record { own_feed = r.own_feed; incoming_feed = r.incoming_feed; sample_feed = r.sample_feed; own = r.own; incoming = r.incoming; sample = h }
+
+pub head_in : {held : Held} {aim : Aim} {m : Merger} (reader : Reader) → HasHeads held aim m → IsHead held (feed_of aim reader) (head_of m reader)
+head_in Own r = r.own
+head_in Incoming r = r.incoming
+head_in Sample r = r.sample
+
+pub feed_in : {held : Held} {aim : Aim} {m : Merger} (reader : Reader) → HasHeads held aim m → IsFeed held.fixed (feed_of aim reader)
+feed_in Own r = r.own_feed
+feed_in Incoming r = r.incoming_feed
+feed_in Sample r = r.sample_feed
 
 pub head_of-with : (m : Merger) (reader : Reader) (head : Head) → head_of (with_head m reader head) reader ≡ head
 head_of-with m Own head = refl
@@ -246,15 +235,16 @@ rises-with m Sample head h Own = omega arith
 rises-with m Sample head h Incoming = omega arith
 rises-with m Sample head h Sample = h
 
-sample-with : (m : Merger) (reader : Reader) (head : Head) → head.at ≡ (head_of m reader).at → (with_head m reader head).sample.at ≡ m.sample.at
-sample-with m Own head e = refl
-sample-with m Incoming head e = refl
-sample-with m Sample head e = e
-
-build-with : (held : Held) (aim : Aim) (m : Merger) (reader : Reader) (head : Head) → head.at ≡ (head_of m reader).at → build_of held aim (with_head m reader head) ≡ build_of held aim m
-build-with held aim m Own head e = ap (λ (n : ℕ). record { own = n; incoming = m.incoming.at; sampled = m.sample.at; done = shadow_cells held aim.level }) e
-build-with held aim m Incoming head e = ap (λ (n : ℕ). record { own = m.own.at; incoming = n; sampled = m.sample.at; done = shadow_cells held aim.level }) e
-build-with held aim m Sample head e = ap (λ (n : ℕ). record { own = m.own.at; incoming = m.incoming.at; sampled = n; done = shadow_cells held aim.level }) e
+at-with : (m : Merger) (reader : Reader) (head : Head) → head.at ≡ (head_of m reader).at → (other : Reader) → (head_of (with_head m reader head) other).at ≡ (head_of m other).at
+at-with m Own head e Own = e
+at-with m Own head e Incoming = refl
+at-with m Own head e Sample = refl
+at-with m Incoming head e Own = refl
+at-with m Incoming head e Incoming = e
+at-with m Incoming head e Sample = refl
+at-with m Sample head e Own = refl
+at-with m Sample head e Incoming = refl
+at-with m Sample head e Sample = e
 
 beside-with : (aim : Aim) (reader : Reader) (buffer : Buffer) → IsBeside aim buffer → IsOther reader (feed_of aim reader) buffer
 beside-with aim Own buffer b = b.own
@@ -304,57 +294,36 @@ fetched_within held feed.Nothing at c h k = omega arith
 pub head_within : {held : Held} {f : Feed} {head : Head} → IsHead held f head → fetched_of f head ≤ read_len f
 head_within {held} {f} {head} h = fetched_within held f head.at head.cell h.within h.cell
 
--- ---- a fetch as a part of a step
+-- ---- a fetch of one head
 
-goes_fetch : {A : Type 0} {aim : Aim} (s : State) (now : Spent) (to : ℕ) (reader : Reader) (head : Head) (result : Result A ReadFault) → IsReady s.held aim s.merger →
-    Fetch s.held s.spent now reader (feed_of aim reader) (head_of s.merger reader) head s.steps to result →
-    Goes aim s (state s.held now (with_head s.merger reader head) to) 0
-goes_fetch {aim = aim} s now to reader head result r f =
-    let same : consumed (with_head s.merger reader head) ≡ consumed s.merger + 0 = consumed-with s.merger reader head 0 (omega (arith, f.at_is)) in
-    let sample : (with_head s.merger reader head).sample.at ≡ s.merger.sample.at = sample-with s.merger reader head f.at_is in
-    record {
-      ready = ready_with reader r f.head;
-      grows = grows_none s.held aim.level;
-      consumes = same;
-      rises = λ other. rises-with s.merger reader head (omega (arith, f.at_is)) other;
-      emits = same_or_more (len_of aim s) (consumed (with_head s.merger reader head)) (consumed s.merger) same;
-      samples = as_many (len_of aim s) (with_head s.merger reader head).sample.at s.merger.sample.at sample;
-      builds = λ _ _. build-with s.held aim s.merger reader head f.at_is;
-      told = λ _ h. h;
-      spends = f.spends;
-      lasts = λ buffer b l q k d. ap (λ (x : Option Block). is_last x l q k) (f.others_stay buffer (beside-with aim reader buffer b));
-    }
-  where
-    same_or_more : (n a b : ℕ) → a ≡ b + 0 → n + b ≤ n + a
-    same_or_more n a b e = omega (arith, e)
+module _ {A : Type 0} {held : Held} {aim : Aim} {old new : Spent} (m : Merger) (from to : ℕ) (reader : Reader) (head : Head) (r : HasHeads held aim m) where
+  fetch_looks : (result : Result A ReadFault) → Fetch held old new reader (feed_of aim reader) (head_of m reader) head from to result → Looks held aim old new m (with_head m reader head) from to
+  fetch_looks result f = record {
+    at_is = λ other. at-with m reader head f.at_is other;
+    heads = heads_with reader r f.head;
+    spends = f.spends;
+    written_is = f.written_is;
+    others_stay = λ buffer b. f.others_stay buffer (beside-with aim reader buffer b);
+  }
 
-    as_many : (n a b : ℕ) → a ≡ b → n + a ≤ n + b
-    as_many n a b e = omega (arith, e)
+  -- an accepted fetch
+  pub fetch_looked : (a : A) → Fetch held old new reader (feed_of aim reader) (head_of m reader) head from to (Ok a) → Looked held aim old new m (with_head m reader head) from to
+  fetch_looked a f = record {
+    looks = fetch_looks (Ok a) f;
+    ticks = less_missing to from (missing (with_head m reader head)) (missing m) (missing_head head.cell) (missing_head (head_of m reader).cell) (missing-with m reader head) f.fetches.1;
+    reads = more_read to from (fetched aim (with_head m reader head)) (fetched aim m) (fetched_of (feed_of aim reader) head) (fetched_of (feed_of aim reader) (head_of m reader)) (fetched-with aim m reader head) f.fetches.2;
+    turned = left-with aim m held.fixed.doublings old.lasts new.lasts old.turned new.turned reader head f.fetches.3 f.others_stay;
+    calm = f.calm;
+  }
+    where
+      less_missing : (t s n m x y : ℕ) → n + y ≡ m + x → t + x ≤ s + y → t + n ≤ s + m
+      less_missing t s n m x y e h = omega (arith, e, h)
 
--- an accepted fetch
-pub took_fetch : {A : Type 0} {aim : Aim} (s : State) (now : Spent) (to : ℕ) (reader : Reader) (head : Head) (a : A) → IsReady s.held aim s.merger →
-    Fetch s.held s.spent now reader (feed_of aim reader) (head_of s.merger reader) head s.steps to (Ok a) →
-    Took aim s (state s.held now (with_head s.merger reader head) to) 0
-took_fetch {aim = aim} s now to reader head a r f = record {
-  goes = goes_fetch s now to reader head (Ok a) r f;
-  ticks = less_missing to s.steps (missing (with_head s.merger reader head)) (missing s.merger) (missing_head head.cell) (missing_head (head_of s.merger reader).cell) (missing-with s.merger reader head) f.fetches.1;
-  reads = more_read to s.steps (fetched aim (with_head s.merger reader head)) (fetched aim s.merger) (fetched_of (feed_of aim reader) head) (fetched_of (feed_of aim reader) (head_of s.merger reader)) (len_of aim s) (fetched-with aim s.merger reader head) f.fetches.2;
-  turned = left-with aim s.merger s.held.fixed.doublings s.spent.lasts now.lasts s.spent.turned now.turned reader head f.fetches.3 f.others_stay;
-  written = omega (arith, f.written_is);
-  still = λ _. refl;
-  grew = λ h. absurd (omega (arith, h));
-  calm = f.calm;
-}
-  where
-    less_missing : (t s n m x y : ℕ) → n + y ≡ m + x → t + x ≤ s + y → t + n ≤ s + m + 2 * 0
-    less_missing t s n m x y e h = omega (arith, e, h)
-
-    more_read : (t s n m x y l : ℕ) → n + y ≡ m + x → t + y ≤ s + x → t + m + l ≤ s + n + l
-    more_read t s n m x y l e h = omega (arith, e, h)
+      more_read : (t s n m x y : ℕ) → n + y ≡ m + x → t + y ≤ s + x → t + m ≤ s + n
+      more_read t s n m x y e h = omega (arith, e, h)
 
 -- a refused fetch
-all_within : {held : Held} {aim : Aim} {m : Merger} (reader : Reader) → IsReady held aim m → fetched_of (feed_of aim reader) (head_of m reader) < read_len (feed_of aim reader) →
-    fetched aim m < read_len aim.own + read_len aim.incoming + read_len aim.sample
+all_within : {held : Held} {aim : Aim} {m : Merger} (reader : Reader) → HasHeads held aim m → fetched_of (feed_of aim reader) (head_of m reader) < read_len (feed_of aim reader) → fetched aim m < cells_read aim
 all_within {held} {aim} {m} Own r h =
     three_first (fetched_of aim.own m.own) (fetched_of aim.incoming m.incoming) (fetched_of aim.sample m.sample) (read_len aim.own) (read_len aim.incoming) (read_len aim.sample) h (head_within r.incoming) (head_within r.sample)
 all_within {held} {aim} {m} Incoming r h =
@@ -367,37 +336,40 @@ bad_with : (held : Held) (aim : Aim) (m : Merger) (reader : Reader) (head : Head
 bad_with held aim m reader head number e h =
     subst (λ (n : ℕ). IsBadAt held (feed_of aim reader) n number) (sym (ap (λ (x : Head). x.at) (head_of-with m reader head) ∙ e)) h
 
-fetch_cause : (aim : Aim) (s : State) (now : Spent) (to : ℕ) (reader : Reader) (head : Head) (fault : ReadFault) → head.at ≡ (head_of s.merger reader).at →
-    ReadFailed s.held s.spent.faults now.faults (feed_of aim reader) (head_of s.merger reader).at fault →
-    StepCause aim s.spent.faults (state s.held now (with_head s.merger reader head) to) (step_of_read fault)
-fetch_cause aim s now to reader head read.Device e c = c
-fetch_cause aim s now to reader head (read.BadCell number) e c = record { reader = reader; bad = bad_with s.held aim s.merger reader head number e c }
+fetch_cause : (held : Held) (aim : Aim) (old new : Spent) (m : Merger) (to : ℕ) (reader : Reader) (head : Head) (fault : ReadFault) → head.at ≡ (head_of m reader).at →
+    ReadFailed held old.faults new.faults (feed_of aim reader) (head_of m reader).at fault →
+    StepCause aim old.faults (state held new (with_head m reader head) to) (step_of_read fault)
+fetch_cause held aim old new m to reader head read.Device e c = c
+fetch_cause held aim old new m to reader head (read.BadCell number) e c = record { reader = reader; bad = bad_with held aim m reader head number e c }
 
 fetch_calm : (A : Type 0) (before now : ℕ) (fault : ReadFault) → ReadCalm {T = A} before now (Err fault) → StepCalm before now (step_of_read fault)
 fetch_calm A before now read.Device c = tt
 fetch_calm A before now (read.BadCell number) c = c
 
-pub refused_fetch : {A : Type 0} {aim : Aim} (s : State) (now : Spent) (to : ℕ) (reader : Reader) (head : Head) (fault : ReadFault) → IsReady s.held aim s.merger →
-    Fetch {A = A} s.held s.spent now reader (feed_of aim reader) (head_of s.merger reader) head s.steps to (Err fault) →
-    Refused aim s (state s.held now (with_head s.merger reader head) to) 0 (step_of_read fault)
-refused_fetch {A} {aim} s now to reader head fault r f =
-    let all : fetched aim s.merger < read_len aim.own + read_len aim.incoming + read_len aim.sample = all_within reader r f.fetches.3 in
-    let cell : missing_head head.cell ≡ missing_head (head_of s.merger reader).cell = ap (λ (x : Head). missing_head x.cell) f.fetches.1 in
+pub fetch_unread : {A : Type 0} {held : Held} {aim : Aim} {old new : Spent} (m : Merger) (from to : ℕ) (reader : Reader) (head : Head) (fault : ReadFault) → HasHeads held aim m →
+    Fetch {A = A} held old new reader (feed_of aim reader) (head_of m reader) head from to (Err fault) → Unread held aim old new m (with_head m reader head) from to fault
+fetch_unread {A} {held} {aim} {old} {new} m from to reader head fault r f =
+    let all : fetched aim m < cells_read aim = all_within reader r f.fetches.3 in
+    let cell : missing_head head.cell ≡ missing_head (head_of m reader).cell = ap (λ (x : Head). missing_head x.cell) f.fetches.1 in
+    let same : fetched aim (with_head m reader head) ≡ fetched aim m =
+    as_fetched (fetched aim (with_head m reader head)) (fetched aim m) _ _ (fetched-with aim m reader head) (ap (λ (x : Head). fetched_of (feed_of aim reader) x) f.fetches.1) in
     record {
-      goes = goes_fetch s now to reader head (Err fault) r f;
-      ticks = as_missing to s.steps (missing (with_head s.merger reader head)) (missing s.merger) (missing_head head.cell) (missing_head (head_of s.merger reader).cell) (missing-with s.merger reader head) cell f.fetches.2;
-      reads = λ l. one_more to s.steps (fetched aim s.merger) (read_len aim.own + read_len aim.incoming + read_len aim.sample) (len_of aim s) (slot_size aim.level) all f.fetches.2 l;
-      pushes = one_more to s.steps (fetched aim s.merger) (read_len aim.own + read_len aim.incoming + read_len aim.sample) (len_of aim s) (len_of aim s + failed_push (step_of_read fault)) all f.fetches.2 (omega arith);
-      written = omega (arith, f.written_is);
-      cause = fetch_cause aim s now to reader head fault f.at_is f.fetches.0;
-      calm = fetch_calm A s.spent.faults now.faults fault f.calm;
+      looks = fetch_looks m from to reader head r (Err fault) f;
+      ticks = as_missing to from (missing (with_head m reader head)) (missing m) (missing_head head.cell) (missing_head (head_of m reader).cell) (missing-with m reader head) cell f.fetches.2;
+      reads = one_more to from (fetched aim (with_head m reader head)) (fetched aim m) same f.fetches.2;
+      left = subst (λ (n : ℕ). n < cells_read aim) (sym same) all;
+      cause = fetch_cause held aim old new m to reader head fault f.at_is f.fetches.0;
+      calm = fetch_calm A old.faults new.faults fault f.calm;
     }
   where
-    as_missing : (t s n m x y : ℕ) → n + y ≡ m + x → x ≡ y → t ≡ s + 1 → t + n ≤ s + m + (2 * 0 + 1)
+    as_missing : (t s n m x y : ℕ) → n + y ≡ m + x → x ≡ y → t ≡ s + 1 → t + n ≤ s + m + 1
     as_missing t s n m x y e f h = omega (arith, e, f, h)
 
-    one_more : (t s n a l k : ℕ) → n < a → t ≡ s + 1 → l ≤ k → t + n + l ≤ s + a + k
-    one_more t s n a l k h e f = omega (arith, h, e, f)
+    as_fetched : (n m x y : ℕ) → n + y ≡ m + x → x ≡ y → n ≡ m
+    as_fetched n m x y e f = omega (arith, e, f)
+
+    one_more : (t s n m : ℕ) → n ≡ m → t ≡ s + 1 → t + m ≤ s + (n + 1)
+    one_more t s n m e f = omega (arith, e, f)
 
 -- ---- the calls of a fetch
 
@@ -434,18 +406,6 @@ pub fetch_run_refused : {A : Type 0} {held : Held} {old new : Spent} (reader : R
 fetch_run_refused {A} {held} {old} {new} reader f run head from to len fault e n h l t i r =
     subst (λ (x : Feed). Fetch {A = A} held old new reader x head head from to (Err fault)) (sym e)
     (run_is_refused {A = A} reader run head.at head.cell from to (none_of head.cell n) t fault (let k : len ≡ run.len = l ∙ ap feed_len e in omega (arith, h, k)) (subst (λ (x : Feed). IsHead held x head) e i) r)
-
--- ---- what a call of a fetch gives, where the object keeps its cells
-
-pub took_fetch_at : {A : Type 0} {aim : Aim} (s : State) (new : Held) (now : Spent) (to : ℕ) (reader : Reader) (head : Head) (a : A) → new ≡ s.held → IsReady s.held aim s.merger →
-    Fetch s.held s.spent now reader (feed_of aim reader) (head_of s.merger reader) head s.steps to (Ok a) → Took aim s (state new now (with_head s.merger reader head) to) 0
-took_fetch_at {aim = aim} s new now to reader head a e r f =
-    subst (λ (h : Held). Took aim s (state h now (with_head s.merger reader head) to) 0) (sym e) (took_fetch s now to reader head a r f)
-
-pub refused_fetch_at : {A : Type 0} {aim : Aim} (s : State) (new : Held) (now : Spent) (to : ℕ) (reader : Reader) (head : Head) (fault : ReadFault) → new ≡ s.held → IsReady s.held aim s.merger →
-    Fetch {A = A} s.held s.spent now reader (feed_of aim reader) (head_of s.merger reader) head s.steps to (Err fault) → Refused aim s (state new now (with_head s.merger reader head) to) 0 (step_of_read fault)
-refused_fetch_at {A} {aim} s new now to reader head fault e r f =
-    subst (λ (h : Held). Refused aim s (state h now (with_head s.merger reader head) to) 0 (step_of_read fault)) (sym e) (refused_fetch {A = A} s now to reader head fault r f)
 
 -- the error that a `?` hands on
 pub err_is : {T E : Type 0} (r : Result T E) (f : E) → IsErrAnd r (λ y. y ≡ f) → r ≡ Err f

@@ -25,7 +25,7 @@ use Rattle.cola_merge.specs.declared.merging.Merger.{Merger}
 use Rattle.cola_told.specs.Cells.{cell_at}
 use Rattle.cola_cell.specs.Order.{key_cmp}
 use Rattle.cola_merge.specs.Feeds.{part_of, feed_len, feed_spots, feed_cells, feed_keys, IsFeedTold, IsFeed}
-use Rattle.cola_merge.specs.Heads.{IsHeldCell, IsReady, IsUsedUp, AreFetched, AreFeedsTold, build_of}
+use Rattle.cola_merge.specs.Heads.{IsHeldCell, HasHeads, IsUsedUp, AreFetched, AreFeedsTold, build_of}
 use Rattle.cola_merge.specs.Rules.{next_action}
 use Rattle.cola_told.proofs.CellLists.{get-cells, past-cells}
 
@@ -130,7 +130,7 @@ keys-as_cell None = refl
 keys-as_cell (Some c) = ap (λ (x : List ℕ). Some x) (key_of-as_cell c)
 
 -- the action of the heads is that of the cells at the cursors
-pub action_of_heads : (held : Held) (aim : Aim) (m : Merger) → IsReady held aim m → AreFetched aim m → AreFeedsTold held aim →
+pub action_of_heads : (held : Held) (aim : Aim) (m : Merger) → HasHeads held aim m → AreFetched aim m → AreFeedsTold held aim →
     next_action aim m
     ≡ rule key_cmp (part_of aim) (8 * m.sample.at) (slice_get (feed_cells held aim.own) m.own.at) (slice_get (feed_cells held aim.incoming) m.incoming.at) (slice_get (feed_keys held aim.sample) m.sample.at)
 action_of_heads held aim m r f t =
@@ -147,7 +147,7 @@ action_of_heads held aim m r f t =
     ∙ ap (λ (x : Option (List ℕ)). rule key_cmp (part_of aim) (8 * m.sample.at) (slice_get own m.own.at) (slice_get incoming m.incoming.at) x) k
 
 -- the step of the laws is that of the heads
-pub step_of_heads : (held : Held) (aim : Aim) (m : Merger) → IsReady held aim m → AreFetched aim m → AreFeedsTold held aim →
+pub step_of_heads : (held : Held) (aim : Aim) (m : Merger) → HasHeads held aim m → AreFetched aim m → AreFeedsTold held aim →
     step key_cmp (part_of aim) (feed_cells held aim.own) (feed_cells held aim.incoming) (feed_keys held aim.sample) (build_of held aim m) ≡ after (next_action aim m) (build_of held aim m)
 unfolding step
 step_of_heads held aim m r f t = ap (λ (x : Action (List ℕ) Stamped). after x (build_of held aim m)) (sym (action_of_heads held aim m r f t))

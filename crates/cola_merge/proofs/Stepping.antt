@@ -21,14 +21,14 @@ use Rattle.cola_merge.specs.declared.heads.Head.{Head}
 use Rattle.cola_merge.specs.declared.merging.Merger.{Merger}
 use Rattle.cola_told.specs.Cells.{shadow_cells}
 use Rattle.cola_cell.specs.Order.{key_cmp}
-use Rattle.cola_merge.specs.Feeds.{part_of, feed_of, feed_len, read_len, feed_cells, feed_keys, IsFeed}
-use Rattle.cola_merge.specs.Heads.{head_at, head_of, with_head, consumed, IsHeldCell, IsReady, AreFetched, missing_head, missing, held_head, fetched_of, fetched, AreFeedsTold, build_of}
+use Rattle.cola_merge.specs.Feeds.{part_of, feed_of, feed_len, read_len, feed_cells, feed_keys}
+use Rattle.cola_merge.specs.Heads.{head_at, head_of, with_head, consumed, IsHeldCell, HasHeads, IsReady, AreFetched, missing_head, missing, held_head, fetched_of, fetched, AreFeedsTold, build_of}
 use Rattle.cola_merge.specs.Rules.{as_head, next_action, Emits, HeadFits}
 use Rattle.cola_merge.specs.Blocks.{Lasts, feed_left, blocks_left}
 use Rattle.cola_merge.specs.States.{KeepsBlocks, count_of, Emitted, PushFailed, Unpushed, State, state, len_of, Goes, Took, StepCause, StepCalm, failed_push, Refused}
 use Rattle.cola_merge.proofs.Groups.{run_left-next}
 use Rattle.cola_merge.proofs.Kept.{ready-stays, left-stays}
-use Rattle.cola_merge.proofs.Reading.{ready_with, ready_head, consumed-with, rises-with, missing-with, fetched-with, left-with, head_within}
+use Rattle.cola_merge.proofs.Reading.{heads_of, ready_by, heads_with, head_in, feed_in, consumed-with, rises-with, missing-with, fetched-with, left-with, head_within}
 use Rattle.cola_merge.proofs.Ruling.{IsTaken, rule_taken, step_of_heads, small_cursor}
 use Rattle.std.proofs.Math.Pow.{pow_pos}
 
@@ -42,11 +42,11 @@ some_key : (c : Option Cell) → IsSome (option_map key_of c) → IsSome c
 some_key None e = absurd (true≢false (sym e))
 some_key (Some c) e = refl
 
-taken_by : (aim : Aim) (m : Merger) (a : Action (List ℕ) Stamped) → a ≡ next_action aim m → IsTaken (option_map as_cell m.own.cell) (option_map as_cell m.incoming.cell) (option_map key_of m.sample.cell) a
+pub taken_by : (aim : Aim) (m : Merger) (a : Action (List ℕ) Stamped) → a ≡ next_action aim m → IsTaken (option_map as_cell m.own.cell) (option_map as_cell m.incoming.cell) (option_map key_of m.sample.cell) a
 taken_by aim m a e = subst (IsTaken (option_map as_cell m.own.cell) (option_map as_cell m.incoming.cell) (option_map key_of m.sample.cell)) (sym e)
     (rule_taken key_cmp (part_of aim) (8 * m.sample.at) (option_map as_cell m.own.cell) (option_map as_cell m.incoming.cell) (option_map key_of m.sample.cell))
 
-head_there : (aim : Aim) (m : Merger) (reader : Reader) (c : Option Cell) → Take (as_head reader) (option_map as_cell c) ≡ next_action aim m → IsSome (head_of m reader).cell
+pub head_there : (aim : Aim) (m : Merger) (reader : Reader) (c : Option Cell) → Take (as_head reader) (option_map as_cell c) ≡ next_action aim m → IsSome (head_of m reader).cell
 head_there aim m Own c e = some_of m.own.cell (taken_by aim m (Take runs.Own (option_map as_cell c)) e)
 head_there aim m Incoming c e = some_of m.incoming.cell (taken_by aim m (Take runs.Incoming (option_map as_cell c)) e)
 head_there aim m Sample c e = some_key m.sample.cell (taken_by aim m (Take runs.Sample (option_map as_cell c)) e).0
@@ -64,7 +64,7 @@ sampled_one aim m Sample c e = let k : count_of c ≡ 1 = one_there c (taken_by 
 
 -- ---- a consumed head
 
-held_below : (held : Held) (f : Feed) (at : ℕ) (c : Option Cell) → IsHeldCell held f at c → IsSome c → at < feed_len f
+pub held_below : (held : Held) (f : Feed) (at : ℕ) (c : Option Cell) → IsHeldCell held f at c → IsSome c → at < feed_len f
 held_below held f at None h e = absurd (true≢false (sym e))
 held_below held f at (Some c) h e = h.0
 
@@ -76,7 +76,7 @@ held_some : (c : Option Cell) → IsSome c → held_head c ≡ 1
 held_some None e = absurd (true≢false (sym e))
 held_some (Some c) e = refl
 
-fetched_some : (f : Feed) (head : Head) → IsSome head.cell → fetched_of f (head_at (head.at + 1)) ≡ fetched_of f head
+pub fetched_some : (f : Feed) (head : Head) → IsSome head.cell → fetched_of f (head_at (head.at + 1)) ≡ fetched_of f head
 fetched_some (feed.Run run) head e = let k : held_head head.cell ≡ 1 = held_some head.cell e in omega (arith, k)
 fetched_some (feed.Sampled run) head e = let k : held_head head.cell ≡ 1 = held_some head.cell e in omega (arith, k)
 fetched_some (feed.One c) head e = refl
@@ -85,7 +85,7 @@ fetched_some feed.Nothing head e = refl
 pow_some : (d : ℕ) → 0 < 2 ^ d
 pow_some d = pow_pos d
 
-feed_left-next : (d : ℕ) (lasts : Lasts) (reader : Reader) (f : Feed) (at : ℕ) → at < feed_len f → feed_left d lasts reader f (at + 1) ≤ feed_left d lasts reader f at
+pub feed_left-next : (d : ℕ) (lasts : Lasts) (reader : Reader) (f : Feed) (at : ℕ) → at < feed_len f → feed_left d lasts reader f (at + 1) ≤ feed_left d lasts reader f at
 feed_left-next d lasts reader (feed.Run run) at h = run_left-next (8 * 2 ^ d) _ run (8 * 2 ^ d) run.len at (let p : 0 < 2 ^ d = pow_some d in omega (arith, p)) h
 feed_left-next d lasts reader (feed.Sampled run) at h = run_left-next (8 * 2 ^ d) _ run (2 ^ d) (run.len / 8) at (pow_some d) h
 feed_left-next d lasts reader (feed.One c) at h = omega arith
@@ -100,6 +100,12 @@ left-kept d before now aim m n r k = three_same _ _ _ _ _ _
     (left-stays d aim.level aim.slot before now Own aim.own r.own_apart k m.own.at)
     (left-stays d aim.level aim.slot before now Incoming aim.incoming r.incoming_apart k m.incoming.at)
     (left-stays d aim.level aim.slot before now Sample aim.sample r.sample_apart k m.sample.at)
+
+-- ---- the heads behind a consumed one
+
+pub passed_heads : {held : Held} {aim : Aim} {m : Merger} (reader : Reader) → HasHeads held aim m → (head_of m reader).at < feed_len (feed_of aim reader) →
+    HasHeads held aim (with_head m reader (head_at ((head_of m reader).at + 1)))
+passed_heads reader r h = heads_with reader r (record { within = omega (arith, h); cell = tt })
 
 -- ---- the build
 
@@ -123,7 +129,7 @@ module _ {aim : Aim} (s : State) (new : Held) (now : Spent) (to : ℕ) (reader :
   there = head_there aim s.merger reader c asked
 
   below : (head_of s.merger reader).at < feed_len (feed_of aim reader)
-  below = held_below s.held (feed_of aim reader) (head_of s.merger reader).at (head_of s.merger reader).cell (ready_head reader r).cell there
+  below = held_below s.held (feed_of aim reader) (head_of s.merger reader).at (head_of s.merger reader).cell (head_in reader (heads_of r)).cell there
 
   abbrev next : Merger
   next = with_head s.merger reader (head_at ((head_of s.merger reader).at + 1))
@@ -134,7 +140,7 @@ module _ {aim : Aim} (s : State) (new : Held) (now : Spent) (to : ℕ) (reader :
   built : IsTelling s.held → AreFeedsTold s.held aim →
       build_of new aim next ≡ steps key_cmp (part_of aim) (feed_cells s.held aim.own) (feed_cells s.held aim.incoming) (feed_keys s.held aim.sample) 1 (build_of s.held aim s.merger)
   built t h =
-      sym (step_of_heads s.held aim s.merger r f h
+      sym (step_of_heads s.held aim s.merger (heads_of r) f h
       ∙ ap (λ (a : Action (List ℕ) Stamped). after a (build_of s.held aim s.merger)) (sym asked)
       ∙ build_after s.held new aim s.merger reader (option_to_list (option_map as_cell c)) (e.done t))
 
@@ -143,7 +149,7 @@ module _ {aim : Aim} (s : State) (new : Held) (now : Spent) (to : ℕ) (reader :
 
   step_goes : Goes aim s (state new now next to) 1
   step_goes = record {
-    ready = ready-stays e.grows (ready_with reader r (record { within = (let h : (head_of s.merger reader).at < feed_len (feed_of aim reader) = below in omega (arith, h)); cell = tt }));
+    ready = ready-stays e.grows (ready_by r (passed_heads reader (heads_of r) below));
     grows = e.grows;
     consumes = consumed_one;
     rises = λ other. rises-with s.merger reader (head_at ((head_of s.merger reader).at + 1)) (omega arith) other;
@@ -200,7 +206,7 @@ module _ {aim : Aim} (s : State) (new : Held) (now : Spent) (to : ℕ) (reader :
 
 -- ---- a step that was refused
 
-pub all_read : {held : Held} {aim : Aim} {m : Merger} → IsReady held aim m → fetched aim m ≤ read_len aim.own + read_len aim.incoming + read_len aim.sample
+pub all_read : {held : Held} {aim : Aim} {m : Merger} → HasHeads held aim m → fetched aim m ≤ read_len aim.own + read_len aim.incoming + read_len aim.sample
 all_read {held} {aim} {m} r = three (fetched_of aim.own m.own) (fetched_of aim.incoming m.incoming) (fetched_of aim.sample m.sample) (read_len aim.own) (read_len aim.incoming) (read_len aim.sample)
     (head_within r.own) (head_within r.incoming) (head_within r.sample)
   where
@@ -247,8 +253,8 @@ module _ {aim : Aim} (s : State) (new : Held) (now : Spent) (to : ℕ) (reader :
       record {
         goes = refused_goes;
         ticks = omega (arith, small);
-        reads = λ l. room to s.steps (fetched aim s.merger) (read_len aim.own + read_len aim.incoming + read_len aim.sample) (len_of aim s) (slot_size aim.level) (all_read r) (b.1 l);
-        pushes = room to s.steps (fetched aim s.merger) (read_len aim.own + read_len aim.incoming + read_len aim.sample) (len_of aim s) ((new.shadows aim.level).len + failed_push (step_of_push fault)) (all_read r) b.4;
+        reads = λ l. room to s.steps (fetched aim s.merger) (read_len aim.own + read_len aim.incoming + read_len aim.sample) (len_of aim s) (slot_size aim.level) (all_read (heads_of r)) (b.1 l);
+        pushes = room to s.steps (fetched aim s.merger) (read_len aim.own + read_len aim.incoming + read_len aim.sample) (len_of aim s) ((new.shadows aim.level).len + failed_push (step_of_push fault)) (all_read (heads_of r)) b.4;
         written = written now.written s.spent.written (len_of aim s) (new.shadows aim.level).len (8 * 2 ^ s.held.fixed.doublings) e.written e.len_is;
         cause = b.2;
         calm = b.3;
@@ -266,11 +272,6 @@ pub held_fits : (held : Held) (f : Feed) (at : ℕ) (c : Option Cell) → IsHeld
 held_fits held f at None h = tt
 held_fits held f at (Some c) h = h.2
 
-ready_feed : {held : Held} {aim : Aim} {m : Merger} (reader : Reader) → IsReady held aim m → IsFeed held.fixed (feed_of aim reader)
-ready_feed Own r = r.own_feed
-ready_feed Incoming r = r.incoming_feed
-ready_feed Sample r = r.sample_feed
-
-pub small_after : {held : Held} {aim : Aim} {m : Merger} (reader : Reader) → IsReady held aim m → held.fixed.levels ≤ 23 → (head_of m reader).at + 1 < 2 ^ 32
+pub small_after : {held : Held} {aim : Aim} {m : Merger} (reader : Reader) → HasHeads held aim m → held.fixed.levels ≤ 23 → (head_of m reader).at + 1 < 2 ^ 32
 small_after {held} {aim} {m} reader r l =
-    let h : 8 * (head_of m reader).at < 2 ^ 32 = small_cursor held.fixed (feed_of aim reader) (head_of m reader).at l (ready_feed reader r) (ready_head reader r).within in omega (arith, h)
+    let h : 8 * (head_of m reader).at < 2 ^ 32 = small_cursor held.fixed (feed_of aim reader) (head_of m reader).at l (feed_in reader r) (head_in reader r).within in omega (arith, h)

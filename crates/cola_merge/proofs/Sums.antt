@@ -160,12 +160,12 @@ took_then {aim} {s} {t} {u} {m} {n} r g h =
 
 -- ---- a refused step
 
-cause_then : (aim : Aim) (before between : ℕ) (t : State) (fault : StepFault) → between ≡ before → StepCause aim between t fault → StepCause aim before t fault
+pub cause_then : (aim : Aim) (before between : ℕ) (t : State) (fault : StepFault) → between ≡ before → StepCause aim between t fault → StepCause aim before t fault
 cause_then aim before between t Device e c = subst (λ (x : ℕ). Rose x t.spent.faults) e c
 cause_then aim before between t (BadCell number) e c = c
 cause_then aim before between t (Overfull level) e c = c
 
-calm_then : (before between now : ℕ) (fault : StepFault) → between ≡ before → StepCalm between now fault → StepCalm before now fault
+pub calm_then : (before between now : ℕ) (fault : StepFault) → between ≡ before → StepCalm between now fault → StepCalm before now fault
 calm_then before between now Device e c = tt
 calm_then before between now (BadCell number) e c = c ∙ e
 calm_then before between now (Overfull level) e c = c ∙ e

@@ -1,5 +1,5 @@
 -- Feeds, runs and merges that begin.
-use Rattle.std.proofs.Common.{◌≡◌, ◌≢◌, ◌⊎◌, inl, inr, ℕ, zero, suc, ◌+◌, ◌*◌, ◌/◌, ◌<◌, ◌≤◌, List, [], ◌∷◌, length, Some, refl, ap, sym, subst, ◌∙◌, arith}
+use Rattle.std.proofs.Common.{◌≡◌, ◌≢◌, ◌⊎◌, inl, inr, ℕ, suc, ◌+◌, ◌*◌, ◌/◌, ◌<◌, ◌≤◌, List, [], ◌∷◌, Some, refl, ap, sym, ◌∙◌, arith}
 use Rattle.std.specs.Option.{option_map}
 use Rattle.std.specs.List.{slice_get}
 use Rattle.std.proofs.lemmas.Option.{slice_get-map, none-some}
@@ -9,16 +9,16 @@ use Rattle.cola_runs.specs.Cells.{sample}
 use Rattle.cola_runs.specs.Steps.{begun}
 use Rattle.cola_runs.proofs.Samples.{sample_at}
 use Rattle.cola_cell.specs.declared.cell.Run.{Run}
-use Rattle.cola_cell.specs.Held.{Held, Spot, Told, LawCell}
-use Rattle.cola_cell.specs.Listed.{Stands, IsRun}
+use Rattle.cola_cell.specs.Held.{Held, Spot, LawCell}
+use Rattle.cola_cell.specs.Listed.{IsRun}
 use Rattle.cola_cell.proofs.RunLemmas.{run_stays}
 use Rattle.cola_merge.specs.declared.aims.Feed.TheVariants as feed
 use Rattle.cola_merge.specs.declared.aims.Aim.{Aim}
-use Rattle.cola_told.specs.Cells.{cell_at, IsTold, cells, run_cells}
-use Rattle.cola_merge.specs.Feeds.{feed_keys, IsFeedTold}
+use Rattle.cola_told.specs.Cells.{cell_at, cells, run_cells}
+use Rattle.cola_merge.specs.Feeds.{feed_keys}
 use Rattle.cola_merge.specs.Heads.{fresh, build_of}
 use Rattle.cola_merge.specs.States.{Grows}
-use Rattle.cola_told.proofs.CellLists.{length-cells, get-cells, past-cells, told-stand}
+use Rattle.cola_told.proofs.CellLists.{get-cells, past-cells}
 
 -- ---- the sample
 

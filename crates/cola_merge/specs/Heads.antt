@@ -53,6 +53,15 @@ pub record IsHead (held : Held) (feed : Feed) (head : Head) : Type 0 where
   pub within : head.at ≤ feed_len feed
   pub cell : IsHeldCell held feed head.at head.cell
 
+-- what a merge reads: its feeds can be read, and its heads are those of its feeds
+pub record HasHeads (held : Held) (aim : Aim) (m : Merger) : Type 0 where
+  pub own_feed : IsFeed held.fixed aim.own
+  pub incoming_feed : IsFeed held.fixed aim.incoming
+  pub sample_feed : IsFeed held.fixed aim.sample
+  pub own : IsHead held aim.own m.own
+  pub incoming : IsHead held aim.incoming m.incoming
+  pub sample : IsHead held aim.sample m.sample
+
 -- what a merge needs: the shadow of its level stands in its slot, its feeds can be read and stand elsewhere, and its heads are those of its feeds
 pub record IsReady (held : Held) (aim : Aim) (m : Merger) : Type 0 where
   pub level_in : aim.level < held.fixed.levels

@@ -4,3 +4,4 @@ pub mod Blocks
 pub mod Rules
 pub mod States
 pub mod Advance
+pub mod Pulls

@@ -1,5 +1,5 @@
 //! The merger.
-ghost use Rattle.std.specs.Prelude.{◌≡◌, ◌+◌, ◌*◌, ◌/◌, ◌<◌, ◌≤◌, ◌^◌, ◌↔◌, IsTrue, OnOk, length};
+ghost use Rattle.std.specs.Prelude.{◌≡◌, ◌+◌, ◌*◌, ◌/◌, ◌<◌, ◌≤◌, ◌^◌, ◌↔◌, IsTrue, OnOk, Some, length};
 ghost use Rattle.cola_merge.specs.Rules.{HeadFits};
 ghost use Rattle.cola_merge.specs.States.{Emission};
 
@@ -41,16 +41,17 @@ fn emit<W: CellSink, L: Ledger>(
 
 impl Merger {
     ghost use Rattle.cola_cell.specs.declared.format.Format.{Format};
-    ghost use Rattle.cola_merge.specs.Heads.{fresh, head_at, head_of, with_head, consumed, IsReady, AreFetched, IsUsedUp};
+    ghost use Rattle.cola_merge.specs.Heads.{fresh, head_at, head_of, with_head, consumed, HasHeads, IsReady, AreFetched, IsUsedUp};
     ghost use Rattle.cola_merge.specs.Rules.{as_action, next_action, HeadFits, ChoiceFits};
     ghost use Rattle.cola_merge.specs.States.{state, Stepped, Taken, HasRun, Grows, IsBeside, KeepsBlocks, Spends};
     ghost use Rattle.cola_told.specs.Cells.{IsShadowTold};
     ghost use Rattle.cola_merge.specs.Blocks.{blocks_left};
     ghost use Rattle.cola_merge.specs.Advance.{Consumes, IsGoing, Gone, IsWhole, HasStepCause, IsCalm, IsDeviceFault, whole_run, IsThrifty, IsSavedByBlocks};
+    ghost use Rattle.cola_merge.specs.Pulls.{Next, Drawn, AreInOrder, Gives, IsEndedBy, FitsGiven, given_cells, HasPullCause, IsFrugal};
     ghost use Rattle.cola_cell.specs.declared.cell.Reader.{Reader};
     ghost use Rattle.cola_cell.specs.Places.{slot_size};
     ghost use Rattle.cola_cell.specs.Held.{IsTelling, span};
-    ghost use Rattle.cola_cell.specs.Spent.{Buffer};
+    ghost use Rattle.cola_cell.specs.Spent.{Buffer, ReadCalm};
 
     /// A merge that has consumed nothing.
     pub fn begin() -> Merger
@@ -155,6 +156,44 @@ impl Merger {
         self.run(work, aim, quota, steps)
     }
 
+    /// Gives the next cell of the run that the merge makes, or none where each source cell was consumed. Nothing is pushed:
+    /// the level and the slot of the aim are not looked at. Source cells that emit nothing are consumed on the way.
+    ///
+    /// It is refused where the device failed and where the cell that a feed reads next is bad. A refused call consumes
+    /// at most source cells that emit nothing, so the same cells are ahead, and it may be called again.
+    pub fn pull<W: CellSource, L: Ledger>(
+        &mut self,
+        work: &mut W,
+        aim: &Aim,
+        steps: &mut Steps<L>,
+    ) -> Result<Option<Cell>, ReadFault>
+        requires { HasHeads (W.held work.old) aim.now self.old }
+        // it may be called again, and no cell changed
+        ensures cells_stay { W.held work.new ≡ W.held work.old }
+        ensures kept { W.kept work.new ≡ W.kept work.old }
+        ensures heads { HasHeads (W.held work.old) aim.now self.new }
+        ensures lasts { (buffer : Buffer) → IsBeside aim.now buffer → (W.spent work.new).lasts buffer ≡ (W.spent work.old).lasts buffer }
+        // what it gave, and how far it went
+        ensures gives { AreInOrder (W.held work.old) aim.now → Gives (W.held work.old) aim.now self.old self.new result }
+        ensures ends { IsEndedBy aim.now self.new result }
+        ensures fits { FitsGiven (W.held work.old).fixed.format result }
+        ensures rises { (reader : Reader) → (head_of self.old reader).at ≤ (head_of self.new reader).at }
+        ensures consumes { consumed self.old + given_cells result ≤ consumed self.new }
+        // why it was refused
+        ensures cause { HasPullCause (W.held work.old) aim.now (W.spent work.old).faults (W.spent work.new) self.new steps.new result }
+        ensures calm { ReadCalm (W.spent work.old).faults (W.spent work.new).faults result }
+        // what it cost
+        ensures ticks { IsFrugal aim.now self.old self.new steps.old steps.new result }
+        ensures spends { Spends (W.spent work.old) (W.spent work.new) steps.old steps.new }
+        ensures written { (W.spent work.new).written ≡ (W.spent work.old).written }
+        ensures turned { OnOk result ((W.spent work.new).turned + blocks_left (W.held work.old).fixed.doublings (W.spent work.new).lasts aim.now self.new
+            ≤ (W.spent work.old).turned + blocks_left (W.held work.old).fixed.doublings (W.spent work.old).lasts aim.now self.old) }
+    {
+        // every object has at most 23 levels
+        let _ = work.ticked();
+        self.draw(work, aim, steps)
+    }
+
     /// What the rules ask for by the heads that are held.
     fn choice(&self, aim: &Aim) -> Option<Choice>
         requires small { 8 * self.now.sample.at < 2 ^ 32 }
@@ -183,24 +222,43 @@ impl Merger {
         }
     }
 
-    /// Takes the step that the three heads ask for, where they are held and one is left.
-    fn step<W: CellSink, L: Ledger>(
+    /// Reads the heads that are not held, and chooses what the rules ask for by the three; none where no source cell is left.
+    fn next<W: CellSource, L: Ledger>(
         &mut self,
         work: &mut W,
         aim: &Aim,
         steps: &mut Steps<L>,
+    ) -> Result<Option<Choice>, ReadFault>
+        requires heads { HasHeads (W.held work.old) aim.now self.old }
+        requires levels { (W.held work.old).fixed.levels ≤ 23 }
+        ensures cells_stay { W.held work.new ≡ W.held work.old }
+        ensures kept { W.kept work.new ≡ W.kept work.old }
+        ensures next { Next (W.held work.old) aim.now (W.spent work.old) (W.spent work.new) self.old self.new steps.old steps.new result }
+    {
+        self.own.fetch(Reader::Own, &aim.own, work, steps)?;
+        self.incoming
+            .fetch(Reader::Incoming, &aim.incoming, work, steps)?;
+        self.sample.fetch(Reader::Sample, &aim.sample, work, steps)?;
+        Ok(self.choice(aim))
+    }
+
+    /// Takes the step that was chosen: emits its cell, if there is one, and consumes its head.
+    fn step<W: CellSink, L: Ledger>(
+        &mut self,
+        work: &mut W,
+        aim: &Aim,
+        choice: &Choice,
+        steps: &mut Steps<L>,
     ) -> Result<(), PushFault>
         requires ready { IsReady (W.CellSource.held work.old) aim.now self.old }
         requires fetched { AreFetched aim.now self.old }
-        requires left { IsUsedUp aim.now self.old → ⊥ }
+        requires asked { as_action (Some choice.now) ≡ next_action aim.now self.old }
+        requires fits { HeadFits (W.CellSource.held work.old).fixed.format choice.now.cell }
         requires levels { (W.CellSource.held work.old).fixed.levels ≤ 23 }
         requires slot_in { ((W.CellSource.held work.old).shadows aim.now.level).slot < 2 }
         ensures kept { W.CellSource.kept work.new ≡ W.CellSource.kept work.old }
         ensures stepped { Stepped aim.now (state (W.CellSource.held work.old) (W.CellSource.spent work.old) self.old steps.old) (state (W.CellSource.held work.new) (W.CellSource.spent work.new) self.new steps.new) result }
     {
-        let Some(choice) = self.choice(aim) else {
-            return Ok(());
-        };
         emit(work, aim.level, aim.slot, &choice.cell, steps)?;
         self.consume(choice.head);
         Ok(())
@@ -220,11 +278,10 @@ impl Merger {
         ensures kept { W.CellSource.kept work.new ≡ W.CellSource.kept work.old }
         ensures taken { Taken aim.now (state (W.CellSource.held work.old) (W.CellSource.spent work.old) self.old steps.old) (state (W.CellSource.held work.new) (W.CellSource.spent work.new) self.new steps.new) result }
     {
-        self.own.fetch(Reader::Own, &aim.own, work, steps)?;
-        self.incoming
-            .fetch(Reader::Incoming, &aim.incoming, work, steps)?;
-        self.sample.fetch(Reader::Sample, &aim.sample, work, steps)?;
-        self.step(work, aim, steps)?;
+        let Some(choice) = self.next(work, aim, steps)? else {
+            return Ok(());
+        };
+        self.step(work, aim, &choice, steps)?;
         Ok(())
     }
 
@@ -252,5 +309,26 @@ impl Merger {
             return Ok(Progress::Done);
         }
         Ok(Progress::More)
+    }
+    /// Consumes source cells until one is given or none is left.
+    fn draw<W: CellSource, L: Ledger>(
+        &mut self,
+        work: &mut W,
+        aim: &Aim,
+        steps: &mut Steps<L>,
+    ) -> Result<Option<Cell>, ReadFault>
+        requires heads { HasHeads (W.held work.old) aim.now self.old }
+        requires levels { (W.held work.old).fixed.levels ≤ 23 }
+        ensures cells_stay { W.held work.new ≡ W.held work.old }
+        ensures kept { W.kept work.new ≡ W.kept work.old }
+        ensures drawn { Drawn (W.held work.old) aim.now (W.spent work.old) (W.spent work.new) self.old self.new steps.old steps.new result }
+    {
+        while let Some(next) = self.next(work, aim, steps)? {
+            self.consume(next.head);
+            if next.cell.is_some() {
+                return Ok(next.cell);
+            }
+        }
+        Ok(None)
     }
 }

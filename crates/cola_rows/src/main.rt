@@ -1,5 +1,5 @@
 //! The program `cola_rows`: it reads rows from standard input, does each in memory, and prints what came; or it compares
-//! made lines with the plain session; or it prints the statuses of the program `cola`.
+//! made lines with the plain session, or what `check` says of changed files with the plain program; or it prints the statuses of the program `cola`.
 #![tactic(auto)]
 
 mod allocations;
@@ -7,6 +7,7 @@ mod allowed;
 mod doing;
 mod fault;
 mod files;
+mod judged;
 mod made;
 mod outside;
 mod reading;
@@ -18,6 +19,7 @@ mod text;
 
 use crate::doing::do_row;
 use crate::fault::Fault;
+use crate::judged::compare_judged;
 use crate::made::compare_made;
 use crate::reading::{begin_row, read_line};
 use crate::row::Row;
@@ -100,6 +102,7 @@ fn do_rows(alloc: Global, text: &str, out: &mut String) -> bool {
 enum Asked {
     Rows,
     Made(u32, u32),
+    Judged(u32, u32),
     Statuses,
     Nothing,
 }
@@ -120,6 +123,10 @@ fn read_arguments<R: Env + AllocGlobal>(rt: &R) -> Asked {
             (Ok(seed), Ok(count)) => Asked::Made(seed, count),
             _ => Asked::Nothing,
         },
+        ("judged", Some(seed), Some(count)) => match (seed.parse::<u32>(), count.parse::<u32>()) {
+            (Ok(seed), Ok(count)) => Asked::Judged(seed, count),
+            _ => Asked::Nothing,
+        },
         ("statuses", None, None) => Asked::Statuses,
         _ => Asked::Nothing,
     }
@@ -135,17 +142,31 @@ fn push_statuses(out: &mut String) -> Result<(), AllocError> {
     Ok(())
 }
 
+/// Compares what `check` says of changed files with the plain program, and adds what came.
+fn judge_files(alloc: Global, seed: u32, count: u32, out: &mut String) -> Result<bool, AllocError> {
+    match compare_judged(alloc, seed, count, out) {
+        Ok(are_alike) => Ok(are_alike),
+        Err(fault) => {
+            push_fault(out, 0, fault);
+            Ok(false)
+        }
+    }
+}
+
 /// Does what the words ask for, and adds what is to be printed. Answers whether all is well.
 fn do_asked(alloc: Global, asked: Asked, text: &str, out: &mut String) -> Result<bool, AllocError> {
     match asked {
         Asked::Rows => Ok(do_rows(alloc, text, out)),
         Asked::Made(seed, count) => compare_made(alloc, seed, count, out),
+        Asked::Judged(seed, count) => judge_files(alloc, seed, count, out),
         Asked::Statuses => {
             push_statuses(out)?;
             Ok(true)
         }
         Asked::Nothing => {
-            out.push_str("cola_rows < FILE, cola_rows made SEED COUNT, or cola_rows statuses\n")?;
+            out.push_str(
+                "cola_rows < FILE, cola_rows made SEED COUNT, cola_rows judged SEED COUNT, or cola_rows statuses\n",
+            )?;
             Ok(false)
         }
     }

@@ -21,10 +21,10 @@ use Rattle.cola_cell.proofs.CostsLemmas.{costs_none, costs_then, costs_within}
 use Rattle.cola_look.specs.declared.seeking.Seat.{Seat}
 use Rattle.cola_cell.specs.Order.{key_cmp}
 use Rattle.cola_look.specs.Outcome.{Outcome, Found, BadAt, Open, and_then, Answers}
-use Rattle.cola_look.specs.Runs.{AreRuns}
+use Rattle.cola_look.specs.Runs.{AreRuns, BeginsNear}
 use Rattle.cola_look.specs.Seek.{found_in, as_seat, SeekCause, turns_from}
 use Rattle.cola_look.proofs.SeekLemmas.{found_is_seek, GoesOn, Sought, answers_whole, device_answers}
-use Rattle.cola_search.specs.Find.{length_of_first, item_or, found_in_runs, BeginsNear, FindCause}
+use Rattle.cola_search.specs.Find.{length_of_first, item_or, found_in_runs, FindCause}
 
 -- ---- what is told of the runs decides the search
 

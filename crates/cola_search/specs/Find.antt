@@ -1,14 +1,12 @@
 -- The search of a list of runs, over what an object tells of its places.
-use Rattle.std.specs.Prelude.{ℕ, ◌≤◌, ◌<◌, List, [], ◌∷◌, ⊤, Option, None, Some, Contains}
+use Rattle.std.specs.Prelude.{ℕ, ◌<◌, List, [], ◌∷◌, Option, None, Some, Contains}
 use Rattle.cola_outside.specs.Faults.{Rose}
 use Rattle.cola_runs.specs.Cells.{Item}
-use Rattle.cola_runs.specs.Search as laws
 use Rattle.cola_cell.specs.declared.cell.Run.{Run}
 use Rattle.cola_cell.specs.declared.fault.ReadFault.{ReadFault}
 use Rattle.cola_cell.specs.declared.fault.ReadFault.TheVariants.{Device, BadCell}
-use Rattle.cola_cell.specs.Held.{Held, LawCell, Stamped}
+use Rattle.cola_cell.specs.Held.{Held, Stamped}
 use Rattle.cola_cell.specs.Spent.{IsBad}
-use Rattle.cola_cell.specs.Order.{key_cmp}
 use Rattle.cola_look.specs.Outcome.{Outcome, Found, and_then}
 use Rattle.cola_look.specs.Seek.{found_in}
 
@@ -27,11 +25,6 @@ abbrev pub found_in_runs : Held → List ℕ → ℕ → List Run → Outcome (O
 found_in_runs held key start [] = Found None
 found_in_runs held key start (run ∷ runs) =
     and_then (found_in held run (length_of_first runs) start key) (λ seat. item_or seat.hit (found_in_runs held key seat.link runs))
-
--- the search of the first run, which begins at its first cell, begins near enough to the key's place
-abbrev pub BeginsNear : List ℕ → List (List LawCell) → Type 0
-BeginsNear key [] = ⊤
-BeginsNear key (cells ∷ lists) = laws.place key_cmp key cells ≤ 7
 
 -- a cell of one of the runs whose bytes spell none, and its number
 pub record HasBadRun (held : Held) (runs : List Run) (number : ℕ) : Type 0 where

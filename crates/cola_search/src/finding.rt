@@ -8,8 +8,8 @@ ghost use Rattle.cola_cell.specs.Spent.{Buffer, Search, ReadCalm};
 ghost use Rattle.cola_cell.specs.Costs.{Costs};
 ghost use Rattle.cola_cell.specs.Order.{key_cmp};
 ghost use Rattle.cola_look.specs.Outcome.{Found, Answers};
-ghost use Rattle.cola_look.specs.Runs.{HasRun, AreRuns};
-ghost use Rattle.cola_search.specs.Find.{length_of_first, found_in_runs, BeginsNear, FindCause};
+ghost use Rattle.cola_look.specs.Runs.{HasRun, AreRuns, BeginsNear};
+ghost use Rattle.cola_search.specs.Find.{length_of_first, found_in_runs, FindCause};
 
 use arrayvec::ArrayVec;
 use cola_cell::{CellSource, Item, Key, ReadFault, Run};

@@ -22,6 +22,7 @@ pub enum Status {
     BadCell = 10,
     NoRoom = 11,
     AlreadyWide = 12,
+    Broken = 13,
     FilesDiffer = 16,
     FirstLost = 17,
     SecondLost = 18,
@@ -29,7 +30,7 @@ pub enum Status {
 
 impl Status {
     /// All of them, in the order of their numbers.
-    pub fn all() -> array::IntoIter<Status, 16>
+    pub fn all() -> array::IntoIter<Status, 17>
         ensures { array_into_iter_items result ≡ all_statuses }
     {
         [
@@ -46,6 +47,7 @@ impl Status {
             Status::BadCell,
             Status::NoRoom,
             Status::AlreadyWide,
+            Status::Broken,
             Status::FilesDiffer,
             Status::FirstLost,
             Status::SecondLost,
@@ -86,6 +88,9 @@ impl Status {
             Status::BadCell => "a cell of the file is damaged",
             Status::NoRoom => "there was no room for a put or a delete",
             Status::AlreadyWide => "the file is of version 2 already; it was not changed",
+            Status::Broken => {
+                "the file stands for no map; the line that was written says why; it was not changed"
+            }
             Status::FilesDiffer => "the two files of a mirror differ; nothing was read or written",
             Status::FirstLost => {
                 "all was done, and the first file of the mirror was lost: the second one has what was written"

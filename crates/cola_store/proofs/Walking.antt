@@ -7,7 +7,6 @@ use Rattle.std.specs.FinMap as finite
 use Rattle.std.specs.FinMap.Entries.{find, is_sorted, below_all}
 use Rattle.std.specs.Cmp.Lexicographic.{nat_list_cmp_total}
 use Rattle.std.proofs.Math.Pow.{pow_mono}
-use Rattle.cola_runs.specs.Search.{first_len}
 use Rattle.cola_laws.specs.Chain.{value_at}
 use Rattle.cola_cell.specs.declared.cell.Cell.{Cell}
 use Rattle.cola_cell.specs.declared.cell.Run.{Run}
@@ -48,20 +47,6 @@ use Rattle.cola_store.specs.Walks.{Stands, Ahead, Begins, GoesOn, Stays, Then, T
 pub levels-rise : (t j : ℕ) (levels : List Level) → LevelsRise j (visible_runs t j levels)
 levels-rise t j [] = tt
 levels-rise t j (l ∷ ls) = let e : j ≤ j = omega arith in (e, levels-rise t (suc j) ls)
-
--- the first visible run has at most four cells
-pub near : (held : Held) (t : ℕ) (levels : List Level) (runs : List Run) (lists : List (List LawCell)) → runs ≡ visible_runs t 0 levels → All (HasRun held) runs → AreRuns held runs lists → first_len lists ≤ 7
-near held t levels runs lists visible has told =
-    first levels lists (all_by_recursion (HasRun held) (visible_runs t 0 levels) (subst (λ (rs : List Run). All (HasRun held) rs) visible has)) (subst (λ (rs : List Run). AreRuns held rs lists) visible told)
-  where
-    first : (levels : List Level) (lists : List (List LawCell)) → AllByRecursion (HasRun held) (visible_runs t 0 levels) → AreRuns held (visible_runs t 0 levels) lists → first_len lists ≤ 7
-    first [] [] has told = omega arith
-    first [] (cells ∷ lists) has told = absurd told
-    first (l ∷ ls) [] has told = absurd told
-    first (l ∷ ls) (cells ∷ lists) has told =
-        let n : l.visible ≡ length cells = told.0.length_is in
-        let f : l.visible ≤ 4 = has.0.within in
-        omega (arith, n, f)
 
 -- Refusals: in runs that are told no cell is bad
 
@@ -232,20 +217,20 @@ fewer-ahead held other stamp (Err fault) walk after passes pair stands = tt
 
 module _ {D : Type 0} (bytes : D → Option (List ℕ)) (old new : Stored D) (held_is : held_of bytes new ≡ held_of bytes old) (runs_are : opened.runs_of new ≡ opened.runs_of old) where
   pub range-right : (m : Map) (low : List ℕ) (high : Option (List ℕ)) (runs : List Run) (lists : List (List LawCell)) (before now : ℕ) (result : Result Cursor ReadFault) →
-      Holds bytes new m → runs ≡ opened.runs_of old → AreSearched (held_of bytes old) runs lists (found_in m) → first_len lists ≤ 7 →
-      ((lists : List (List LawCell)) → AreRuns (held_of bytes old) runs lists → standing.AreSearched lists → IfOk result (λ walk. standing.Ahead (held_of bytes old) walk (live key_cmp (between key_cmp low high) lists))) →
+      Holds bytes new m → runs ≡ opened.runs_of old → AreSearched (held_of bytes old) runs lists (found_in m) →
+      ((lists : List (List LawCell)) → AreRuns (held_of bytes old) runs lists → standing.AreSearched low lists → IfOk result (λ walk. standing.Ahead (held_of bytes old) walk (live key_cmp (between key_cmp low high) lists))) →
       IfOk result (λ walk. (runs_of walk.lines.items ≡ runs) × (walk.end ≡ high)) → IfErr result (RunsCause (held_of bytes old) runs before now) →
       RangeAnswers m low high (Holds bytes new) (Ahead bytes new) result
-  range-right m low high runs lists before now (Ok walk) holds visible ready few ahead begins cause = (
+  range-right m low high runs lists before now (Ok walk) holds visible ready ahead begins cause = (
     record {
       stamped = live key_cmp (between key_cmp low high) lists;
-      cursor = subst (λ (h : Held). standing.Ahead h walk (live key_cmp (between key_cmp low high) lists)) (sym held_is) (ahead lists ready.told (record { sampled = ready.sampled; near = few }));
+      cursor = subst (λ (h : Held). standing.Ahead h walk (live key_cmp (between key_cmp low high) lists)) (sym held_is) (ahead lists ready.told (record { sampled = ready.sampled; near = ready.near low }));
       pairs_are = pairs-live m low high lists ready.values;
       visible = begins.0 ∙ visible ∙ sym runs_are;
     },
     holds,
   )
-  range-right m low high runs lists before now (Err fault) holds visible ready few ahead begins cause =
+  range-right m low high runs lists before now (Err fault) holds visible ready ahead begins cause =
       (only-runs (held_of bytes old) runs lists before now fault ready.told cause, holds)
 
   pub next-stands : (stamp : ℕ) (result : Result (Option (List ℕ × List ℕ)) ReadFault) (walk after : Cursor) → Stands bytes old walk → standing.Stands (held_of bytes new) after →

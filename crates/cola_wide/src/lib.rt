@@ -5,6 +5,7 @@ mod cells;
 mod copying;
 mod fault;
 mod head;
+pub mod laws;
 mod laying;
 mod upgrading;
 

@@ -13,8 +13,9 @@ use Rattle.cola_table.specs.declared.PutFault.TheVariants as put
 use Rattle.cola_status.specs.declared.status.Status.TheVariants as known
 use Rattle.cola_status.specs.Statuses.{IsStatus}
 use Rattle.cola_status.proofs.Known.{one, opening-known}
-use Rattle.cola_workload.specs.Workload.{making_status, filling_status, asking_status, LineEnds, FillingRefused, AskingRefused, AskEnds, GenEnds}
-use Rattle.cola_workload.specs.Workload.LineEnds.{WroteLine, WroteFront}
+use Rattle.cola_report.specs.Line.{LineEnds}
+use Rattle.cola_workload.specs.Workload.{making_status, filling_status, asking_status, FillingRefused, AskingRefused, AskEnds, GenEnds}
+use Rattle.cola_report.specs.Line.LineEnds.{WroteLine, WroteFront}
 use Rattle.cola_workload.specs.Workload.FillingRefused.{NotMade, NotOpened, NotFilled, NotClosed}
 use Rattle.cola_workload.specs.Workload.AskingRefused.{NotReopened, NotAsked, NotClosedAgain}
 use Rattle.cola_workload.specs.Workload.AskEnds.{Told, AskRefused}
@@ -42,7 +43,7 @@ asking-known (read.BadCell cell) n is = one known.BadCell n is
 -- ---- the calls
 
 module _ {K D : Type 0} (h : sink.Ghosts K) (d : device.Ghosts D) where
-  line-known : (text : List ℕ) (sink sink' : K) (n : ℕ) → LineEnds h text sink sink' n → IsStatus n
+  line-known : (text : List ℕ) (sink sink' : K) (n : ℕ) → LineEnds h text 0 sink sink' n → IsStatus n
   line-known text sink sink' n (WroteLine is wrote counted) = one known.Done n is
   line-known text sink sink' n (WroteFront is k wrote counted) = one known.SinkFailed n is
 

@@ -1,3 +1,4 @@
 mod Working
 mod OnEmpty
 pub mod Known
+pub mod Parts

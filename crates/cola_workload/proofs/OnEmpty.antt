@@ -40,8 +40,9 @@ use Rattle.cola_store.specs.Open.{Opens, IsInUse, HasBadCell, IsReady}
 use Rattle.cola_store.specs.Sessions.{IsStoreOpened, IsStoreClosed}
 use Rattle.cola_store.specs.Store.{Stored, Holds, geometry_of, kept_of}
 use Rattle.cola_status.specs.Statuses.{refusal_status}
-use Rattle.cola_workload.specs.Workload.{no_tally, workload_line, right_line, making_status, filling_status, asking_status, LineEnds, Filled, Asked, WasFilled, WasAsked, FillingRefused, AskingRefused, AskEnds, GenEnds, IsFileOfOdd, EndsOnEmpty, FaultsCaused}
-use Rattle.cola_workload.specs.Workload.LineEnds.{WroteLine, WroteFront}
+use Rattle.cola_report.specs.Line.{LineEnds}
+use Rattle.cola_workload.specs.Workload.{no_tally, workload_line, right_line, making_status, filling_status, asking_status, Filled, Asked, WasFilled, WasAsked, FillingRefused, AskingRefused, AskEnds, GenEnds, IsFileOfOdd, EndsOnEmpty, FaultsCaused}
+use Rattle.cola_report.specs.Line.LineEnds.{WroteLine, WroteFront}
 use Rattle.cola_workload.specs.Workload.FillingRefused.{NotMade, NotOpened, NotFilled, NotClosed}
 use Rattle.cola_workload.specs.Workload.AskingRefused.{NotReopened, NotAsked, NotClosedAgain}
 use Rattle.cola_workload.specs.Workload.AskEnds.{Told, AskRefused}
@@ -221,7 +222,7 @@ module _ {K D : Type 0} (k : sink.Ghosts K) (d : device.Ghosts D) (t : table.Gho
         (was.was.asks.none_over ∙ over)
         (after.counted ∙ odd.counted)
 
-    line-ends : (now : D) (text : List ℕ) (sink sink' : K) (status : ℕ) → text ≡ right_line keys → IsSomeAnd (d.bytes now) (IsFileOfOdd keys) → LineEnds k text sink sink' status → EndsOnEmpty k keys sink sink' (d.bytes now) status
+    line-ends : (now : D) (text : List ℕ) (sink sink' : K) (status : ℕ) → text ≡ right_line keys → IsSomeAnd (d.bytes now) (IsFileOfOdd keys) → LineEnds k text 0 sink sink' status → EndsOnEmpty k keys sink sink' (d.bytes now) status
     line-ends now text sink sink' status e left (WroteLine is wrote counted) = Right is (subst (λ (xs : List ℕ). Appended xs (k.written sink) (k.written sink')) e wrote) left
     line-ends now text sink sink' status e left (WroteFront is n wrote counted) =
         RightFront is n (subst (λ (xs : List ℕ). Appended (take n xs) (k.written sink) (k.written sink')) e wrote) counted left

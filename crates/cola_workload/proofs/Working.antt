@@ -29,20 +29,15 @@ use Rattle.cola_store.specs.Create.{Created}
 use Rattle.cola_store.specs.Open.{Opens}
 use Rattle.cola_store.specs.Store.{Stored}
 use Rattle.cola_status.specs.Statuses.{refusal_status}
-use Rattle.cola_workload.specs.Workload.{LineEnds, Fills, Asks, FillEnds, AskEnds, GenEnds, making_status, filling_status, asking_status}
-use Rattle.cola_workload.specs.Workload.LineEnds.{WroteLine, WroteFront}
+use Rattle.cola_report.specs.Line.{LineEnds}
+use Rattle.cola_workload.specs.Workload.{Fills, Asks, FillEnds, AskEnds, GenEnds, making_status, filling_status, asking_status}
+use Rattle.cola_report.specs.Line.LineEnds.{WroteLine, WroteFront}
 use Rattle.cola_workload.specs.Workload.GenEnds.{FillDone}
 
 -- ---- the line
 
--- some front of the line was written
-pub front : {K : Type 0} (k : sink.Ghosts K) (text bytes : List ℕ) (sink sink' : K) → bytes ≡ text → ((n : ℕ) × (n ≤ length bytes) × Appended (take n bytes) (k.written sink) (k.written sink')) → k.faults sink' ≡ after_fault (k.faults sink)
-    → LineEnds k text sink sink' 4
-front k text bytes sink sink' e some counted =
-    WroteFront refl some.0 (subst (λ (xs : List ℕ). Appended (take some.0 xs) (k.written sink) (k.written sink')) e some.2) counted
-
 -- a line's status is no fault of the device
-pub line-calm : {K : Type 0} (k : sink.Ghosts K) (text : List ℕ) (sink sink' : K) (status : ℕ) → LineEnds k text sink sink' status → status ≡ 5 → ⊥
+pub line-calm : {K : Type 0} (k : sink.Ghosts K) (text : List ℕ) (sink sink' : K) (status : ℕ) → LineEnds k text 0 sink sink' status → status ≡ 5 → ⊥
 line-calm k text sink sink' status (WroteLine is wrote counted) e = omega (arith, is, e)
 line-calm k text sink sink' status (WroteFront is n wrote counted) e = omega (arith, is, e)
 

@@ -31,6 +31,7 @@ use Rattle.cola_store.specs.Create.{Created, Made, Suits}
 use Rattle.cola_store.specs.Close.{IsClosed, StillOwes}
 use Rattle.cola_store.specs.Sessions.{OpensStore, IsStoreOpened, ClosesStore, IsStoreClosed, IsStoreOwed}
 use Rattle.cola_store.specs.Store.{Stored}
+use Rattle.cola_report.specs.Line.{LineEnds}
 use Rattle.cola_status.specs.Statuses.{refusal_status}
 
 -- The line
@@ -161,15 +162,10 @@ module _ {D : Type 0} (d : device.Ghosts D) (t : table.Ghosts (Stored D) Cursor)
 
 -- How it ends
 
--- a line was written: 0 where it was written whole, and 4 where the sink failed, and some front of it was written
-pub data LineEnds {K : Type 0} (k : sink.Ghosts K) (text : List ℕ) (sink sink' : K) (status : ℕ) : Type 0 where
-  WroteLine : status ≡ 0 → Appended text (k.written sink) (k.written sink') → k.faults sink' ≡ k.faults sink → LineEnds k text sink sink' status
-  WroteFront : status ≡ 4 → (n : ℕ) → Appended (take n text) (k.written sink) (k.written sink') → k.faults sink' ≡ after_fault (k.faults sink) → LineEnds k text sink sink' status
-
 module _ {K D : Type 0} (k : sink.Ghosts K) (d : device.Ghosts D) (t : table.Ghosts (Stored D) Cursor) (keys : ℕ) where
   -- how a filled and closed file is asked: to the end, which the line tells, or up to a refusal, and then nothing is written
   pub data AskEnds (before now : D) (tally : Tally) (sink sink' : K) (steps steps' status : ℕ) : Type 0 where
-    Told : (asked : State (Stored D)) → WasAsked d t keys before tally steps asked now → steps' ≡ asked.steps → LineEnds k (workload_line asked.tally asked.table.count) sink sink' status
+    Told : (asked : State (Stored D)) → WasAsked d t keys before tally steps asked now → steps' ≡ asked.steps → LineEnds k (workload_line asked.tally asked.table.count) 0 sink sink' status
         → AskEnds before now tally sink sink' steps steps' status
     AskRefused : AskingRefused d t keys before now tally steps steps' status → sink' ≡ sink → AskEnds before now tally sink sink' steps steps' status
 

@@ -1,6 +1,7 @@
 //! The stated workload over a new file of a device.
 #![tactic(auto)]
 
+pub mod laws;
 mod workload;
 
 pub use workload::{new_workloads_complete, serve_workload};

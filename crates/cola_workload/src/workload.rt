@@ -3,35 +3,25 @@ ghost use Rattle.std.specs.Prelude.{◌≡◌, ◌⊎◌, ◌+◌, ◌≤◌, �
 ghost use Rattle.cola_outside.specs.Faults.{Rose};
 ghost use Rattle.cola_cell.specs.declared.format.Format.TheVariants.{One};
 ghost use Rattle.cola_gen.specs.Turns.{HasCounted};
+ghost use Rattle.cola_report.specs.Line.{LineEnds};
 ghost use Rattle.cola_store.specs.Create.{Made};
 ghost use Rattle.cola_store.specs.Sessions.{IsStoreOpened, IsStoreOwed};
 ghost use Rattle.cola_store.specs.Store.{Stored};
 ghost use Rattle.cola_words.specs.Sizes.{SuitStore};
 ghost use Rattle.cola_workload.specs.Workload as spec;
-ghost use Rattle.cola_workload.specs.Workload.{workload_line, LineEnds, ClosedOnce, ClosedLate, AskEnds, FillEnds, FillFaults, filled_device, GenEnds, FaultsCaused, EndsOnEmpty};
+ghost use Rattle.cola_workload.specs.Workload.{workload_line, ClosedOnce, ClosedLate, AskEnds, FillEnds, FillFaults, filled_device, GenEnds, FaultsCaused, EndsOnEmpty};
 
-use arrayvec::ArrayVec;
 use cola_cell::{Format, ReadFault};
 use cola_device::Device;
 use cola_gen::{Tally, generate, verify};
-use cola_io::{Sink, put_all};
+use cola_io::Sink;
 use cola_outside::Steps;
+use cola_report::{Text, push_bytes, push_number, write_line};
 use cola_status::{Status, opening_status};
 use cola_store::{Closing, CreateFault, Store, create_as};
 use cola_table::{PutFault, Table};
-use itoa::Buffer;
 use std::alloc::Global;
 use std::sync::ledger::Ledger;
-
-/// The line of the workload while it is made: at most 160 bytes, which the longest line fits.
-type Text = ArrayVec<u8, 160>;
-
-fn push_bytes(text: &mut Text, bytes: &[u8])
-    requires { length text.old.items + length bytes.now ≤ 160 }
-    ensures { text.new.items ≡ text.old.items ++ bytes.now }
-{
-    let _ = text.try_extend_from_slice(bytes);
-}
 
 /// A word and a number.
 fn push_part(text: &mut Text, word: &[u8], number: u64)
@@ -40,8 +30,7 @@ fn push_part(text: &mut Text, word: &[u8], number: u64)
     ensures short { length text.new.items ≤ length text.old.items + length word.now + 20 }
 {
     push_bytes(text, word);
-    let mut buffer = Buffer::new();
-    push_bytes(text, buffer.format(number).as_bytes());
+    push_number(text, number);
 }
 
 /// The line of a tally and the number of keys that are left.
@@ -59,14 +48,11 @@ fn line_of(tally: &Tally, left: u64) -> Text
 }
 
 /// Writes the line, and gives the status.
-fn write_line<K: Sink>(tally: &Tally, left: u64, sink: &mut K) -> u8
-    ensures { LineEnds K.Sink (workload_line tally.now left) sink.old sink.new result }
+fn write_tally<K: Sink>(tally: &Tally, left: u64, sink: &mut K) -> u8
+    ensures { LineEnds K.Sink (workload_line tally.now left) 0 sink.old sink.new result }
 {
     let text = line_of(tally, left);
-    match put_all(sink, text.as_slice()) {
-        Ok(()) => Status::Done as u8,
-        Err(_) => Status::SinkFailed as u8,
-    }
+    write_line(text.as_slice(), Status::Done as u8, sink)
 }
 
 /// The status where the file was not made.
@@ -151,7 +137,7 @@ fn ask_store<K: Sink, D: Device, L: Ledger>(
     }
     let left = store.count();
     match store.close() {
-        Ok(device) => (device, write_line(&tally, left, sink)),
+        Ok(device) => (device, write_tally(&tally, left, sink)),
         Err(closing) => (close_again(closing), Status::DeviceFailed as u8),
     }
 }

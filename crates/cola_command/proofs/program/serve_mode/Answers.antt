@@ -1,7 +1,7 @@
--- A session over a file, and the stated workload, are served by the modes that name them.
+-- A session over a file, the stated workload and the test of a file are served by the modes that name them.
 use Rattle.std.proofs.Common.{◌≡◌, ◌∙◌, Option, Some, refl, sym, ap, subst}
 use Rattle.cola_words.specs.declared.mode.Mode.{Mode}
-use Rattle.cola_words.specs.declared.mode.Mode.TheVariants.{Gen, Run}
+use Rattle.cola_words.specs.declared.mode.Mode.TheVariants.{Check, Gen, Run}
 use Rattle.cola_command.specs.Serves.{Serves}
 use Rattle.cola_command.proofs.program.serve_mode.Goals as goal
 
@@ -30,3 +30,19 @@ returns-in-Some-Run g c =
     (λ (m : Option Mode). Serves g.S.Source g.K.Sink g.D.Device c.args.source.now c.serve_run.new.source c.args.sink.now c.serve_run.new.sink c.args.device c.serve_run.result.device
     c.args.second c.serve_run.result.second c.args.steps.now c.serve_run.new.steps c.serve_run.result.status m)
     (sym e) c.serve_run.ensures
+
+pub returns-in-Some-Check : goal.returns-in-Some-Check
+returns-in-Some-Check g c =
+    let named = rw c.in-Some-Check.is at c.in-Some-Check.field-0-is in
+    let e : c.args.mode ≡ Some Check = c.in-Some-Check.is ∙ ap (λ (m : Mode). Some m) named in
+    subst
+    (λ (m : Option Mode). Serves g.S.Source g.K.Sink g.D.Device c.args.source.now c.args.source.now c.args.sink.now c.check_file-device.new.sink c.args.device c.check_file-device.result.0
+    c.args.second c.args.second c.args.steps.now c.check_file-device.new.steps c.check_file-device.result.1 m)
+    (sym e)
+    (record {
+      ends = c.check_file-device.ensures.ends;
+      no_write = c.check_file-device.ensures.no_write;
+      kept = c.check_file-device.ensures.kept;
+      source_stays = refl;
+      second_stays = refl;
+    })

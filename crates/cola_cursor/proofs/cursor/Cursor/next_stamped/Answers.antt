@@ -28,7 +28,7 @@ loop-key-init g c =
       reading = c.in_ok-lines.ensures.reading;
       left = left_same c.with_heads.new.steps (all_left c.in_ok-lines.lines.items) c.args.steps.now c.as_slice.result.now c.args.self.now.lines.items e c.in_ok-lines.ensures.left;
       cursor_is = refl;
-      quiet = quiet_begins (g.W.CellSource.held c.args.work.now) c.args.self.now c.requires c.in_ok-lines.lines.items (subst F e c.in_ok-lines.ensures.fetches);
+      quiet = quiet_begins (g.W.CellSource.held c.args.work.now) c.args.self.now c.in_ok-lines.lines.items (subst F e c.in_ok-lines.ensures.fetches);
     }
 
 pub loop-key-smaller-in-Tombstone : goal.loop-key-smaller-in-Tombstone
@@ -115,7 +115,7 @@ returns-in-Value g c =
     let new : Cursor = record { lines = lines; end = c.loop-key.self.end } in
     went w c.args.work.now c.pass_all.new.work c.args.self.now new c.args.steps.now c.pass_all.new.steps
     (c.in_ok-passed.ensures.cells_stay ∙ i.held_is) (c.in_ok-passed.ensures.kept ∙ i.kept_is) (reading_then i.reading c.in_ok-passed.ensures.reading)
-    (Some (key, c.in-Value.value, c.in-Value.stamp)) (c.in_ok-passed.ensures.calm ∙ i.calm) (let q = i.left in omega (arith, left, q)) end
+    (Some (key, c.in-Value.value, c.in-Value.stamp)) c.requires (c.in_ok-passed.ensures.calm ∙ i.calm) (let q = i.left in omega (arith, left, q)) end
     (answer_going i.quiet key l lines.items item p)
     (ap (λ x. below_end key_cmp x key) end ∙ key_below i.quiet key l)
     (value_later held key c.in-Value.value c.in-Value.stamp c.args.self.now.lines.items c.loop-key.lines.items lines.items None none_hidden i.quiet.going.passed
@@ -130,6 +130,6 @@ returns g c =
     let l = same_least c.args.self.now c.loop-key.self c.as_slice-in-loop-key.result.now c.loop-key.lines.items c.least_key.result None i.cursor_is c.as_slice-in-loop-key.ensures.value c.least_key.ensures c.in_default.is in
     let new : Cursor = record { lines = c.loop-key.lines; end = c.loop-key.self.end } in
     went w c.args.work.now c.loop-key.work c.args.self.now new c.args.steps.now c.loop-key.steps i.held_is i.kept_is i.reading
-    None i.calm i.left end i.quiet.going
+    None c.requires i.calm i.left end i.quiet.going
     (subst (λ (x : Option (List ℕ)). AllByRecursion (LineEnds x) c.loop-key.lines.items) (sym end) (all_end c.args.self.now.end c.loop-key.lines.items i.quiet.going.ready (least_none c.args.self.now.end None c.loop-key.lines.items l).1))
     tt (λ pairs ahead. takes_none c.args.self.now new i.quiet end l pairs ahead)

@@ -9,7 +9,7 @@ use Rattle.cola_chain.specs.Runs.{visible_runs, visible_lists}
 use Rattle.cola_store.specs.Store.{Stored, Holds, held_of}
 use Rattle.cola_store.specs.Walks.{Ahead}
 use Rattle.cola_store.proofs.Storing.{length-visible, read-is, same, holds-same}
-use Rattle.cola_store.proofs.Walking.{levels-rise, near, few-ahead, range-right}
+use Rattle.cola_store.proofs.Walking.{levels-rise, few-ahead, range-right}
 use Rattle.cola_store.proofs.table.StoreTable.range.Goals as goal
 
 pub seek-requires-clause-levels : goal.seek-requires-clause-levels
@@ -35,9 +35,7 @@ returns-clause-answer g c =
     range-right bytes s new c.seek.ensures.cells_stay (ap (λ (k : chain.Kept g.D.Device.Kept). visible_runs k.clock 0 k.levels) c.seek.ensures.kept)
     m c.args.low.now (option_copied c.args.high) c.visible-runs.result.items lists _ _ c.seek.result
     (holds-same bytes g.D.Device.counts g.D.Device.kept s new (same bytes g.D.Device.counts g.D.Device.kept s now c.self.inside.account c.seek.ensures.cells_stay c.seek.ensures.kept) (ap (λ (k : chain.Kept g.D.Device.Kept). k.store) c.seek.ensures.kept) m holds)
-    c.visible-runs.ensures.runs ready
-    (near (held_of bytes s) s.chain.clock s.chain.levels c.visible-runs.result.items lists c.visible-runs.ensures.runs c.visible-runs.ensures.has ready.told)
-    c.seek.ensures.ahead c.seek.ensures.begins c.seek.ensures.cause)
+    c.visible-runs.ensures.runs ready c.seek.ensures.ahead c.seek.ensures.begins c.seek.ensures.cause)
 
 pub returns-clause-most : goal.returns-clause-most
 returns-clause-most g c =

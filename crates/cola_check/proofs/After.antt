@@ -1,0 +1,41 @@
+-- Tests after others.
+use Rattle.std.proofs.Common.{◌≡◌, ℕ, List, [], ◌∷◌, ◌++◌, Option, None, Result, Ok, Err, IfOk, IfErr, subst}
+use Rattle.std.specs.List.{AllByRecursion}
+use Rattle.cola_cell.specs.declared.fault.ReadFault.{ReadFault}
+use Rattle.cola_cell.specs.declared.fault.ReadFault.TheVariants.{Device, BadCell}
+use Rattle.cola_cell.specs.Held.{Held, IsTelling}
+use Rattle.cola_layout.specs.declared.header.Header.{Header}
+use Rattle.cola_verdict.specs.declared.verdict.Flaw.{Flaw}
+use Rattle.cola_verdict.specs.declared.verdict.Flaw.TheVariants.{Cell}
+use Rattle.cola_verdict.specs.declared.verdict.Verdict.{Verdict}
+use Rattle.cola_verdict.specs.Tests.{Tested, AreCellsTold}
+use Rattle.cola_verdict.specs.Verdict.{Passes}
+use Rattle.cola_check.specs.BadCells.{FindsCell}
+use Rattle.cola_check.specs.Found.{tested_by}
+use Rattle.cola_check.specs.Testing.{FindsFlaw, FindsVerdict, TestCause, Tests}
+
+all-then : (file : Tested) (xs ys : List Flaw) → AllByRecursion (Passes file) xs → AllByRecursion (Passes file) ys → AllByRecursion (Passes file) (xs ++ ys)
+all-then file [] ys h k = k
+all-then file (x ∷ xs) ys h k = (h.0, all-then file xs ys h.1 k)
+
+-- where some tests found nothing, the verdict by the tests behind them is that by these and those
+pub goes-on : (header : Header) (old mid : Held) (before these : List Flaw) (found : Option Verdict) (result : Result Verdict ReadFault) → mid ≡ old → found ≡ None →
+    FindsFlaw (tested_by header old) before these found → IfOk result (FindsVerdict (tested_by header mid) (before ++ these)) → IfOk result (FindsVerdict (tested_by header old) before)
+goes-on header old mid before these found (Err fault) same none finds verdict = tt
+goes-on header old mid before these found (Ok v) same none finds verdict = λ passed.
+    let first : FindsFlaw (tested_by header old) before these None = subst (FindsFlaw (tested_by header old) before these) none finds in
+    let last : FindsVerdict (tested_by header old) (before ++ these) v = subst (λ (h : Held). FindsVerdict (tested_by header h) (before ++ these) v) same verdict in
+    last (all-then (tested_by header old) before these passed (first passed))
+
+-- the answer of all tests, where no cell of the runs is bad
+pub of-runs : (header : Header) (old mid : Held) (before between now : ℕ) (found : Option (ℕ × ℕ)) (result : Result Verdict ReadFault) → mid ≡ old → between ≡ before → found ≡ None →
+    FindsCell header old found → IfOk result (FindsVerdict (tested_by header mid) (Cell ∷ [])) → IfErr result (TestCause header mid between now) → Tests header old before now result
+of-runs header old mid before between now found (Ok v) same calm none cells verdict cause = λ tells.
+    let told : IsTelling old → AreCellsTold (tested_by header old) = subst (FindsCell header old) none cells in
+    let last : FindsVerdict (tested_by header old) (Cell ∷ []) v = subst (λ (h : Held). FindsVerdict (tested_by header h) (Cell ∷ []) v) same verdict in
+    last (told tells, tt)
+of-runs header old mid before between now found (Err Device) same calm none cells verdict cause = subst (λ (n : ℕ). TestCause header old n now Device) calm (subst (λ (h : Held). TestCause header h between now Device) same cause)
+of-runs header old mid before between now found (Err (BadCell number)) same calm none cells verdict cause = λ tells.
+    let told : IsTelling old → AreCellsTold (tested_by header old) = subst (FindsCell header old) none cells in
+    let refused : TestCause header old between now (BadCell number) = subst (λ (h : Held). TestCause header h between now (BadCell number)) same cause in
+    refused (told tells)

@@ -1,0 +1,39 @@
+-- What the tests of a store's cells answer and spend.
+use Rattle.std.proofs.Common.{◌≡◌, ℕ, List, Option, is_some, true, sym, ap, subst, arith}
+use Rattle.cola_layout.specs.declared.geometry.Geometry.{Geometry}
+use Rattle.cola_run.specs.Store.{held_of, cells_of, Kept}
+use Rattle.cola_run.proofs.Spots.{told-there}
+use Rattle.cola_check.proofs.Judging.{by-cells, by-load, tells-all}
+use Rattle.cola_check.proofs.checking.test_store.Goals as goal
+
+pub returns-in-Ok-clause-answer : goal.returns-in-Ok-clause-answer
+returns-in-Ok-clause-answer g c =
+    by-cells g.D.Device c.args.header.now c.args.runs.now.buffers.cache.device c.test_cells.new.work.buffers.cache.device
+    (held_of g.D.Device.bytes c.load.new.self) (g.D.Device.counts c.load.new.self.buffers.cache.device).faults c.test_cells.result c.judged.result
+    (tells-all (held_of g.D.Device.bytes c.load.new.self) c.args.header.now.geometry (g.D.Device.bytes c.args.runs.now.buffers.cache.device)
+    (λ some. told-there (cells_of (g.D.Device.bytes c.load.new.self.buffers.cache.device) c.load.new.self) (subst (λ (o : Option (List ℕ)). is_some o ≡ true) (sym c.load.ensures.bytes_stay) some))
+    c.in-Ok.ensures.loaded.spots)
+    c.in-Ok.ensures.spends.calm c.test_cells.ensures.tests c.test_cells.ensures.calm c.judged.ensures
+
+pub returns-in-Err-clause-answer : goal.returns-in-Err-clause-answer
+returns-in-Err-clause-answer g c =
+    by-load g.D.Device c.args.header.now c.args.runs.now.buffers.cache.device c.load.new.self.buffers.cache.device c.in-Err.fault c.judged-in-Err.result c.in-Err.ensures.answer c.in-Err.ensures.spends.calm c.judged-in-Err.ensures
+
+pub returns-in-Ok-clause-reads : goal.returns-in-Ok-clause-reads
+returns-in-Ok-clause-reads g c =
+    let load = c.load.ensures.spends in
+    let costs = c.test_cells.ensures.costs in
+    let same : c.args.header.now.geometry.bottom ≡ c.args.runs.now.geometry.bottom = ap (λ (x : Geometry). x.bottom) c.requires in
+    record {
+      steps_stay = costs.steps_stay;
+      few_ticks = costs.steps_rise;
+      spends = record {
+        faults_stay = omega (arith, load.faults_stay, costs.faults_stay);
+        reads_stay = omega (arith, load.reads_stay, costs.turned_stays);
+        reads_rise = omega (arith, load.reads_rise, costs.turned_rises, same);
+        writes_stay = omega (arith, load.writes_is, costs.written_is);
+        writes_rise = omega (arith, load.writes_is, costs.written_is);
+        others_stay = omega (arith, load.others_are, ap (λ (k : Kept g.D.Device.Kept). k.others) c.test_cells.ensures.kept);
+        others_rise = omega (arith, load.others_are, ap (λ (k : Kept g.D.Device.Kept). k.others) c.test_cells.ensures.kept);
+      };
+    }

@@ -1,0 +1,46 @@
+-- A merge follows a run.
+use Rattle.std.proofs.Common.{◌≡◌, refl, ◌∙◌, arith}
+use Rattle.cola_merge.proofs.Reading.{err_is}
+use Rattle.cola_check.proofs.Following.{pulled_at, following_none, pull_stops, pull_ends, read_stops, cells_differ, follows_on, follows_all, differ_by}
+use Rattle.cola_check.proofs.cut.gives_run.Goals as goal
+
+pub loop-index-init : goal.loop-index-init
+loop-index-init g c = record {
+  cells_stay = refl;
+  kept = refl;
+  following = following_none c.args.run.now (g.W.CellSource.spent c.args.work.now) c.args.steps.now c.requires.heads;
+}
+
+pub returns-in_err-given-clause-followed : goal.returns-in_err-given-clause-followed
+returns-in_err-given-clause-followed g c =
+    pull_stops c.loop-index.invariant.following c.from_residual.result c.in_err-given.field-0.0 (err_is c.from_residual.result c.in_err-given.field-0.0 c.from_residual.ensures.1) c.loop-index-test.true
+    (pulled_at (g.W.CellSource.held c.args.work.now) c.loop-index.invariant.cells_stay (record { gives = c.in_err-given.ensures.gives; heads = c.in_err-given.ensures.heads; consumes = c.in_err-given.ensures.consumes; cause = c.in_err-given.ensures.cause; calm = c.in_err-given.ensures.calm; ticks = c.in_err-given.ensures.ticks; spends = c.in_err-given.ensures.spends; written_is = c.in_err-given.ensures.written }))
+
+pub returns-in_default-clause-followed : goal.returns-in_default-clause-followed
+returns-in_default-clause-followed g c =
+    pull_ends c.loop-index.invariant.following c.in_ok-given.field-0 c.in_default.is c.loop-index-test.true
+    (pulled_at (g.W.CellSource.held c.args.work.now) c.loop-index.invariant.cells_stay (record { gives = c.in_ok-given.ensures.gives; heads = c.in_ok-given.ensures.heads; consumes = c.in_ok-given.ensures.consumes; cause = c.in_ok-given.ensures.cause; calm = c.in_ok-given.ensures.calm; ticks = c.in_ok-given.ensures.ticks; spends = c.in_ok-given.ensures.spends; written_is = c.in_ok-given.ensures.written }))
+
+pub returns-in_err-cell-clause-followed : goal.returns-in_err-cell-clause-followed
+returns-in_err-cell-clause-followed g c =
+    read_stops c.loop-index.invariant.following c.in_ok-given.field-0 (pulled_at (g.W.CellSource.held c.args.work.now) c.loop-index.invariant.cells_stay (record { gives = c.in_ok-given.ensures.gives; heads = c.in_ok-given.ensures.heads; consumes = c.in_ok-given.ensures.consumes; cause = c.in_ok-given.ensures.cause; calm = c.in_ok-given.ensures.calm; ticks = c.in_ok-given.ensures.ticks; spends = c.in_ok-given.ensures.spends; written_is = c.in_ok-given.ensures.written }))
+    (c.in_ok-given.ensures.cells_stay ∙ c.loop-index.invariant.cells_stay) c.loop-index-test.true c.in_err-cell.ensures.one_tick
+    c.from_residual-in_err-cell.result c.in_err-cell.field-0.0 (err_is c.from_residual-in_err-cell.result c.in_err-cell.field-0.0 c.from_residual-in_err-cell.ensures.1) c.in_err-cell.ensures.reads
+
+pub returns-then-not-is_same-clause-followed : goal.returns-then-not-is_same-clause-followed
+returns-then-not-is_same-clause-followed g c =
+    cells_differ c.loop-index.invariant.following c.in_ok-given.field-0 (pulled_at (g.W.CellSource.held c.args.work.now) c.loop-index.invariant.cells_stay (record { gives = c.in_ok-given.ensures.gives; heads = c.in_ok-given.ensures.heads; consumes = c.in_ok-given.ensures.consumes; cause = c.in_ok-given.ensures.cause; calm = c.in_ok-given.ensures.calm; ticks = c.in_ok-given.ensures.ticks; spends = c.in_ok-given.ensures.spends; written_is = c.in_ok-given.ensures.written }))
+    (c.in_ok-given.ensures.cells_stay ∙ c.loop-index.invariant.cells_stay) c.loop-index-test.true c.in_ok-cell.ensures.one_tick
+    c.in-Some.given c.in_ok-cell.cell c.in-Some.is c.in_ok-cell.ensures.reads (differ_by c.is_same.result c.is_same.ensures c.if-not-is_same.true)
+
+pub loop-index-preserved : goal.loop-index-preserved
+loop-index-preserved g c = record {
+  cells_stay = c.in_ok-cell.ensures.cells_stay ∙ c.in_ok-given.ensures.cells_stay ∙ c.loop-index.invariant.cells_stay;
+  kept = c.in_ok-cell.ensures.kept ∙ c.in_ok-given.ensures.kept ∙ c.loop-index.invariant.kept;
+  following = follows_on c.loop-index.invariant.following c.in_ok-given.field-0 (pulled_at (g.W.CellSource.held c.args.work.now) c.loop-index.invariant.cells_stay (record { gives = c.in_ok-given.ensures.gives; heads = c.in_ok-given.ensures.heads; consumes = c.in_ok-given.ensures.consumes; cause = c.in_ok-given.ensures.cause; calm = c.in_ok-given.ensures.calm; ticks = c.in_ok-given.ensures.ticks; spends = c.in_ok-given.ensures.spends; written_is = c.in_ok-given.ensures.written }))
+      (c.in_ok-given.ensures.cells_stay ∙ c.loop-index.invariant.cells_stay) c.loop-index-test.true c.in_ok-cell.ensures.one_tick
+      c.in-Some.given c.in_ok-cell.cell c.in-Some.is c.in_ok-cell.ensures.reads (c.is_same.ensures.0 c.if-not-is_same.false);
+}
+
+pub returns-clause-followed : goal.returns-clause-followed
+returns-clause-followed g c = follows_all c.loop-index.invariant.following (let e : c.loop-index.index ≡ c.args.run.now.len = omega (arith, c.loop-index-test.false, c.loop-index.auto.index-end) in e)

@@ -1,0 +1,16 @@
+-- Both merges gave the same cells.
+use Rattle.std.proofs.Common.{◌≡◌, ◌+◌, ◌-◌}
+use Rattle.cola_merge.specs.Feeds.{feed_len}
+use Rattle.cola_merge.specs.Heads.{consumed}
+use Rattle.cola_check.proofs.Comparing.{Comparing}
+use Rattle.cola_check.proofs.cut.gives_same.Given as goal
+
+abbrev pub invariant-loop-one : goal.invariant-loop-one
+invariant-loop-one g l = record {
+  cells_stay : g.W.CellSource.held l.work ≡ g.W.CellSource.held l.fn.work;
+  kept : g.W.CellSource.kept l.work ≡ g.W.CellSource.kept l.fn.work;
+  comparing : Comparing (g.W.CellSource.held l.fn.work) l.aim (g.W.CellSource.spent l.fn.work) (g.W.CellSource.spent l.work) l.fn.first l.first l.fn.second l.second l.fn.steps l.steps;
+}
+
+abbrev pub decreases-loop-one : goal.decreases-loop-one
+decreases-loop-one g l = feed_len l.aim.own + feed_len l.aim.incoming + feed_len l.aim.sample - consumed l.first

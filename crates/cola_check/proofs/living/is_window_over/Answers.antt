@@ -1,0 +1,11 @@
+use Rattle.cola_check.proofs.Windows.{clock-fits, none-over, after-over}
+use Rattle.cola_check.proofs.living.is_window_over.Goals as goal
+
+pub returns-then-level-eq0 : goal.returns-then-level-eq0
+returns-then-level-eq0 c = none-over c.args.header.now.clock c.args.level c.if-level-eq0.true
+
+pub phase-requires-clause-clock_in_range : goal.phase-requires-clause-clock_in_range
+phase-requires-clause-clock_in_range c = clock-fits c.args.header.now
+
+pub returns-in-After : goal.returns-in-After
+returns-in-After c = after-over c.args.header.now.clock c.args.level c.phase.result c.phase.ensures.value c.in-After.is

@@ -1,0 +1,40 @@
+use Rattle.std.proofs.Common.{◌↔◌, ◌≤◌, IsTrue, subst, ◌∙◌, arith}
+use Rattle.cola_cell.specs.Held.{Held}
+use Rattle.cola_cell.proofs.CostsLemmas.{costs_then, costs_within}
+use Rattle.cola_verdict.specs.Tests.{ShadowAt}
+use Rattle.cola_check.specs.Found.{tested_by}
+use Rattle.cola_check.specs.Shadows.{IsReached}
+use Rattle.cola_check.proofs.BadRuns.{level-in}
+use Rattle.cola_check.proofs.ShadowTests.{one-more, one-fails, more-ticks, some-ticks}
+use Rattle.cola_check.proofs.shadows.test_shadows.Goals as goal
+
+pub returns-in_err-has_shadow-clause-cost : goal.returns-in_err-has_shadow-clause-cost
+returns-in_err-has_shadow-clause-cost g c =
+    let some = some-ticks c.args.header.now.geometry.bottom c.loop-level.level (let t = c.loop-level-test.true in omega (arith, t)) c.loop-level.invariant.low in
+    costs_within (costs_then c.loop-level.invariant.cost c.in_err-has_shadow.ensures.cost) some some
+
+pub returns-then-not-branch-clause-finds : goal.returns-then-not-branch-clause-finds
+returns-then-not-branch-clause-finds g c =
+    let i = c.loop-level.invariant in
+    let has = subst (λ (h : Held). IsReached (tested_by c.args.header.now h) c.loop-level.level → (IsTrue c.in_ok-has_shadow.field-0 ↔ ShadowAt (tested_by c.args.header.now h) c.loop-level.level)) i.held_is c.in_ok-has_shadow.ensures.has in
+    one-fails (tested_by c.args.header.now (g.W.CellSource.held c.args.work.now)) c.loop-level.level c.in_ok-has_shadow.field-0 c.broken_at.result c.if-not-branch.true (level-in c.args.header.now c.loop-level.level i.low) i.behind has c.broken_at.ensures
+
+pub returns-then-not-branch-clause-cost : goal.returns-then-not-branch-clause-cost
+returns-then-not-branch-clause-cost g c =
+    let some = some-ticks c.args.header.now.geometry.bottom c.loop-level.level (let t = c.loop-level-test.true in omega (arith, t)) c.loop-level.invariant.low in
+    costs_within (costs_then c.loop-level.invariant.cost c.in_ok-has_shadow.ensures.cost) some some
+
+pub loop-level-preserved : goal.loop-level-preserved
+loop-level-preserved g c =
+    let i = c.loop-level.invariant in
+    let one : 1 ≤ c.loop-level.level = let t = c.loop-level-test.true in omega (arith, t) in
+    let more = more-ticks c.args.header.now.geometry.bottom c.loop-level.level one i.low in
+    let has = subst (λ (h : Held). IsReached (tested_by c.args.header.now h) c.loop-level.level → (IsTrue c.in_ok-has_shadow.field-0 ↔ ShadowAt (tested_by c.args.header.now h) c.loop-level.level)) i.held_is c.in_ok-has_shadow.ensures.has in
+    record {
+      held_is = c.in_ok-has_shadow.ensures.cells_stay ∙ i.held_is;
+      kept_is = c.in_ok-has_shadow.ensures.kept ∙ i.kept_is;
+      calm = c.in_ok-has_shadow.ensures.calm ∙ i.calm;
+      cost = costs_within (costs_then i.cost c.in_ok-has_shadow.ensures.cost) more more;
+      low = let l = i.low in omega (arith, l);
+      behind = one-more (tested_by c.args.header.now (g.W.CellSource.held c.args.work.now)) c.loop-level.level c.in_ok-has_shadow.field-0 c.if-not-branch.false one i.behind has;
+    }

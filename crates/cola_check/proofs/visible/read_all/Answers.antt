@@ -1,0 +1,56 @@
+use Rattle.std.proofs.Common.{◌≡◌, ◌+◌, ◌≤◌, ℕ, min, List, IfSome, IsTrue, ◌↔◌, refl, Ok, sym, subst, ◌∙◌, arith}
+use Rattle.cola_cell.specs.Held.{Held, LawCell, as_cell}
+use Rattle.cola_cell.specs.Spent.{By, IsGiven}
+use Rattle.cola_cell.specs.declared.cell.Reader.TheVariants.{Own}
+use Rattle.cola_cell.proofs.CostsLemmas.{costs_none, costs_read_then, costs_then, costs_within}
+use Rattle.cola_told.specs.Cells.{cells}
+use Rattle.cola_check.specs.Prefix.{lists_below, sample_len, sample_reads, Suits, IsSeen}
+use Rattle.cola_check.specs.Reading.{IsRunTold}
+use Rattle.cola_check.proofs.Sampling.{given-at, cells-next, reads-one}
+use Rattle.cola_check.proofs.visible.read_all.Goals as goal
+
+pub loop-index-init : goal.loop-index-init
+loop-index-init g c = record {
+  held_is = refl;
+  kept_is = refl;
+  calm = refl;
+  cost = costs_within (costs_none (g.W.CellSource.spent c.args.work.now) c.args.steps.now) (omega arith) (omega arith);
+  place_is = c.empty-seen.ensures.place;
+  seen = λ told rest. c.empty-seen.ensures.seen (lists_below (g.W.CellSource.held c.args.work.now) c.args.below rest);
+}
+
+pub loop-index-preserved : goal.loop-index-preserved
+loop-index-preserved g c =
+    let i = c.loop-index.invariant in
+    let held = g.W.CellSource.held c.args.work.now in
+    let run = c.args.run.now in
+    let old = c.loop-index.seen in
+    let new = c.with-seen.result in
+    let cell = c.in_ok-cell.cell in
+    let below = c.args.below in
+    let index = c.loop-index.index in
+    let one = reads-one below old.looks new.looks (as_cell cell) c.with-seen.ensures.looks in
+    let bound : index + min old.looks (sample_len below) + 1 + sample_reads below old.looks (as_cell cell) ≤ index + 1 + min new.looks (sample_len below) = omega (arith, one) in
+    let F : Held → Type 0 = λ h. IfSome below (IsRunTold h) → (rest : List (List LawCell)) → (IsTrue c.in_ok-suits.suits ↔ Suits (lists_below h below rest) old.looks (as_cell cell)) in
+    record {
+      held_is = c.in_ok-suits.ensures.cells_stay ∙ c.in_ok-cell.ensures.cells_stay ∙ i.held_is;
+      kept_is = c.in_ok-suits.ensures.kept ∙ c.in_ok-cell.ensures.kept ∙ i.kept_is;
+      calm = c.in_ok-suits.ensures.calm ∙ c.in_ok-cell.ensures.reads.calm ∙ i.calm;
+      cost = costs_within (costs_then {more = sample_reads below old.looks (as_cell cell)} {others = sample_reads below old.looks (as_cell cell)} (costs_read_then {buffer = By Own run.level} {result = Ok cell} i.cost c.in_ok-cell.ensures.reads c.in_ok-cell.ensures.one_tick) c.in_ok-suits.ensures.cost) bound bound;
+      place_is = let a = c.with-seen.ensures.place in let b = i.place_is in omega (arith, a, b);
+      seen = λ told rest.
+          let given = subst (λ (h : Held). IsGiven h run.level run.slot index cell) i.held_is c.in_ok-cell.ensures.reads.answer in
+          let next = cells-next (held.spots run.level run.slot) index (as_cell cell) (given-at held run index cell told.run_told c.loop-index-test.true given) in
+          let suits = subst F (c.in_ok-cell.ensures.cells_stay ∙ i.held_is) c.in_ok-suits.ensures.suits in
+          subst (λ (xs : List LawCell). IsSeen (lists_below held below rest) xs new) (sym next)
+          (c.with-seen.ensures.seen (lists_below held below rest) (cells (held.spots run.level run.slot) 0 index) (i.seen told rest) (suits told.below_told rest));
+    }
+
+pub returns-clause-seen : goal.returns-clause-seen
+returns-clause-seen g c = λ told rest.
+    let held = g.W.CellSource.held c.args.work.now in
+    let run = c.args.run.now in
+    let end = c.loop-index.auto.index-end in
+    let done = c.loop-index-test.false in
+    let whole : c.loop-index.index ≡ run.len = omega (arith, end, done) in
+    subst (λ (n : ℕ). IsSeen (lists_below held c.args.below rest) (cells (held.spots run.level run.slot) 0 n) c.loop-index.seen) whole (c.loop-index.invariant.seen told rest)

@@ -1,0 +1,44 @@
+use Rattle.std.proofs.Common.{◌≡◌, ◌+◌, ◌*◌, ◌^◌, ℕ, subst, ◌∙◌, arith}
+use Rattle.cola_cell.specs.Held.{Held}
+use Rattle.cola_cell.proofs.CostsLemmas.{costs_then, costs_within}
+use Rattle.cola_verdict.specs.Tests.{AreCellsTold}
+use Rattle.cola_check.specs.Firsts.{AreTestsAt, AreFirstFlaws}
+use Rattle.cola_check.specs.Found.{tested_by}
+use Rattle.cola_check.proofs.TestsAt.{next-ticks, all-ticks}
+use Rattle.cola_check.proofs.visibles.test_visibles.Goals as goal
+
+pub returns-in_err-tests-clause-cost : goal.returns-in_err-tests-clause-cost
+returns-in_err-tests-clause-cost g c =
+    let end = c.levels-level-end.ensures.value in
+    let here = c.loop-level-test.true in
+    let some = all-ticks c.args.header.now c.loop-level.level (omega (arith, end, here)) in
+    costs_within (costs_then {more = 5 * 2 ^ c.loop-level.level} {others = 5 * 2 ^ c.loop-level.level} c.loop-level.invariant.cost c.in_err-tests.ensures.cost) some some
+
+pub loop-level-preserved : goal.loop-level-preserved
+loop-level-preserved g c =
+    let i = c.loop-level.invariant in
+    let header = c.args.header.now in
+    let held = g.W.CellSource.held c.args.work.now in
+    let level = c.loop-level.level in
+    let tests = c.in_ok-tests.ensures in
+    let some = next-ticks header level in
+    record {
+      held_is = tests.cells_stay ∙ i.held_is;
+      kept_is = tests.kept ∙ i.kept_is;
+      calm = tests.calm ∙ i.calm;
+      cost = costs_within (costs_then {more = 5 * 2 ^ level} {others = 5 * 2 ^ level} i.cost tests.cost) some some;
+      placed = c.with-flaws.ensures.placed i.placed tests.within;
+      found = λ told.
+          c.with-flaws.ensures.found (tested_by header held) (i.found told)
+          (subst (λ (h : Held). AreCellsTold (tested_by header h) → AreTestsAt (tested_by header h) level c.in_ok-tests.tests) i.held_is tests.tests told);
+    }
+
+pub returns-clause-finds : goal.returns-clause-finds
+returns-clause-finds g c =
+    let header = c.args.header.now in
+    let held = g.W.CellSource.held c.args.work.now in
+    let end = c.levels-level-end.ensures.value in
+    let last = c.loop-level.auto.level-end in
+    let done = c.loop-level-test.false in
+    let whole : c.loop-level.level ≡ header.geometry.bottom + 1 = omega (arith, end, last, done) in
+    c.verdict_by.ensures held (λ told. subst (λ (n : ℕ). AreFirstFlaws (tested_by header held) n c.loop-level.flaws) whole (c.loop-level.invariant.found told))

@@ -1,0 +1,131 @@
+-- What a test of a file answers, with the cause of each answer, and what the device has then.
+use Rattle.std.specs.Prelude.{◌≡◌, ◌⊎◌, ℕ, ◌+◌, ◌*◌, ◌^◌, ◌≤◌, ◌<◌, true, false, List, Result, Ok, Err, IfSome}
+use Rattle.cola_outside.specs.Faults.{Rose}
+use Rattle.cola_cell.specs.declared.fault.ReadFault.{ReadFault}
+use Rattle.cola_cell.specs.declared.fault.ReadFault.TheVariants as read
+use Rattle.cola_cell.specs.Places.{number_of, slot_size}
+use Rattle.cola_device.specs.declared.device.Device as device
+use Rattle.cola_layout.specs.declared.header.Header.{Header}
+use Rattle.cola_layout.specs.Fields.{fields_of}
+use Rattle.cola_layout.specs.Header.{Fields}
+use Rattle.cola_opening.specs.Counted.{Spends}
+use Rattle.cola_opening.specs.Judged.{HasHeader, IsSmall, IsNoStore, IsSeen, FailedReading}
+use Rattle.cola_verdict.specs.declared.verdict.Flaw.TheVariants.{Cell}
+use Rattle.cola_verdict.specs.declared.verdict.Verdict.{Verdict}
+use Rattle.cola_verdict.specs.declared.verdict.Verdict.TheVariants.{Broken}
+use Rattle.cola_verdict.specs.Tests.{tested_of}
+use Rattle.cola_verdict.specs.Verdict.{IsVerdict}
+use Rattle.cola_check.specs.declared.fault.CheckFault.{CheckFault}
+use Rattle.cola_check.specs.declared.fault.CheckFault.TheVariants.{NotStore, NotClosed, Small, Device, OutOfMemory}
+
+-- a file has this header and all cells of its store, which was closed
+pub record IsClosedWith (header : Fields) (bytes : List ℕ) : Type 0 where
+  pub has : HasHeader header bytes
+  pub closed : header.closed ≡ true
+
+-- it has such a header
+abbrev pub IsClosedFile : List ℕ → Type 0
+IsClosedFile bytes = (header : Fields) × IsClosedWith header bytes
+
+-- a file has a header and all cells of its store, which is in use
+abbrev pub IsInUse : List ℕ → Type 0
+IsInUse bytes = (header : Fields) × (HasHeader header bytes × (header.closed ≡ false))
+
+-- a closed file with this header has this verdict
+pub record HasVerdict (header : Fields) (verdict : Verdict) (bytes : List ℕ) : Type 0 where
+  pub was : IsClosedWith header bytes
+  pub verdict_is : IsVerdict (tested_of header bytes) verdict
+
+-- the level in whose slots the cell with this number stands
+abbrev pub IsLevelOf : ℕ → ℕ → Type 0
+IsLevelOf number found = (level slot index : ℕ) → level ≤ 22 → slot < 2 → index < slot_size level → number ≡ number_of level slot index → found ≡ level
+
+-- the answer of a test by that of its cells: a cell that is bad is the verdict
+abbrev pub Judges : Result Verdict ReadFault → Result Verdict CheckFault → Type 0
+Judges (Ok verdict) result = result ≡ Ok verdict
+Judges (Err (read.BadCell number)) result = (level : ℕ) × ((result ≡ Ok (Broken Cell level number)) × IsLevelOf number level)
+Judges (Err read.Device) result = result ≡ Err Device
+
+-- how many ticks the test of a file makes at most, in a store with this lowest level: five for each of its cells
+abbrev pub test_ticks : ℕ → ℕ
+test_ticks bottom = 5 * 2 ^ (bottom + 4)
+
+-- how many reads of the device: that of the header, those that load the cells, and one for each tick at most
+abbrev pub test_reads : ℕ → ℕ
+test_reads bottom = 1 + (bottom + 3) + test_ticks bottom
+
+module _ {D : Type 0} (d : device.Ghosts D) (before now : D) (from to : ℕ) where
+  -- a file with this header was read by a test, whole or as far as the device allowed, and nothing was written
+  pub record IsReadBy (header : Fields) : Type 0 where
+    pub steps_stay : from ≤ to
+    pub few_ticks : to ≤ from + test_ticks header.bottom
+    pub spends : Spends (d.counts before) (d.counts now) (test_reads header.bottom) 0 1
+
+  -- it was tested: this is its verdict, where its bytes are told, and no fault was met
+  pub record IsTested (verdict : Verdict) : Type 0 where
+    pub header : Fields
+    pub is : IfSome (d.bytes before) (HasVerdict header verdict)
+    pub reading : IsReadBy header
+    pub no_fault : (d.counts now).faults ≡ (d.counts before).faults
+
+  -- the device failed while the cells were read
+  pub record FailedAtCells : Type 0 where
+    pub header : Fields
+    pub was : IfSome (d.bytes before) (IsClosedWith header)
+    pub cause : Rose (d.counts before).faults (d.counts now).faults
+    pub reading : IsReadBy header
+
+  -- this was seen of the file, and no cell was read
+  pub record IsRefusedFor (why : List ℕ → Type 0) : Type 0 where
+    pub seen : IsSeen d before why 1 1 now
+    pub no_ticks : to ≡ from
+
+  -- the device failed before the header was read, and no cell was
+  pub record FailedAtHeader : Type 0 where
+    pub failed : FailedReading d before now
+    pub no_ticks : to ≡ from
+
+  -- what a test answers
+  abbrev pub Checks : Result Verdict CheckFault → Type 0
+  Checks (Ok verdict) = IsTested verdict
+  Checks (Err NotStore) = IsRefusedFor IsNoStore
+  Checks (Err Small) = IsRefusedFor IsSmall
+  Checks (Err NotClosed) = IsRefusedFor IsInUse
+  Checks (Err OutOfMemory) = IsRefusedFor IsClosedFile
+  Checks (Err Device) = FailedAtHeader ⊎ FailedAtCells
+
+module _ {D : Type 0} (d : device.Ghosts D) (before now : D) where
+  -- what looking for the header of a closed file answers
+  abbrev pub FindsClosed : Result Header CheckFault → Type 0
+  FindsClosed (Ok header) = IsSeen d before (IsClosedWith (fields_of header)) 1 1 now
+  FindsClosed (Err NotStore) = IsSeen d before IsNoStore 1 1 now
+  FindsClosed (Err Small) = IsSeen d before IsSmall 1 1 now
+  FindsClosed (Err NotClosed) = IsSeen d before IsInUse 1 1 now
+  FindsClosed (Err OutOfMemory) = ⊥
+  FindsClosed (Err Device) = FailedReading d before now
+
+module _ {D : Type 0} (d : device.Ghosts D) (header : Header) (before now : D) where
+  -- the verdict on the cells of a file with this header, where its bytes are told
+  pub record HasCellsTested (verdict : Verdict) : Type 0 where
+    pub verdict_is : IfSome (d.bytes before) (λ bytes. IsVerdict (tested_of (fields_of header) bytes) verdict)
+    pub no_fault : (d.counts now).faults ≡ (d.counts before).faults
+
+  -- why the cells of a file were not tested
+  abbrev pub TestsAnswer : Result Verdict CheckFault → Type 0
+  TestsAnswer (Ok verdict) = HasCellsTested verdict
+  TestsAnswer (Err Device) = Rose (d.counts before).faults (d.counts now).faults
+  TestsAnswer (Err NotStore) = ⊥
+  TestsAnswer (Err Small) = ⊥
+  TestsAnswer (Err NotClosed) = ⊥
+  TestsAnswer (Err OutOfMemory) = ⊥
+
+module _ {D : Type 0} (d : device.Ghosts D) (header : Header) (before now : D) (from to : ℕ) where
+  -- the cells of a file were read: nothing was written, and so many ticks and reads were made at most
+  pub record ReadsCells : Type 0 where
+    pub steps_stay : from ≤ to
+    pub few_ticks : to ≤ from + test_ticks header.geometry.bottom
+    pub spends : Spends (d.counts before) (d.counts now) ((header.geometry.bottom + 3) + test_ticks header.geometry.bottom) 0 0
+
+  -- the cells of a file were tested, or there was no memory and nothing was done
+  abbrev pub TestsMade : Result Verdict CheckFault → Type 0
+  TestsMade result = (TestsAnswer d header before now result × ReadsCells) ⊎ ((result ≡ Err OutOfMemory) × (now ≡ before) × (to ≡ from))

@@ -1,0 +1,82 @@
+-- When cursors cut a build after a shadow, and what the test of it reads.
+use Rattle.std.specs.Prelude.{◌≡◌, ℕ, ◌+◌, ◌*◌, ◌≤◌, ⊤, Bool, true, false, List, [], ◌∷◌, ◌++◌, drop, ◌↔◌, IsTrue, IfOk, IfErr, Result, Ok, Err}
+use Rattle.cola_runs.specs.Weave.{IsCut}
+use Rattle.cola_cell.specs.declared.cell.Run.{Run}
+use Rattle.cola_cell.specs.declared.fault.ReadFault.{ReadFault}
+use Rattle.cola_cell.specs.Held.{Held, LawCell}
+use Rattle.cola_cell.specs.Spent.{Spent, ReadCalm}
+use Rattle.cola_cell.specs.Order.{key_cmp}
+use Rattle.cola_told.specs.Cells.{run_cells}
+use Rattle.cola_look.specs.Runs.{HasRun}
+use Rattle.cola_merge.specs.declared.aims.Feed.{Feed}
+use Rattle.cola_merge.specs.declared.aims.Feed.TheVariants as feed
+use Rattle.cola_merge.specs.declared.aims.Aim.{Aim}
+use Rattle.cola_merge.specs.declared.merging.Merger.{Merger}
+use Rattle.cola_merge.specs.Feeds.{part_of, feed_len, feed_cells, feed_keys, IsFeed}
+use Rattle.cola_merge.specs.Heads.{head_at, HasHeads, fetched}
+use Rattle.cola_merge.specs.States.{Spends}
+use Rattle.cola_merge.specs.Advance.{cells_read}
+use Rattle.cola_merge.specs.Pulls.{AreInOrder, ahead}
+use Rattle.cola_check.specs.declared.cut.Cursors.{Cursors}
+use Rattle.cola_check.specs.Reading.{IsRunTold, PassCause}
+
+-- the feeds of the aim and the shadow can be read, and no cursor is past the end of its feed
+pub record CutFits (held : Held) (aim : Aim) (cursors : Cursors) (shadow : Run) : Type 0 where
+  pub own : IsFeed held.fixed aim.own
+  pub incoming : IsFeed held.fixed aim.incoming
+  pub sample : IsFeed held.fixed aim.sample
+  pub run : HasRun held shadow
+  pub own_within : cursors.own ≤ feed_len aim.own
+  pub incoming_within : cursors.incoming ≤ feed_len aim.incoming
+  pub sample_within : cursors.sample ≤ feed_len aim.sample
+
+-- the cursors cut the build of the aim after these cells
+abbrev pub CutsAfter : Held → Aim → Cursors → List LawCell → Type 0
+CutsAfter held aim cursors done =
+    IsCut key_cmp (part_of aim) (feed_cells held aim.own) (feed_cells held aim.incoming) (feed_keys held aim.sample)
+    (drop cursors.own (feed_cells held aim.own)) (drop cursors.incoming (feed_cells held aim.incoming)) (drop cursors.sample (feed_keys held aim.sample)) done
+
+-- the run that a feed is read of
+abbrev pub runs_of_feed : Feed → List Run
+runs_of_feed (feed.Run run) = run ∷ []
+runs_of_feed (feed.Sampled run) = run ∷ []
+runs_of_feed (feed.One cell) = []
+runs_of_feed feed.Nothing = []
+
+-- the runs that a merge reads
+abbrev pub runs_of_aim : Aim → List Run
+runs_of_aim aim = runs_of_feed aim.own ++ (runs_of_feed aim.incoming ++ runs_of_feed aim.sample)
+
+-- a merge resumed at the cursors
+abbrev pub resumed : Cursors → Merger
+resumed cursors = record { own = head_at cursors.own; incoming = head_at cursors.incoming; sample = head_at cursors.sample }
+
+-- the next cells of a merge are those of a run, and it has gone behind them; or they are not, whatever stands behind them
+abbrev pub Follows : Held → Aim → Merger → Merger → List LawCell → Result Bool ReadFault → Type 0
+Follows held aim m n cells (Ok true) = ahead held aim m ≡ cells ++ ahead held aim n
+Follows held aim m n cells (Ok false) = (rest : List LawCell) → ahead held aim m ≡ cells ++ rest → ⊥
+Follows held aim m n cells (Err fault) = ⊤
+
+-- how many cells of its feeds a merge has read at most
+abbrev pub reach : Aim → Merger → Result Bool ReadFault → ℕ
+reach aim n (Ok answer) = fetched aim n
+reach aim n (Err fault) = cells_read aim
+
+-- a pass of a merge along a run
+pub record Followed (held : Held) (aim : Aim) (run : Run) (old new : Spent) (m n : Merger) (from to : ℕ) (result : Result Bool ReadFault) : Type 0 where
+  pub follows : AreInOrder held aim → IsRunTold held run → Follows held aim m n (run_cells held run) result
+  pub heads : HasHeads held aim n
+  pub ticks : to + fetched aim m ≤ from + (reach aim n result + run.len)
+  pub spends : Spends old new from to
+  pub written_is : new.written ≡ old.written
+  pub cause : IfErr result (PassCause held (run ∷ runs_of_aim aim) old.faults new.faults)
+  pub calm : ReadCalm old.faults new.faults result
+
+-- a pass of two merges side by side: whether the same cells were ahead of both
+pub record Compared (held : Held) (aim : Aim) (old new : Spent) (first second : Merger) (from to : ℕ) (result : Result Bool ReadFault) : Type 0 where
+  pub same : AreInOrder held aim → IfOk result (λ same. IsTrue same ↔ (ahead held aim first ≡ ahead held aim second))
+  pub ticks : to + fetched aim first + fetched aim second ≤ from + 2 * cells_read aim
+  pub spends : Spends old new from to
+  pub written_is : new.written ≡ old.written
+  pub cause : IfErr result (PassCause held (runs_of_aim aim) old.faults new.faults)
+  pub calm : ReadCalm old.faults new.faults result

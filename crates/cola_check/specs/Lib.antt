@@ -1,0 +1,17 @@
+pub mod BadCells
+pub mod Beside
+pub mod Carrying
+pub mod Chains
+pub mod Check
+pub mod Cut
+pub mod Firsts
+pub mod Found
+pub mod Kinds
+pub mod LevelWalks
+pub mod Living
+pub mod Prefix
+pub mod Reading
+pub mod Shadows
+pub mod Tally
+pub mod Testing
+pub mod Walks

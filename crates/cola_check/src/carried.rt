@@ -1,0 +1,138 @@
+//! A walk over a finished shadow and the runs beside it, key by key.
+ghost use Rattle.std.specs.Prelude.{◌≡◌, ◌+◌, ◌↔◌, IfOk, IfErr, IsTrue};
+ghost use Rattle.cola_cell.specs.Spent.{ReadCalm};
+ghost use Rattle.cola_look.specs.Runs.{HasRun};
+ghost use Rattle.cola_check.specs.Walks.{ReadsUpTo};
+ghost use Rattle.cola_check.specs.Carrying.{AreCarried};
+ghost use Rattle.cola_check.specs.Beside.{AreInOrder, BesideCause};
+
+use crate::fitting::fits;
+use crate::walk::{Found, Walk};
+use cola_cell::{CellSource, Key, ReadFault, Reader, Run};
+use cola_outside::Steps;
+use std::sync::ledger::Ledger;
+
+/// Where the walks over a finished shadow, the level's own run and the run above it stand.
+#[derive(Clone, Copy, Drop)]
+pub(crate) struct Beside {
+    pub above: Walk,
+    pub own: Walk,
+    pub shadow: Walk,
+}
+
+/// What the three runs have of a key, and the walks behind its cells.
+#[derive(Drop)]
+pub(crate) struct Step {
+    pub walks: Beside,
+    pub above: Found,
+    pub own: Found,
+    pub shadow: Found,
+}
+
+impl Beside {
+    ghost use Rattle.std.specs.Prelude.{◌≡◌, ◌+◌, ◌≤◌, [], ◌∷◌, IfOk, IfErr, None};
+    ghost use Rattle.cola_look.specs.Runs.{HasRun};
+    ghost use Rattle.cola_check.specs.Reading.{PassCause};
+    ghost use Rattle.cola_check.specs.Walks.{Turns, least_from};
+    ghost use Rattle.cola_check.specs.Beside.{BesideCause, BeginBeside, BesideFits, AreReady, StepsBeside, all_unread, unread_begun, unread_stepped, runs_of, walks_of};
+
+    /// The walks before the first cells of their runs.
+    fn begin<W: CellSource, L: Ledger>(
+        work: &mut W,
+        above: &Run,
+        own: &Run,
+        shadow: &Run,
+        steps: &mut Steps<L>,
+    ) -> Result<Beside, ReadFault>
+        requires above { HasRun (W.held work.old) above.now }
+        requires own { HasRun (W.held work.old) own.now }
+        requires shadow { HasRun (W.held work.old) shadow.now }
+        ensures begins { IfOk result (BeginBeside (W.held work.old) above.now own.now shadow.now) }
+        ensures unread { steps.new + unread_begun result ≤ steps.old + (above.now.len + own.now.len + shadow.now.len) }
+        ensures turns { Turns (W.spent work.old) (W.spent work.new) steps.old steps.new }
+        ensures cause { IfErr result (BesideCause (W.held work.old) above.now own.now shadow.now (W.spent work.old).faults (W.spent work.new).faults) }
+        ensures cells_stay { W.held work.new ≡ W.held work.old }
+        ensures kept { W.kept work.new ≡ W.kept work.old }
+        ensures calm { ReadCalm (W.spent work.old).faults (W.spent work.new).faults result }
+    {
+        let above = Walk::begin(work, above, Reader::Incoming, steps)?;
+        let own = Walk::begin(work, own, Reader::Own, steps)?;
+        let shadow = Walk::begin(work, shadow, Reader::Sample, steps)?;
+        Ok(Beside { above, own, shadow })
+    }
+
+    /// The least of the next keys of the walks, if there is one.
+    fn least_key(&self) -> Option<Key>
+        ensures { result ≡ least_from None (walks_of self.now) }
+    {
+        let least = self.above.lesser(None);
+        let least = self.own.lesser(least);
+        self.shadow.lesser(least)
+    }
+
+    /// The walks behind the cells at their fronts that have this key, and what the runs have of it there.
+    fn passed<W: CellSource, L: Ledger>(
+        &self,
+        work: &mut W,
+        key: &Key,
+        steps: &mut Steps<L>,
+    ) -> Result<Step, ReadFault>
+        requires fit { BesideFits (W.held work.old) self.now }
+        requires ready { AreReady self.now }
+        ensures passes { IfOk result (StepsBeside (W.held work.old) key.now self.now) }
+        ensures unread { steps.new + unread_stepped result ≤ steps.old + all_unread self.now }
+        ensures turns { Turns (W.spent work.old) (W.spent work.new) steps.old steps.new }
+        ensures cause { IfErr result (PassCause (W.held work.old) (runs_of self.now) (W.spent work.old).faults (W.spent work.new).faults) }
+        ensures cells_stay { W.held work.new ≡ W.held work.old }
+        ensures kept { W.kept work.new ≡ W.kept work.old }
+        ensures calm { ReadCalm (W.spent work.old).faults (W.spent work.new).faults result }
+    {
+        let above = self.above.passed(work, key, steps)?;
+        let own = self.own.passed(work, key, steps)?;
+        let shadow = self.shadow.passed(work, key, steps)?;
+        let walks = Beside {
+            above: above.walk,
+            own: own.walk,
+            shadow: shadow.walk,
+        };
+        Ok(Step {
+            walks,
+            above: above.found,
+            own: own.found,
+            shadow: shadow.found,
+        })
+    }
+}
+
+/// Whether a finished shadow fits the run above its level and the level's own run at each key: it has what it carries, and
+/// above the bottom in an even period it keeps what its own run has. It reads each cell at most once, in at most a tick.
+pub(crate) fn is_carried<W: CellSource, L: Ledger>(
+    work: &mut W,
+    above: &Run,
+    own: &Run,
+    shadow: &Run,
+    odd: bool,
+    bottom: bool,
+    steps: &mut Steps<L>,
+) -> Result<bool, ReadFault>
+    requires above { HasRun (W.held work.old) above.now }
+    requires own { HasRun (W.held work.old) own.now }
+    requires shadow { HasRun (W.held work.old) shadow.now }
+    ensures carried { IfOk result (λ carried. AreInOrder (W.held work.old) above.now own.now shadow.now →
+        IsTrue carried ↔ AreCarried (W.held work.old) odd bottom above.now own.now shadow.now) }
+    ensures costs { ReadsUpTo (W.spent work.old) (W.spent work.new) steps.old steps.new (above.now.len + own.now.len + shadow.now.len) }
+    ensures cause { IfErr result (BesideCause (W.held work.old) above.now own.now shadow.now (W.spent work.old).faults (W.spent work.new).faults) }
+    ensures cells_stay { W.held work.new ≡ W.held work.old }
+    ensures kept { W.kept work.new ≡ W.kept work.old }
+    ensures calm { ReadCalm (W.spent work.old).faults (W.spent work.new).faults result }
+{
+    let mut walks = Beside::begin(work, above, own, shadow, steps)?;
+    while let Some(key) = walks.least_key() {
+        let step = walks.passed(work, &key, steps)?;
+        if !fits(odd, bottom, &step.above, &step.own, &step.shadow) {
+            return Ok(false);
+        }
+        walks = step.walks;
+    }
+    Ok(true)
+}

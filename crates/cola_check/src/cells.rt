@@ -1,0 +1,104 @@
+//! The lowest cell of the runs of a file whose bytes spell none.
+ghost use Rattle.std.specs.Prelude.{◌≡◌, ◌+◌, ◌^◌, ◌≤◌, ◌<◌, [], IfOk, IfErr};
+ghost use Rattle.cola_cell.specs.Costs.{Costs};
+ghost use Rattle.cola_cell.specs.Spent.{ReadCalm};
+ghost use Rattle.cola_look.specs.Runs.{HasRun};
+ghost use Rattle.cola_check.specs.BadCells.{FindsOne, FindsIn, FindsAt, FindsCell, level_cells, all_cells};
+ghost use Rattle.cola_check.specs.Reading.{PassCause};
+
+use crate::runs::run_at;
+use cola_cell::{CellSource, ReadFault, Reader, Run};
+use cola_layout::Header;
+use cola_outside::Steps;
+use std::sync::ledger::Ledger;
+
+/// The number of the cell at an index of a run, where its bytes spell none.
+fn bad_at<W: CellSource, L: Ledger>(
+    work: &mut W,
+    run: &Run,
+    index: u32,
+    steps: &mut Steps<L>,
+) -> Result<Option<u64>, ReadFault>
+    requires run { HasRun (W.held work.old) run.now }
+    requires index { index < run.now.len }
+    ensures finds { IfOk result (FindsOne (W.held work.old) run.now index) }
+    ensures cause { IfErr result (PassCause (W.held work.old) [] (W.spent work.old).faults (W.spent work.new).faults) }
+    ensures cost { Costs (W.spent work.old) (W.spent work.new) steps.old steps.new 1 1 }
+    ensures cells_stay { W.held work.new ≡ W.held work.old }
+    ensures kept { W.kept work.new ≡ W.kept work.old }
+    ensures calm { ReadCalm (W.spent work.old).faults (W.spent work.new).faults result }
+{
+    match work.read_for(Reader::Own, run.level, run.slot, index, steps) {
+        Ok(_) => Ok(None),
+        Err(ReadFault::BadCell(number)) => Ok(Some(number)),
+        Err(ReadFault::Device) => Err(ReadFault::Device),
+    }
+}
+
+/// The number of the first cell of a run whose bytes spell none. Only the device's fault is an error.
+pub(crate) fn bad_in_run<W: CellSource, L: Ledger>(
+    work: &mut W,
+    run: &Run,
+    steps: &mut Steps<L>,
+) -> Result<Option<u64>, ReadFault>
+    requires { HasRun (W.held work.old) run.now }
+    ensures finds { IfOk result (FindsIn (W.held work.old) run.now) }
+    ensures cause { IfErr result (PassCause (W.held work.old) [] (W.spent work.old).faults (W.spent work.new).faults) }
+    ensures cost { Costs (W.spent work.old) (W.spent work.new) steps.old steps.new run.now.len run.now.len }
+    ensures cells_stay { W.held work.new ≡ W.held work.old }
+    ensures kept { W.kept work.new ≡ W.kept work.old }
+    ensures calm { ReadCalm (W.spent work.old).faults (W.spent work.new).faults result }
+{
+    for index in 0..run.len {
+        if let Some(number) = bad_at(work, run, index, steps)? {
+            return Ok(Some(number));
+        }
+    }
+    Ok(None)
+}
+
+/// The number of the first cell of the two runs of a level whose bytes spell none, slot 0 before slot 1.
+fn bad_in_level<W: CellSource, L: Ledger>(
+    work: &mut W,
+    header: &Header,
+    level: u8,
+    steps: &mut Steps<L>,
+) -> Result<Option<u64>, ReadFault>
+    requires level { level ≤ header.now.geometry.bottom }
+    requires levels { (W.held work.old).fixed.levels ≡ header.now.geometry.bottom + 1 }
+    ensures finds { IfOk result (FindsAt header.now (W.held work.old) level) }
+    ensures cause { IfErr result (PassCause (W.held work.old) [] (W.spent work.old).faults (W.spent work.new).faults) }
+    ensures cost { Costs (W.spent work.old) (W.spent work.new) steps.old steps.new (level_cells header.now level) (level_cells header.now level) }
+    ensures cells_stay { W.held work.new ≡ W.held work.old }
+    ensures kept { W.kept work.new ≡ W.kept work.old }
+    ensures calm { ReadCalm (W.spent work.old).faults (W.spent work.new).faults result }
+{
+    match bad_in_run(work, &run_at(header, level, 0), steps)? {
+        Some(number) => Ok(Some(number)),
+        None => bad_in_run(work, &run_at(header, level, 1), steps),
+    }
+}
+
+/// The level and the number of the lowest cell of all runs of a file whose bytes spell none. Each cell up to that one is
+/// read once. Only the device's fault is an error.
+pub(crate) fn first_bad_cell<W: CellSource, L: Ledger>(
+    work: &mut W,
+    header: &Header,
+    steps: &mut Steps<L>,
+) -> Result<Option<(u8, u64)>, ReadFault>
+    requires { (W.held work.old).fixed.levels ≡ header.now.geometry.bottom + 1 }
+    ensures finds { IfOk result (FindsCell header.now (W.held work.old)) }
+    ensures cause { IfErr result (PassCause (W.held work.old) [] (W.spent work.old).faults (W.spent work.new).faults) }
+    ensures cost { Costs (W.spent work.old) (W.spent work.new) steps.old steps.new (all_cells header.now) (all_cells header.now) }
+    ensures few { all_cells header.now ≤ 2 ^ (header.now.geometry.bottom + 4) }
+    ensures cells_stay { W.held work.new ≡ W.held work.old }
+    ensures kept { W.kept work.new ≡ W.kept work.old }
+    ensures calm { ReadCalm (W.spent work.old).faults (W.spent work.new).faults result }
+{
+    for level in 0..header.geometry.levels() {
+        if let Some(number) = bad_in_level(work, header, level, steps)? {
+            return Ok(Some((level, number)));
+        }
+    }
+    Ok(None)
+}

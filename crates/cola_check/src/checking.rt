@@ -1,0 +1,121 @@
+//! The test of a closed file.
+ghost use Rattle.std.specs.Prelude.{◌≡◌};
+ghost use Rattle.cola_device.specs.Bytes.{HasRange};
+ghost use Rattle.cola_run.specs.Cells.{file_bytes};
+ghost use Rattle.cola_check.specs.Check.{IsLevelOf, Judges, Checks, FindsClosed, TestsAnswer, ReadsCells, TestsMade};
+
+use crate::fault::CheckFault;
+use crate::testing::test_cells;
+use cola_cell::ReadFault;
+use cola_device::Device;
+use cola_layout::Header;
+use cola_opening::{HeaderFault, read_header};
+use cola_outside::Steps;
+use cola_run::RunStore;
+use cola_verdict::{Flaw, Verdict};
+use std::alloc::Global;
+use std::sync::ledger::Ledger;
+
+/// The level in whose slots the cell with this number stands.
+fn level_of(number: u64) -> u8
+    ensures { IsLevelOf number result }
+{
+    let mut level = 0;
+    while level < 22 && number >= 1u64 << (level + 4) {
+        level += 1;
+    }
+    level
+}
+
+/// The header of a device's file, where that has all its cells and was closed.
+fn read_closed<D: Device>(device: &mut D) -> Result<Header, CheckFault>
+    ensures found { FindsClosed D.Device device.old device.new result }
+    ensures bytes_stay { D.bytes device.new ≡ D.bytes device.old }
+    ensures kept { D.kept device.new ≡ D.kept device.old }
+{
+    let mut head = [0u8; 512];
+    let header = match read_header(device, &mut head) {
+        Ok(found) => found.header,
+        Err(HeaderFault::NotStore) => return Err(CheckFault::NotStore),
+        Err(HeaderFault::Small) => return Err(CheckFault::Small),
+        Err(HeaderFault::Device) => return Err(CheckFault::Device),
+    };
+    if !header.closed {
+        return Err(CheckFault::NotClosed);
+    }
+    Ok(header)
+}
+
+/// The answer of a test by that of its cells: a cell that is bad is the verdict.
+fn judged(answer: Result<Verdict, ReadFault>) -> Result<Verdict, CheckFault>
+    ensures { Judges answer result }
+{
+    match answer {
+        Ok(verdict) => Ok(verdict),
+        Err(ReadFault::BadCell(number)) => {
+            Ok(Verdict::Broken(Flaw::Cell, level_of(number), number))
+        }
+        Err(ReadFault::Device) => Err(CheckFault::Device),
+    }
+}
+
+/// Loads the cells of a store and tests them.
+fn test_store<D: Device, L: Ledger>(
+    runs: &mut RunStore<D>,
+    header: &Header,
+    steps: &mut Steps<L>,
+) -> Result<Verdict, CheckFault>
+    requires { header.now.geometry ≡ runs.old.geometry }
+    ensures answer { TestsAnswer D.Device header.now runs.old.buffers.cache.device runs.new.buffers.cache.device result }
+    ensures reads { ReadsCells D.Device header.now runs.old.buffers.cache.device runs.new.buffers.cache.device steps.old steps.new }
+    ensures kept { D.kept runs.new.buffers.cache.device ≡ D.kept runs.old.buffers.cache.device }
+{
+    match runs.load(header) {
+        Ok(()) => judged(test_cells(runs, header, steps)),
+        Err(fault) => judged(Err(fault)),
+    }
+}
+
+/// Takes the memory of a test, and tests the cells of a file with this header.
+fn test_file<D: Device, L: Ledger>(
+    alloc: Global,
+    device: D,
+    header: &Header,
+    steps: &mut Steps<L>,
+) -> (D, Result<Verdict, CheckFault>)
+    requires { HasRange (D.bytes device) 0 (file_bytes header.now.geometry) }
+    ensures tests { TestsMade D.Device header.now device result.0 steps.old steps.new result.1 }
+    ensures kept { D.kept result.0 ≡ D.kept device }
+{
+    let mut runs = match RunStore::new(alloc, device, header.geometry, 0) {
+        Ok(runs) => runs,
+        Err((device, _)) => return (device, Err(CheckFault::OutOfMemory)),
+    };
+    let answer = test_store(&mut runs, header, steps);
+    (runs.into_device(), answer)
+}
+
+/// Tests whether a closed file stands for a map: the verdict, `Sound` with the number of its keys, or the first test that it
+/// fails, with the level and the number of the cell. It is for a file that came from elsewhere, before that is trusted.
+///
+/// In this order: the size is asked, and `Small` where it is below 512 bytes; the first 512 bytes are read, and `NotStore`
+/// where they spell no header; `Small` where the file has fewer bytes than the cells of the store; `NotClosed` where the
+/// state byte is 1; all memory is taken, or `OutOfMemory`; the cells of the runs are read and tested. `Device` where the
+/// device refused a call. Nothing is written, and the file is not marked as in use, whatever is answered. Each cell of a run is read a fixed number of times, with at most five ticks for each cell of the file.
+///
+/// The device comes back whatever is answered. What is said of the verdict holds where it tells its bytes.
+pub fn check<D: Device, L: Ledger>(
+    alloc: Global,
+    device: D,
+    steps: &mut Steps<L>,
+) -> (D, Result<Verdict, CheckFault>)
+    ensures checks { Checks D.Device device result.0 steps.old steps.new result.1 }
+    ensures no_write { (D.counts result.0).writes ≡ (D.counts device).writes }
+    ensures kept { D.kept result.0 ≡ D.kept device }
+{
+    let mut device = device;
+    match read_closed(&mut device) {
+        Ok(header) => test_file(alloc, device, &header, steps),
+        Err(fault) => (device, Err(fault)),
+    }
+}

@@ -1,0 +1,116 @@
+//! Whether cursors cut a build after its shadow.
+ghost use Rattle.std.specs.Prelude.{◌≡◌, ◌+◌, ◌*◌, ◌↔◌, IsTrue, IfOk, IfErr, ◌∷◌};
+ghost use Rattle.cola_cell.specs.Held.{as_cell};
+ghost use Rattle.cola_cell.specs.Spent.{ReadCalm};
+ghost use Rattle.cola_cell.specs.Costs.{Costs};
+ghost use Rattle.cola_told.specs.Cells.{run_cells};
+ghost use Rattle.cola_look.specs.Runs.{HasRun};
+ghost use Rattle.cola_merge.specs.Heads.{HasHeads};
+ghost use Rattle.cola_merge.specs.Advance.{cells_read};
+ghost use Rattle.cola_merge.specs.Pulls.{AreInOrder};
+ghost use Rattle.cola_check.specs.Reading.{IsRunTold, PassCause};
+ghost use Rattle.cola_check.specs.Cut.{CutFits, CutsAfter, Followed, Compared, runs_of_aim};
+
+use cola_cell::{Cell, CellSource, ReadFault, Reader, Run};
+use cola_merge::{Aim, Merger};
+use cola_outside::Steps;
+use std::sync::ledger::Ledger;
+
+/// How many cells of each of its three sources a merge has consumed.
+#[derive(Clone, Copy, Debug, Drop)]
+pub(crate) struct Cursors {
+    pub(crate) own: u32,
+    pub(crate) incoming: u32,
+    pub(crate) sample: u32,
+}
+
+/// Whether two cells are the same.
+fn is_same(one: &Cell, other: &Cell) -> bool
+    ensures { IsTrue result ↔ (as_cell one.now ≡ as_cell other.now) }
+{
+    one == other
+}
+
+/// Whether the next cells of a merge are those of a run, one after another.
+///
+/// The run is read by the reader of incoming cells, by which a merge that builds at the run's level reads another level.
+fn gives_run<W: CellSource, L: Ledger>(
+    merger: &mut Merger,
+    work: &mut W,
+    aim: &Aim,
+    run: &Run,
+    steps: &mut Steps<L>,
+) -> Result<bool, ReadFault>
+    requires heads { HasHeads (W.held work.old) aim.now merger.old }
+    requires run { HasRun (W.held work.old) run.now }
+    ensures followed { Followed (W.held work.old) aim.now run.now (W.spent work.old) (W.spent work.new) merger.old merger.new steps.old steps.new result }
+    ensures cells_stay { W.held work.new ≡ W.held work.old }
+    ensures kept { W.kept work.new ≡ W.kept work.old }
+{
+    for index in 0..run.len {
+        let Some(given) = merger.pull(work, aim, steps)? else {
+            return Ok(false);
+        };
+        let cell = work.read_for(Reader::Incoming, run.level, run.slot, index, steps)?;
+        if !is_same(&given, &cell) {
+            return Ok(false);
+        }
+    }
+    Ok(true)
+}
+
+/// Whether two merges of an aim give the same cells until both have none.
+fn gives_same<W: CellSource, L: Ledger>(
+    first: &mut Merger,
+    second: &mut Merger,
+    work: &mut W,
+    aim: &Aim,
+    steps: &mut Steps<L>,
+) -> Result<bool, ReadFault>
+    requires first { HasHeads (W.held work.old) aim.now first.old }
+    requires second { HasHeads (W.held work.old) aim.now second.old }
+    ensures compared { Compared (W.held work.old) aim.now (W.spent work.old) (W.spent work.new) first.old second.old steps.old steps.new result }
+    ensures cells_stay { W.held work.new ≡ W.held work.old }
+    ensures kept { W.kept work.new ≡ W.kept work.old }
+{
+    while let Some(one) = first.pull(work, aim, steps)? {
+        let Some(other) = second.pull(work, aim, steps)? else {
+            return Ok(false);
+        };
+        if !is_same(&one, &other) {
+            return Ok(false);
+        }
+    }
+    Ok(second.pull(work, aim, steps)?.is_none())
+}
+
+/// Whether the cursors cut the build of the aim after its shadow: the shadow, followed by the weave of what is left of the
+/// sources behind the cursors, is the weave of the whole sources.
+///
+/// A merge from the beginning must give the shadow's cells, and then the same cells as one that is resumed at the cursors.
+/// Each of the two reads a cell of the sources once, and each cell of the shadow is read once. It is refused where the device
+/// failed, and where a cell of the sources or the shadow is bad.
+pub(crate) fn is_cut<W: CellSource, L: Ledger>(
+    work: &mut W,
+    aim: &Aim,
+    cursors: &Cursors,
+    shadow: &Run,
+    steps: &mut Steps<L>,
+) -> Result<bool, ReadFault>
+    requires fits { CutFits (W.held work.old) aim.now cursors.now shadow.now }
+    ensures cut { AreInOrder (W.held work.old) aim.now → IsRunTold (W.held work.old) shadow.now →
+        IfOk result (λ cut. IsTrue cut ↔ CutsAfter (W.held work.old) aim.now cursors.now (run_cells (W.held work.old) shadow.now)) }
+    ensures costs { Costs (W.spent work.old) (W.spent work.new) steps.old steps.new
+        (2 * cells_read aim.now + shadow.now.len) (2 * cells_read aim.now + shadow.now.len) }
+    ensures cause { IfErr result (PassCause (W.held work.old) (shadow.now ∷ runs_of_aim aim.now) (W.spent work.old).faults (W.spent work.new).faults) }
+    ensures calm { ReadCalm (W.spent work.old).faults (W.spent work.new).faults result }
+    ensures cells_stay { W.held work.new ≡ W.held work.old }
+    ensures kept { W.kept work.new ≡ W.kept work.old }
+{
+    let mut whole = Merger::begin();
+    if !gives_run(&mut whole, work, aim, shadow, steps)? {
+        return Ok(false);
+    }
+    let mut rest = Merger::resume(cursors.own, cursors.incoming, cursors.sample);
+    gives_same(&mut whole, &mut rest, work, aim, steps)
+}

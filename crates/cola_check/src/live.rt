@@ -1,0 +1,48 @@
+//! The live keys of several levels, counted in one walk over all their runs.
+ghost use Rattle.std.specs.Prelude.{◌≡◌, ◌≤◌, ◌↔◌, length, map, IfOk, IfErr, IsTrue};
+ghost use Rattle.std.specs.List.{AllByRecursion};
+ghost use Rattle.cola_cell.specs.Costs.{Costs};
+ghost use Rattle.cola_cell.specs.Spent.{ReadCalm};
+ghost use Rattle.cola_verdict.specs.Tests.{live_pairs};
+ghost use Rattle.cola_check.specs.Reading.{PassCause};
+ghost use Rattle.cola_check.specs.Chains.{visible_runs, AreLiveCounts, AreStamped};
+ghost use Rattle.cola_check.specs.LevelWalks.{HasLevel, runs_of, cells_in, cells_of, AreRunsInOrder};
+
+use crate::level_walks::{LevelRuns, begin_all, least_key, pass_all};
+use crate::tally::Tally;
+use cola_cell::{CellSource, ReadFault};
+use cola_outside::Steps;
+use std::sync::ledger::Ledger;
+
+/// Counts the live keys of each level, level 0 first: from its visible run down, and from its shadow down. And tells whether
+/// no key that is live from level 0 down has a stamp above `last`. It goes by key over all the runs at once, and reads each
+/// cell at most once, in a tick.
+pub(crate) fn count_live<W: CellSource, L: Ledger>(
+    work: &mut W,
+    levels: &[LevelRuns],
+    last: u64,
+    steps: &mut Steps<L>,
+) -> Result<Tally, ReadFault>
+    requires runs { AllByRecursion (HasLevel (W.held work.old)) levels.now }
+    requires few { length levels.now ≤ 23 }
+    ensures many { IfOk result (λ tally. length tally.counts.items ≡ length levels.now) }
+    ensures counts { IfOk result (λ tally. AreRunsInOrder (W.held work.old) levels.now →
+        AreLiveCounts (map (cells_of (W.held work.old)) levels.now) tally.counts.items) }
+    ensures stamped { IfOk result (λ tally. AreRunsInOrder (W.held work.old) levels.now →
+        IsTrue tally.stamped ↔ AreStamped last (live_pairs (visible_runs (map (cells_of (W.held work.old)) levels.now)))) }
+    ensures costs { Costs (W.spent work.old) (W.spent work.new) steps.old steps.new (cells_in (runs_of levels.now)) (cells_in (runs_of levels.now)) }
+    ensures cause { IfErr result (PassCause (W.held work.old) (runs_of levels.now) (W.spent work.old).faults (W.spent work.new).faults) }
+    ensures cells_stay { W.held work.new ≡ W.held work.old }
+    ensures kept { W.kept work.new ≡ W.kept work.old }
+    ensures calm { ReadCalm (W.spent work.old).faults (W.spent work.new).faults result }
+{
+    // every object has at most 23 levels, so that no count is too large for its type
+    let _ = work.ticked();
+    let mut walks = begin_all(work, levels, steps)?;
+    let mut tally = Tally::none(levels.len());
+    while let Some(key) = least_key(walks.as_slice()) {
+        walks = pass_all(work, walks.as_slice(), &key, steps)?;
+        tally.count(walks.as_slice(), last);
+    }
+    Ok(tally)
+}

@@ -1,0 +1,93 @@
+//! What the tests of a run know of its cells, up to one of them.
+ghost use Rattle.std.specs.Prelude.{◌≤◌, ◌<◌, IfSome};
+ghost use Rattle.std.proofs.Props.{props};
+
+use crate::kinds::{has_link, looks_of, stands_behind, young_of};
+use cola_cell::Cell;
+
+/// What is known of the first cells of a run.
+#[derive(Clone, Copy, Drop)]
+pub(crate) struct Prefix {
+    /// How many cells they are.
+    pub place: u32,
+    /// How many of them are lookahead cells.
+    pub looks: u32,
+    /// How many of them are young items.
+    pub young: u32,
+    /// The last of them.
+    pub last: Option<Cell>,
+    /// The index of the first that does not go on the order, where there is one.
+    pub disorder: Option<u32>,
+    /// Whether a run that passes the test of its sample may begin with them.
+    pub is_sampled: bool,
+    pub ghost looks_within: { looks ≤ place },
+    pub ghost young_within: { young ≤ place },
+    pub ghost disorder_within: { IfSome disorder (λ index. index < place) } by { Prim.hlevel props },
+}
+
+impl Prefix {
+    ghost use Rattle.std.specs.Prelude.{◌≡◌, ◌+◌, ◌-◌, ◌<◌, ◌^◌, ◌↔◌, ◌++◌, ◌∷◌, [], List, IsTrue, IfSome};
+    ghost use Rattle.cola_cell.specs.Held.{LawCell, as_cell};
+    ghost use Rattle.cola_runs.specs.Cells.{count_looks};
+    ghost use Rattle.cola_check.specs.Prefix.{ComesNext, OrderIs, Suits, IsSeen};
+
+    /// What is known of no cells.
+    pub(crate) fn empty() -> Prefix
+        ensures seen { (lists : List (List LawCell)) → IsSeen lists [] result }
+        ensures place { result.place ≡ 0 }
+        ensures looks { result.looks ≡ 0 }
+    {
+        Prefix {
+            place: 0,
+            looks: 0,
+            young: 0,
+            last: None,
+            disorder: None,
+            is_sampled: true,
+        }
+    }
+
+    /// Whether a cell goes on the order of these.
+    fn is_next(&self, cell: &Cell) -> bool
+        ensures { IsTrue result ↔ ComesNext self.now.last self.now.looks (as_cell cell.now) }
+    {
+        stands_behind(&self.last, cell) && has_link(cell, self.looks)
+    }
+
+    /// Where the order ends in these and the next cell.
+    fn disorder_with(&self, cell: &Cell) -> Option<u32>
+        ensures order { (lists : List (List LawCell)) (cells : List LawCell) → IsSeen lists cells self.now →
+            OrderIs (cells ++ as_cell cell.now ∷ []) result }
+        ensures within { IfSome result (λ index. index < self.now.place + 1) }
+    {
+        if self.is_next(cell) {
+            return self.disorder;
+        }
+        self.disorder.or(Some(self.place))
+    }
+
+    /// Whether these may begin a run that passes the test of the sample, and the next cell is what that test asks.
+    fn is_sampled_with(&self, suits: bool) -> bool
+        ensures { IsTrue result ↔ (IsTrue self.now.is_sampled × IsTrue suits) }
+    {
+        self.is_sampled && suits
+    }
+
+    /// What is known of these and the next cell, which is what the test of the sample asks there or not.
+    pub(crate) fn with(&self, cell: &Cell, suits: bool) -> Prefix
+        requires { self.now.place < 2 ^ 32 - 1 }
+        ensures seen { (lists : List (List LawCell)) (cells : List LawCell) → IsSeen lists cells self.now →
+            (IsTrue suits ↔ Suits lists self.now.looks (as_cell cell.now)) → IsSeen lists (cells ++ as_cell cell.now ∷ []) result }
+        ensures place { result.place ≡ self.now.place + 1 }
+        ensures looks { result.looks ≡ self.now.looks + count_looks (as_cell cell.now ∷ []) }
+    {
+        Prefix {
+            place: self.place + 1,
+            looks: self.looks + looks_of(cell),
+            young: self.young + young_of(cell),
+            last: Some(*cell),
+            disorder: self.disorder_with(cell),
+            is_sampled: self.is_sampled_with(suits),
+        }
+    }
+}

@@ -1,0 +1,52 @@
+-- The first word of a list of lines, and the lines before it.
+use Rattle.std.proofs.Common.{◌≡◌, List, [], ◌∷◌, ◌++◌, Option, Some, None, refl, sym, ap, ◌∙◌, append_assoc}
+use Rattle.std.specs.Option.{option_or}
+use Rattle.std.proofs.lemmas.List.{append-nil}
+use Rattle.cola_spec.specs.Map.{Shape}
+use Rattle.cola_spec.specs.Lines.{Line}
+use Rattle.cola_load.specs.declared.answer.Word.{Word}
+use Rattle.cola_load.specs.Rows.{word_behind, first_word, lines_before_word, unless}
+
+or_nothing : (found : Option Word) → option_or found None ≡ found
+or_nothing None = refl
+or_nothing (Some word) = refl
+
+-- where no line has a word, all are before it
+pub all_without_word : (shape : Shape) (before lines : List Line) → first_word shape before lines ≡ None → lines_before_word shape before lines ≡ lines
+all_without_word shape before [] none = refl
+all_without_word shape before (line ∷ lines) none =
+    let left = lines_before_word shape (before ++ line ∷ []) lines in
+    elim (word_behind shape before line) as (λ w. option_or w (first_word shape (before ++ line ∷ []) lines) ≡ None → unless w (line ∷ left) ≡ line ∷ lines) [
+      | None ↦ λ rest. ap (λ l. line ∷ l) (all_without_word shape (before ++ line ∷ []) lines rest)
+      | Some found ↦ λ some. cc
+    ] none
+
+-- behind lines without a word the next has its own
+pub next_word : (shape : Shape) (before lines : List Line) (next : Line) → first_word shape before lines ≡ None → first_word shape before (lines ++ next ∷ []) ≡ word_behind shape (before ++ lines) next
+next_word shape before [] next none =
+    or_nothing (word_behind shape before next) ∙ ap (λ l. word_behind shape l next) (sym (append-nil before))
+next_word shape before (line ∷ lines) next none =
+    elim (word_behind shape before line) as (λ w. option_or w (first_word shape (before ++ line ∷ []) lines) ≡ None → option_or w (first_word shape (before ++ line ∷ []) (lines ++ next ∷ [])) ≡ word_behind shape (before ++ line ∷ lines) next) [
+      | None ↦ λ rest. next_word shape (before ++ line ∷ []) lines next rest ∙ ap (λ l. word_behind shape l next) (append_assoc before (line ∷ []) lines)
+      | Some found ↦ λ some. cc
+    ] none
+
+-- a word stays the first whatever lines come behind it
+pub word_stays : (shape : Shape) (before lines more : List Line) (found : Word) → first_word shape before lines ≡ Some found → first_word shape before (lines ++ more) ≡ Some found
+word_stays shape before [] more found is = cc
+word_stays shape before (line ∷ lines) more found is =
+    elim (word_behind shape before line) as (λ w. option_or w (first_word shape (before ++ line ∷ []) lines) ≡ Some found → option_or w (first_word shape (before ++ line ∷ []) (lines ++ more)) ≡ Some found) [
+      | None ↦ λ rest. word_stays shape (before ++ line ∷ []) lines more found rest
+      | Some first ↦ λ same. same
+    ] is
+
+-- and so do the lines before it
+pub lines_stay : (shape : Shape) (before lines more : List Line) (found : Word) → first_word shape before lines ≡ Some found → lines_before_word shape before (lines ++ more) ≡ lines_before_word shape before lines
+lines_stay shape before [] more found is = cc
+lines_stay shape before (line ∷ lines) more found is =
+    let left = lines_before_word shape (before ++ line ∷ []) lines in
+    let longer = lines_before_word shape (before ++ line ∷ []) (lines ++ more) in
+    elim (word_behind shape before line) as (λ w. option_or w (first_word shape (before ++ line ∷ []) lines) ≡ Some found → unless w (line ∷ longer) ≡ unless w (line ∷ left)) [
+      | None ↦ λ rest. ap (λ l. line ∷ l) (lines_stay shape (before ++ line ∷ []) lines more found rest)
+      | Some first ↦ λ same. refl
+    ] is

@@ -1,0 +1,44 @@
+-- Source cells are consumed until one is given.
+use Rattle.std.proofs.Common.{refl, sym, ◌∙◌}
+use Rattle.cola_merge.proofs.Reading.{err_is}
+use Rattle.cola_merge.proofs.Stepping.{small_after}
+use Rattle.cola_merge.proofs.Pulling.{gave_none, gave_then, gave_chosen, consumed_chosen, chosen_at, ended_at, drawn_some, none_given, stopped_at, fewer_left}
+use Rattle.cola_merge.proofs.merging.Merger.draw.Goals as goal
+
+pub loop-next-init : goal.loop-next-init
+loop-next-init g c = record {
+  cells_stay = refl;
+  kept = refl;
+  gave = gave_none (g.W.CellSource.spent c.args.work.now) c.args.steps.now c.requires.heads;
+}
+
+pub returns-in_err-next-clause-drawn : goal.returns-in_err-next-clause-drawn
+returns-in_err-next-clause-drawn g c =
+    stopped_at (g.W.CellSource.held c.args.work.now) c.from_residual.result c.in_err-next.field-0.0 c.loop-next.invariant.cells_stay
+    (err_is c.from_residual.result c.in_err-next.field-0.0 c.from_residual.ensures.1) c.loop-next.invariant.gave c.in_err-next.ensures.next
+
+pub consume-requires : goal.consume-requires
+consume-requires g c = record { small = small_after c.in-Some.next.head (chosen_at (g.W.CellSource.held c.args.work.now) c.in_ok-next.field-0 c.in-Some.next c.loop-next.invariant.cells_stay c.in-Some.is c.in_ok-next.ensures.next).looked.looks.heads c.requires.levels }
+
+pub returns-then-is_some-clause-drawn : goal.returns-then-is_some-clause-drawn
+returns-then-is_some-clause-drawn g c =
+    let s = chosen_at (g.W.CellSource.held c.args.work.now) c.in_ok-next.field-0 c.in-Some.next c.loop-next.invariant.cells_stay c.in-Some.is c.in_ok-next.ensures.next in
+    drawn_some c.in-Some.next.cell (sym c.is_some.ensures ∙ c.if-is_some.true) s.fits (gave_then c.loop-next.invariant.gave (gave_chosen c.in-Some.next s c.consume.new.self c.consume.ensures))
+
+pub loop-next-smaller : goal.loop-next-smaller
+loop-next-smaller g c =
+    let s = chosen_at (g.W.CellSource.held c.args.work.now) c.in_ok-next.field-0 c.in-Some.next c.loop-next.invariant.cells_stay c.in-Some.is c.in_ok-next.ensures.next in
+    fewer_left c.loop-next.self (gave_chosen c.in-Some.next s c.consume.new.self c.consume.ensures).heads (consumed_chosen c.in-Some.next s c.consume.new.self c.consume.ensures)
+
+pub loop-next-preserved : goal.loop-next-preserved
+loop-next-preserved g c =
+    let s = chosen_at (g.W.CellSource.held c.args.work.now) c.in_ok-next.field-0 c.in-Some.next c.loop-next.invariant.cells_stay c.in-Some.is c.in_ok-next.ensures.next in
+    record {
+      cells_stay = c.in_ok-next.ensures.cells_stay ∙ c.loop-next.invariant.cells_stay;
+      kept = c.in_ok-next.ensures.kept ∙ c.loop-next.invariant.kept;
+      gave = gave_then c.loop-next.invariant.gave (none_given c.in-Some.next.cell (sym c.is_some.ensures ∙ c.if-is_some.false) (gave_chosen c.in-Some.next s c.consume.new.self c.consume.ensures));
+    }
+
+pub returns-clause-drawn : goal.returns-clause-drawn
+returns-clause-drawn g c =
+    ended_at (g.W.CellSource.held c.args.work.now) c.in_ok-next.field-0 c.loop-next.invariant.cells_stay c.in_default.is c.loop-next.invariant.gave c.in_ok-next.ensures.next
