@@ -72,8 +72,8 @@ while read -r number meaning; do
 done <"$words"
 
 long=$(cat README.md docs/*.md bench/README.md | wc -w)
-[ "$long" -le 13700 ]
-count "the documents have $long words, of at most 13,700" $?
+[ "$long" -le 14600 ]
+count "the documents have $long words, of at most 14,600" $?
 
 echo "$passed passed, $failed failed"
 [ "$failed" -eq 0 ]

@@ -81,6 +81,27 @@ check 'a longer file is served' replies 0 'val 2,' 'get b,' run one
 check 'and keeps its last byte' [ "$(tail -c 1 one)" = x ]
 check 'the stated workload' replies 0 'new 6 gone 3 left 3 wrong 0 over 0,' '' gen made --keys 8
 check 'leaves a store' replies 0 'count 3,' 'count,' run made
+# A dump is loaded again, also where puts and deletes came in any order; and a file is grown.
+awk 'BEGIN { srand(7); for (i = 0; i < 1000; i++) { k = int(rand() * 300); if (rand() < 0.7) printf "put k%03d %d\n", k, i; else printf "del k%03d\n", k } }' >random
+"$root/cola" create old --keys 400 || exit 1
+"$root/cola" run old <random >"$room/out"
+echo 'scan ! 16777216' | "$root/cola" run old >dump
+check 'a dump is loaded' replies 0 "$(tail -1 dump | sed 's/end/loaded/')," "$(tr '\n' ',' <dump)" load new --keys 400
+echo 'scan ! 16777216' | "$root/cola" run new >again
+check 'and dumped again as it was' cmp -s dump again
+check 'what was loaded is sound' replies 0 "$(tail -1 dump | sed 's/end/sound/')," '' check new
+cp old before
+check 'a file is grown' replies 0 "$(tail -1 dump | sed 's/end/loaded/')," '' grow old larger --keys 2000
+check 'and is not written' is_same old before
+echo 'scan ! 16777216' | "$root/cola" run larger >again
+check 'the larger one has the same rows' cmp -s dump again
+check 'a file of fewer keys is not made' replies 15 '' '' grow old small --keys 100
+printf '%s\n' 'pear 3' 'apple 1' 'fig 2' >pairs
+LC_ALL=C sort -u -k1,1 pairs | sed 's/^/row /' >sorted
+check 'sorted pairs are loaded' replies 0 'loaded 3,' "$(tr '\n' ',' <sorted)" load fruit --keys 10
+check 'and found' replies 0 'val 2,' 'get fig,' run fruit
+check 'a line that is no row ends a load' replies 14 'bad 2,' 'row a 1,put b 2,' load none --keys 10
+check 'and its file is no store' replies 6 '' 'count,' run none
 check 'an index of words' gives words "$root/examples/words.sh" <"$root/examples/sonnet.txt"
 check 'a collector of log lines' gives log "$root/examples/log.sh"
 

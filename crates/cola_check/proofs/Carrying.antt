@@ -146,7 +146,7 @@ module _ {P : Seen Stamped → Seen Stamped → Seen Stamped → Type 0} {held :
         let c = nothing_left held walks.shadow i.shadow_on.fits i.shadow_on.ready (told_of i.shadow_on o.shadow_in) heads.1.1.0 in
         i.adds o (each_same P (sym a) (sym b) (sym c) (λ q. nothing))
 
-    module _ {k : List ℕ} {step : Step} (e : least_from None (walks_of walks) ≡ Some k) (p : StepsBeside held k walks step) where
+    module _ {k : List ℕ} {new : Beside} {step : Step} (e : least_from None (walks_of walks) ≡ Some k) (p : StepsBeside held k walks new step) where
       abbrev heads : IsLeast None (walks_of walks) k
       heads = least_is None (walks_of walks) k e
 
@@ -159,7 +159,7 @@ module _ {P : Seen Stamped → Seen Stamped → Seen Stamped → Type 0} {held :
           P (as_seen step.above) (as_seen step.own) (as_seen step.shadow)
       at_found o = all_three P (sym (found_of_key i.above_on o.above_in heads.from.0 p.above)) (sym (found_of_key i.own_on o.own_in heads.from.1.0 p.own)) (sym (found_of_key i.shadow_on o.shadow_in heads.from.1.1.0 p.shadow))
 
-      pub going_on : P (as_seen step.above) (as_seen step.own) (as_seen step.shadow) → IsGoing P held above own shadow step.walks
+      pub going_on : P (as_seen step.above) (as_seen step.own) (as_seen step.shadow) → IsGoing P held above own shadow new
       going_on f = record {
         above_on = on_next i.above_on p.above;
         own_on = on_next i.own_on p.own;
@@ -173,19 +173,19 @@ module _ {P : Seen Stamped → Seen Stamped → Seen Stamped → Type 0} {held :
       going_fails f o h = f (at_found o (i.leaves o h k))
 
       -- a step leaves less to pass
-      pub going_less : ahead step.walks.above + ahead step.walks.own + ahead step.walks.shadow < ahead walks.above + ahead walks.own + ahead walks.shadow
+      pub going_less : ahead new.above + ahead new.own + ahead new.shadow < ahead walks.above + ahead walks.own + ahead walks.shadow
       going_less = go heads.any
         where
-          a : ahead step.walks.above ≤ ahead walks.above
+          a : ahead new.above ≤ ahead walks.above
           a = ahead_stays p.above
 
-          b : ahead step.walks.own ≤ ahead walks.own
+          b : ahead new.own ≤ ahead walks.own
           b = ahead_stays p.own
 
-          c : ahead step.walks.shadow ≤ ahead walks.shadow
+          c : ahead new.shadow ≤ ahead walks.shadow
           c = ahead_stays p.shadow
 
-          go : (None ≡ Some k) ⊎ AnyHas k (walks_of walks) → ahead step.walks.above + ahead step.walks.own + ahead step.walks.shadow < ahead walks.above + ahead walks.own + ahead walks.shadow
+          go : (None ≡ Some k) ⊎ AnyHas k (walks_of walks) → ahead new.above + ahead new.own + ahead new.shadow < ahead walks.above + ahead walks.own + ahead walks.shadow
           go (inl x) = cc
           go (inr (inl x)) = let d = ahead_falls p.above x in let m = b in let n = c in omega arith
           go (inr (inr (inl x))) = let d = ahead_falls p.own x in let m = a in let n = c in omega arith

@@ -199,6 +199,10 @@ passing_ends {held} {key} {old} {new} {found} p e =
     moved (inl h) = h
     moved (inr h) = let f : true ≡ false = sym h ∙ e in cc
 
+-- a walk whose head has another key stays where it is
+pub stands_still : {held : Held} {key : List ℕ} {walk : Walk} → WalkFits held walk → IsReady walk → has_key key walk.head ≡ false → Passes held key walk walk Nothing
+stands_still {held} {key} {walk} f r e = passing_ends (passing_begins held key walk f r) e
+
 -- ---- how much is left to pass
 
 -- a walk that passes a key has no more to pass

@@ -1,5 +1,8 @@
 -- Lists of levels, level by level.
 use Rattle.std.proofs.Common.{◌≡◌, inl, inr, ℕ, zero, suc, ◌+◌, ◌≤◌, ◌<◌, List, [], ◌∷◌, ◌++◌, length, drop, take, get_or, Option, None, Some, Result, Ok, Err, IfErr, IsErrAnd, refl, sym, ap, subst, ◌∙◌, arith, length-append}
+use Rattle.std.specs.List.{refill}
+use Rattle.std.proofs.Math.Seq.{take-length}
+use Rattle.std.proofs.lemmas.List.{take-append-le}
 use Rattle.cola_cell.specs.declared.cell.Run.{Run}
 use Rattle.cola_cell.specs.declared.fault.ReadFault.{ReadFault}
 use Rattle.cola_cell.specs.declared.fault.ReadFault.TheVariants.{Device, BadCell}
@@ -7,7 +10,7 @@ use Rattle.cola_cell.specs.Held.{Held}
 use Rattle.cola_check.specs.declared.level_walks.LevelRuns.{LevelRuns}
 use Rattle.cola_check.specs.declared.level_walks.LevelWalks.{LevelWalks}
 use Rattle.cola_check.specs.Reading.{HasBadRun, PassCause}
-use Rattle.cola_check.specs.LevelWalks.{with_shadow, runs_of, cells_in, runs_in, level_unread, all_unread, Each}
+use Rattle.cola_check.specs.LevelWalks.{with_shadow, runs_of, cells_in, level_unread, all_unread, Each}
 
 module _ {X : Type 0} where
   taken_suc : (xs : List X) (i : ℕ) (x : X) → i < length xs → x ≡ get_or xs i x → take (suc i) xs ≡ take i xs ++ x ∷ []
@@ -42,7 +45,17 @@ module _ {X : Type 0} where
   pub length_push : (xs ys : List X) (x : X) (i : ℕ) → ys ≡ xs ++ x ∷ [] → length xs ≡ i → length ys ≡ i + 1
   length_push xs ys x i e h = let a = ap length e in let b = length-append xs (x ∷ []) in omega arith
 
+  -- a list of the same length, written over another
+  pub refilled : (xs ys : List X) → length ys ≡ length xs → refill (length xs) xs ys ≡ ys
+  refilled xs ys h = take-append-le (length xs) ys (drop (length ys) xs) (omega (arith, h)) ∙ ap (λ (n : ℕ). take n ys) (sym h) ∙ take-length ys
+
 module _ {X Y : Type 0} (R : X → Y → Type 0) where
+  pub each_length : (xs : List X) (ys : List Y) → Each R xs ys → length ys ≡ length xs
+  each_length [] [] h = refl
+  each_length [] (y ∷ ys) h = absurd h
+  each_length (x ∷ xs) [] h = absurd h
+  each_length (x ∷ xs) (y ∷ ys) h = ap suc (each_length xs ys h.1)
+
   each_push : (xs : List X) (ys : List Y) (x : X) (y : Y) → Each R xs ys → R x y → Each R (xs ++ x ∷ []) (ys ++ y ∷ [])
   each_push [] [] x y h r = (r, tt)
   each_push [] (z ∷ ys) x y h r = absurd h
@@ -72,14 +85,6 @@ begun_one levels begun now i level new before later whole e l is h k =
     let a = ap all_unread e ∙ unread_append begun new in
     let b : cells_in (runs_of (drop i levels)) ≡ cells_in (runs_of (level ∷ drop (i + 1) levels)) = ap (λ (ls : List LevelRuns). cells_in (runs_of ls)) (left_next levels i level l is) in
     let d = with_cells level.shadow (runs_of (drop (i + 1) levels)) in
-    omega arith
-
--- one level more that passed a key
-pub passed_one : (levels passed now : List LevelWalks) (i : ℕ) (old new : LevelWalks) (before later whole : ℕ) → now ≡ passed ++ new ∷ [] → i < length levels → old ≡ get_or levels i old →
-    before + all_unread passed + all_unread (drop i levels) ≤ whole → later + level_unread new ≤ before + level_unread old → later + all_unread now + all_unread (drop (i + 1) levels) ≤ whole
-passed_one levels passed now i old new before later whole e l is h k =
-    let a = ap all_unread e ∙ unread_append passed new in
-    let b : all_unread (drop i levels) ≡ level_unread old + all_unread (drop (i + 1) levels) = ap all_unread (left_next levels i old l is) in
     omega arith
 
 -- ---- causes
@@ -118,13 +123,3 @@ module _ (held : Held) (number : ℕ) where
       first (inl b) = inl b
       first (inr b) = inr (with_bad x.shadow [] (runs_of levels) (λ h. absurd h) b)
   level_bad (x ∷ levels) (suc i) level l is b = inr (skipped_bad x.shadow (runs_of levels) (level_bad levels i level (omega arith) is b))
-
-  pub walks_bad : (levels : List LevelWalks) (i : ℕ) (level : LevelWalks) → i < length levels → level ≡ get_or levels i level → HasBadRun held number (runs_in (level ∷ [])) → HasBadRun held number (runs_in levels)
-  walks_bad [] i level l is b = absurd (omega arith)
-  walks_bad (x ∷ levels) zero level l is b = first (subst (λ (y : LevelWalks). HasBadRun held number (runs_in (y ∷ []))) is b)
-    where
-      first : HasBadRun held number (runs_in (x ∷ [])) → HasBadRun held number (runs_in (x ∷ levels))
-      first (inl b) = inl b
-      first (inr (inl b)) = inr (inl b)
-      first (inr (inr b)) = absurd b
-  walks_bad (x ∷ levels) (suc i) level l is b = inr (inr (walks_bad levels i level (omega arith) is b))

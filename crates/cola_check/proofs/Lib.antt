@@ -22,6 +22,7 @@ mod LiveTests
 mod LiveWalk
 mod Made
 mod Prefixes
+mod RunBlocks
 mod Sampling
 mod ShadowRuns
 mod ShadowTests

@@ -60,7 +60,7 @@ module _ (k : List ℕ) where
 -- ---- what the runs say of the key
 
 -- an answer of runs as what they say of the key
-abbrev as_said : Option (laws.Item Stamped) → Said
+abbrev pub as_said : Option (laws.Item Stamped) → Said
 as_said None = Nothing
 as_said (Some (laws.Value v)) = Live v.stamp
 as_said (Some laws.Tombstone) = Gone
@@ -77,31 +77,30 @@ said_found (found.Old Tombstone) = refl
 said_found (found.Young (Value value stamp)) = refl
 said_found (found.Young Tombstone) = refl
 
--- the walks of a level have found what its runs have of the key
+-- the walks of a level have heard what its runs say of the key
 pub record IsSaid (k : List ℕ) (level : LevelCells) (walks : LevelWalks) : Type 0 where
-  pub visible : as_seen walks.visible.found ≡ seen key_cmp k level.visible
-  pub shadow : as_seen walks.shadow.found ≡ seen key_cmp k level.shadow
+  pub visible : walks.visible.said ≡ as_said (holds (seen key_cmp k level.visible))
+  pub shadow : walks.shadow.said ≡ as_said (holds (seen key_cmp k level.shadow))
   pub odd_is : walks.odd ≡ level.odd
 
 module _ (k : List ℕ) where
-  said_of_run : (f : Found) (run : List LawCell) → as_seen f ≡ seen key_cmp k run → (said : Said) (runs : List (List LawCell)) → said ≡ as_said (answer key_cmp k runs) →
-      said_or (said_of f) said ≡ as_said (answer key_cmp k (run ∷ runs))
-  said_of_run f run e said runs h =
-      ap (λ x. said_or x said) (said_found f ∙ ap (λ s. as_said (holds s)) e) ∙ ap (said_or (as_said (holds (seen key_cmp k run)))) h
-      ∙ said_joined (holds (seen key_cmp k run)) (answer key_cmp k runs)
+  said_of_run : (heard : Said) (run : List LawCell) → heard ≡ as_said (holds (seen key_cmp k run)) → (said : Said) (runs : List (List LawCell)) → said ≡ as_said (answer key_cmp k runs) →
+      said_or heard said ≡ as_said (answer key_cmp k (run ∷ runs))
+  said_of_run heard run e said runs h =
+      ap (λ x. said_or x said) e ∙ ap (said_or (as_said (holds (seen key_cmp k run)))) h ∙ said_joined (holds (seen key_cmp k run)) (answer key_cmp k runs)
 
   visible_answer : (levels : List LevelCells) (walks : List LevelWalks) → Each (IsSaid k) levels walks → visible_said walks ≡ as_said (answer key_cmp k (visible_runs levels))
   visible_answer [] [] h = refl
   visible_answer [] (w ∷ walks) h = absurd h
   visible_answer (level ∷ levels) [] h = absurd h
-  visible_answer (level ∷ levels) (w ∷ walks) h = said_of_run w.visible.found level.visible h.0.visible (visible_said walks) (visible_runs levels) (visible_answer levels walks h.1)
+  visible_answer (level ∷ levels) (w ∷ walks) h = said_of_run w.visible.said level.visible h.0.visible (visible_said walks) (visible_runs levels) (visible_answer levels walks h.1)
 
   shadow_answer : (levels : List LevelCells) (walks : List LevelWalks) → Each (IsSaid k) levels walks → shadow_said walks ≡ as_said (answer key_cmp k (shadow_runs levels))
   shadow_answer [] [] h = refl
   shadow_answer [] (w ∷ walks) h = absurd h
   shadow_answer (level ∷ levels) [] h = absurd h
   shadow_answer (level ∷ levels) (w ∷ walks) h =
-      said_of_run w.shadow.found level.shadow h.0.shadow (cond w.odd (shadow_said walks) (visible_said walks)) (cond level.odd (shadow_runs levels) (visible_runs levels))
+      said_of_run w.shadow.said level.shadow h.0.shadow (cond w.odd (shadow_said walks) (visible_said walks)) (cond level.odd (shadow_runs levels) (visible_runs levels))
       (ap (λ b. cond b (shadow_said walks) (visible_said walks)) h.0.odd_is
       ∙ by_bool (λ b. cond b (shadow_said walks) (visible_said walks) ≡ as_said (answer key_cmp k (cond b (shadow_runs levels) (visible_runs levels))))
       (shadow_answer levels walks h.1) (visible_answer levels walks h.1) level.odd)

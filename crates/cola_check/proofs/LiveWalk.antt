@@ -1,8 +1,9 @@
 -- A walk over the runs of several levels by least keys, and what it counts.
 use Rattle.std.proofs.Common.{◌≡◌, ◌⊎◌, inl, inr, ◌↔◌, ℕ, zero, suc, ◌+◌, ◌^◌, ◌*◌, ◌≤◌, ◌<◌, Bool, true, List, [], ◌∷◌, length, map, replicate, Option, None, Some, IfSome, IsTrue, refl, sym, ap, subst, ◌∙◌, arith}
-use Rattle.std.specs.List.{AllByRecursion}
+use Rattle.std.specs.List.{AllByRecursion, refill}
 use Rattle.std.specs.List.Sorted.{IsStrictlySortedBy}
 use Rattle.cola_runs.specs.Cells.{IsRising}
+use Rattle.cola_runs.specs.Seen.{seen, holds}
 use Rattle.cola_cell.specs.declared.cell.Run.{Run}
 use Rattle.cola_cell.specs.Held.{Held}
 use Rattle.cola_cell.specs.Order.{key_cmp}
@@ -13,17 +14,25 @@ use Rattle.cola_verdict.specs.Tests.{live_pairs}
 use Rattle.cola_check.specs.declared.level_walks.LevelRuns.{LevelRuns}
 use Rattle.cola_check.specs.declared.level_walks.LevelWalks.{LevelWalks}
 use Rattle.cola_check.specs.declared.tally.LiveCount.{LiveCount}
+use Rattle.cola_check.specs.declared.tally.Said.{Said}
+use Rattle.cola_check.specs.declared.walk.Walk.{Walk}
 use Rattle.cola_check.specs.Reading.{HasBadRun, HasBadIn}
 use Rattle.cola_check.specs.Walks.{rest, least_from}
 use Rattle.cola_check.specs.Beside.{IsInOrder}
-use Rattle.cola_check.specs.LevelWalks.{HasLevel, shadow_or_none, shadow_run, with_shadow, runs_of, cells_in, AreRunsInOrder, cells_of, walks_in, runs_in, LevelFits, IsLevelReady, all_ahead, Each, BeginsLevel, PassesLevel}
+use Rattle.cola_check.specs.LevelWalks.{HasLevel, shadow_or_none, shadow_run, with_shadow, runs_of, cells_in, AreRunsInOrder, cells_of, walks_in, runs_in, LevelFits, IsLevelReady, all_unread, all_ahead, Each, BeginsLevel, Hears, PassesLevel}
 use Rattle.cola_check.specs.Chains.{LevelCells, visible_runs, AreLiveCounts, AreStamped}
 use Rattle.cola_check.specs.Tally.{IsWithin, visible_said, no_count, counted}
 use Rattle.cola_check.proofs.Fronts.{ahead_stays, ahead_falls}
 use Rattle.cola_check.proofs.Behind.{BeginsFrom}
 use Rattle.cola_check.proofs.Least.{HeadFrom, AnyHas, least_is, least_none}
 use Rattle.cola_check.proofs.Carrying.{begins_from, IsOn, on_first, on_next, told_of, found_of_key, rest_begins, nothing_left}
-use Rattle.cola_check.proofs.LiveSteps.{OfBoth, passed_cells, IsSaid, AreCounting, counting_none, counting_step, counting_end, stamps_step, stamps_end, IsBounded, bounded_none, bounded_step, same_many}
+use Rattle.cola_check.proofs.LevelLists.{each_length, refilled}
+use Rattle.cola_check.proofs.LiveSteps.{OfBoth, passed_cells, as_said, said_found, IsSaid, AreCounting, counting_none, counting_step, counting_end, stamps_step, stamps_end, IsBounded, bounded_none, bounded_step, same_many}
+
+-- what a run says of a key by what was found of it in a walk over the run
+heard_of_key : {held : Held} {k : List ℕ} {run : Run} {old new : Walk} {said : Said} → IsOn held run old → IsInOrder held run → HeadFrom k old.head → Hears held k old new said →
+    said ≡ as_said (holds (seen key_cmp k (rest held old)))
+heard_of_key i o h p = p.said_is ∙ said_found p.found ∙ ap (λ s. as_said (holds s)) (found_of_key i o h p.passes)
 
 -- ---- a level and the walks over its runs
 
@@ -93,7 +102,7 @@ module _ (held : Held) where
     on_pass (l ∷ levels) [] news o p = absurd o
     on_pass (l ∷ levels) (x ∷ olds) [] o p = absurd p
     on_pass (l ∷ levels) (x ∷ olds) (n ∷ news) o p = (
-      record { visible = on_next o.0.visible p.0.visible; shadow = on_next o.0.shadow p.0.shadow; odd_is = p.0.odd_is ∙ o.0.odd_is },
+      record { visible = on_next o.0.visible p.0.visible.passes; shadow = on_next o.0.shadow p.0.shadow.passes; odd_is = p.0.odd_is ∙ o.0.odd_is },
       on_pass levels olds news o.1 p.1,
     )
 
@@ -105,8 +114,8 @@ module _ (held : Held) where
     rests_pass (l ∷ levels) [] news h o p = absurd o
     rests_pass (l ∷ levels) (x ∷ olds) [] h o p = absurd p
     rests_pass (l ∷ levels) (x ∷ olds) (n ∷ news) h o p =
-        let a = p.0.visible.rest_is (told_of o.0.visible h.0.0) in
-        let b = p.0.shadow.rest_is (told_of o.0.shadow h.0.1) in
+        let a = p.0.visible.passes.rest_is (told_of o.0.visible h.0.0) in
+        let b = p.0.shadow.passes.rest_is (told_of o.0.shadow h.0.1) in
         let e = p.0.odd_is in
         let f = rests_pass levels olds news h.1 o.1 p.1 in
         cc
@@ -119,7 +128,7 @@ module _ (held : Held) where
     saids (l ∷ levels) [] news h o f p = absurd o
     saids (l ∷ levels) (x ∷ olds) [] h o f p = absurd p
     saids (l ∷ levels) (x ∷ olds) (n ∷ news) h o f p = (
-      record { visible = found_of_key o.0.visible h.0.0 f.0 p.0.visible; shadow = found_of_key o.0.shadow h.0.1 f.1.0 p.0.shadow; odd_is = p.0.odd_is },
+      record { visible = heard_of_key o.0.visible h.0.0 f.0 p.0.visible; shadow = heard_of_key o.0.shadow h.0.1 f.1.0 p.0.shadow; odd_is = p.0.odd_is },
       saids levels olds news h.1 o.1 f.1.1 p.1,
     )
 
@@ -141,8 +150,8 @@ module _ (held : Held) where
     ahead_same [] (n ∷ news) p = absurd p
     ahead_same (x ∷ olds) [] p = absurd p
     ahead_same (x ∷ olds) (n ∷ news) p =
-        let a = ahead_stays p.0.visible in
-        let b = ahead_stays p.0.shadow in
+        let a = ahead_stays p.0.visible.passes in
+        let b = ahead_stays p.0.shadow.passes in
         let r = ahead_same olds news p.1 in
         omega arith
 
@@ -152,18 +161,18 @@ module _ (held : Held) where
     ahead_less [] (n ∷ news) p a = absurd p
     ahead_less (x ∷ olds) [] p a = absurd p
     ahead_less (x ∷ olds) (n ∷ news) p (inl a) =
-        let d = ahead_falls p.0.visible a in
-        let b = ahead_stays p.0.shadow in
+        let d = ahead_falls p.0.visible.passes a in
+        let b = ahead_stays p.0.shadow.passes in
         let r = ahead_same olds news p.1 in
         omega arith
     ahead_less (x ∷ olds) (n ∷ news) p (inr (inl a)) =
-        let d = ahead_falls p.0.shadow a in
-        let b = ahead_stays p.0.visible in
+        let d = ahead_falls p.0.shadow.passes a in
+        let b = ahead_stays p.0.visible.passes in
         let r = ahead_same olds news p.1 in
         omega arith
     ahead_less (x ∷ olds) (n ∷ news) p (inr (inr a)) =
-        let d = ahead_stays p.0.visible in
-        let b = ahead_stays p.0.shadow in
+        let d = ahead_stays p.0.visible.passes in
+        let b = ahead_stays p.0.shadow.passes in
         let r = ahead_less olds news p.1 a in
         omega arith
 
@@ -337,8 +346,23 @@ module _ {held : Held} {last : ℕ} {levels : List LevelRuns} {walks : List Leve
 
 -- ---- the same over an equal object and list
 
-pub same_passes : {held object : Held} (k : List ℕ) {xs olds : List LevelWalks} (news : List LevelWalks) → held ≡ object → xs ≡ olds → Each (PassesLevel held k) xs news → Each (PassesLevel object k) olds news
+same_passes : {held object : Held} (k : List ℕ) {xs olds : List LevelWalks} (news : List LevelWalks) → held ≡ object → xs ≡ olds → Each (PassesLevel held k) xs news → Each (PassesLevel object k) olds news
 same_passes {held} {object} k {xs} {olds} news e f h = subst (λ (x : Held). Each (PassesLevel x k) olds news) e (subst (λ (z : List LevelWalks). Each (PassesLevel held k) z news) f h)
+
+-- and with the new list written over the old one
+refilled_walks : (held : Held) (k : List ℕ) {xs olds : List LevelWalks} (news : List LevelWalks) → xs ≡ olds → Each (PassesLevel held k) xs news → refill (length olds) olds news ≡ news
+refilled_walks held k {xs} {olds} news f h = refilled olds news (each_length (PassesLevel held k) xs news h ∙ ap length f)
+
+pub refilled_passes : {held object : Held} (k : List ℕ) {xs olds : List LevelWalks} (news : List LevelWalks) → held ≡ object → xs ≡ olds → Each (PassesLevel held k) xs news →
+    Each (PassesLevel object k) olds (refill (length olds) olds news)
+refilled_passes {held} {object} k {xs} {olds} news e f h = subst (Each (PassesLevel object k) olds) (sym (refilled_walks held k news f h)) (same_passes k news e f h)
+
+pub refilled_unread : (held : Held) (k : List ℕ) {xs olds : List LevelWalks} (news : List LevelWalks) (before after : ℕ) → xs ≡ olds → Each (PassesLevel held k) xs news →
+    after + all_unread news ≤ before + all_unread xs → after + all_unread (refill (length olds) olds news) ≤ before + all_unread olds
+refilled_unread held k {xs} {olds} news before after f h u =
+    let a = ap all_unread (refilled_walks held k news f h) in
+    let b = ap all_unread f in
+    omega (arith, a, b, u)
 
 pub same_least : {xs ys : List LevelWalks} {answer wanted : Option (List ℕ)} → xs ≡ ys → answer ≡ least_from None (walks_in xs) → answer ≡ wanted → least_from None (walks_in ys) ≡ wanted
 same_least {xs} {ys} e f g = ap (λ (z : List LevelWalks). least_from None (walks_in z)) (sym e) ∙ sym f ∙ g

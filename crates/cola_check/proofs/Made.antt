@@ -7,13 +7,13 @@ use Rattle.cola_device.specs.declared.device.Device as device
 use Rattle.cola_layout.specs.declared.header.Header.{Header}
 use Rattle.cola_layout.specs.Fields.{fields_of}
 use Rattle.cola_opening.proofs.Spending.{spends-then}
-use Rattle.cola_opening.specs.Judged.{IsSeen}
+use Rattle.cola_opening.specs.Judged.{IsSeen, IsClosedWith, IsClosedFile}
 use Rattle.cola_verdict.specs.declared.verdict.Verdict.{Verdict}
 use Rattle.cola_verdict.specs.Tests.{tested_of}
 use Rattle.cola_verdict.specs.Verdict.{IsVerdict}
 use Rattle.cola_check.specs.declared.fault.CheckFault.{CheckFault}
 use Rattle.cola_check.specs.declared.fault.CheckFault.TheVariants.{NotStore, NotClosed, Small, Device, OutOfMemory}
-use Rattle.cola_check.specs.Check.{IsClosedWith, IsClosedFile, IsReadBy, TestsAnswer, ReadsCells, TestsMade, Checks, test_reads, test_ticks}
+use Rattle.cola_check.specs.Check.{IsReadBy, TestsAnswer, ReadsCells, TestsMade, Checks, test_reads, test_ticks}
 
 both : {X : Type 0} (told : Option X) {P Q R : X → Type 0} → IfSome told P → IfSome told Q → ((x : X) → P x → Q x → R x) → IfSome told R
 both None p q f = tt

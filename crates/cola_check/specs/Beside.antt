@@ -55,9 +55,9 @@ abbrev pub unread_begun : Result Beside ReadFault → ℕ
 unread_begun (Ok walks) = all_unread walks
 unread_begun (Err fault) = 0
 
-abbrev pub unread_stepped : Result Step ReadFault → ℕ
-unread_stepped (Ok step) = all_unread step.walks
-unread_stepped (Err fault) = 0
+abbrev pub unread_stepped : Beside → Result Step ReadFault → ℕ
+unread_stepped walks (Ok step) = all_unread walks
+unread_stepped walks (Err fault) = 0
 
 -- walks before the first cells of their runs
 pub record BeginBeside (held : Held) (above own shadow : Run) (walks : Beside) : Type 0 where
@@ -71,7 +71,7 @@ pub record BeginBeside (held : Held) (above own shadow : Run) (walks : Beside) :
   pub ready : AreReady walks
 
 -- each walk passed the cells of a key
-pub record StepsBeside (held : Held) (key : List ℕ) (walks : Beside) (step : Step) : Type 0 where
-  pub above : Passes held key walks.above step.walks.above step.above
-  pub own : Passes held key walks.own step.walks.own step.own
-  pub shadow : Passes held key walks.shadow step.walks.shadow step.shadow
+pub record StepsBeside (held : Held) (key : List ℕ) (old new : Beside) (step : Step) : Type 0 where
+  pub above : Passes held key old.above new.above step.above
+  pub own : Passes held key old.own new.own step.own
+  pub shadow : Passes held key old.shadow new.shadow step.shadow

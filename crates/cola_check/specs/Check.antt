@@ -9,7 +9,7 @@ use Rattle.cola_layout.specs.declared.header.Header.{Header}
 use Rattle.cola_layout.specs.Fields.{fields_of}
 use Rattle.cola_layout.specs.Header.{Fields}
 use Rattle.cola_opening.specs.Counted.{Spends}
-use Rattle.cola_opening.specs.Judged.{HasHeader, IsSmall, IsNoStore, IsSeen, FailedReading}
+use Rattle.cola_opening.specs.Judged.{IsSmall, IsNoStore, IsClosedWith, IsClosedFile, IsInUse, IsSeen, FailedReading}
 use Rattle.cola_verdict.specs.declared.verdict.Flaw.TheVariants.{Cell}
 use Rattle.cola_verdict.specs.declared.verdict.Verdict.{Verdict}
 use Rattle.cola_verdict.specs.declared.verdict.Verdict.TheVariants.{Broken}
@@ -17,19 +17,6 @@ use Rattle.cola_verdict.specs.Tests.{tested_of}
 use Rattle.cola_verdict.specs.Verdict.{IsVerdict}
 use Rattle.cola_check.specs.declared.fault.CheckFault.{CheckFault}
 use Rattle.cola_check.specs.declared.fault.CheckFault.TheVariants.{NotStore, NotClosed, Small, Device, OutOfMemory}
-
--- a file has this header and all cells of its store, which was closed
-pub record IsClosedWith (header : Fields) (bytes : List ℕ) : Type 0 where
-  pub has : HasHeader header bytes
-  pub closed : header.closed ≡ true
-
--- it has such a header
-abbrev pub IsClosedFile : List ℕ → Type 0
-IsClosedFile bytes = (header : Fields) × IsClosedWith header bytes
-
--- a file has a header and all cells of its store, which is in use
-abbrev pub IsInUse : List ℕ → Type 0
-IsInUse bytes = (header : Fields) × (HasHeader header bytes × (header.closed ≡ false))
 
 -- a closed file with this header has this verdict
 pub record HasVerdict (header : Fields) (verdict : Verdict) (bytes : List ℕ) : Type 0 where
@@ -93,16 +80,6 @@ module _ {D : Type 0} (d : device.Ghosts D) (before now : D) (from to : ℕ) whe
   Checks (Err NotClosed) = IsRefusedFor IsInUse
   Checks (Err OutOfMemory) = IsRefusedFor IsClosedFile
   Checks (Err Device) = FailedAtHeader ⊎ FailedAtCells
-
-module _ {D : Type 0} (d : device.Ghosts D) (before now : D) where
-  -- what looking for the header of a closed file answers
-  abbrev pub FindsClosed : Result Header CheckFault → Type 0
-  FindsClosed (Ok header) = IsSeen d before (IsClosedWith (fields_of header)) 1 1 now
-  FindsClosed (Err NotStore) = IsSeen d before IsNoStore 1 1 now
-  FindsClosed (Err Small) = IsSeen d before IsSmall 1 1 now
-  FindsClosed (Err NotClosed) = IsSeen d before IsInUse 1 1 now
-  FindsClosed (Err OutOfMemory) = ⊥
-  FindsClosed (Err Device) = FailedReading d before now
 
 module _ {D : Type 0} (d : device.Ghosts D) (header : Header) (before now : D) where
   -- the verdict on the cells of a file with this header, where its bytes are told

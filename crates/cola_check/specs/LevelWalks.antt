@@ -8,12 +8,15 @@ use Rattle.cola_cell.specs.declared.fault.ReadFault.{ReadFault}
 use Rattle.cola_cell.specs.Held.{Held}
 use Rattle.cola_look.specs.Runs.{HasRun}
 use Rattle.cola_told.specs.Cells.{run_cells}
+use Rattle.cola_check.specs.declared.walk.Found.{Found}
 use Rattle.cola_check.specs.declared.walk.Walk.{Walk}
+use Rattle.cola_check.specs.declared.tally.Said.{Said}
 use Rattle.cola_check.specs.declared.level_walks.LevelRuns.{LevelRuns}
 use Rattle.cola_check.specs.declared.level_walks.LevelWalks.{LevelWalks}
 use Rattle.cola_check.specs.Beside.{IsInOrder}
 use Rattle.cola_check.specs.Walks.{WalkFits, IsReady, unread, ahead, Begins, Passes}
 use Rattle.cola_check.specs.Chains.{LevelCells}
+use Rattle.cola_check.specs.Tally.{said_of}
 
 -- the level's runs are runs of the object
 pub record HasLevel (held : Held) (level : LevelRuns) : Type 0 where
@@ -83,13 +86,21 @@ all_ahead [] = 0
 all_ahead (level ∷ levels) = ahead level.visible.walk + ahead level.shadow.walk + all_ahead levels
 
 -- what is still to read after a call: nothing is asked of a refused one
-abbrev pub level_unread_after : Result LevelWalks ReadFault → ℕ
-level_unread_after (Ok level) = level_unread level
-level_unread_after (Err fault) = 0
+abbrev pub unread_level_begun : Result LevelWalks ReadFault → ℕ
+unread_level_begun (Ok level) = level_unread level
+unread_level_begun (Err fault) = 0
 
-abbrev pub all_unread_after : Result (ArrayVec LevelWalks 23 Unit) ReadFault → ℕ
-all_unread_after (Ok levels) = all_unread levels.items
-all_unread_after (Err fault) = 0
+abbrev pub all_unread_begun : Result (ArrayVec LevelWalks 23 Unit) ReadFault → ℕ
+all_unread_begun (Ok levels) = all_unread levels.items
+all_unread_begun (Err fault) = 0
+
+abbrev pub level_unread_after : {T : Type 0} → LevelWalks → Result T ReadFault → ℕ
+level_unread_after level (Ok answer) = level_unread level
+level_unread_after level (Err fault) = 0
+
+abbrev pub all_unread_after : {T : Type 0} → List LevelWalks → Result T ReadFault → ℕ
+all_unread_after levels (Ok answer) = all_unread levels
+all_unread_after levels (Err fault) = 0
 
 -- this holds of each element of one list and the one beside it in another
 abbrev pub Each : {X Y : Type 0} → (X → Y → Type 0) → List X → List Y → Type 0
@@ -104,8 +115,14 @@ pub record BeginsLevel (held : Held) (level : LevelRuns) (walks : LevelWalks) : 
   pub shadow : Begins held (shadow_run level) Incoming walks.shadow.walk
   pub odd_is : walks.odd ≡ level.odd
 
+-- a walk passed the cells of a key, and this is what its run says of the key there
+pub record Hears (held : Held) (key : List ℕ) (old new : Walk) (said : Said) : Type 0 where
+  pub found : Found
+  pub passes : Passes held key old new found
+  pub said_is : said ≡ said_of found
+
 -- the walks of a level passed the cells of a key
 pub record PassesLevel (held : Held) (key : List ℕ) (old new : LevelWalks) : Type 0 where
-  pub visible : Passes held key old.visible.walk new.visible.walk new.visible.found
-  pub shadow : Passes held key old.shadow.walk new.shadow.walk new.shadow.found
+  pub visible : Hears held key old.visible.walk new.visible.walk new.visible.said
+  pub shadow : Hears held key old.shadow.walk new.shadow.walk new.shadow.said
   pub odd_is : new.odd ≡ old.odd

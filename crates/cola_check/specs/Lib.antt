@@ -1,5 +1,6 @@
 pub mod BadCells
 pub mod Beside
+pub mod Blocks
 pub mod Carrying
 pub mod Chains
 pub mod Check

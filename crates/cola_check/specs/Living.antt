@@ -68,5 +68,6 @@ JudgesWhole header live stamped (Broken Stamp level number) = (header.count ≡ 
 -- the verdict by what was counted: first by the counts of each level, then by what is live from level 0 down
 abbrev pub JudgesCounts : Header → List LiveCount → Bool → Verdict → Type 0
 JudgesCounts header counts stamped verdict =
-    ((level : ℕ) × (number : ℕ) × (verdict ≡ Broken Live level number) × IsFirstCrowded header counts level × (number ≡ number_of level (visible_slot header.clock level) 0))
+    ((level : ℕ) × (number : ℕ) × (verdict ≡ Broken Live level number) × IsFirstCrowded header counts level
+    × (number ≡ number_of level (visible_slot header.clock level) 0))
     ⊎ (AreAllFew header counts × JudgesWhole header (count_at counts 0).visible stamped verdict)

@@ -41,12 +41,12 @@ IsWithin last (Live stamp) = stamp ≤ last
 -- what the visible runs have of the key, from the first level down
 abbrev pub visible_said : List LevelWalks → Said
 visible_said [] = Nothing
-visible_said (level ∷ levels) = said_or (said_of level.visible.found) (visible_said levels)
+visible_said (level ∷ levels) = said_or level.visible.said (visible_said levels)
 
 -- what the shadow of the first level has of the key, and else the runs that lie below it
 abbrev pub shadow_said : List LevelWalks → Said
 shadow_said [] = Nothing
-shadow_said (level ∷ levels) = said_or (said_of level.shadow.found) (cond level.odd (shadow_said levels) (visible_said levels))
+shadow_said (level ∷ levels) = said_or level.shadow.said (cond level.odd (shadow_said levels) (visible_said levels))
 
 -- counts of nothing
 abbrev pub no_count : LiveCount

@@ -20,7 +20,6 @@ use Rattle.cola_told.specs.Cells.{run_cells}
 use Rattle.cola_check.specs.declared.walk.Found.{Found}
 use Rattle.cola_check.specs.declared.walk.Found.TheVariants.{Nothing, Old, Young}
 use Rattle.cola_check.specs.declared.walk.Walk.{Walk}
-use Rattle.cola_check.specs.declared.walk.Passed.{Passed}
 use Rattle.cola_check.specs.Reading.{IsRunTold}
 
 -- what was found of a key, as the laws of runs have it
@@ -91,13 +90,13 @@ abbrev pub ahead : Walk → ℕ
 ahead walk = walk.run.len - walk.at
 
 -- what a walk has still to read after a call: nothing is asked of a refused one
-abbrev pub unread_after : Result Walk ReadFault → ℕ
-unread_after (Ok walk) = unread walk
-unread_after (Err fault) = 0
+abbrev pub unread_begun : Result Walk ReadFault → ℕ
+unread_begun (Ok walk) = unread walk
+unread_begun (Err fault) = 0
 
-abbrev pub unread_passed : Result Passed ReadFault → ℕ
-unread_passed (Ok passed) = unread passed.walk
-unread_passed (Err fault) = 0
+abbrev pub unread_after : {T : Type 0} → Walk → Result T ReadFault → ℕ
+unread_after walk (Ok answer) = unread walk
+unread_after walk (Err fault) = 0
 
 -- a call that reads spends this: each tick turns to at most one block
 abbrev pub Turns : Spent → Spent → ℕ → ℕ → Type 0

@@ -13,17 +13,16 @@ use cola_outside::Steps;
 use std::sync::ledger::Ledger;
 
 /// Where the walks over a finished shadow, the level's own run and the run above it stand.
-#[derive(Clone, Copy, Drop)]
+#[derive(Drop)]
 pub(crate) struct Beside {
     pub above: Walk,
     pub own: Walk,
     pub shadow: Walk,
 }
 
-/// What the three runs have of a key, and the walks behind its cells.
+/// What the three runs have of a key.
 #[derive(Drop)]
 pub(crate) struct Step {
-    pub walks: Beside,
     pub above: Found,
     pub own: Found,
     pub shadow: Found,
@@ -34,7 +33,8 @@ impl Beside {
     ghost use Rattle.cola_look.specs.Runs.{HasRun};
     ghost use Rattle.cola_check.specs.Reading.{PassCause};
     ghost use Rattle.cola_check.specs.Walks.{Turns, least_from};
-    ghost use Rattle.cola_check.specs.Beside.{BesideCause, BeginBeside, BesideFits, AreReady, StepsBeside, all_unread, unread_begun, unread_stepped, runs_of, walks_of};
+    ghost use Rattle.cola_check.specs.Beside.{BesideCause, BeginBeside, BesideFits, AreReady, StepsBeside};
+    ghost use Rattle.cola_check.specs.Beside.{all_unread, unread_begun, unread_stepped, runs_of, walks_of};
 
     /// The walks before the first cells of their runs.
     fn begin<W: CellSource, L: Ledger>(
@@ -65,42 +65,34 @@ impl Beside {
     fn least_key(&self) -> Option<Key>
         ensures { result ≡ least_from None (walks_of self.now) }
     {
-        let least = self.above.lesser(None);
-        let least = self.own.lesser(least);
-        self.shadow.lesser(least)
+        let mut least = None;
+        self.above.lower(&mut least);
+        self.own.lower(&mut least);
+        self.shadow.lower(&mut least);
+        least
     }
 
-    /// The walks behind the cells at their fronts that have this key, and what the runs have of it there.
-    fn passed<W: CellSource, L: Ledger>(
-        &self,
+    /// Passes the cells at the fronts of the walks that have this key; what the runs have of it there.
+    fn pass<W: CellSource, L: Ledger>(
+        &mut self,
         work: &mut W,
         key: &Key,
         steps: &mut Steps<L>,
     ) -> Result<Step, ReadFault>
-        requires fit { BesideFits (W.held work.old) self.now }
-        requires ready { AreReady self.now }
-        ensures passes { IfOk result (StepsBeside (W.held work.old) key.now self.now) }
-        ensures unread { steps.new + unread_stepped result ≤ steps.old + all_unread self.now }
+        requires fit { BesideFits (W.held work.old) self.old }
+        requires ready { AreReady self.old }
+        ensures passes { IfOk result (StepsBeside (W.held work.old) key.now self.old self.new) }
+        ensures unread { steps.new + unread_stepped self.new result ≤ steps.old + all_unread self.old }
         ensures turns { Turns (W.spent work.old) (W.spent work.new) steps.old steps.new }
-        ensures cause { IfErr result (PassCause (W.held work.old) (runs_of self.now) (W.spent work.old).faults (W.spent work.new).faults) }
+        ensures cause { IfErr result (PassCause (W.held work.old) (runs_of self.old) (W.spent work.old).faults (W.spent work.new).faults) }
         ensures cells_stay { W.held work.new ≡ W.held work.old }
         ensures kept { W.kept work.new ≡ W.kept work.old }
         ensures calm { ReadCalm (W.spent work.old).faults (W.spent work.new).faults result }
     {
-        let above = self.above.passed(work, key, steps)?;
-        let own = self.own.passed(work, key, steps)?;
-        let shadow = self.shadow.passed(work, key, steps)?;
-        let walks = Beside {
-            above: above.walk,
-            own: own.walk,
-            shadow: shadow.walk,
-        };
-        Ok(Step {
-            walks,
-            above: above.found,
-            own: own.found,
-            shadow: shadow.found,
-        })
+        let above = self.above.pass(work, key, steps)?;
+        let own = self.own.pass(work, key, steps)?;
+        let shadow = self.shadow.pass(work, key, steps)?;
+        Ok(Step { above, own, shadow })
     }
 }
 
@@ -128,11 +120,10 @@ pub(crate) fn is_carried<W: CellSource, L: Ledger>(
 {
     let mut walks = Beside::begin(work, above, own, shadow, steps)?;
     while let Some(key) = walks.least_key() {
-        let step = walks.passed(work, &key, steps)?;
+        let step = walks.pass(work, &key, steps)?;
         if !fits(odd, bottom, &step.above, &step.own, &step.shadow) {
             return Ok(false);
         }
-        walks = step.walks;
     }
     Ok(true)
 }

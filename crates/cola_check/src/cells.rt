@@ -1,9 +1,11 @@
 //! The lowest cell of the runs of a file whose bytes spell none.
-ghost use Rattle.std.specs.Prelude.{◌≡◌, ◌+◌, ◌^◌, ◌≤◌, ◌<◌, [], IfOk, IfErr};
+ghost use Rattle.std.specs.Prelude.{◌≡◌, ◌+◌, ◌^◌, ◌≤◌, ◌<◌, [], None, IfOk, IfErr};
 ghost use Rattle.cola_cell.specs.Costs.{Costs};
 ghost use Rattle.cola_cell.specs.Spent.{ReadCalm};
+ghost use Rattle.cola_cell.specs.declared.cell.Reader.TheVariants.{Own};
 ghost use Rattle.cola_look.specs.Runs.{HasRun};
 ghost use Rattle.cola_check.specs.BadCells.{FindsOne, FindsIn, FindsAt, FindsCell, level_cells, all_cells};
+ghost use Rattle.cola_check.specs.Blocks.{GoesOn, run_blocks, level_blocks, all_blocks};
 ghost use Rattle.cola_check.specs.Reading.{PassCause};
 
 use crate::runs::run_at;
@@ -24,6 +26,7 @@ fn bad_at<W: CellSource, L: Ledger>(
     ensures finds { IfOk result (FindsOne (W.held work.old) run.now index) }
     ensures cause { IfErr result (PassCause (W.held work.old) [] (W.spent work.old).faults (W.spent work.new).faults) }
     ensures cost { Costs (W.spent work.old) (W.spent work.new) steps.old steps.new 1 1 }
+    ensures goes { IfOk result (λ bad. bad ≡ None → GoesOn (W.held work.old) (W.spent work.old) (W.spent work.new) Own run.now index (index + 1)) }
     ensures cells_stay { W.held work.new ≡ W.held work.old }
     ensures kept { W.kept work.new ≡ W.kept work.old }
     ensures calm { ReadCalm (W.spent work.old).faults (W.spent work.new).faults result }
@@ -45,6 +48,7 @@ pub(crate) fn bad_in_run<W: CellSource, L: Ledger>(
     ensures finds { IfOk result (FindsIn (W.held work.old) run.now) }
     ensures cause { IfErr result (PassCause (W.held work.old) [] (W.spent work.old).faults (W.spent work.new).faults) }
     ensures cost { Costs (W.spent work.old) (W.spent work.new) steps.old steps.new run.now.len run.now.len }
+    ensures blocks { (W.spent work.new).turned ≤ (W.spent work.old).turned + run_blocks (W.held work.old) run.now }
     ensures cells_stay { W.held work.new ≡ W.held work.old }
     ensures kept { W.kept work.new ≡ W.kept work.old }
     ensures calm { ReadCalm (W.spent work.old).faults (W.spent work.new).faults result }
@@ -69,6 +73,7 @@ fn bad_in_level<W: CellSource, L: Ledger>(
     ensures finds { IfOk result (FindsAt header.now (W.held work.old) level) }
     ensures cause { IfErr result (PassCause (W.held work.old) [] (W.spent work.old).faults (W.spent work.new).faults) }
     ensures cost { Costs (W.spent work.old) (W.spent work.new) steps.old steps.new (level_cells header.now level) (level_cells header.now level) }
+    ensures blocks { (W.spent work.new).turned ≤ (W.spent work.old).turned + level_blocks header.now (W.held work.old) level }
     ensures cells_stay { W.held work.new ≡ W.held work.old }
     ensures kept { W.kept work.new ≡ W.kept work.old }
     ensures calm { ReadCalm (W.spent work.old).faults (W.spent work.new).faults result }
@@ -90,6 +95,7 @@ pub(crate) fn first_bad_cell<W: CellSource, L: Ledger>(
     ensures finds { IfOk result (FindsCell header.now (W.held work.old)) }
     ensures cause { IfErr result (PassCause (W.held work.old) [] (W.spent work.old).faults (W.spent work.new).faults) }
     ensures cost { Costs (W.spent work.old) (W.spent work.new) steps.old steps.new (all_cells header.now) (all_cells header.now) }
+    ensures blocks { (W.spent work.new).turned ≤ (W.spent work.old).turned + all_blocks header.now (W.held work.old) }
     ensures few { all_cells header.now ≤ 2 ^ (header.now.geometry.bottom + 4) }
     ensures cells_stay { W.held work.new ≡ W.held work.old }
     ensures kept { W.kept work.new ≡ W.kept work.old }

@@ -2,14 +2,14 @@
 ghost use Rattle.std.specs.Prelude.{◌≡◌};
 ghost use Rattle.cola_device.specs.Bytes.{HasRange};
 ghost use Rattle.cola_run.specs.Cells.{file_bytes};
-ghost use Rattle.cola_check.specs.Check.{IsLevelOf, Judges, Checks, FindsClosed, TestsAnswer, ReadsCells, TestsMade};
+ghost use Rattle.cola_check.specs.Check.{IsLevelOf, Judges, Checks, TestsAnswer, ReadsCells, TestsMade};
 
 use crate::fault::CheckFault;
 use crate::testing::test_cells;
 use cola_cell::ReadFault;
 use cola_device::Device;
 use cola_layout::Header;
-use cola_opening::{HeaderFault, read_header};
+use cola_opening::{ClosedFault, read_closed};
 use cola_outside::Steps;
 use cola_run::RunStore;
 use cola_verdict::{Flaw, Verdict};
@@ -25,25 +25,6 @@ fn level_of(number: u64) -> u8
         level += 1;
     }
     level
-}
-
-/// The header of a device's file, where that has all its cells and was closed.
-fn read_closed<D: Device>(device: &mut D) -> Result<Header, CheckFault>
-    ensures found { FindsClosed D.Device device.old device.new result }
-    ensures bytes_stay { D.bytes device.new ≡ D.bytes device.old }
-    ensures kept { D.kept device.new ≡ D.kept device.old }
-{
-    let mut head = [0u8; 512];
-    let header = match read_header(device, &mut head) {
-        Ok(found) => found.header,
-        Err(HeaderFault::NotStore) => return Err(CheckFault::NotStore),
-        Err(HeaderFault::Small) => return Err(CheckFault::Small),
-        Err(HeaderFault::Device) => return Err(CheckFault::Device),
-    };
-    if !header.closed {
-        return Err(CheckFault::NotClosed);
-    }
-    Ok(header)
 }
 
 /// The answer of a test by that of its cells: a cell that is bad is the verdict.
@@ -101,7 +82,8 @@ fn test_file<D: Device, L: Ledger>(
 /// In this order: the size is asked, and `Small` where it is below 512 bytes; the first 512 bytes are read, and `NotStore`
 /// where they spell no header; `Small` where the file has fewer bytes than the cells of the store; `NotClosed` where the
 /// state byte is 1; all memory is taken, or `OutOfMemory`; the cells of the runs are read and tested. `Device` where the
-/// device refused a call. Nothing is written, and the file is not marked as in use, whatever is answered. Each cell of a run is read a fixed number of times, with at most five ticks for each cell of the file.
+/// device refused a call. Nothing is written, and the file is not marked as in use, whatever is answered. Each cell of a
+/// run is read a fixed number of times, with at most five ticks for each cell of the file.
 ///
 /// The device comes back whatever is answered. What is said of the verdict holds where it tells its bytes.
 pub fn check<D: Device, L: Ledger>(
@@ -116,6 +98,9 @@ pub fn check<D: Device, L: Ledger>(
     let mut device = device;
     match read_closed(&mut device) {
         Ok(header) => test_file(alloc, device, &header, steps),
-        Err(fault) => (device, Err(fault)),
+        Err(ClosedFault::NotStore) => (device, Err(CheckFault::NotStore)),
+        Err(ClosedFault::Small) => (device, Err(CheckFault::Small)),
+        Err(ClosedFault::NotClosed) => (device, Err(CheckFault::NotClosed)),
+        Err(ClosedFault::Device) => (device, Err(CheckFault::Device)),
     }
 }

@@ -10,7 +10,7 @@ ghost use Rattle.cola_check.specs.Found.{tested_by};
 ghost use Rattle.cola_check.specs.Testing.{FindsFlaw};
 ghost use Rattle.cola_check.specs.Firsts.{IsPlaceAbove, ArePlaced, AreFirstFlaws};
 
-use crate::runs::visible_run;
+use crate::runs::{broken_at, visible_run};
 use crate::visible::RunTests;
 use cola_layout::Header;
 use cola_verdict::{Flaw, Verdict};
@@ -73,13 +73,12 @@ impl FirstFlaws {
 }
 
 /// The verdict on a file with this flaw at this place of a visible run.
-fn broken_at(header: &Header, flaw: Flaw, place: (u8, u32)) -> Verdict
+fn broken_visible(header: &Header, flaw: Flaw, place: (u8, u32)) -> Verdict
     requires { IsPlaceAbove (header.now.geometry.bottom + 1) place }
     ensures { result ≡ Verdict.Broken flaw place.0 (number_of place.0 (visible_slot header.now.clock place.0) place.1) }
 {
     let (level, index) = place;
-    let slot = visible_run(header, level).slot;
-    Verdict::Broken(flaw, level, header.geometry.place(level, slot, index))
+    broken_at(header, flaw, visible_run(header, level), index)
 }
 
 /// The verdict by the first flaws of all levels, if there are any: order goes before samples, and these before lengths.
@@ -90,11 +89,11 @@ pub(crate) fn verdict_by(header: &Header, flaws: &FirstFlaws) -> Option<Verdict>
         FindsFlaw (tested_by header.now held) (flaw.Cell ∷ []) (flaw.Order ∷ flaw.Sample ∷ flaw.Length ∷ []) result }
 {
     if let Some(place) = flaws.order {
-        return Some(broken_at(header, Flaw::Order, place));
+        return Some(broken_visible(header, Flaw::Order, place));
     }
     if let Some(place) = flaws.sample {
-        return Some(broken_at(header, Flaw::Sample, place));
+        return Some(broken_visible(header, Flaw::Sample, place));
     }
     let place = flaws.length?;
-    Some(broken_at(header, Flaw::Length, place))
+    Some(broken_visible(header, Flaw::Length, place))
 }

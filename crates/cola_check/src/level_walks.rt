@@ -1,13 +1,14 @@
 //! Walks over the runs of several levels at once.
-ghost use Rattle.std.specs.Prelude.{◌≡◌, ◌+◌, ◌≤◌, length, None, IfOk, IfErr};
+ghost use Rattle.std.specs.Prelude.{◌≡◌, ◌+◌, ◌≤◌, length, None, IfOk, IfErr, OnOk};
 ghost use Rattle.std.specs.List.{AllByRecursion};
 ghost use Rattle.cola_cell.specs.Spent.{ReadCalm};
 ghost use Rattle.cola_check.specs.Reading.{PassCause};
 ghost use Rattle.cola_check.specs.Walks.{Turns, least_from};
 ghost use Rattle.cola_check.specs.LevelWalks.{HasLevel, runs_of, cells_in, Each, BeginsLevel};
-ghost use Rattle.cola_check.specs.LevelWalks.{runs_in, walks_in, LevelFits, IsLevelReady, all_unread, all_unread_after, PassesLevel};
+ghost use Rattle.cola_check.specs.LevelWalks.{runs_in, walks_in, LevelFits, IsLevelReady, all_unread, all_unread_begun, all_unread_after, PassesLevel};
 
-use crate::walk::{Found, Passed, Walk};
+use crate::tally::Said;
+use crate::walk::Walk;
 use arrayvec::ArrayVec;
 use cola_cell::{CellSource, Key, ReadFault, Reader, Run};
 use cola_outside::Steps;
@@ -22,24 +23,31 @@ pub(crate) struct LevelRuns {
     pub odd: bool,
 }
 
-/// The walks over the runs of a level, and what these runs have of the key that was passed last.
+/// A walk, and what its run said of the key that was passed last.
+#[derive(Drop)]
+pub(crate) struct Heard {
+    pub walk: Walk,
+    pub said: Said,
+}
+
+/// The walks over the runs of a level.
 #[derive(Drop)]
 pub(crate) struct LevelWalks {
-    pub visible: Passed,
-    pub shadow: Passed,
+    pub visible: Heard,
+    pub shadow: Heard,
     pub odd: bool,
 }
 
 /// A walk over an empty run, which passed nothing.
-fn empty_walk(reader: Reader) -> Passed {
-    Passed {
+fn empty_walk(reader: Reader) -> Heard {
+    Heard {
         walk: Walk {
             run: Run::default(),
             reader,
             at: 0,
             head: None,
         },
-        found: Found::Nothing,
+        said: Said::Nothing,
     }
 }
 
@@ -73,12 +81,65 @@ impl LevelRuns {
     }
 }
 
+impl Heard {
+    ghost use Rattle.std.specs.Prelude.{◌≡◌, ◌+◌, ◌≤◌, [], ◌∷◌, IfErr, OnOk};
+    ghost use Rattle.cola_check.specs.Reading.{PassCause};
+    ghost use Rattle.cola_check.specs.Walks.{Turns, WalkFits, IsReady, unread, unread_after};
+    ghost use Rattle.cola_check.specs.LevelWalks.{Hears};
+
+    /// Passes the cells at the front of its walk that have this key, and hears what the run has of it there.
+    fn pass<W: CellSource, L: Ledger>(
+        &mut self,
+        work: &mut W,
+        key: &Key,
+        steps: &mut Steps<L>,
+    ) -> Result<(), ReadFault>
+        requires fits { WalkFits (W.held work.old) self.old.walk }
+        requires ready { IsReady self.old.walk }
+        ensures hears { OnOk result (Hears (W.held work.old) key.now self.old.walk self.new.walk self.new.said) }
+        ensures unread { steps.new + unread_after self.new.walk result ≤ steps.old + unread self.old.walk }
+        ensures turns { Turns (W.spent work.old) (W.spent work.new) steps.old steps.new }
+        ensures cause { IfErr result (PassCause (W.held work.old) (self.old.walk.run ∷ []) (W.spent work.old).faults (W.spent work.new).faults) }
+        ensures cells_stay { W.held work.new ≡ W.held work.old }
+        ensures kept { W.kept work.new ≡ W.kept work.old }
+        ensures calm { ReadCalm (W.spent work.old).faults (W.spent work.new).faults result }
+    {
+        if !self.walk.has_key(key) {
+            self.said = Said::Nothing;
+            return Ok(());
+        }
+        self.hear(work, key, steps)
+    }
+
+    /// Passes them where there are some. It is apart, so that a walk that stays where it is takes no room for what is found.
+    fn hear<W: CellSource, L: Ledger>(
+        &mut self,
+        work: &mut W,
+        key: &Key,
+        steps: &mut Steps<L>,
+    ) -> Result<(), ReadFault>
+        requires fits { WalkFits (W.held work.old) self.old.walk }
+        requires ready { IsReady self.old.walk }
+        ensures hears { OnOk result (Hears (W.held work.old) key.now self.old.walk self.new.walk self.new.said) }
+        ensures unread { steps.new + unread_after self.new.walk result ≤ steps.old + unread self.old.walk }
+        ensures turns { Turns (W.spent work.old) (W.spent work.new) steps.old steps.new }
+        ensures cause { IfErr result (PassCause (W.held work.old) (self.old.walk.run ∷ []) (W.spent work.old).faults (W.spent work.new).faults) }
+        ensures cells_stay { W.held work.new ≡ W.held work.old }
+        ensures kept { W.kept work.new ≡ W.kept work.old }
+        ensures calm { ReadCalm (W.spent work.old).faults (W.spent work.new).faults result }
+    {
+        let found = self.walk.pass(work, key, steps)?;
+        self.said = Said::of(&found);
+        Ok(())
+    }
+}
+
 impl LevelWalks {
-    ghost use Rattle.std.specs.Prelude.{◌≡◌, ◌+◌, ◌≤◌, [], ◌∷◌, IfOk, IfErr};
+    ghost use Rattle.std.specs.Prelude.{◌≡◌, ◌+◌, ◌≤◌, [], ◌∷◌, IfOk, IfErr, OnOk};
     ghost use Rattle.cola_check.specs.Reading.{PassCause};
     ghost use Rattle.cola_check.specs.Walks.{Turns, lesser};
     ghost use Rattle.cola_check.specs.LevelWalks.{HasLevel, runs_of, cells_in, BeginsLevel};
-    ghost use Rattle.cola_check.specs.LevelWalks.{runs_in, LevelFits, IsLevelReady, level_unread, level_unread_after, PassesLevel};
+    ghost use Rattle.cola_check.specs.LevelWalks.{runs_in, LevelFits, IsLevelReady, level_unread, unread_level_begun, level_unread_after, PassesLevel};
 
     /// The walks before the first cells of a level's runs, with these cells read. The visible run is read as a level's own,
     /// the shadow as one that comes in, so that each has a block of its own.
@@ -89,7 +150,7 @@ impl LevelWalks {
     ) -> Result<LevelWalks, ReadFault>
         requires { HasLevel (W.held work.old) level.now }
         ensures begins { IfOk result (BeginsLevel (W.held work.old) level.now) }
-        ensures unread { steps.new + level_unread_after result ≤ steps.old + cells_in (runs_of (level.now ∷ [])) }
+        ensures unread { steps.new + unread_level_begun result ≤ steps.old + cells_in (runs_of (level.now ∷ [])) }
         ensures turns { Turns (W.spent work.old) (W.spent work.new) steps.old steps.new }
         ensures cause { IfErr result (PassCause (W.held work.old) (runs_of (level.now ∷ [])) (W.spent work.old).faults (W.spent work.new).faults) }
         ensures cells_stay { W.held work.new ≡ W.held work.old }
@@ -100,49 +161,45 @@ impl LevelWalks {
         let visible = Walk::begin(work, &level.visible, Reader::Own, steps)?;
         let shadow = Walk::begin(work, &shadow_run, Reader::Incoming, steps)?;
         Ok(LevelWalks {
-            visible: Passed {
+            visible: Heard {
                 walk: visible,
-                found: Found::Nothing,
+                said: Said::Nothing,
             },
-            shadow: Passed {
+            shadow: Heard {
                 walk: shadow,
-                found: Found::Nothing,
+                said: Said::Nothing,
             },
             odd: level.odd,
         })
     }
 
-    /// The least of a key and those of the next cells, where there is one of them.
-    fn lesser(&self, least: Option<Key>) -> Option<Key>
-        ensures { result ≡ lesser (lesser least self.now.visible.walk.head) self.now.shadow.walk.head }
+    /// Leaves the least of a key and those of the next cells, where there is one of them.
+    fn lower(&self, least: &mut Option<Key>)
+        ensures { least.new ≡ lesser (lesser least.old self.now.visible.walk.head) self.now.shadow.walk.head }
     {
-        self.shadow.walk.lesser(self.visible.walk.lesser(least))
+        self.visible.walk.lower(least);
+        self.shadow.walk.lower(least);
     }
 
-    /// The walks behind the cells at their fronts that have this key, and what the runs have of it there.
-    fn passed<W: CellSource, L: Ledger>(
-        &self,
+    /// Passes the cells at the fronts of its walks that have this key, and hears what the runs have of it there.
+    fn pass<W: CellSource, L: Ledger>(
+        &mut self,
         work: &mut W,
         key: &Key,
         steps: &mut Steps<L>,
-    ) -> Result<LevelWalks, ReadFault>
-        requires fits { LevelFits (W.held work.old) self.now }
-        requires ready { IsLevelReady self.now }
-        ensures passes { IfOk result (PassesLevel (W.held work.old) key.now self.now) }
-        ensures unread { steps.new + level_unread_after result ≤ steps.old + level_unread self.now }
+    ) -> Result<(), ReadFault>
+        requires fits { LevelFits (W.held work.old) self.old }
+        requires ready { IsLevelReady self.old }
+        ensures passes { OnOk result (PassesLevel (W.held work.old) key.now self.old self.new) }
+        ensures unread { steps.new + level_unread_after self.new result ≤ steps.old + level_unread self.old }
         ensures turns { Turns (W.spent work.old) (W.spent work.new) steps.old steps.new }
-        ensures cause { IfErr result (PassCause (W.held work.old) (runs_in (self.now ∷ [])) (W.spent work.old).faults (W.spent work.new).faults) }
+        ensures cause { IfErr result (PassCause (W.held work.old) (runs_in (self.old ∷ [])) (W.spent work.old).faults (W.spent work.new).faults) }
         ensures cells_stay { W.held work.new ≡ W.held work.old }
         ensures kept { W.kept work.new ≡ W.kept work.old }
         ensures calm { ReadCalm (W.spent work.old).faults (W.spent work.new).faults result }
     {
-        let visible = self.visible.walk.passed(work, key, steps)?;
-        let shadow = self.shadow.walk.passed(work, key, steps)?;
-        Ok(LevelWalks {
-            visible,
-            shadow,
-            odd: self.odd,
-        })
+        self.visible.pass(work, key, steps)?;
+        self.shadow.pass(work, key, steps)
     }
 }
 
@@ -155,7 +212,7 @@ pub(crate) fn begin_all<W: CellSource, L: Ledger>(
     requires runs { AllByRecursion (HasLevel (W.held work.old)) levels.now }
     requires few { length levels.now ≤ 23 }
     ensures begins { IfOk result (λ walks. Each (BeginsLevel (W.held work.old)) levels.now walks.items) }
-    ensures unread { steps.new + all_unread_after result ≤ steps.old + cells_in (runs_of levels.now) }
+    ensures unread { steps.new + all_unread_begun result ≤ steps.old + cells_in (runs_of levels.now) }
     ensures turns { Turns (W.spent work.old) (W.spent work.new) steps.old steps.new }
     ensures cause { IfErr result (PassCause (W.held work.old) (runs_of levels.now) (W.spent work.old).faults (W.spent work.new).faults) }
     ensures cells_stay { W.held work.new ≡ W.held work.old }
@@ -176,33 +233,32 @@ pub(crate) fn least_key(levels: &[LevelWalks]) -> Option<Key>
 {
     let mut least: Option<Key> = None;
     for i in 0..levels.len() {
-        least = levels[i].lesser(least);
+        levels[i].lower(&mut least);
     }
     least
 }
 
-/// All walks behind the cells at their fronts that have this key.
+/// Passes the cells at the fronts of all walks that have this key, and hears what the runs have of it there. A walk whose
+/// next cell has another key stays where it is. After a refusal the walks are not asked again.
 pub(crate) fn pass_all<W: CellSource, L: Ledger>(
     work: &mut W,
-    levels: &[LevelWalks],
+    levels: &mut [LevelWalks],
     key: &Key,
     steps: &mut Steps<L>,
-) -> Result<ArrayVec<LevelWalks, 23>, ReadFault>
-    requires fit { AllByRecursion (LevelFits (W.held work.old)) levels.now }
-    requires ready { AllByRecursion IsLevelReady levels.now }
-    requires few { length levels.now ≤ 23 }
-    ensures passes { IfOk result (λ walks. Each (PassesLevel (W.held work.old) key.now) levels.now walks.items) }
-    ensures unread { steps.new + all_unread_after result ≤ steps.old + all_unread levels.now }
+) -> Result<(), ReadFault>
+    requires fit { AllByRecursion (LevelFits (W.held work.old)) levels.old }
+    requires ready { AllByRecursion IsLevelReady levels.old }
+    ensures passes { OnOk result (Each (PassesLevel (W.held work.old) key.now) levels.old levels.new) }
+    ensures unread { steps.new + all_unread_after levels.new result ≤ steps.old + all_unread levels.old }
     ensures turns { Turns (W.spent work.old) (W.spent work.new) steps.old steps.new }
-    ensures cause { IfErr result (PassCause (W.held work.old) (runs_in levels.now) (W.spent work.old).faults (W.spent work.new).faults) }
+    ensures cause { IfErr result (PassCause (W.held work.old) (runs_in levels.old) (W.spent work.old).faults (W.spent work.new).faults) }
     ensures cells_stay { W.held work.new ≡ W.held work.old }
     ensures kept { W.kept work.new ≡ W.kept work.old }
     ensures calm { ReadCalm (W.spent work.old).faults (W.spent work.new).faults result }
 {
-    let mut passed = ArrayVec::new();
-    for i in 0..levels.len() {
-        let walks = levels[i].passed(work, key, steps)?;
-        passed.push(walks);
-    }
-    Ok(passed)
+    let Some((level, below)) = levels.split_first_mut() else {
+        return Ok(());
+    };
+    level.pass(work, key, steps)?;
+    pass_all(work, below, key, steps)
 }

@@ -41,7 +41,7 @@ pub(crate) fn count_live<W: CellSource, L: Ledger>(
     let mut walks = begin_all(work, levels, steps)?;
     let mut tally = Tally::none(levels.len());
     while let Some(key) = least_key(walks.as_slice()) {
-        walks = pass_all(work, walks.as_slice(), &key, steps)?;
+        pass_all(work, walks.as_mut_slice(), &key, steps)?;
         tally.count(walks.as_slice(), last);
     }
     Ok(tally)

@@ -10,7 +10,7 @@ ghost use Rattle.cola_check.specs.Testing.{HasLevels, FindsVerdict, TestCause, l
 
 use crate::level_walks::LevelRuns;
 use crate::live::count_live;
-use crate::runs::{shadow_run, visible_run};
+use crate::runs::{broken_at, shadow_run, visible_run};
 use crate::tally::{LiveCount, Tally};
 use arrayvec::ArrayVec;
 use cola_cell::{CellSource, ReadFault, Run};
@@ -110,10 +110,7 @@ fn judge(header: &Header, tally: &Tally) -> Verdict
     ensures { JudgesCounts header.now tally.now.counts.items tally.now.stamped result }
 {
     match first_crowded(header, tally.counts.as_slice()) {
-        Some(level) => {
-            let slot = visible_run(header, level).slot;
-            Verdict::Broken(Flaw::Live, level, header.geometry.place(level, slot, 0))
-        }
+        Some(level) => { broken_at(header, Flaw::Live, visible_run(header, level), 0) }
         None => judge_whole(header, tally.counts[0].visible, tally.stamped),
     }
 }
@@ -126,9 +123,11 @@ pub(crate) fn test_live<W: CellSource, L: Ledger>(
     steps: &mut Steps<L>,
 ) -> Result<Verdict, ReadFault>
     requires { HasLevels header.now (W.held work.old) }
-    ensures finds { IfOk result (FindsVerdict (tested_by header.now (W.held work.old)) (flaw.Cell ∷ flaw.Order ∷ flaw.Sample ∷ flaw.Length ∷ flaw.Shadow ∷ [])) }
+    ensures finds { IfOk result (FindsVerdict (tested_by header.now (W.held work.old))
+        (flaw.Cell ∷ flaw.Order ∷ flaw.Sample ∷ flaw.Length ∷ flaw.Shadow ∷ [])) }
     ensures cause { IfErr result (TestCause header.now (W.held work.old) (W.spent work.old).faults (W.spent work.new).faults) }
-    ensures cost { Costs (W.spent work.old) (W.spent work.new) steps.old steps.new (live_ticks header.now.geometry.bottom) (live_ticks header.now.geometry.bottom) }
+    ensures cost { Costs (W.spent work.old) (W.spent work.new) steps.old steps.new
+        (live_ticks header.now.geometry.bottom) (live_ticks header.now.geometry.bottom) }
     ensures cells_stay { W.held work.new ≡ W.held work.old }
     ensures kept { W.kept work.new ≡ W.kept work.old }
     ensures calm { ReadCalm (W.spent work.old).faults (W.spent work.new).faults result }

@@ -1,6 +1,6 @@
 //! The runs of a file by its header.
 ghost use Rattle.std.specs.Prelude.{◌≡◌, ◌≤◌, ◌<◌};
-ghost use Rattle.cola_cell.specs.Places.{slot_size};
+ghost use Rattle.cola_cell.specs.Places.{slot_size, number_of};
 ghost use Rattle.cola_clock.specs.Clock.{period, is_odd, visible_slot};
 ghost use Rattle.cola_layout.specs.Marks.{numbers_of};
 ghost use Rattle.cola_check.specs.Firsts.{AreFewAt};
@@ -10,6 +10,7 @@ use crate::visible::Few;
 use cola_cell::Run;
 use cola_clock::visible_slot;
 use cola_layout::{Header, Marks};
+use cola_verdict::{Flaw, Verdict};
 
 /// The marks of a level, whose runs fit their slots.
 pub(crate) fn marks_at(header: &Header, level: u8) -> Marks
@@ -96,4 +97,18 @@ pub(crate) fn few_at(header: &Header, level: u8, odd: bool) -> Few
         items: times * young,
         young,
     }
+}
+
+/// The verdict on a file with this flaw at the cell of this index of a run.
+pub(crate) fn broken_at(header: &Header, flaw: Flaw, run: Run, index: u32) -> Verdict
+    requires level { run.level ≤ header.now.geometry.bottom }
+    requires slot { run.slot < 2 }
+    requires index { index < slot_size run.level }
+    ensures { result ≡ Verdict.Broken flaw run.level (number_of run.level run.slot index) }
+{
+    Verdict::Broken(
+        flaw,
+        run.level,
+        header.geometry.place(run.level, run.slot, index),
+    )
 }

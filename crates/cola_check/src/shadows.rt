@@ -14,7 +14,7 @@ ghost use Rattle.cola_check.specs.Testing.{HasLevels, FindsFlaw, TestCause, shad
 use crate::aims::{aim_at, cursors_at};
 use crate::cut::is_cut;
 use crate::finished::is_finished;
-use crate::runs::shadow_run;
+use crate::runs::{broken_at, shadow_run};
 use cola_cell::{CellSource, ReadFault};
 use cola_clock::{Phase, phase};
 use cola_layout::Header;
@@ -81,15 +81,6 @@ fn has_shadow<W: CellSource, L: Ledger>(
     }
 }
 
-/// The verdict on a file whose shadow of a level is not what the level builds.
-fn broken_at(header: &Header, level: u8) -> Verdict
-    requires { level ≤ header.now.geometry.bottom }
-    ensures { result ≡ Verdict.Broken flaw.Shadow level (number_of level (1 - visible_slot header.now.clock level) 0) }
-{
-    let slot = shadow_run(header, level).slot;
-    Verdict::Broken(Flaw::Shadow, level, header.geometry.place(level, slot, 0))
-}
-
 /// The verdict where a shadow is not what its level builds: at the lowest such level, whose shadow is the last that is read.
 pub(crate) fn test_shadows<W: CellSource, L: Ledger>(
     work: &mut W,
@@ -109,7 +100,8 @@ pub(crate) fn test_shadows<W: CellSource, L: Ledger>(
     let mut level = header.geometry.bottom;
     while level > 0 {
         if !has_shadow(work, header, level, steps)? {
-            return Ok(Some(broken_at(header, level)));
+            let shadow = shadow_run(header, level);
+            return Ok(Some(broken_at(header, Flaw::Shadow, shadow, 0)));
         }
         level -= 1;
     }

@@ -44,7 +44,7 @@ impl Said {
     ghost use Rattle.cola_check.specs.Tally.{said_of_item, said_of, said_or, live_one, IsWithin};
 
     /// What a run has of a key, by what was found of it there.
-    fn of(found: &Found) -> Said
+    pub(crate) fn of(found: &Found) -> Said
         ensures { result ≡ said_of found.now }
     {
         match found {
@@ -98,18 +98,18 @@ impl Said {
 
 impl Answers {
     ghost use Rattle.std.specs.Prelude.{◌≡◌, cond};
-    ghost use Rattle.cola_check.specs.Tally.{said_of, said_or};
+    ghost use Rattle.cola_check.specs.Tally.{said_or};
 
     /// The answers where the runs of one more level lie above: the shadow of a level in an odd period lies above the next
     /// shadow, in an even one above what is visible.
     fn under(&self, level: &LevelWalks) -> Answers
-        ensures visible { result.visible ≡ said_or (said_of level.now.visible.found) self.now.visible }
-        ensures shadow { result.shadow ≡ said_or (said_of level.now.shadow.found) (cond level.now.odd self.now.shadow self.now.visible) }
+        ensures visible { result.visible ≡ said_or level.now.visible.said self.now.visible }
+        ensures shadow { result.shadow ≡ said_or level.now.shadow.said (cond level.now.odd self.now.shadow self.now.visible) }
     {
         let below = if level.odd { self.shadow } else { self.visible };
         Answers {
-            visible: Said::of(&level.visible.found).or(self.visible),
-            shadow: Said::of(&level.shadow.found).or(below),
+            visible: level.visible.said.or(self.visible),
+            shadow: level.shadow.said.or(below),
         }
     }
 }

@@ -26,7 +26,8 @@ fn test_rest<W: CellSource, L: Ledger>(
     requires { HasLevels header.now (W.held work.old) }
     ensures finds { IfOk result (FindsVerdict (tested_by header.now (W.held work.old)) (flaw.Cell ∷ flaw.Order ∷ flaw.Sample ∷ flaw.Length ∷ [])) }
     ensures cause { IfErr result (TestCause header.now (W.held work.old) (W.spent work.old).faults (W.spent work.new).faults) }
-    ensures cost { Costs (W.spent work.old) (W.spent work.new) steps.old steps.new (rest_ticks header.now.geometry.bottom) (rest_ticks header.now.geometry.bottom) }
+    ensures cost { Costs (W.spent work.old) (W.spent work.new) steps.old steps.new
+        (rest_ticks header.now.geometry.bottom) (rest_ticks header.now.geometry.bottom) }
     ensures cells_stay { W.held work.new ≡ W.held work.old }
     ensures kept { W.kept work.new ≡ W.kept work.old }
     ensures calm { ReadCalm (W.spent work.old).faults (W.spent work.new).faults result }
@@ -46,7 +47,8 @@ fn test_runs<W: CellSource, L: Ledger>(
     requires { HasLevels header.now (W.held work.old) }
     ensures finds { IfOk result (FindsVerdict (tested_by header.now (W.held work.old)) (flaw.Cell ∷ [])) }
     ensures cause { IfErr result (TestCause header.now (W.held work.old) (W.spent work.old).faults (W.spent work.new).faults) }
-    ensures cost { Costs (W.spent work.old) (W.spent work.new) steps.old steps.new (run_ticks header.now.geometry.bottom) (run_ticks header.now.geometry.bottom) }
+    ensures cost { Costs (W.spent work.old) (W.spent work.new) steps.old steps.new
+        (run_ticks header.now.geometry.bottom) (run_ticks header.now.geometry.bottom) }
     ensures cells_stay { W.held work.new ≡ W.held work.old }
     ensures kept { W.kept work.new ≡ W.kept work.old }
     ensures calm { ReadCalm (W.spent work.old).faults (W.spent work.new).faults result }
@@ -66,7 +68,8 @@ pub(crate) fn test_cells<W: CellSource, L: Ledger>(
 ) -> Result<Verdict, ReadFault>
     requires { HasLevels header.now (W.held work.old) }
     ensures tests { Tests header.now (W.held work.old) (W.spent work.old).faults (W.spent work.new).faults result }
-    ensures costs { Costs (W.spent work.old) (W.spent work.new) steps.old steps.new (test_ticks header.now.geometry.bottom) (test_ticks header.now.geometry.bottom) }
+    ensures costs { Costs (W.spent work.old) (W.spent work.new) steps.old steps.new
+        (test_ticks header.now.geometry.bottom) (test_ticks header.now.geometry.bottom) }
     ensures calm { ReadCalm (W.spent work.old).faults (W.spent work.new).faults result }
     ensures cells_stay { W.held work.new ≡ W.held work.old }
     ensures kept { W.kept work.new ≡ W.kept work.old }

@@ -1,5 +1,5 @@
 //! A walk over one run, cell by cell.
-ghost use Rattle.std.specs.Prelude.{◌≡◌, ◌+◌, ◌<◌, ◌≤◌, [], ◌∷◌, IfOk, IfErr, None};
+ghost use Rattle.std.specs.Prelude.{◌≡◌, ◌+◌, ◌<◌, ◌≤◌, [], ◌∷◌, IfOk, IfErr, OnOk, None};
 ghost use Rattle.cola_cell.specs.Spent.{ReadCalm};
 
 use cola_cell::{Cell, CellSource, Item, Key, ReadFault, Reader, Run};
@@ -15,20 +15,13 @@ pub(crate) enum Found {
 }
 
 /// Where a walk stands in a run: how many cells lie behind it, and the next cell, once it is read. A walk reads by one
-/// reader, and each cell once.
+/// reader, and each cell once. After a refusal it is not asked again.
 #[derive(Clone, Copy, Debug, Drop)]
 pub(crate) struct Walk {
     pub run: Run,
     pub reader: Reader,
     pub at: u32,
     pub head: Option<Cell>,
-}
-
-/// A walk behind the cells of a key, and what its run had of the key there.
-#[derive(Drop)]
-pub(crate) struct Passed {
-    pub walk: Walk,
-    pub found: Found,
 }
 
 impl Found {
@@ -61,10 +54,10 @@ impl Found {
 }
 
 impl Walk {
-    ghost use Rattle.std.specs.Prelude.{◌≡◌, ◌+◌, ◌<◌, ◌≤◌, [], ◌∷◌, IfOk, IfErr, None};
+    ghost use Rattle.std.specs.Prelude.{◌≡◌, ◌+◌, ◌<◌, ◌≤◌, [], ◌∷◌, IfOk, IfErr, OnOk, None};
     ghost use Rattle.cola_look.specs.Runs.{HasRun};
     ghost use Rattle.cola_check.specs.Reading.{PassCause};
-    ghost use Rattle.cola_check.specs.Walks.{WalkFits, IsReady, unread, unread_after, unread_passed, Turns, Begins, Fetches, Passes, has_key, found_of, lesser};
+    ghost use Rattle.cola_check.specs.Walks.{WalkFits, IsReady, unread, unread_after, unread_begun, Turns, Begins, Fetches, Passes, has_key, found_of, lesser};
 
     /// A walk before the first cell of a run, with that cell read, if there is one.
     pub(crate) fn begin<W: CellSource, L: Ledger>(
@@ -75,51 +68,52 @@ impl Walk {
     ) -> Result<Walk, ReadFault>
         requires run { HasRun (W.held work.old) run.now }
         ensures begins { IfOk result (Begins (W.held work.old) run.now reader) }
-        ensures unread { steps.new + unread_after result ≤ steps.old + run.now.len }
+        ensures unread { steps.new + unread_begun result ≤ steps.old + run.now.len }
         ensures turns { Turns (W.spent work.old) (W.spent work.new) steps.old steps.new }
         ensures cause { IfErr result (PassCause (W.held work.old) (run.now ∷ []) (W.spent work.old).faults (W.spent work.new).faults) }
         ensures cells_stay { W.held work.new ≡ W.held work.old }
         ensures kept { W.kept work.new ≡ W.kept work.old }
         ensures calm { ReadCalm (W.spent work.old).faults (W.spent work.new).faults result }
     {
-        let walk = Walk {
+        let mut walk = Walk {
             run: *run,
             reader,
             at: 0,
             head: None,
         };
-        walk.fetched(work, steps)
+        walk.fetch(work, steps)?;
+        Ok(walk)
     }
 
-    /// The walk with its next cell read, unless it is at the end.
-    fn fetched<W: CellSource, L: Ledger>(
-        &self,
+    /// Reads the next cell, unless it is read or the walk is at the end.
+    fn fetch<W: CellSource, L: Ledger>(
+        &mut self,
         work: &mut W,
         steps: &mut Steps<L>,
-    ) -> Result<Walk, ReadFault>
-        requires fits { WalkFits (W.held work.old) self.now }
-        ensures fetches { IfOk result (Fetches (W.held work.old) self.now) }
-        ensures unread { steps.new + unread_after result ≤ steps.old + unread self.now }
+    ) -> Result<(), ReadFault>
+        requires fits { WalkFits (W.held work.old) self.old }
+        ensures fetches { OnOk result (Fetches (W.held work.old) self.old self.new) }
+        ensures unread { steps.new + unread_after self.new result ≤ steps.old + unread self.old }
         ensures turns { Turns (W.spent work.old) (W.spent work.new) steps.old steps.new }
-        ensures cause { IfErr result (PassCause (W.held work.old) (self.now.run ∷ []) (W.spent work.old).faults (W.spent work.new).faults) }
+        ensures cause { IfErr result (PassCause (W.held work.old) (self.old.run ∷ []) (W.spent work.old).faults (W.spent work.new).faults) }
         ensures cells_stay { W.held work.new ≡ W.held work.old }
         ensures kept { W.kept work.new ≡ W.kept work.old }
         ensures calm { ReadCalm (W.spent work.old).faults (W.spent work.new).faults result }
     {
         if self.head.is_some() || self.at == self.run.len {
-            return Ok(*self);
+            return Ok(());
         }
-        let cell = work.read_for(self.reader, self.run.level, self.run.slot, self.at, steps)?;
-        Ok(Walk {
-            run: self.run,
-            reader: self.reader,
-            at: self.at,
-            head: Some(cell),
-        })
+        match work.read_for(self.reader, self.run.level, self.run.slot, self.at, steps) {
+            Ok(cell) => {
+                self.head = Some(cell);
+                Ok(())
+            }
+            Err(fault) => Err(fault),
+        }
     }
 
     /// Whether the next cell has this key.
-    fn has_key(&self, key: &Key) -> bool
+    pub(crate) fn has_key(&self, key: &Key) -> bool
         ensures { result ≡ has_key key.now self.now.head }
     {
         match &self.head {
@@ -147,66 +141,58 @@ impl Walk {
         }
     }
 
-    /// The lesser of a key and the next cell's, where there is one of them or both.
-    pub(crate) fn lesser(&self, least: Option<Key>) -> Option<Key>
-        ensures { result ≡ lesser least self.now.head }
+    /// Leaves the lesser of a key and the next cell's, where there is one of them or both.
+    pub(crate) fn lower(&self, least: &mut Option<Key>)
+        ensures { least.new ≡ lesser least.old self.now.head }
     {
         let Some(cell) = &self.head else {
-            return least;
+            return;
         };
-        match least {
-            Some(least) => {
-                if cell.key().cmp(&least).is_lt() {
-                    Some(*cell.key())
-                } else {
-                    Some(least)
-                }
-            }
-            None => Some(*cell.key()),
+        let is_less = match least {
+            Some(least) => cell.key().cmp(least).is_lt(),
+            None => true,
+        };
+        if is_less {
+            *least = Some(*cell.key());
         }
     }
 
-    /// The walk behind its next cell.
-    fn behind(&self) -> Walk
-        requires { self.now.at < self.now.run.len }
-        ensures run { result.run ≡ self.now.run }
-        ensures reader { result.reader ≡ self.now.reader }
-        ensures at { result.at ≡ self.now.at + 1 }
-        ensures head { result.head ≡ None }
+    /// Goes behind the next cell.
+    fn advance(&mut self)
+        requires { self.old.at < self.old.run.len }
+        ensures run { self.new.run ≡ self.old.run }
+        ensures reader { self.new.reader ≡ self.old.reader }
+        ensures at { self.new.at ≡ self.old.at + 1 }
+        ensures head { self.new.head ≡ None }
     {
         let _len = self.run.len;
-        Walk {
-            run: self.run,
-            reader: self.reader,
-            at: self.at + 1,
-            head: None,
-        }
+        self.at += 1;
+        self.head = None;
     }
 
-    /// The walk behind the cells at its front that have this key, with its next cell read, and what the first item among
-    /// them is.
-    pub(crate) fn passed<W: CellSource, L: Ledger>(
-        &self,
+    /// Passes the cells at its front that have this key, and reads its next cell; what the first item among them is.
+    pub(crate) fn pass<W: CellSource, L: Ledger>(
+        &mut self,
         work: &mut W,
         key: &Key,
         steps: &mut Steps<L>,
-    ) -> Result<Passed, ReadFault>
-        requires fits { WalkFits (W.held work.old) self.now }
-        requires ready { IsReady self.now }
-        ensures passes { IfOk result (λ passed. Passes (W.held work.old) key.now self.now passed.walk passed.found) }
-        ensures unread { steps.new + unread_passed result ≤ steps.old + unread self.now }
+    ) -> Result<Found, ReadFault>
+        requires fits { WalkFits (W.held work.old) self.old }
+        requires ready { IsReady self.old }
+        ensures passes { IfOk result (Passes (W.held work.old) key.now self.old self.new) }
+        ensures unread { steps.new + unread_after self.new result ≤ steps.old + unread self.old }
         ensures turns { Turns (W.spent work.old) (W.spent work.new) steps.old steps.new }
-        ensures cause { IfErr result (PassCause (W.held work.old) (self.now.run ∷ []) (W.spent work.old).faults (W.spent work.new).faults) }
+        ensures cause { IfErr result (PassCause (W.held work.old) (self.old.run ∷ []) (W.spent work.old).faults (W.spent work.new).faults) }
         ensures cells_stay { W.held work.new ≡ W.held work.old }
         ensures kept { W.kept work.new ≡ W.kept work.old }
         ensures calm { ReadCalm (W.spent work.old).faults (W.spent work.new).faults result }
     {
-        let mut walk = *self;
         let mut found = Found::Nothing;
-        while walk.has_key(key) {
-            found = found.or(walk.found());
-            walk = walk.behind().fetched(work, steps)?;
+        while self.has_key(key) {
+            found = found.or(self.found());
+            self.advance();
+            self.fetch(work, steps)?;
         }
-        Ok(Passed { walk, found })
+        Ok(found)
     }
 }

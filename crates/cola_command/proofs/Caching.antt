@@ -14,7 +14,7 @@ use Rattle.cola_layout.specs.declared.header.Header.{Header}
 use Rattle.cola_layout.specs.Fields.{fields_of}
 use Rattle.cola_layout.specs.Header.{Fields}
 use Rattle.cola_layout.proofs.Refusing.{spelling-one}
-use Rattle.cola_opening.specs.Judged.{file_size, IsSmall, IsNoStore}
+use Rattle.cola_opening.specs.Judged.{file_size, IsSmall, IsNoStore, IsInUse}
 use Rattle.cola_cell.specs.Held.{Held, Stamped}
 use Rattle.cola_spec.specs.Map.{PutOutcome, New, Old, Full, Worn, Other}
 use Rattle.cola_spec.specs.Lines.{Line}
@@ -32,7 +32,7 @@ use Rattle.cola_store.specs.declared.fault.OpenFault.TheVariants as fault
 use Rattle.cola_store.specs.Store.{Stored, geometry_of, spent_of}
 use Rattle.cola_store.specs.Calls.{Searches, Steps, Refuses, Concludes, Removes, PutFollows, PutIfFollows, DeleteFollows}
 use Rattle.cola_store.specs.Close.{IsFileOf}
-use Rattle.cola_store.specs.Open.{Opens, IsInUse, WasClosed, HasBadCell}
+use Rattle.cola_store.specs.Open.{Opens, WasClosed, HasBadCell}
 use Rattle.cola_store.specs.Sessions.{IsStoreOpened}
 use Rattle.cola_store.specs.Table.{store_table}
 use Rattle.cola_command.specs.declared.file.Session.{Session}

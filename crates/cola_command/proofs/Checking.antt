@@ -5,7 +5,7 @@ use Rattle.std.specs.Prelude.{IfSome, codes, decimal}
 use Rattle.cola_outside.specs.Faults.{Rose}
 use Rattle.cola_check.specs.declared.fault.CheckFault.{CheckFault}
 use Rattle.cola_check.specs.declared.fault.CheckFault.TheVariants.{NotStore, NotClosed, Small, Device, OutOfMemory}
-use Rattle.cola_check.specs.Check.{IsClosedWith, IsInUse, HasVerdict, Checks}
+use Rattle.cola_check.specs.Check.{HasVerdict, Checks}
 use Rattle.cola_device.specs.declared.device.Device as device
 use Rattle.cola_image.specs.Standing.{FileStandsFor, HeaderStandsFor}
 use Rattle.cola_io.specs.Counted.{after_fault}
@@ -13,7 +13,7 @@ use Rattle.cola_io.specs.Streams.{Appended}
 use Rattle.cola_io.specs.declared.sink.Sink as sink
 use Rattle.cola_layout.specs.Header.{Fields}
 use Rattle.cola_layout.proofs.Refusing.{spelling-one}
-use Rattle.cola_opening.specs.Judged.{file_size, HasHeader, IsSmall, IsNoStore}
+use Rattle.cola_opening.specs.Judged.{file_size, HasHeader, IsSmall, IsNoStore, IsClosedWith, IsInUse}
 use Rattle.cola_opening.proofs.Sizes.{header_fits}
 use Rattle.cola_report.specs.Line.{LineEnds}
 use Rattle.cola_report.specs.Line.LineEnds.{WroteLine, WroteFront}

@@ -17,6 +17,7 @@ use Rattle.cola_status.specs.declared.status.Status.TheVariants as known
 use Rattle.cola_status.specs.Statuses.{IsStatus}
 use Rattle.cola_status.proofs.Known.{one, opening-known}
 use Rattle.cola_workload.proofs.Known.{gen-known}
+use Rattle.cola_filling.proofs.Known.{load-known, grow-known}
 use Rattle.cola_session.specs.Ends.{Ending, SessionEnds, NotBegun, Status0, Status3, Status4, Status5, Status9}
 use Rattle.cola_check.specs.declared.fault.CheckFault.{CheckFault}
 use Rattle.cola_check.specs.declared.fault.CheckFault.TheVariants as check
@@ -105,6 +106,6 @@ module _ {S K D : Type 0} (g : source.Ghosts S) (h : sink.Ghosts K) (d : device.
   served-known source source' sink sink' device device' second second' steps steps' n (Some (Gen keys)) served = gen-known h d keys device device' sink sink' steps steps' n served.ends
   served-known source source' sink sink' device device' second second' steps steps' n (Some Upgrade) served = upgrade-known served.ends.answer n served.ends.status_is
   served-known source source' sink sink' device device' second second' steps steps' n (Some Check) served = checked-known device device' sink sink' steps steps' n served.ends
-  served-known source source' sink sink' device device' second second' steps steps' n (Some (Load keys block_exp format)) served = one known.WrongWords n served.status_is
-  served-known source source' sink sink' device device' second second' steps steps' n (Some (Grow keys block_exp)) served = one known.WrongWords n served.status_is
+  served-known source source' sink sink' device device' second second' steps steps' n (Some (Load keys block_exp format)) served = load-known g h d keys block_exp format source source' sink sink' device device' n served.ends
+  served-known source source' sink sink' device device' second second' steps steps' n (Some (Grow keys block_exp)) served = grow-known h d keys block_exp device device' second second' sink sink' steps steps' n served.ends
   served-known source source' sink sink' device device' second second' steps steps' n (Some Rebuild) served = rebuild-known served.ends.answer n served.ends.status_is

@@ -8,7 +8,7 @@ use Rattle.cola_outside.specs.Told.{Both}
 use Rattle.cola_device.specs.declared.device.Device as device
 use Rattle.cola_layout.specs.declared.header.Header.{Header}
 use Rattle.cola_layout.specs.Fields.{fields_of}
-use Rattle.cola_opening.specs.Judged.{HasHeader, IsSmall, IsNoStore, IsSeen}
+use Rattle.cola_opening.specs.Judged.{HasHeader, IsSmall, IsNoStore, IsSeen, IsInUse}
 use Rattle.cola_spec.specs.Map.{Map, count}
 use Rattle.cola_spec.specs.Command.{Reopen}
 use Rattle.cola_spec.specs.Reply as reply
@@ -24,7 +24,7 @@ use Rattle.cola_store.specs.declared.closing.Closing.{Closing as ClosingStore}
 use Rattle.cola_command.specs.declared.place.Place.{Place}
 use Rattle.cola_command.specs.declared.place.Place.TheVariants.{Open, Closing, Closed}
 use Rattle.cola_store.specs.Store.{Stored, Holds, geometry_of}
-use Rattle.cola_store.specs.Open.{IsInUse, WasClosed, IsReady, HasBadCell, FailedAtHeader, FailedAtCells, FailedAtMark, DeviceFailed, Opens, opening_reads}
+use Rattle.cola_store.specs.Open.{WasClosed, IsReady, HasBadCell, FailedAtHeader, FailedAtCells, FailedAtMark, DeviceFailed, Opens, opening_reads}
 use Rattle.cola_store.specs.Sessions.{IsStoreOpened}
 use Rattle.cola_command.specs.File.{Sizes, sizes_of, sizes_in, shape, KeepsBehind, HasSizes, StandsBut, device_of, IsOfSizes, IsAt}
 use Rattle.cola_command.specs.Turns.{Keeps, OpenCause, refused_reply}

@@ -10,10 +10,12 @@ use Rattle.cola_wide.specs.declared.fault.UpgradeFault.{UpgradeFault}
 use Rattle.cola_wide.specs.declared.fault.UpgradeFault.TheVariants as upgrade
 use Rattle.cola_wide.specs.Upgrade.{Upgrades, CanBeUpgraded, IsDoneForMemory}
 use Rattle.cola_words.specs.declared.mode.Mode.{Mode}
-use Rattle.cola_words.specs.declared.mode.Mode.TheVariants.{Mem, Create, Run, Gen, Upgrade, Check, Rebuild}
+use Rattle.cola_words.specs.declared.mode.Mode.TheVariants.{Mem, Create, Run, Gen, Upgrade, Check, Load, Grow, Rebuild}
 use Rattle.cola_session.specs.Ends.{Untouched}
 use Rattle.cola_session.specs.Memory.{MemoryEnds}
 use Rattle.cola_store.specs.Table.{store_table}
+use Rattle.cola_filling.specs.Loads.{LoadEnds}
+use Rattle.cola_filling.specs.Grows.{GrowEnds}
 use Rattle.cola_command.specs.Checked.{CheckEnds}
 use Rattle.cola_command.specs.Headline.{FileEnds}
 use Rattle.cola_command.specs.Mirrored.{MirrorEnds, RebuildEnds}
@@ -106,7 +108,22 @@ module _ {S K D : Type 0} (g : source.Ghosts S) (h : sink.Ghosts K) (d : device.
     pub source_stays : source' ≡ source
     pub second_stays : second' ≡ second
 
-  -- by the mode that the words name. Every other mode is refused as words that name none
+  -- rows were loaded into the file of the first device or were not, and that device, the source and the sink alone were called
+  pub record LoadedFile (keys block_exp : ℕ) (format : Format) : Type 0 where
+    pub ends : LoadEnds g h d keys block_exp format source source' sink sink' device device' status
+    pub kept : d.kept device' ≡ d.kept device
+    pub steps_stay : steps' ≡ steps
+    pub second_stays : second' ≡ second
+
+  -- the map of the first device's file was copied into that of the second or was not; the devices and the sink alone were called, and the first device was not written
+  pub record GrownFile (keys block_exp : ℕ) : Type 0 where
+    pub ends : GrowEnds h d keys block_exp device device' second second' sink sink' steps steps' status
+    pub no_write : (d.counts device').writes ≡ (d.counts device).writes
+    pub kept : d.kept device' ≡ d.kept device
+    pub second_kept : d.kept second' ≡ d.kept second
+    pub source_stays : source' ≡ source
+
+  -- by the mode that the words name, and refused where they name none
   abbrev pub Serves : Option Mode → Type 0
   Serves (Some (Mem keys)) = ServedInMemory keys
   Serves (Some (Create keys block_exp format)) = MadeFile keys block_exp format
@@ -116,4 +133,6 @@ module _ {S K D : Type 0} (g : source.Ghosts S) (h : sink.Ghosts K) (d : device.
   Serves (Some Upgrade) = UpgradedFile
   Serves (Some Rebuild) = RebuiltFile
   Serves (Some Check) = CheckedFile
-  Serves _ = Refused
+  Serves (Some (Load keys block_exp format)) = LoadedFile keys block_exp format
+  Serves (Some (Grow keys block_exp)) = GrownFile keys block_exp
+  Serves None = Refused

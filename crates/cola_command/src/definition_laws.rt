@@ -30,7 +30,7 @@ ghost use Rattle.cola_store.specs.Store.{Stored};
 ghost use Rattle.cola_store.specs.declared.fault.OpenFault.{OpenFault};
 ghost use Rattle.cola_store.specs.declared.fault.OpenFault.TheVariants as fault;
 ghost use Rattle.cola_cell.specs.declared.format.Format.{Format};
-ghost use Rattle.cola_words.specs.declared.mode.Mode.TheVariants.{Mem, Create, Run as RunMode, Gen, Upgrade, Check, Rebuild};
+ghost use Rattle.cola_words.specs.declared.mode.Mode.TheVariants.{Mem, Create, Run as RunMode, Gen, Upgrade, Check, Load, Grow, Rebuild};
 ghost use Rattle.cola_command.specs.declared.place.Place.TheVariants as place;
 ghost use Rattle.cola_session.specs.Ends.{Ending, Well, Ill, Anyhow, WroteFront};
 ghost use Rattle.cola_command.specs.File.{Sizes, IsOfSizes, device_of, format_of, shape, sizes_in, table_in};
@@ -38,6 +38,8 @@ ghost use Rattle.cola_status.specs.Statuses.{refusal_status};
 ghost use Rattle.cola_command.specs.Headline.{AreAsked, CarriedOut, CarriesAll, CarriesFront, EndsBy, FileEnds, FrontLed, IsKnown, IsLeft, IsLeftWhole, Known, LeftBy, LinesLed, NotOpened, WroteAll, WroteLines, WroteSome, asked, sizes_known};
 ghost use Rattle.cola_session.specs.Home.{FaultsOver, LineLeads, Point, cut_after, depth_in};
 ghost use Rattle.cola_session.specs.Memory.{MemoryEnds, Replied, RepliedFront, StepsWithin, lines_bound, replies};
+ghost use Rattle.cola_filling.specs.Loads.{LoadEnds};
+ghost use Rattle.cola_filling.specs.Grows.{GrowEnds};
 ghost use Rattle.cola_command.specs.Checked.{CheckEnds};
 ghost use Rattle.cola_command.specs.Mirrored.{MirrorEnds, RebuildEnds};
 ghost use Rattle.cola_session.specs.Reading.{AllAnswered, AreFirstLines, ReadFor};
@@ -261,6 +263,10 @@ pub fn modes_are_served<S: Source, K: Sink, D: Device>()
         GenEnds K.Sink D.Device (store_table D.Device) keys device device' sink sink' steps steps' status × ((status ≡ 5 → Rose (D.counts device).faults (D.counts device').faults) × ((D.kept device' ≡ D.kept device) × ((source' ≡ source) × (second' ≡ second)))) }
     ensures checked { (source source' : S) (sink sink' : K) (device device' second second' : D) (steps steps' status : ℕ) → Serves S.Source K.Sink D.Device source source' sink sink' device device' second second' steps steps' status (Some Check) →
         CheckEnds K.Sink D.Device device device' sink sink' steps steps' status × (((D.counts device').writes ≡ (D.counts device).writes) × ((D.kept device' ≡ D.kept device) × ((source' ≡ source) × (second' ≡ second)))) }
+    ensures loaded { (source source' : S) (sink sink' : K) (device device' second second' : D) (steps steps' status keys block_exp : ℕ) (format : Format) → Serves S.Source K.Sink D.Device source source' sink sink' device device' second second' steps steps' status (Some (Load keys block_exp format)) →
+        LoadEnds S.Source K.Sink D.Device keys block_exp format source source' sink sink' device device' status × ((D.kept device' ≡ D.kept device) × ((second' ≡ second) × (steps' ≡ steps))) }
+    ensures grown { (source source' : S) (sink sink' : K) (device device' second second' : D) (steps steps' status keys block_exp : ℕ) → Serves S.Source K.Sink D.Device source source' sink sink' device device' second second' steps steps' status (Some (Grow keys block_exp)) →
+        GrowEnds K.Sink D.Device keys block_exp device device' second second' sink sink' steps steps' status × (((D.counts device').writes ≡ (D.counts device).writes) × ((D.kept device' ≡ D.kept device) × ((D.kept second' ≡ D.kept second) × (source' ≡ source)))) }
     ensures rebuilt { (source source' : S) (sink sink' : K) (device device' second second' : D) (steps steps' status : ℕ) → Serves S.Source K.Sink D.Device source source' sink sink' device device' second second' steps steps' status (Some Rebuild) →
         RebuildEnds D.Device device device' second second' status × ((D.bytes device' ≡ D.bytes device) × ((D.kept device' ≡ D.kept device) × ((D.kept second' ≡ D.kept second) × ((source' ≡ source) × ((sink' ≡ sink) × (steps' ≡ steps)))))) }
     ensures upgraded { (source source' : S) (sink sink' : K) (device device' second second' : D) (steps steps' status : ℕ) → Serves S.Source K.Sink D.Device source source' sink sink' device device' second second' steps steps' status (Some Upgrade) →

@@ -12,6 +12,7 @@ use crate::serving::serve_file;
 use crate::upgrading::upgrade_file;
 use cola_cell::Format;
 use cola_device::Device;
+use cola_filling::{grow_file, load_file};
 use cola_io::{Sink, Source};
 use cola_outside::Steps;
 use cola_session::serve_memory;
@@ -126,9 +127,32 @@ fn serve_mode<S: Source, K: Sink, D: Device, L: Ledger>(
                 second,
             };
         }
+        Some(
+            Mode::Load {
+                keys,
+                block_exp,
+                format,
+            },
+        ) => load_file(alloc, keys, block_exp, format, source, sink, &mut device),
+        Some(Mode::Grow { keys, block_exp }) => {
+            let (device, status) = grow_file(
+                alloc,
+                keys,
+                block_exp,
+                sink,
+                device,
+                &mut second,
+                steps,
+            );
+            return Served {
+                status,
+                device,
+                second,
+            };
+        }
         Some(Mode::Upgrade) => upgrade_file(alloc, &mut device, &mut second),
         Some(Mode::Rebuild) => rebuild_file(&mut device, &mut second),
-        _ => Status::WrongWords as u8,
+        None => Status::WrongWords as u8,
     };
     Served {
         status,
@@ -183,8 +207,22 @@ fn serve_mode<S: Source, K: Sink, D: Device, L: Ledger>(
 /// written, with 1 where there is no memory, with 5 where the device refused a call, with 6 where the device has no store or
 /// not all of one, and with 7 where its store is in use.
 ///
-/// All other words end with 2, and nothing is touched: the modes that `cola_words` knows beside these are not built. No mode
-/// but `upgrade`, `rebuild` and `run` with `--mirror` touches the second device.
+/// `load FILE --keys N` makes the file of a new store on the device and fills it with the rows of the source, which are lines
+/// `row K V` by rising keys, as `range` and `scan` print them, and at the end perhaps `end M`. It writes `loaded N` with the
+/// number of rows. It ends with 0 where that is done, with 14 at the first line that is no row, is out of order or has no
+/// room, behind its line `bad L`, `order L` or `full L`, with 3 and 4 where the source or the sink failed, with 9 where 2^40
+/// bytes were taken, with 1 where there is no memory, with 5 where the device refused a call, and with 8 where it has bytes. A
+/// file that is not finished has no header.
+///
+/// `grow FILE TO --keys N` copies the map of the closed file of the device into a new file of the second device, for N keys and
+/// in the same format, with its stamps and its last number, and writes `loaded N` with the number of rows. It reads no source.
+/// It ends with 0 where that is done, with 4 where the sink failed, with 1 where there is no memory, with 5 where a device
+/// refused a call, with 6 where the device has no store or not all of one, with 7 where its store is in use, with 8 where the
+/// second device has bytes, with 10 where a cell is no spelling or keys do not rise, and with 15 where the file has more than N
+/// keys.
+///
+/// All other words end with 2, and nothing is touched. No mode but `upgrade`, `grow`, `rebuild` and `run` with `--mirror`
+/// touches the second device.
 ///
 /// In a session the source is read only while every line that has ended is answered, for 512 bytes or
 /// for those that the limit still allows, and not again behind a refused read, its end, or a refused

@@ -13,12 +13,12 @@ use Rattle.cola_layout.specs.Fields.{fields_of}
 use Rattle.cola_layout.specs.Header.{Fields}
 use Rattle.cola_layout.proofs.Refusing.{spelling-one}
 use Rattle.cola_opening.specs.declared.reading.FoundHeader.{FoundHeader}
-use Rattle.cola_opening.specs.Judged.{file_size, IsSmall, IsSpelled, IsFoundIn, IsSeen}
+use Rattle.cola_opening.specs.Judged.{file_size, IsSmall, IsSpelled, IsFoundIn, IsSeen, IsClosedFile}
 use Rattle.cola_opening.proofs.Sizes.{header_fits}
 use Rattle.cola_opening.proofs.Spending.{called-spends, spends-then}
 use Rattle.cola_mirror.specs.declared.fault.RebuildFault.TheVariants.{Device}
 use Rattle.cola_mirror.specs.Differ.{pieces_of, IfBoth}
-use Rattle.cola_mirror.specs.Rebuild.{IsClosedFile, IsSameBelow, first_bytes, IsBegun, OnlyMoves, IsMoved, Moves, IsReady, Rebuilds, OnlyCopied, CanBeRebuilt}
+use Rattle.cola_mirror.specs.Rebuild.{IsSameBelow, first_bytes, IsBegun, OnlyMoves, IsMoved, Moves, IsReady, Rebuilds, OnlyCopied, CanBeRebuilt}
 use Rattle.cola_mirror.proofs.ComparedLemmas.{rose-after}
 
 -- ---- the header that was found
@@ -40,7 +40,7 @@ closed-of false e = cc
 
 pub found-closed : (found : FoundHeader) (head : List ℕ) (told : Option (List ℕ)) → not found.header.closed ≡ false → IfSome told (IsFoundIn found head) → IfSome told IsClosedFile
 found-closed found head None closed is = tt
-found-closed found head (Some bytes) closed is = (fields_of found.header, (is.has, closed-of found.header.closed closed))
+found-closed found head (Some bytes) closed is = (fields_of found.header, record { has = is.has; closed = closed-of found.header.closed closed })
 
 -- ---- what excludes what
 
@@ -49,9 +49,9 @@ told-apart None P Q apart p q = p
 told-apart (Some bytes) P Q apart p q = apart bytes p q
 
 closed-not_small : (bytes : List ℕ) → IsClosedFile bytes → IsSmall bytes → ⊥
-closed-not_small bytes file (inl short) = omega (arith, short, file.1.0.whole, header_fits file.0.format file.0.bottom file.1.0.spelled.sound.bottom_fits.three)
+closed-not_small bytes file (inl short) = omega (arith, short, file.1.has.whole, header_fits file.0.format file.0.bottom file.1.has.spelled.sound.bottom_fits.three)
 closed-not_small bytes file (inr (other, (spelled, few))) =
-    let whole : file_size other.format other.bottom ≤ length bytes = subst (λ (f : Fields). file_size f.format f.bottom ≤ length bytes) (spelling-one file.0 other (take 512 bytes) file.1.0.spelled spelled) file.1.0.whole in
+    let whole : file_size other.format other.bottom ≤ length bytes = subst (λ (f : Fields). file_size f.format f.bottom ≤ length bytes) (spelling-one file.0 other (take 512 bytes) file.1.has.spelled spelled) file.1.has.whole in
     omega (arith, few, whole)
 
 module _ {D E : Type 0} (d : device.Ghosts D) (e : device.Ghosts E) (from now : D) (to last : E) where
@@ -61,8 +61,8 @@ module _ {D E : Type 0} (d : device.Ghosts D) (e : device.Ghosts E) (from now : 
   pub not-in_use : (found : FoundHeader) (head : List ℕ) → CanBeRebuilt d e from now to last → not found.header.closed ≡ true → IfSome (d.bytes from) (IsFoundIn found head) → ⊥
   not-in_use found head can in_use is =
       told-apart (d.bytes from) (λ bytes. IsClosedFile bytes × IsSomeAnd (e.bytes to) (λ old. (length old ≡ 0) ⊎ (length old ≡ length bytes))) (IsFoundIn found head)
-      (λ bytes p q. let same : fields_of found.header ≡ p.0.0 = spelling-one (fields_of found.header) p.0.0 (take 512 bytes) q.has.spelled p.0.1.0.spelled in
-      let closed : found.header.closed ≡ true = ap (λ (f : Fields). f.closed) same ∙ p.0.1.1 in let no : not true ≡ true = subst (λ b. not b ≡ true) closed in_use in cc) can.file is
+      (λ bytes p q. let same : fields_of found.header ≡ p.0.0 = spelling-one (fields_of found.header) p.0.0 (take 512 bytes) q.has.spelled p.0.1.has.spelled in
+      let closed : found.header.closed ≡ true = ap (λ (f : Fields). f.closed) same ∙ p.0.1.closed in let no : not true ≡ true = subst (λ b. not b ≡ true) closed in_use in cc) can.file is
 
 -- ---- bytes
 

@@ -8,18 +8,10 @@ use Rattle.cola_device.specs.Bytes.{part, IsEmpty, HasSize}
 use Rattle.cola_device.specs.Settling.{IsSettled}
 use Rattle.cola_layout.specs.Header.{Fields}
 use Rattle.cola_opening.specs.Counted.{Spends}
-use Rattle.cola_opening.specs.Judged.{HasHeader, IsSmall, IsNoStore, IsSeen, FailedReading}
+use Rattle.cola_opening.specs.Judged.{HasHeader, IsSmall, IsNoStore, IsSeen, FailedReading, IsClosedFile, IsInUse}
 use Rattle.cola_mirror.specs.declared.fault.RebuildFault.{RebuildFault}
 use Rattle.cola_mirror.specs.declared.fault.RebuildFault.TheVariants.{Small, NotStore, NotClosed, Other, Device}
 use Rattle.cola_mirror.specs.Differ.{pieces_of, IfBoth}
-
--- a file has a header and all cells of its store, which was closed
-abbrev pub IsClosedFile : List ℕ → Type 0
-IsClosedFile bytes = (header : Fields) × (HasHeader header bytes × (header.closed ≡ true))
-
--- and which is in use
-abbrev pub IsInUse : List ℕ → Type 0
-IsInUse bytes = (header : Fields) × (HasHeader header bytes × (header.closed ≡ false))
 
 -- there are as many bytes, and those before a place are the same
 pub record IsSameBelow (place : ℕ) (before now : List ℕ) : Type 0 where

@@ -1,13 +1,16 @@
 -- When a file has a header, and why it has none; what reading the header answers.
-use Rattle.std.specs.Prelude.{◌≡◌, ◌⊎◌, ℕ, ◌+◌, ◌*◌, ◌^◌, ◌<◌, ◌≤◌, List, length, take, Result, Ok, Err, IfSome, ⊤}
+use Rattle.std.specs.Prelude.{◌≡◌, ◌⊎◌, ℕ, ◌+◌, ◌*◌, ◌^◌, ◌<◌, ◌≤◌, true, false, List, length, take, Result, Ok, Err, IfSome, ⊤}
 use Rattle.cola_outside.specs.Faults.{Rose}
 use Rattle.cola_cell.specs.declared.format.Format.{Format}
 use Rattle.cola_cell.specs.Format.{width}
 use Rattle.cola_device.specs.declared.device.Device as device
+use Rattle.cola_layout.specs.declared.header.Header.{Header}
 use Rattle.cola_layout.specs.Fields.{fields_of}
 use Rattle.cola_layout.specs.Header.{Fields, IsSpelling, IsNoSpelling}
 use Rattle.cola_opening.specs.declared.fault.HeaderFault.{HeaderFault}
 use Rattle.cola_opening.specs.declared.fault.HeaderFault.TheVariants.{NotStore, Small, Device}
+use Rattle.cola_opening.specs.declared.fault.ClosedFault.{ClosedFault}
+use Rattle.cola_opening.specs.declared.fault.ClosedFault.TheVariants as closed
 use Rattle.cola_opening.specs.declared.reading.FoundHeader.{FoundHeader}
 use Rattle.cola_opening.specs.Counted.{Spends}
 
@@ -28,6 +31,19 @@ IsSmall bytes = (length bytes < 512) ⊎ ((header : Fields) × (IsSpelling heade
 pub record IsNoStore (bytes : List ℕ) : Type 0 where
   pub long : 512 ≤ length bytes
   pub none : IsNoSpelling (take 512 bytes)
+
+-- a file has this header and all cells of its store, which was closed
+pub record IsClosedWith (header : Fields) (bytes : List ℕ) : Type 0 where
+  pub has : HasHeader header bytes
+  pub closed : header.closed ≡ true
+
+-- a file has such a header
+abbrev pub IsClosedFile : List ℕ → Type 0
+IsClosedFile bytes = (header : Fields) × IsClosedWith header bytes
+
+-- a file has a header and all cells of its store, which is in use
+abbrev pub IsInUse : List ℕ → Type 0
+IsInUse bytes = (header : Fields) × (HasHeader header bytes × (header.closed ≡ false))
 
 -- these bytes spell the header that was found, and the size has room for all its cells
 pub record IsSpelled (found : FoundHeader) (head : List ℕ) : Type 0 where
@@ -68,6 +84,14 @@ module _ {D : Type 0} (d : device.Ghosts D) (before : D) where
   FindsHeader head now (Err NotStore) = IsSeen IsNoStore 1 1 now
   FindsHeader head now (Err Small) = IsSeen IsSmall 1 1 now
   FindsHeader head now (Err Device) = FailedReading now
+
+  -- what reading the header of a closed store answered, with its cause
+  abbrev pub FindsClosed : D → Result Header ClosedFault → Type 0
+  FindsClosed now (Ok header) = IsSeen (IsClosedWith (fields_of header)) 1 1 now × (header.closed ≡ true)
+  FindsClosed now (Err closed.NotStore) = IsSeen IsNoStore 1 1 now
+  FindsClosed now (Err closed.Small) = IsSeen IsSmall 1 1 now
+  FindsClosed now (Err closed.NotClosed) = IsSeen IsInUse 1 1 now
+  FindsClosed now (Err closed.Device) = FailedReading now
 
 -- an answer that is this header, or that a device failed
 abbrev pub IsHeaderOrFault : Fields → Result FoundHeader HeaderFault → Type 0

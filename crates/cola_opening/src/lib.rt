@@ -5,5 +5,5 @@ mod fault;
 pub mod laws;
 mod reading;
 
-pub use fault::HeaderFault;
-pub use reading::{FoundHeader, read_header, size_of};
+pub use fault::{ClosedFault, HeaderFault};
+pub use reading::{FoundHeader, read_closed, read_header, size_of};

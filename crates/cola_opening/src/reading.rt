@@ -1,8 +1,8 @@
 //! How the header of a file is read and judged.
 ghost use Rattle.std.specs.Prelude.{◌≡◌, ◌≤◌};
-ghost use Rattle.cola_opening.specs.Judged.{file_size, FirstBytesSay, FindsHeader};
+ghost use Rattle.cola_opening.specs.Judged.{file_size, FirstBytesSay, FindsHeader, FindsClosed};
 
-use crate::fault::HeaderFault;
+use crate::fault::{ClosedFault, HeaderFault};
 use cola_device::Device;
 use cola_layout::{Geometry, Header};
 
@@ -61,4 +61,25 @@ pub fn read_header<D: Device>(
         Ok(()) => header_in(size, head),
         Err(_) => Err(HeaderFault::Device),
     }
+}
+
+/// The header of a device's file, where that has all its cells and its store was closed. No memory is taken.
+///
+/// As [`read_header`], and then `NotClosed` where the header says that the store is in use.
+pub fn read_closed<D: Device>(device: &mut D) -> Result<Header, ClosedFault>
+    ensures found { FindsClosed D.Device device.old device.new result }
+    ensures bytes_stay { D.bytes device.new ≡ D.bytes device.old }
+    ensures kept { D.kept device.new ≡ D.kept device.old }
+{
+    let mut head = [0u8; 512];
+    let header = match read_header(device, &mut head) {
+        Ok(found) => found.header,
+        Err(HeaderFault::NotStore) => return Err(ClosedFault::NotStore),
+        Err(HeaderFault::Small) => return Err(ClosedFault::Small),
+        Err(HeaderFault::Device) => return Err(ClosedFault::Device),
+    };
+    if !header.closed {
+        return Err(ClosedFault::NotClosed);
+    }
+    Ok(header)
 }

@@ -10,5 +10,5 @@ mod session;
 pub use home::Home;
 pub use laws::{all_answered_is_no_line_ahead, fronts_have_the_least, reads_are_for_lines};
 pub use memory::{MemorySession, serve_memory};
-pub use reading::INPUT_LIMIT;
+pub use reading::{INPUT_LIMIT, text_of};
 pub use session::{carry_out, serve_lines};

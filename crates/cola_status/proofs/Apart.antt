@@ -5,9 +5,9 @@ use Rattle.cola_status.specs.declared.status.Status.{Status}
 use Rattle.cola_status.specs.declared.status.Status.TheVariants as known
 use Rattle.cola_status.specs.Statuses.{all_statuses, number_of}
 
--- all of them by their numbers; where no status has the number, another one
+-- all of them by their numbers
 abbrev numbered : List Status
-numbered = known.Done ∷ known.OutOfMemory ∷ known.WrongWords ∷ known.SourceFailed ∷ known.SinkFailed ∷ known.DeviceFailed ∷ known.NotStore ∷ known.NotClosed ∷ known.NotEmpty ∷ known.Spent ∷ known.BadCell ∷ known.NoRoom ∷ known.AlreadyWide ∷ known.Broken ∷ known.Done ∷ known.Done ∷ known.FilesDiffer ∷ known.FirstLost ∷ known.SecondLost ∷ []
+numbered = known.Done ∷ known.OutOfMemory ∷ known.WrongWords ∷ known.SourceFailed ∷ known.SinkFailed ∷ known.DeviceFailed ∷ known.NotStore ∷ known.NotClosed ∷ known.NotEmpty ∷ known.Spent ∷ known.BadCell ∷ known.NoRoom ∷ known.AlreadyWide ∷ known.Broken ∷ known.BadLine ∷ known.TooFewKeys ∷ known.FilesDiffer ∷ known.FirstLost ∷ known.SecondLost ∷ []
 
 placed : (a : Status) → slice_get numbered (number_of a) ≡ Some a
 placed known.Done = refl
@@ -24,6 +24,8 @@ placed known.BadCell = refl
 placed known.NoRoom = refl
 placed known.AlreadyWide = refl
 placed known.Broken = refl
+placed known.BadLine = refl
+placed known.TooFewKeys = refl
 placed known.FilesDiffer = refl
 placed known.FirstLost = refl
 placed known.SecondLost = refl
@@ -44,9 +46,11 @@ listed known.BadCell = (10, refl)
 listed known.NoRoom = (11, refl)
 listed known.AlreadyWide = (12, refl)
 listed known.Broken = (13, refl)
-listed known.FilesDiffer = (14, refl)
-listed known.FirstLost = (15, refl)
-listed known.SecondLost = (16, refl)
+listed known.BadLine = (14, refl)
+listed known.TooFewKeys = (15, refl)
+listed known.FilesDiffer = (16, refl)
+listed known.FirstLost = (17, refl)
+listed known.SecondLost = (18, refl)
 
 some-same : (a b : Status) → Some a ≡ Some b → a ≡ b
 some-same a b e = ap (λ (o : Option Status). unwrap_or o a) e

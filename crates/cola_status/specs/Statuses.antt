@@ -3,7 +3,7 @@ use Rattle.std.specs.Prelude.{ℕ, ◌≡◌, List, [], ◌∷◌}
 use Rattle.cola_store.specs.declared.fault.OpenFault.{OpenFault}
 use Rattle.cola_store.specs.declared.fault.OpenFault.TheVariants as fault
 use Rattle.cola_status.specs.declared.status.Status.{Status}
-use Rattle.cola_status.specs.declared.status.Status.TheVariants.{Done, OutOfMemory, WrongWords, SourceFailed, SinkFailed, DeviceFailed, NotStore, NotClosed, NotEmpty, Spent, BadCell, NoRoom, AlreadyWide, Broken, FilesDiffer, FirstLost, SecondLost}
+use Rattle.cola_status.specs.declared.status.Status.TheVariants.{Done, OutOfMemory, WrongWords, SourceFailed, SinkFailed, DeviceFailed, NotStore, NotClosed, NotEmpty, Spent, BadCell, NoRoom, AlreadyWide, Broken, BadLine, TooFewKeys, FilesDiffer, FirstLost, SecondLost}
 
 -- the number of each
 abbrev pub number_of : Status → ℕ
@@ -21,13 +21,15 @@ number_of BadCell = 10
 number_of NoRoom = 11
 number_of AlreadyWide = 12
 number_of Broken = 13
+number_of BadLine = 14
+number_of TooFewKeys = 15
 number_of FilesDiffer = 16
 number_of FirstLost = 17
 number_of SecondLost = 18
 
 -- all of them
 abbrev pub all_statuses : List Status
-all_statuses = Done ∷ OutOfMemory ∷ WrongWords ∷ SourceFailed ∷ SinkFailed ∷ DeviceFailed ∷ NotStore ∷ NotClosed ∷ NotEmpty ∷ Spent ∷ BadCell ∷ NoRoom ∷ AlreadyWide ∷ Broken ∷ FilesDiffer ∷ FirstLost ∷ SecondLost ∷ []
+all_statuses = Done ∷ OutOfMemory ∷ WrongWords ∷ SourceFailed ∷ SinkFailed ∷ DeviceFailed ∷ NotStore ∷ NotClosed ∷ NotEmpty ∷ Spent ∷ BadCell ∷ NoRoom ∷ AlreadyWide ∷ Broken ∷ BadLine ∷ TooFewKeys ∷ FilesDiffer ∷ FirstLost ∷ SecondLost ∷ []
 
 -- a number is that of a status
 pub record IsStatus (n : ℕ) : Type 0 where

@@ -23,6 +23,8 @@ pub enum Status {
     NoRoom = 11,
     AlreadyWide = 12,
     Broken = 13,
+    BadLine = 14,
+    TooFewKeys = 15,
     FilesDiffer = 16,
     FirstLost = 17,
     SecondLost = 18,
@@ -30,7 +32,7 @@ pub enum Status {
 
 impl Status {
     /// All of them, in the order of their numbers.
-    pub fn all() -> array::IntoIter<Status, 17>
+    pub fn all() -> array::IntoIter<Status, 19>
         ensures { array_into_iter_items result ≡ all_statuses }
     {
         [
@@ -48,6 +50,8 @@ impl Status {
             Status::NoRoom,
             Status::AlreadyWide,
             Status::Broken,
+            Status::BadLine,
+            Status::TooFewKeys,
             Status::FilesDiffer,
             Status::FirstLost,
             Status::SecondLost,
@@ -90,6 +94,12 @@ impl Status {
             Status::AlreadyWide => "the file is of version 2 already; it was not changed",
             Status::Broken => {
                 "the file stands for no map; the line that was written says why; it was not changed"
+            }
+            Status::BadLine => {
+                "a line of the input is no row, is out of order or has no room; the line that was written says which; the new file is no store"
+            }
+            Status::TooFewKeys => {
+                "the file has more keys than the new one is for; nothing was written"
             }
             Status::FilesDiffer => "the two files of a mirror differ; nothing was read or written",
             Status::FirstLost => {

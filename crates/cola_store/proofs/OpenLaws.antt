@@ -15,7 +15,7 @@ use Rattle.cola_layout.specs.Header.{Fields, IsSpelling, IsNoSpelling}
 use Rattle.cola_layout.specs.Marks.{all_numbers, marks_of}
 use Rattle.cola_layout.proofs.Levels.{number-at, numbers-length}
 use Rattle.cola_layout.proofs.Refusing.{spelling-one}
-use Rattle.cola_opening.specs.Judged.{file_size, IsSmall, IsNoStore}
+use Rattle.cola_opening.specs.Judged.{file_size, IsSmall, IsNoStore, IsInUse}
 use Rattle.cola_opening.proofs.Sizes.{header_fits}
 use Rattle.cola_spec.specs.Map.{Map, empty_map}
 use Rattle.cola_told.specs.Cells.{AreTold}
@@ -26,7 +26,7 @@ use Rattle.cola_store.specs.declared.fault.CreateFault.{CreateFault}
 use Rattle.cola_store.specs.declared.fault.OpenFault.{OpenFault}
 use Rattle.cola_store.specs.declared.fault.OpenFault.TheVariants.{NotStore, NotClosed, Small, Device, OutOfMemory, BadCell}
 use Rattle.cola_store.specs.Create.{new_header, IsNewFile, Created}
-use Rattle.cola_store.specs.Open.{IsInUse, WasClosed, IsReady, HasBadCell, Opens}
+use Rattle.cola_store.specs.Open.{WasClosed, IsReady, HasBadCell, Opens}
 use Rattle.cola_store.specs.Sessions.{OpensStore, ClosesStore, MetFault, OpensTo, RefusesAs}
 use Rattle.cola_store.specs.Store.{Stored, Holds}
 use Rattle.cola_chain.proofs.Headers.{slot-in}

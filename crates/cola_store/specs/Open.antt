@@ -8,7 +8,7 @@ use Rattle.cola_layout.specs.declared.header.Header.{Header}
 use Rattle.cola_layout.specs.Fields.{fields_of}
 use Rattle.cola_layout.specs.Header.{Fields}
 use Rattle.cola_opening.specs.Counted.{Spends}
-use Rattle.cola_opening.specs.Judged.{HasHeader, IsSmall, IsNoStore, IsSeen}
+use Rattle.cola_opening.specs.Judged.{HasHeader, IsSmall, IsNoStore, IsSeen, IsInUse}
 use Rattle.cola_spec.specs.Map.{Map}
 use Rattle.cola_image.specs.Cells.{file_spots}
 use Rattle.cola_image.specs.Standing.{FileStandsFor, with_state}
@@ -18,10 +18,6 @@ use Rattle.cola_store.specs.declared.fault.OpenFault.{OpenFault}
 use Rattle.cola_store.specs.declared.fault.OpenFault.TheVariants.{NotStore, NotClosed, Small, Device, OutOfMemory, BadCell}
 use Rattle.cola_store.specs.Runs.{StoreStandsFor}
 use Rattle.cola_store.specs.Store.{IsMadeAfter}
-
--- a file has a header and all cells, and its store is in use
-abbrev pub IsInUse : List ℕ → Type 0
-IsInUse bytes = (header : Fields) × (HasHeader header bytes × (header.closed ≡ false))
 
 -- a file has this header and all cells, and its store was closed
 pub record WasClosed (header : Header) (bytes : List ℕ) : Type 0 where

@@ -16,7 +16,7 @@ use Rattle.cola_layout.specs.Geometry.{Refuses}
 use Rattle.cola_layout.specs.Fields.{fields_of}
 use Rattle.cola_layout.specs.Header.{Fields}
 use Rattle.cola_layout.proofs.Refusing.{spelling-one}
-use Rattle.cola_opening.specs.Judged.{file_size, IsSmall, IsNoStore}
+use Rattle.cola_opening.specs.Judged.{file_size, IsSmall, IsNoStore, IsInUse}
 use Rattle.cola_opening.proofs.Sizes.{header_fits}
 use Rattle.cola_spec.specs.Map.{Map, empty_map, count}
 use Rattle.cola_table.specs.declared.table.Table as table
@@ -36,7 +36,7 @@ use Rattle.cola_store.specs.declared.fault.CreateFault.TheVariants as create
 use Rattle.cola_store.specs.declared.fault.OpenFault.{OpenFault}
 use Rattle.cola_store.specs.declared.fault.OpenFault.TheVariants as open_fault
 use Rattle.cola_store.specs.Create.{Created, Made, IsNewFile, Suits, new_header}
-use Rattle.cola_store.specs.Open.{Opens, IsInUse, HasBadCell, IsReady}
+use Rattle.cola_store.specs.Open.{Opens, HasBadCell, IsReady}
 use Rattle.cola_store.specs.Sessions.{IsStoreOpened, IsStoreClosed}
 use Rattle.cola_store.specs.Store.{Stored, Holds, geometry_of, kept_of}
 use Rattle.cola_status.specs.Statuses.{refusal_status}

@@ -18,7 +18,7 @@ loop-key-init g c = record {
 pub loop-key-preserved : goal.loop-key-preserved
 loop-key-preserved g c =
     let i = c.loop-key.invariant in
-    let S : Held → Type 0 = λ h. StepsBeside h c.in-Some.key c.loop-key.walks c.in_ok-step.step in
+    let S : Held → Type 0 = λ h. StepsBeside h c.in-Some.key c.loop-key.walks c.pass.new.self c.in_ok-step.step in
     let left = c.in_ok-step.ensures.unread in
     record {
       held_is = c.in_ok-step.ensures.cells_stay ∙ i.held_is;
@@ -32,13 +32,13 @@ loop-key-preserved g c =
 pub loop-key-smaller : goal.loop-key-smaller
 loop-key-smaller g c =
     let i = c.loop-key.invariant in
-    let S : Held → Type 0 = λ h. StepsBeside h c.in-Some.key c.loop-key.walks c.in_ok-step.step in
+    let S : Held → Type 0 = λ h. StepsBeside h c.in-Some.key c.loop-key.walks c.pass.new.self c.in_ok-step.step in
     going_less (fits_nothing c.args.odd c.args.bottom) i.going (sym c.least_key.ensures ∙ c.in-Some.is) (subst S i.held_is c.in_ok-step.ensures.passes)
 
 pub returns-then-not-fits-clause-carried : goal.returns-then-not-fits-clause-carried
 returns-then-not-fits-clause-carried g c =
     let i = c.loop-key.invariant in
-    let S : Held → Type 0 = λ h. StepsBeside h c.in-Some.key c.loop-key.walks c.in_ok-step.step in
+    let S : Held → Type 0 = λ h. StepsBeside h c.in-Some.key c.loop-key.walks c.pass.new.self c.in_ok-step.step in
     λ o. (
       λ e. cc,
       λ h. absurd (going_fails (fits_nothing c.args.odd c.args.bottom) i.going (sym c.least_key.ensures ∙ c.in-Some.is) (subst S i.held_is c.in_ok-step.ensures.passes)

@@ -1,8 +1,10 @@
-use Rattle.std.proofs.Common.{Option, subst, arith}
+use Rattle.std.proofs.Common.{rules, ℕ, ◌≤◌, ◌+◌, Option, subst, ◌∙◌, arith}
 use Rattle.cola_cell.specs.Held.{Held}
 use Rattle.cola_cell.proofs.CostsLemmas.{costs_then, costs_within}
-use Rattle.cola_check.specs.BadCells.{FindsAt, level_cells}
+use Rattle.cola_check.specs.BadCells.{AreRunsTold, FindsAt, level_cells}
 use Rattle.cola_check.proofs.BadRuns.{few-cells, some-cells, file-finds}
+use Rattle.cola_check.proofs.LevelMore.{all-more}
+use Rattle.cola_check.proofs.RunBlocks.{some-blocks, blocks-then}
 use Rattle.cola_check.proofs.cells.first_bad_cell.Goals as goal
 
 pub returns-in_err-number-clause-cost : goal.returns-in_err-number-clause-cost
@@ -36,3 +38,39 @@ returns-in-Some-clause-few g c = few-cells c.args.header.now
 
 pub returns-clause-few : goal.returns-clause-few
 returns-clause-few g c = few-cells c.args.header.now
+
+at_most : (n o x y : ℕ) → n ≤ o + x → x ≤ y → n ≤ o + y
+at_most n o x y h k = omega (arith, h, k)
+
+pub returns-in_err-number-clause-blocks : goal.returns-in_err-number-clause-blocks
+returns-in_err-number-clause-blocks g c =
+    let end = c.levels-level-end.ensures.value in
+    let here = c.loop-level-test.true in
+    let i = c.loop-level.invariant in
+    let upto = blocks-then c.args.header.now c.loop-level.level (g.W.CellSource.spent c.args.work.now).turned (g.W.CellSource.spent c.loop-level.work).turned (g.W.CellSource.spent c.bad_in_level.new.work).turned i.held_is i.blocks c.in_err-number.ensures.blocks in
+    let some = some-blocks c.args.header.now (g.W.CellSource.held c.args.work.now) c.loop-level.level (omega (arith, end, here)) in
+    at_most _ _ _ _ upto some
+
+pub returns-in-Some-clause-blocks : goal.returns-in-Some-clause-blocks
+returns-in-Some-clause-blocks g c =
+    let end = c.levels-level-end.ensures.value in
+    let here = c.loop-level-test.true in
+    let i = c.loop-level.invariant in
+    let upto = blocks-then c.args.header.now c.loop-level.level (g.W.CellSource.spent c.args.work.now).turned (g.W.CellSource.spent c.loop-level.work).turned (g.W.CellSource.spent c.bad_in_level.new.work).turned i.held_is i.blocks c.in_ok-number.ensures.blocks in
+    let some = some-blocks c.args.header.now (g.W.CellSource.held c.args.work.now) c.loop-level.level (omega (arith, end, here)) in
+    at_most _ _ _ _ upto some
+
+pub loop-level-preserved : goal.loop-level-preserved
+loop-level-preserved g c =
+    let i = c.loop-level.invariant in
+    let held = g.W.CellSource.held c.args.work.now in
+    let at = subst (λ (h : Held). FindsAt c.args.header.now h c.loop-level.level c.in_ok-number.field-0) i.held_is c.in_ok-number.ensures.finds in
+    record {
+      held_is = c.in_ok-number.ensures.cells_stay ∙ i.held_is;
+      kept_is = c.in_ok-number.ensures.kept ∙ i.kept_is;
+      calm = c.in_ok-number.ensures.calm ∙ i.calm;
+      cost = search rules;
+      blocks = blocks-then c.args.header.now c.loop-level.level (g.W.CellSource.spent c.args.work.now).turned (g.W.CellSource.spent c.loop-level.work).turned (g.W.CellSource.spent c.bad_in_level.new.work).turned i.held_is i.blocks c.in_ok-number.ensures.blocks;
+      told = λ telling. all-more (AreRunsTold c.args.header.now held) c.loop-level.level (i.told telling)
+          (subst (λ (x : Option _). FindsAt c.args.header.now held c.loop-level.level x) c.in_default.is at telling);
+    }

@@ -1,13 +1,13 @@
-use Rattle.std.proofs.Common.{◌↔◌, ◌≤◌, ◌+◌, List, IsTrue, sym, ap, subst, ◌∙◌, length, arith}
-use Rattle.std.specs.List.{AllByRecursion}
+use Rattle.std.proofs.Common.{◌↔◌, List, IsTrue, sym, ap, subst, ◌∙◌, length, arith}
+use Rattle.std.specs.List.{AllByRecursion, refill}
 use Rattle.cola_cell.specs.Held.{Held}
 use Rattle.cola_check.specs.declared.level_walks.LevelWalks.{LevelWalks}
 use Rattle.cola_check.specs.Reading.{PassCause}
-use Rattle.cola_check.specs.LevelWalks.{runs_of, cells_in, runs_in, LevelFits, IsLevelReady, all_unread, all_ahead}
+use Rattle.cola_check.specs.LevelWalks.{runs_of, cells_in, runs_in, LevelFits, IsLevelReady, all_ahead}
 use Rattle.cola_check.specs.Tally.{IsWithin, visible_said, counted}
 use Rattle.cola_check.proofs.LevelLists.{refused, cause_later}
 use Rattle.cola_check.proofs.LiveSteps.{has_rooms}
-use Rattle.cola_check.proofs.LiveWalk.{all_fit, all_ready, bad_of_levels, few_cells, counting_begins, counting_on, counting_less, counting_same, counting_many, counting_ends, stamped_ends, same_passes, same_least}
+use Rattle.cola_check.proofs.LiveWalk.{all_fit, all_ready, bad_of_levels, few_cells, counting_begins, counting_on, counting_less, counting_same, counting_many, counting_ends, stamped_ends, refilled_passes, refilled_unread, same_least}
 use Rattle.cola_check.proofs.Turning.{turns_then}
 use Rattle.cola_check.proofs.live.count_live.Goals as goal
 
@@ -25,18 +25,23 @@ pub pass_all-requires-clause-fit : goal.pass_all-requires-clause-fit
 pass_all-requires-clause-fit g c =
     let i = c.loop-key.invariant in
     let F : Held → List LevelWalks → Type 0 = λ h ws. AllByRecursion (LevelFits h) ws in
-    subst (F (g.W.CellSource.held c.loop-key.work)) (sym c.as_slice-in-Some.ensures.value)
+    subst (F (g.W.CellSource.held c.loop-key.work)) (sym c.as_mut_slice.ensures.value)
     (subst (λ h. F h c.loop-key.walks.items) (sym i.held_is) (all_fit (g.W.CellSource.held c.args.work.now) c.args.levels.now c.loop-key.walks.items i.counting.on))
 
 pub pass_all-requires-clause-ready : goal.pass_all-requires-clause-ready
 pass_all-requires-clause-ready g c =
-    subst (AllByRecursion IsLevelReady) (sym c.as_slice-in-Some.ensures.value)
+    subst (AllByRecursion IsLevelReady) (sym c.as_mut_slice.ensures.value)
     (all_ready (g.W.CellSource.held c.args.work.now) c.args.levels.now c.loop-key.walks.items c.loop-key.invariant.counting.on)
+
+-- the walks behind the key
+abbrev walks_on : List LevelWalks → List LevelWalks → List LevelWalks
+walks_on olds news = refill (length olds) olds news
 
 pub count-requires-clause-same : goal.count-requires-clause-same
 count-requires-clause-same g c =
     let i = c.loop-key.invariant in
-    counting_same i.counting c.in-Some.key c.in_ok-walks-2.walks.items (same_passes c.in-Some.key c.in_ok-walks-2.walks.items i.held_is c.as_slice-in-Some.ensures.value c.in_ok-walks-2.ensures.passes) ∙ sym (ap length c.as_slice-in-Some-2.ensures.value)
+    let news = walks_on c.loop-key.walks.items c.pass_all.new.levels in
+    counting_same i.counting c.in-Some.key news (refilled_passes c.in-Some.key c.pass_all.new.levels i.held_is c.as_mut_slice.ensures.value c.in_ok-pass_all.ensures.passes) ∙ sym (ap length c.as_slice-in-Some.ensures.value)
 
 pub count-requires-clause-rooms : goal.count-requires-clause-rooms
 count-requires-clause-rooms g c =
@@ -46,39 +51,41 @@ count-requires-clause-rooms g c =
 pub loop-key-smaller : goal.loop-key-smaller
 loop-key-smaller g c =
     let i = c.loop-key.invariant in
-    counting_less i.counting c.in-Some.key (same_least c.as_slice.ensures.value c.least_key.ensures c.in-Some.is) c.in_ok-walks-2.walks.items (same_passes c.in-Some.key c.in_ok-walks-2.walks.items i.held_is c.as_slice-in-Some.ensures.value c.in_ok-walks-2.ensures.passes)
+    let news = walks_on c.loop-key.walks.items c.pass_all.new.levels in
+    counting_less i.counting c.in-Some.key (same_least c.as_slice.ensures.value c.least_key.ensures c.in-Some.is) news
+    (refilled_passes c.in-Some.key c.pass_all.new.levels i.held_is c.as_mut_slice.ensures.value c.in_ok-pass_all.ensures.passes)
 
 pub loop-key-preserved : goal.loop-key-preserved
 loop-key-preserved g c =
     let i = c.loop-key.invariant in
-    let e = c.as_slice-in-Some-2.ensures.value in
+    let e = c.as_slice-in-Some.ensures.value in
+    let news = walks_on c.loop-key.walks.items c.pass_all.new.levels in
     let S : List LevelWalks → Type 0 = λ ws. IsTrue c.count.new.self.stamped ↔ (IsTrue c.loop-key.tally.stamped × IsWithin c.args.last (visible_said ws)) in
-    let left : c.pass_all.new.steps + all_unread c.in_ok-walks-2.walks.items ≤ c.loop-key.steps + all_unread c.loop-key.walks.items =
-    subst (λ (ws : List LevelWalks). c.pass_all.new.steps + all_unread c.in_ok-walks-2.walks.items ≤ c.loop-key.steps + all_unread ws) c.as_slice-in-Some.ensures.value c.in_ok-walks-2.ensures.unread in
+    let left = refilled_unread (g.W.CellSource.held c.loop-key.work) c.in-Some.key c.pass_all.new.levels c.loop-key.steps c.pass_all.new.steps c.as_mut_slice.ensures.value c.in_ok-pass_all.ensures.passes c.in_ok-pass_all.ensures.unread in
     record {
-      held_is = c.in_ok-walks-2.ensures.cells_stay ∙ i.held_is;
-      kept_is = c.in_ok-walks-2.ensures.kept ∙ i.kept_is;
-      calm = c.in_ok-walks-2.ensures.calm ∙ i.calm;
-      turns = turns_then i.turns c.in_ok-walks-2.ensures.turns;
+      held_is = c.in_ok-pass_all.ensures.cells_stay ∙ i.held_is;
+      kept_is = c.in_ok-pass_all.ensures.kept ∙ i.kept_is;
+      calm = c.in_ok-pass_all.ensures.calm ∙ i.calm;
+      turns = turns_then i.turns c.in_ok-pass_all.ensures.turns;
       unread = let l = i.unread in omega (arith, left, l);
-      counting = counting_on i.counting c.in-Some.key (same_least c.as_slice.ensures.value c.least_key.ensures c.in-Some.is) c.in_ok-walks-2.walks.items
-          (same_passes c.in-Some.key c.in_ok-walks-2.walks.items i.held_is c.as_slice-in-Some.ensures.value c.in_ok-walks-2.ensures.passes)
+      counting = counting_on i.counting c.in-Some.key (same_least c.as_slice.ensures.value c.least_key.ensures c.in-Some.is) news
+          (refilled_passes c.in-Some.key c.pass_all.new.levels i.held_is c.as_mut_slice.ensures.value c.in_ok-pass_all.ensures.passes)
           (c.count.ensures.counted ∙ ap (counted c.loop-key.tally.counts.items) e) (subst S e c.count.ensures.stamped);
     }
 
-pub returns-in_err-walks-2-clause-cause : goal.returns-in_err-walks-2-clause-cause
-returns-in_err-walks-2-clause-cause g c =
+pub returns-in_err-pass_all-clause-cause : goal.returns-in_err-pass_all-clause-cause
+returns-in_err-pass_all-clause-cause g c =
     let w = g.W.CellSource in
     let held : Held = w.held c.args.work.now in
     let i = c.loop-key.invariant in
     let faults = (w.spent c.args.work.now).faults in
     let between = (w.spent c.loop-key.work).faults in
     let now = (w.spent c.pass_all.new.work).faults in
-    let fault = c.in_err-walks-2.field-0.0 in
-    refused c.from_residual-in_err-walks-2.result fault (PassCause held (runs_of c.args.levels.now) faults now) c.from_residual-in_err-walks-2.ensures.1
+    let fault = c.in_err-pass_all.field-0.0 in
+    refused c.from_residual-in_err-pass_all.result fault (PassCause held (runs_of c.args.levels.now) faults now) c.from_residual-in_err-pass_all.ensures.1
     (cause_later (w.held c.loop-key.work) held (runs_in c.loop-key.walks.items) (runs_of c.args.levels.now) faults between now fault i.held_is i.calm
     (λ n. bad_of_levels held n c.args.levels.now c.loop-key.walks.items i.counting.on)
-    (subst (λ (ws : List LevelWalks). PassCause (w.held c.loop-key.work) (runs_in ws) between now fault) c.as_slice-in-Some.ensures.value c.in_err-walks-2.ensures.cause))
+    (subst (λ (ws : List LevelWalks). PassCause (w.held c.loop-key.work) (runs_in ws) between now fault) c.as_mut_slice.ensures.value c.in_err-pass_all.ensures.cause))
 
 pub returns-clause-counts : goal.returns-clause-counts
 returns-clause-counts g c = counting_ends c.loop-key.invariant.counting (same_least c.as_slice.ensures.value c.least_key.ensures c.in_default.is)

@@ -1,6 +1,10 @@
-use Rattle.std.proofs.Common.{◌↔◌, ◌≤◌, IsTrue, subst, ◌∙◌, arith}
+use Rattle.std.proofs.Common.{◌↔◌, ◌≤◌, IsTrue, ap, subst, ◌∙◌, arith}
+use Rattle.cola_cell.specs.declared.cell.Run.{Run}
 use Rattle.cola_cell.specs.Held.{Held}
+use Rattle.cola_cell.specs.Places.{number_of}
 use Rattle.cola_cell.proofs.CostsLemmas.{costs_then, costs_within}
+use Rattle.cola_verdict.specs.declared.verdict.Flaw.TheVariants.{Shadow}
+use Rattle.cola_verdict.specs.declared.verdict.Verdict.TheVariants.{Broken}
 use Rattle.cola_verdict.specs.Tests.{ShadowAt}
 use Rattle.cola_check.specs.Found.{tested_by}
 use Rattle.cola_check.specs.Shadows.{IsReached}
@@ -17,7 +21,8 @@ pub returns-then-not-branch-clause-finds : goal.returns-then-not-branch-clause-f
 returns-then-not-branch-clause-finds g c =
     let i = c.loop-level.invariant in
     let has = subst (λ (h : Held). IsReached (tested_by c.args.header.now h) c.loop-level.level → (IsTrue c.in_ok-has_shadow.field-0 ↔ ShadowAt (tested_by c.args.header.now h) c.loop-level.level)) i.held_is c.in_ok-has_shadow.ensures.has in
-    one-fails (tested_by c.args.header.now (g.W.CellSource.held c.args.work.now)) c.loop-level.level c.in_ok-has_shadow.field-0 c.broken_at.result c.if-not-branch.true (level-in c.args.header.now c.loop-level.level i.low) i.behind has c.broken_at.ensures
+    one-fails (tested_by c.args.header.now (g.W.CellSource.held c.args.work.now)) c.loop-level.level c.in_ok-has_shadow.field-0 c.broken_at.result c.if-not-branch.true (level-in c.args.header.now c.loop-level.level i.low) i.behind has
+    (c.broken_at.ensures ∙ ap (λ (r : Run). Broken Shadow r.level (number_of r.level r.slot 0)) c.shadow_run-shadow.ensures.value)
 
 pub returns-then-not-branch-clause-cost : goal.returns-then-not-branch-clause-cost
 returns-then-not-branch-clause-cost g c =

@@ -1,7 +1,7 @@
--- A session over a file, the stated workload and the test of a file are served by the modes that name them.
+-- A session over a file, the stated workload, the test of a file and its growing are served by the modes that name them.
 use Rattle.std.proofs.Common.{◌≡◌, ◌∙◌, Option, Some, refl, sym, ap, subst}
 use Rattle.cola_words.specs.declared.mode.Mode.{Mode}
-use Rattle.cola_words.specs.declared.mode.Mode.TheVariants.{Check, Gen, Run}
+use Rattle.cola_words.specs.declared.mode.Mode.TheVariants.{Check, Gen, Grow, Run}
 use Rattle.cola_command.specs.Serves.{Serves}
 use Rattle.cola_command.proofs.program.serve_mode.Goals as goal
 
@@ -45,4 +45,20 @@ returns-in-Some-Check g c =
       kept = c.check_file-device.ensures.kept;
       source_stays = refl;
       second_stays = refl;
+    })
+
+pub returns-in-Some-Grow : goal.returns-in-Some-Grow
+returns-in-Some-Grow g c =
+    let named = rw c.in-Some-Grow.is at c.in-Some-Grow.field-0-is in
+    let e : c.args.mode ≡ Some (Grow c.in-Some-Grow.keys c.in-Some-Grow.block_exp) = c.in-Some-Grow.is ∙ ap (λ (m : Mode). Some m) named in
+    subst
+    (λ (m : Option Mode). Serves g.S.Source g.K.Sink g.D.Device c.args.source.now c.args.source.now c.args.sink.now c.grow_file-device.new.sink c.args.device c.grow_file-device.result.0
+    c.args.second c.grow_file-device.new.second c.args.steps.now c.grow_file-device.new.steps c.grow_file-device.result.1 m)
+    (sym e)
+    (record {
+      ends = c.grow_file-device.ensures.ends;
+      no_write = c.grow_file-device.ensures.no_write;
+      kept = c.grow_file-device.ensures.kept;
+      second_kept = c.grow_file-device.ensures.second_kept;
+      source_stays = refl;
     })

@@ -1,0 +1,6 @@
+pub mod LoadedSoFar
+pub mod LoadedWhole
+pub mod Known
+pub mod Whole
+pub mod Sizes
+pub mod GrowEnding

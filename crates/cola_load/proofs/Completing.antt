@@ -1,0 +1,105 @@
+-- What follows from the answer of growing a file.
+use Rattle.std.proofs.Common.{◌≡◌, inl, inr, ℕ, ◌<◌, ◌≤◌, true, false, List, [], length, take, Option, Some, Result, Ok, Err, sym, ap, subst, ◌∙◌, arith}
+use Rattle.std.specs.Prelude.{IfSome}
+use Rattle.std.specs.FinMap as finite
+use Rattle.std.proofs.lemmas.List.{length-map}
+use Rattle.cola_cell.specs.Format.{stamp_limit}
+use Rattle.cola_device.specs.declared.device.Device as device
+use Rattle.cola_image.specs.Standing.{HeaderStandsFor}
+use Rattle.cola_layout.specs.Fields.{fields_of}
+use Rattle.cola_layout.specs.Header.{Fields}
+use Rattle.cola_layout.proofs.Refusing.{spelling-one}
+use Rattle.cola_opening.specs.Judged.{file_size, IsClosedWith, IsSmall, IsNoStore, IsInUse}
+use Rattle.cola_opening.proofs.Sizes.{header_fits}
+use Rattle.cola_outside.specs.Faults.{Rose}
+use Rattle.cola_spec.specs.Map.{Map, count}
+use Rattle.cola_table.specs.Terms.{shape_of}
+use Rattle.cola_load.specs.declared.fault.GrowFault.{GrowFault}
+use Rattle.cola_load.specs.declared.fault.GrowFault.TheVariants.{Small, NotStore, NotClosed, Fewer, OutOfMemory, BadCell, NotEmpty, Disorder, Device}
+use Rattle.cola_load.specs.Filled.{Row, AreRows, IsFilled, rows_of, row_of_entry, map_of, filled_header}
+use Rattle.cola_load.specs.Grow.{HasCopied, HasKeys, IsForNone, Grows, IsCountOrFull, IsFileOf}
+use Rattle.cola_load.proofs.FilledLevels.{filled-stands}
+use Rattle.cola_load.proofs.FilledMaps.{map-again}
+
+told : (t : Option (List ℕ)) (bytes : List ℕ) (P : List ℕ → Type 0) → t ≡ Some bytes → IfSome t P → P bytes
+told t bytes P is p = subst (λ (o : Option (List ℕ)). IfSome o P) is p
+
+rows-many : (m : Map) → length (rows_of m) ≡ count m
+rows-many m = length-map (finite.entries m.entries) row_of_entry ∙ sym (finite.len-entries m.entries)
+
+-- ---- the file that stands for a map is none that is refused
+
+module _ (header : Fields) (bytes : List ℕ) (m : Map) (stands : HeaderStandsFor header bytes m) where
+  same-header : (other : Fields) → IsClosedWith other bytes → header ≡ other
+  same-header other closed = spelling-one header other (take 512 bytes) stands.spelled closed.has.spelled
+
+  not-small : IsSmall bytes → ⊥
+  not-small (inl short) =
+      let whole : file_size header.format header.bottom ≤ length bytes = stands.whole in
+      omega (arith, short, whole, header_fits header.format header.bottom stands.spelled.sound.bottom_fits.three)
+  not-small (inr (other, (spelled, few))) =
+      let whole : file_size other.format other.bottom ≤ length bytes = subst (λ (f : Fields). file_size f.format f.bottom ≤ length bytes) (spelling-one header other (take 512 bytes) stands.spelled spelled) stands.whole in
+      omega (arith, few, whole)
+
+  not-in_use : IsInUse bytes → ⊥
+  not-in_use is =
+      let same : header ≡ is.0 = spelling-one header is.0 (take 512 bytes) stands.spelled is.1.0.spelled in
+      let no : true ≡ false = sym stands.closed ∙ (ap (λ (f : Fields). f.closed) same ∙ is.1.1) in cc
+
+  not-fewer : (keys fewer : ℕ) → count m ≤ keys → keys < fewer → HasKeys fewer bytes → ⊥
+  not-fewer keys fewer few more has =
+      let same : header ≡ has.0 = same-header has.0 has.1.0 in
+      let counted : header.count ≡ count m = stands.counted in
+      let is : header.count ≡ fewer = ap (λ (f : Fields). f.count) same ∙ has.1.1 in
+      omega (arith, counted, is, few, more)
+
+  module _ {D E : Type 0} (d : device.Ghosts D) (e : device.Ghosts E) (from from_now : D) (to to_now : E) (ticks ticks_now keys block_exp : ℕ) (from-is : d.bytes from ≡ Some bytes) where
+    stands-here : (result : Result ℕ GrowFault) (h : HasCopied d e from from_now to to_now ticks ticks_now keys block_exp result) → HeaderStandsFor (fields_of h.header) bytes m
+    stands-here result h =
+        subst (λ (f : Fields). HeaderStandsFor f bytes m) (same-header (fields_of h.header) (told (d.bytes from) bytes (IsClosedWith (fields_of h.header)) from-is h.was)) stands
+
+    the-rows : (answer : ℕ) (h : HasCopied d e from from_now to to_now ticks ticks_now keys block_exp (Ok answer)) → h.copies.0 ≡ rows_of m
+    the-rows answer h =
+        told (d.bytes from) bytes (λ bytes. (m : Map) → HeaderStandsFor (fields_of h.header) bytes m → h.copies.0 ≡ rows_of m) from-is h.copies.1.map_is m (stands-here (Ok answer) h)
+
+    the-count : (answer : ℕ) → HasCopied d e from from_now to to_now ticks ticks_now keys block_exp (Ok answer) → answer ≡ count m
+    the-count answer h = h.copies.1.count_is ∙ (ap (λ (rows : List Row). length rows) (the-rows answer h) ∙ rows-many m)
+
+    pub grown-stands : (answer : ℕ) (new : List ℕ) → e.bytes to_now ≡ Some new → HasCopied d e from from_now to to_now ticks ticks_now keys block_exp (Ok answer) →
+        IsFileOf keys block_exp header.format m new × (answer ≡ count m)
+    grown-stands answer new new-is h =
+        let here = stands-here (Ok answer) h in
+        let rows = h.copies.0 in
+        let same : h.header.geometry.format ≡ header.format = ap (λ (f : Fields). f.format) (sym (same-header (fields_of h.header) (told (d.bytes from) bytes (IsClosedWith (fields_of h.header)) from-is h.was))) in
+        let limit : h.header.last ≤ stamp_limit h.geometry.format = subst (λ f. h.header.last ≤ stamp_limit f) (sym h.is_for.format_is) h.header.last_fits in
+        let are : AreRows (shape_of h.geometry.format h.geometry.keys) h.header.last rows = told (e.bytes to_now) new (λ bytes. AreRows (shape_of h.geometry.format h.geometry.keys) h.header.last rows) new-is h.copies.1.are_rows in
+        let filled : IsFilled h.geometry h.header.last rows new = told (e.bytes to_now) new (λ bytes. IsFilled h.geometry h.header.last rows bytes) new-is h.copies.1.filled in
+        let many : length rows ≡ count m = ap (λ (rs : List Row). length rs) (the-rows answer h) ∙ rows-many m in
+        let map-is : map_of h.header.last rows ≡ m = ap (λ (n : ℕ). map_of n rows) here.numbered ∙ (ap (λ (rs : List Row). map_of m.last rs) (the-rows answer h) ∙ map-again m) in (
+          record {
+            geometry = h.geometry;
+            is_for = record { keys_are = h.is_for.keys_are; block_is = h.is_for.block_is; format_is = h.is_for.format_is ∙ same };
+            stands =
+                subst (λ (x : Map). HeaderStandsFor (filled_header h.geometry m.last (count m)) new x) map-is
+                (subst (λ (n : ℕ). HeaderStandsFor (filled_header h.geometry n (count m)) new (map_of h.header.last rows)) here.numbered
+                (subst (λ (n : ℕ). HeaderStandsFor (filled_header h.geometry h.header.last n) new (map_of h.header.last rows)) many (filled-stands h.geometry h.header.last rows new limit are filled)));
+          },
+          the-count answer h,
+        )
+
+    module _ (few : count m ≤ keys) (to-is : e.bytes to ≡ Some []) (calm : ¬ Rose (d.counts from).faults (d.counts from_now).faults) (other-calm : ¬ Rose (e.counts to).faults (e.counts to_now).faults) where
+      pub completes : (result : Result ℕ GrowFault) → Grows d e from from_now to to_now ticks ticks_now keys block_exp result → IsCountOrFull (count m) result
+      completes (Ok answer) h = the-count answer h
+      completes (Err Small) h = not-small (told (d.bytes from) bytes IsSmall from-is h.seen.why_is)
+      completes (Err NotStore) h = (told (d.bytes from) bytes IsNoStore from-is h.seen.why_is).none header stands.spelled
+      completes (Err NotClosed) h = not-in_use (told (d.bytes from) bytes IsInUse from-is h.seen.why_is)
+      completes (Err (Fewer fewer)) h = not-fewer keys fewer few h.1 (told (d.bytes from) bytes (HasKeys fewer) from-is h.0.seen.why_is)
+      completes (Err OutOfMemory) h = tt
+      completes (Err (BadCell number)) h = told (d.bytes from) bytes (IsForNone h.header) from-is h.copies.no_map m (stands-here (Err (BadCell number)) h)
+      completes (Err NotEmpty) h = let some : 0 < length {A = ℕ} [] = told (e.bytes to) [] (λ bytes. 0 < length bytes) to-is h.copies.was in omega (arith, some)
+      completes (Err (Disorder number)) h = told (d.bytes from) bytes (IsForNone h.header) from-is h.copies.no_map m (stands-here (Err (Disorder number)) h)
+      completes (Err Device) (inl h) = calm h.failed.cause
+      completes (Err Device) (inr h) = elim h.faults [
+        | inl rose ↦ calm rose
+        | inr rose ↦ other-calm rose
+      ]

@@ -1,0 +1,290 @@
+-- Where a cell stands, and what putting one leaves of the others.
+use Rattle.std.proofs.Common.{eq-eqb, ◌≡◌, ◌≢◌, ◌⊎◌, inl, inr, ℕ, ◌+◌, ◌-◌, ◌*◌, ◌/◌, ◌%◌, ◌<◌, ◌≤◌, ◌==◌, nat_lt, true, false, Bool, if◌then◌else◌, List, length, take, drop, set, Option, None, Some, Result, Ok, Err, refl, sym, ap, subst, ◌∙◌, arith}
+use Rattle.std.proofs.lemmas.Bool.{lt-ltb, le-ltb, ne_eqb, eqb-true, false≢true, cases_lt, cases_eq}
+use Rattle.std.proofs.Math.Nat.{mul-le-mul_right}
+use Rattle.std.proofs.lemmas.List.{length-take-le, length-drop, get_or-set_same, get_or-set_other}
+use Rattle.std.proofs.lemmas.Nat.{pow_pos}
+use Rattle.cola_outside.specs.Told.{Both}
+use Rattle.cola_cell.specs.declared.cell.Cell.{Cell}
+use Rattle.cola_cell.specs.Decoded.{decoded, spelling}
+use Rattle.cola_cell.specs.Format.{width}
+use Rattle.cola_cell.specs.Places.{number_of, slot_size, IsPlace}
+use Rattle.cola_cell.specs.Spelling.{IsSpelling}
+use Rattle.cola_device.specs.Bytes.{splice, HasRange, WroteSome}
+use Rattle.cola_device.proofs.BytesLemmas.{part-splice_below}
+use Rattle.cola_front.specs.Front.{FrontCells, cell_at, cell_bytes}
+use Rattle.cola_front.proofs.FrontLemmas.{comes_back}
+use Rattle.cola_layout.proofs.Places.{place-differ}
+use Rattle.cola_layout.specs.declared.geometry.Geometry.{Geometry}
+use Rattle.cola_run.specs.Cells.{IsOnDevice, block_cells, block_bytes, block_number, file_bytes, device_levels, tail_number}
+use Rattle.cola_run.specs.Parts.{tail_of, fills, WroteTail, TailPushed}
+use Rattle.cola_run.proofs.Numbers.{IsMore, IsFull, next-split, one-place, first-place, block-behind}
+use Rattle.cola_run.proofs.Spots.{choose-then, choose-else, both-same}
+use Rattle.cola_run.proofs.Steps.{block-fits, tail-many, tail-cell, put-many, put-there, put-stays, written-many, written-there, written-stays}
+use Rattle.cola_load.specs.Loading.{Loading, HasMore, Puts, StaysInFront, standing_cell}
+
+-- a level is on the device
+pub on-level : (g : Geometry) (level : ℕ) → g.block_exp ≤ level + 2 → level ≤ g.bottom → IsOnDevice g level
+on-level g level high low = record { within = low; whole = high }
+
+pub in-slot : (bottom level index : ℕ) → level ≤ bottom → index < slot_size level → IsPlace (bottom + 1) level 0 index
+in-slot bottom level index low within = record { level_in = omega (arith, low); slot_in = omega arith; index_in = within }
+
+-- a block that is written lies in the file
+pub write-inside : (told : Option (List ℕ)) (g : Geometry) (level index : ℕ) (tails : List ℕ) (from size at : ℕ) → IsOnDevice g level → index < slot_size level
+    → length tails ≡ width g.format * (block_cells g * device_levels g) → HasRange told 0 (file_bytes g) → from + size ≤ length tails
+    → size ≡ block_bytes g → at ≡ block_number g level 0 index * block_bytes g → HasRange told at (length (take (from + size - from) (drop from tails)))
+write-inside None g level index tails from size at device within many inside fits size_is at_is = tt
+write-inside (Some bytes) g level index tails from size at device within many inside fits size_is at_is =
+    let part_is : length (take (from + size - from) (drop from tails)) ≡ size =
+    length-take-le (from + size - from) (drop from tails) (let d = length-drop from tails in omega (arith, d, fits)) ∙ (let e : from + size - from ≡ size = omega arith in e) in
+    let tail = tail-many g tails level g.block_fits device many in
+    let ends = block-fits g g.block_fits level 0 index device.whole (in-slot g.bottom level index device.within within) bytes (tail_of g tails level) (omega (arith, inside)) tail in
+    omega (arith, part_is, tail, ends, at_is, size_is, inside)
+
+-- where a cell of a level stands
+module _ (loading : Loading) (bytes : List ℕ) (len level index : ℕ) where
+  abbrev g : Geometry
+  g = loading.geometry
+
+  abbrev tailed : Option Cell
+  tailed = decoded g.format (cell_bytes g.format loading.tails (tail_number g level index))
+
+  abbrev blocked : Option Cell
+  blocked = decoded g.format (cell_bytes g.format bytes (number_of level 0 index))
+
+  abbrev in-front : Option Cell
+  in-front = cell_at loading.front (number_of level 0 index)
+
+  abbrev on-device : Option Cell
+  on-device = if index / block_cells g == len / block_cells g then tailed else blocked
+
+  pub stands-front : level + 2 < g.block_exp → standing_cell loading bytes len level index ≡ in-front
+  stands-front low = choose-then (nat_lt (level + 2) g.block_exp) in-front on-device (lt-ltb (level + 2) g.block_exp low)
+
+  stands-behind : g.block_exp ≤ level + 2 → standing_cell loading bytes len level index ≡ on-device
+  stands-behind high = choose-else (nat_lt (level + 2) g.block_exp) in-front on-device (le-ltb (level + 2) g.block_exp high)
+
+  pub stands-tail : g.block_exp ≤ level + 2 → index / block_cells g ≡ len / block_cells g → standing_cell loading bytes len level index ≡ tailed
+  stands-tail high same = stands-behind high ∙ choose-then (index / block_cells g == len / block_cells g) tailed blocked (eq-eqb (index / block_cells g) (len / block_cells g) same)
+
+  pub stands-block : g.block_exp ≤ level + 2 → index / block_cells g ≢ len / block_cells g → standing_cell loading bytes len level index ≡ blocked
+  stands-block high apart = stands-behind high ∙ choose-else (index / block_cells g == len / block_cells g) tailed blocked (ne_eqb (index / block_cells g) (len / block_cells g) apart)
+
+-- the cells of a level on the device are the same where its tail's and its block's are
+pub stands-same : (old new : Loading) (x y : List ℕ) (len level index : ℕ) → new.geometry ≡ old.geometry → old.geometry.block_exp ≤ level + 2
+    → cell_bytes old.geometry.format new.tails (tail_number old.geometry level index) ≡ cell_bytes old.geometry.format old.tails (tail_number old.geometry level index)
+    → cell_bytes old.geometry.format y (number_of level 0 index) ≡ cell_bytes old.geometry.format x (number_of level 0 index)
+    → standing_cell new y len level index ≡ standing_cell old x len level index
+stands-same old new x y len level index geometry high tails blocks =
+    let g = old.geometry in
+    let moved : Loading = record new { geometry = g } in
+    let back : standing_cell new y len level index ≡ standing_cell moved y len level index =
+    ap (λ (z : Geometry). standing_cell (record new { geometry = z }) y len level index) geometry in
+    back ∙ elim (cases_eq (index / block_cells g) (len / block_cells g)) [
+      | inl here ↦ stands-tail moved y len level index high here ∙ ap (λ (xs : List ℕ). decoded g.format xs) tails ∙ sym (stands-tail old x len level index high here)
+      | inr apart ↦ stands-block moved y len level index high apart ∙ ap (λ (xs : List ℕ). decoded g.format xs) blocks ∙ sym (stands-block old x len level index high apart)
+    ]
+
+differ : (bottom l i level index : ℕ) → l ≤ bottom → level ≤ bottom → i < slot_size l → index < slot_size level → (l ≢ level) ⊎ (i ≢ index) → number_of l 0 i ≢ number_of level 0 index
+differ bottom l i level index low_l low inside within apart same =
+    let (levels, slots, indices) = place-differ bottom l 0 i level 0 index (in-slot bottom l i low_l inside) (in-slot bottom level index low within) same in
+    elim apart [ inl h ↦ h levels | inr h ↦ h indices ]
+
+-- a cell that was put into the front
+module _ (loading : Loading) (front : FrontCells) (bytes : List ℕ) (level index : ℕ) (cell : Cell) (low : level ≤ loading.geometry.bottom) (inside : level + 2 < loading.geometry.block_exp)
+    (within : index < slot_size level) (room : number_of level 0 index < length loading.front.cells)
+    (is : front ≡ record loading.front { cells = set loading.front.cells (number_of level 0 index) (Some cell) }) where
+  abbrev put-front : Loading
+  put-front = record loading { front = front }
+
+  at-number : cell_at front (number_of level 0 index) ≡ Some cell
+  at-number = ap (λ (f : FrontCells). cell_at f (number_of level 0 index)) is ∙ get_or-set_same loading.front.cells (number_of level 0 index) (Some cell) None room
+
+  at-other : (n : ℕ) → n ≢ number_of level 0 index → cell_at front n ≡ cell_at loading.front n
+  at-other n apart = ap (λ (f : FrontCells). cell_at f n) is ∙ get_or-set_other loading.front.cells (number_of level 0 index) n (Some cell) None apart
+
+  pub front-put : HasMore loading put-front level index cell bytes bytes
+  front-put = record {
+    is = stands-front put-front bytes (index + 1) level index inside ∙ at-number;
+    same = λ i before.
+        stands-front put-front bytes (index + 1) level i inside
+        ∙ at-other (number_of level 0 i) (differ loading.geometry.bottom level i level index low low (omega (arith, before, within)) within (inr (λ e. omega (arith, e, before))))
+        ∙ sym (stands-front loading bytes index level i inside);
+    others = λ l i len low_l apart inside_l. elim (cases_lt (l + 2) loading.geometry.block_exp) [
+      | inl front_l ↦
+          stands-front put-front bytes len l i front_l
+          ∙ at-other (number_of l 0 i) (differ loading.geometry.bottom l i level index low_l low inside_l within (inl apart))
+          ∙ sym (stands-front loading bytes len l i front_l)
+      | inr high ↦ stands-same loading put-front bytes bytes len l i refl high refl refl
+    ];
+  }
+
+-- a cell that was put into the tail of a level
+module _ (loading : Loading) (tails x y : List ℕ) (level index : ℕ) (cell : Cell) (low : level ≤ loading.geometry.bottom) (high : loading.geometry.block_exp ≤ level + 2)
+    (within : index < slot_size level) (many : length loading.tails ≡ width loading.geometry.format * (block_cells loading.geometry * device_levels loading.geometry))
+    (long : file_bytes loading.geometry ≤ length x)
+    (spelled : IsSpelling loading.geometry.format cell (spelling loading.geometry.format cell))
+    (is : tails ≡ splice loading.tails (width loading.geometry.format * tail_number loading.geometry level index) (spelling loading.geometry.format cell)) where
+  abbrev h : Geometry
+  h = loading.geometry
+
+  abbrev put-tail : Loading
+  put-tail = record loading { tails = tails }
+
+  on : IsOnDevice h level
+  on = on-level h level high low
+
+  some : 0 < block_cells h
+  some = pow_pos h.block_exp
+
+  tail-there : cell_bytes h.format tails (tail_number h level index) ≡ spelling h.format cell
+  tail-there = ap (λ (xs : List ℕ). cell_bytes h.format xs (tail_number h level index)) is ∙ put-there h loading.tails (spelling h.format cell) level index h.block_fits on many spelled.size
+
+  tail-stays : (l i : ℕ) → IsOnDevice h l → (l ≢ level) ⊎ (i % block_cells h ≢ index % block_cells h) → cell_bytes h.format tails (tail_number h l i) ≡ cell_bytes h.format loading.tails (tail_number h l i)
+  tail-stays l i device apart =
+      ap (λ (xs : List ℕ). cell_bytes h.format xs (tail_number h l i)) is ∙ put-stays h loading.tails (spelling h.format cell) level index h.block_fits on many spelled.size l i device apart
+
+  tails-long : length tails ≡ width h.format * (block_cells h * device_levels h)
+  tails-long = ap (λ (xs : List ℕ). length xs) is ∙ put-many h loading.tails (spelling h.format cell) level index h.block_fits on many spelled.size ∙ many
+
+  back : decoded h.format (spelling h.format cell) ≡ Some cell
+  back = comes_back h.format cell (spelling h.format cell) spelled
+
+  elsewhere : (i : ℕ) → i < index → i / block_cells h ≡ index / block_cells h → i % block_cells h ≢ index % block_cells h
+  elsewhere i before here same = let e = one-place (block_cells h) i index some here same in omega (arith, e, before)
+
+  -- the cells of the other levels, where a device's blocks of them stay
+  beside : ((l i : ℕ) → h.block_exp ≤ l + 2 → l ≤ h.bottom → i < slot_size l → l ≢ level → cell_bytes h.format y (number_of l 0 i) ≡ cell_bytes h.format x (number_of l 0 i))
+      → (l i len : ℕ) → l ≤ h.bottom → l ≢ level → i < slot_size l → standing_cell put-tail y len l i ≡ standing_cell loading x len l i
+  beside blocks l i len low_l apart inside = elim (cases_lt (l + 2) h.block_exp) [
+    | inl front_l ↦ stands-front put-tail y len l i front_l ∙ sym (stands-front loading x len l i front_l)
+    | inr high_l ↦ stands-same loading put-tail x y len l i refl high_l (tail-stays l i (on-level h l high_l low_l) (inl apart)) (blocks l i high_l low_l inside apart)
+  ]
+
+  -- the block is not full
+  pub put-amid : IsMore (block_cells h) index → y ≡ x → HasMore loading put-tail level index cell x y
+  put-amid more stays = record {
+    is = stands-tail put-tail y (index + 1) level index high (sym more.block_is) ∙ ap (λ (xs : List ℕ). decoded h.format xs) tail-there ∙ back;
+    same = λ i before. elim (cases_eq (i / block_cells h) (index / block_cells h)) [
+      | inl here ↦
+          stands-tail put-tail y (index + 1) level i high (here ∙ sym more.block_is)
+          ∙ ap (λ (xs : List ℕ). decoded h.format xs) (tail-stays level i on (inr (elsewhere i before here)))
+          ∙ sym (stands-tail loading x index level i high here)
+      | inr apart ↦
+          stands-block put-tail y (index + 1) level i high (λ e. apart (e ∙ more.block_is))
+          ∙ ap (λ (xs : List ℕ). decoded h.format (cell_bytes h.format xs (number_of level 0 i))) stays
+          ∙ sym (stands-block loading x index level i high apart)
+    ];
+    others = beside (λ l i high_l low_l inside apart. ap (λ (xs : List ℕ). cell_bytes h.format xs (number_of l 0 i)) stays);
+  }
+
+  -- the block is full and was written
+  pub put-last : IsFull (block_cells h) index → y ≡ splice x (block_number h level 0 index * block_bytes h) (tail_of h tails level) → HasMore loading put-tail level index cell x y
+  put-last full stays =
+      let tail = tail-many h tails level h.block_fits on tails-long in
+      let place = in-slot h.bottom level index low within in
+      let behind : (i : ℕ) → i < index + 1 → i / block_cells h ≢ (index + 1) / block_cells h =
+      λ i before e. (let f = first-place (block_cells h) i (index + 1) some e full.place_is in omega (arith, f, before)) in
+      let there : (i : ℕ) → i / block_cells h ≡ index / block_cells h → cell_bytes h.format y (number_of level 0 i) ≡ cell_bytes h.format tails (tail_number h level i) =
+      λ i here. ap (λ (xs : List ℕ). cell_bytes h.format xs (number_of level 0 i)) stays
+      ∙ written-there h h.block_fits level 0 index high place x (tail_of h tails level) long tail i here ∙ tail-cell h tails level i in
+      let others : (l i : ℕ) → h.block_exp ≤ l + 2 → l ≤ h.bottom → i < slot_size l → (l ≢ level) ⊎ (0 ≢ 0) ⊎ (i / block_cells h ≢ index / block_cells h) →
+      cell_bytes h.format y (number_of l 0 i) ≡ cell_bytes h.format x (number_of l 0 i) =
+      λ l i high_l low_l inside apart. ap (λ (xs : List ℕ). cell_bytes h.format xs (number_of l 0 i)) stays
+      ∙ written-stays h h.block_fits level 0 index high place x (tail_of h tails level) long tail l 0 i high_l (in-slot h.bottom l i low_l inside) apart in
+      record {
+        is = stands-block put-tail y (index + 1) level index high (behind index (omega arith)) ∙ ap (λ (xs : List ℕ). decoded h.format xs) (there index refl ∙ tail-there) ∙ back;
+        same = λ i before. stands-block put-tail y (index + 1) level i high (behind i (omega (arith, before)))
+            ∙ elim (cases_eq (i / block_cells h) (index / block_cells h)) [
+              | inl here ↦
+                  ap (λ (xs : List ℕ). decoded h.format xs) (there i here ∙ tail-stays level i on (inr (elsewhere i before here)))
+                  ∙ sym (stands-tail loading x index level i high here)
+              | inr apart ↦
+                  ap (λ (xs : List ℕ). decoded h.format xs) (others level i high low (omega (arith, before, within)) (inr (inr apart)))
+                  ∙ sym (stands-block loading x index level i high apart)
+            ];
+        others = beside (λ l i high_l low_l inside apart. others l i high_l low_l inside (inl apart));
+      }
+
+-- whether a block is full
+amid-of : (g : Geometry) (n : ℕ) → fills g n ≡ false → IsMore (block_cells g) n
+amid-of g n e = elim (next-split (block_cells g) n (pow_pos g.block_exp)) [
+  | inl more ↦ more
+  | inr full ↦ absurd (false≢true (sym e ∙ eq-eqb ((n + 1) % block_cells g) 0 full.place_is))
+]
+
+full-of : (g : Geometry) (n : ℕ) → fills g n ≡ true → IsFull (block_cells g) n
+full-of g n e = elim (next-split (block_cells g) n (pow_pos g.block_exp)) [
+  | inl more ↦ absurd (let z : (n + 1) % block_cells g ≡ 0 = eqb-true ((n + 1) % block_cells g) 0 e in let m = more.place_is in omega (arith, z, m))
+  | inr full ↦ full
+]
+
+-- what putting a cell into the front says where bytes are told
+pub puts-front : {T : Type 0} (E : Type 0) (value : T) (told : Option (List ℕ)) (loading : Loading) (front : FrontCells) (level index : ℕ) (cell : Cell) → level ≤ loading.geometry.bottom → level + 2 < loading.geometry.block_exp
+    → index < slot_size level → number_of level 0 index < length loading.front.cells → front ≡ record loading.front { cells = set loading.front.cells (number_of level 0 index) (Some cell) }
+    → Both told told (Puts {T = T} {E = E} (Ok value) loading (record loading { front = front }) level index cell)
+puts-front {T} E value told loading front level index cell low inside within room is =
+    both-same told (Puts {T = T} {E = E} (Ok value) loading (record loading { front = front }) level index cell) (λ x. front-put loading front x level index cell low inside within room is)
+
+-- what putting one into a tail says
+module _ {T E : Type 0} (loading : Loading) (tails : List ℕ) (level index : ℕ) (cell : Cell) (low : level ≤ loading.geometry.bottom) (high : loading.geometry.block_exp ≤ level + 2)
+    (within : index < slot_size level) (many : length loading.tails ≡ width loading.geometry.format * (block_cells loading.geometry * device_levels loading.geometry))
+    (spelled : IsSpelling loading.geometry.format cell (spelling loading.geometry.format cell))
+    (is : tails ≡ splice loading.tails (width loading.geometry.format * tail_number loading.geometry level index) (spelling loading.geometry.format cell)) where
+  puts-written : (result : Result T E) (a b : Option (List ℕ)) → fills loading.geometry index ≡ true → HasRange a 0 (file_bytes loading.geometry) → WroteTail result loading.geometry tails level 0 index a b
+      → Both a b (Puts result loading (record loading { tails = tails }) level index cell)
+  puts-written result None None full inside wrote = tt
+  puts-written result None (Some y) full inside wrote = absurd wrote
+  puts-written result (Some x) None full inside wrote = absurd wrote
+  puts-written (Err fault) (Some x) (Some y) full inside wrote = tt
+  puts-written (Ok value) (Some x) (Some y) full inside wrote =
+      let w : WroteSome {T = T} {E = E} (Ok value) (block_number loading.geometry level 0 index * block_bytes loading.geometry) (tail_of loading.geometry tails level) x y = wrote in
+      put-last loading tails x y level index cell low high within many (omega (arith, inside)) spelled is (full-of loading.geometry index full)
+      (w.others_stay ∙ ap (λ (left : List ℕ). splice x (block_number loading.geometry level 0 index * block_bytes loading.geometry) left) w.exact)
+
+  puts-kept : (result : Result T E) (a b : Option (List ℕ)) → fills loading.geometry index ≡ false → HasRange a 0 (file_bytes loading.geometry) → b ≡ a
+      → Both a b (Puts result loading (record loading { tails = tails }) level index cell)
+  puts-kept result a b amid inside stays = subst (λ (z : Option (List ℕ)). Both a z (Puts result loading (record loading { tails = tails }) level index cell)) (sym stays) (by-told result a inside)
+    where
+      by-told : (result : Result T E) (z : Option (List ℕ)) → HasRange z 0 (file_bytes loading.geometry) → Both z z (Puts result loading (record loading { tails = tails }) level index cell)
+      by-told result None h = tt
+      by-told (Err fault) (Some x) h = tt
+      by-told (Ok value) (Some x) h = put-amid loading tails x x level index cell low high within many (omega (arith, h)) spelled is (amid-of loading.geometry index amid) refl
+
+  pub puts-tail : (result : Result T E) (a b : Option (List ℕ)) → HasRange a 0 (file_bytes loading.geometry) → TailPushed (fills loading.geometry index) result loading.geometry tails level 0 index a b
+      → Both a b (Puts result loading (record loading { tails = tails }) level index cell)
+  puts-tail result a b inside pushed = by-test (fills loading.geometry index) refl pushed
+    where
+      by-test : (t : Bool) → fills loading.geometry index ≡ t → TailPushed t result loading.geometry tails level 0 index a b → Both a b (Puts result loading (record loading { tails = tails }) level index cell)
+      by-test true e w = puts-written result a b e inside w
+      by-test false e w = puts-kept result a b e inside w.0
+
+-- a device that stays keeps its front
+pub front-same : (g : Geometry) (a b : Option (List ℕ)) → b ≡ a → Both a b (StaysInFront g)
+front-same g a b stays = subst (λ (z : Option (List ℕ)). Both a z (StaysInFront g)) (sym stays) (both-same a (StaysInFront g) (λ x. record { size_stays = refl; front_stays = refl }))
+
+-- a device on which at most a block behind the front was written
+module _ {T E : Type 0} (g : Geometry) (tails : List ℕ) (level index : ℕ) (low : level ≤ g.bottom) (high : g.block_exp ≤ level + 2) (within : index < slot_size level)
+    (many : length tails ≡ width g.format * (block_cells g * device_levels g)) where
+  pub front-written : (result : Result T E) (a b : Option (List ℕ)) → HasRange a 0 (file_bytes g) → WroteTail result g tails level 0 index a b → Both a b (StaysInFront g)
+  front-written result None None inside wrote = tt
+  front-written result None (Some y) inside wrote = absurd wrote
+  front-written result (Some x) None inside wrote = absurd wrote
+  front-written result (Some x) (Some y) inside wrote =
+      let w : WroteSome result (block_number g level 0 index * block_bytes g) (tail_of g tails level) x y = wrote in
+      let tail = tail-many g tails level g.block_fits (on-level g level high low) many in
+      let place = in-slot g.bottom level index low within in
+      let whole : length w.left ≡ block_bytes g = w.as_many ∙ tail in
+      let ends = block-fits g g.block_fits level 0 index high place x w.left (omega (arith, inside)) whole in
+      let two : 2 ≤ block_number g level 0 index = block-behind g.block_exp level 0 index high in
+      let far : 2 * block_bytes g ≤ block_number g level 0 index * block_bytes g = mul-le-mul_right (block_bytes g) two in
+      record {
+        size_stays = ap (λ (xs : List ℕ). length xs) w.others_stay ∙ written-many g g.block_fits level 0 index high place x w.left (omega (arith, inside)) whole;
+        front_stays = ap (λ (xs : List ℕ). take (2 * block_bytes g) xs) w.others_stay
+            ∙ part-splice_below x (block_number g level 0 index * block_bytes g) w.left 0 (2 * block_bytes g) (omega (arith, ends, inside)) (omega (arith, far));
+      }
+
+  pub front-pushed : (t : Bool) (result : Result T E) (a b : Option (List ℕ)) → HasRange a 0 (file_bytes g) → TailPushed t result g tails level 0 index a b → Both a b (StaysInFront g)
+  front-pushed true result a b inside w = front-written result a b inside w
+  front-pushed false result a b inside w = front-same g a b w.0

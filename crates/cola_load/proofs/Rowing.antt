@@ -1,0 +1,372 @@
+-- The cells of one row, put level by level from the bottom up.
+use Rattle.std.proofs.Common.{◌≡◌, ◌≢◌, inl, inr, ℕ, zero, suc, ◌+◌, ◌-◌, ◌*◌, ◌/◌, ◌%◌, ◌^◌, ◌<◌, ◌≤◌, nat_lt, min, List, [], ◌∷◌, ◌++◌, length, Option, None, Some, Result, Ok, refl, sym, ap, subst, ◌∙◌, arith, add-one}
+use Rattle.std.proofs.lemmas.Bool.{lt-ltb, le-ltb, cases_lt, cases_eq}
+use Rattle.std.proofs.lemmas.List.{get_or_append_left}
+use Rattle.std.proofs.Math.Seq.{get_or-append_seam}
+use Rattle.std.proofs.lemmas.Nat.{le-div, pow_pos}
+use Rattle.std.proofs.Math.Nat.{div-mul-le_self, mul_comm, mul_assoc, mul-le-mul_left, div-eq_of_lt-le, mul-div-le}
+use Rattle.cola_outside.specs.Told.{Both}
+use Rattle.cola_cell.specs.declared.cell.Cell.{Cell}
+use Rattle.cola_cell.specs.Places.{slot_size}
+use Rattle.cola_device.specs.declared.counts.Counts.{Counts}
+use Rattle.cola_device.specs.declared.device.DeviceFault.{DeviceFault}
+use Rattle.cola_device.specs.Bytes.{HasRange}
+use Rattle.cola_device.specs.Counts.{Called}
+use Rattle.cola_layout.specs.declared.geometry.Geometry.{Geometry}
+use Rattle.cola_run.specs.Cells.{block_cells, device_levels}
+use Rattle.cola_run.proofs.Spots.{choose-then, choose-else, both-so}
+use Rattle.cola_load.specs.Filled.{Row, run_len, row_at, no_row, filled_cell}
+use Rattle.cola_load.specs.Loading.{Loading, SameRows, HasMore, HasCells, Puts, PutsRow, StaysInFront, standing_cell, len_amid, row_cell, full_below, full_blocks, filled_by}
+use Rattle.cola_front.proofs.Writes.{called_two}
+use Rattle.cola_load.proofs.Lengths.{eight-next, eight-some, next-run, run-fits, run-most}
+
+-- the levels that have a cell more where a row is added to so many, up to a height, by the index of the last
+pub record IsExact (rows height index : ℕ) : Type 0 where
+  pub old : run_len rows height ≡ index
+  pub new : run_len (rows + 1) height ≡ index + 1
+
+pub exact-of : (rows height index : ℕ) → 8 ^ height * (index + 1) ≡ rows + 1 → IsExact rows height index
+exact-of rows height index is =
+    let e : 8 ^ height * (index + 1) ≡ (index + 1) * 8 ^ height = mul_comm (8 ^ height) (index + 1) in
+    let some = eight-some height in
+    let one : (index + 1) * 8 ^ height ≡ index * 8 ^ height + 8 ^ height = omega arith in
+    let two : (index + 1 + 1) * 8 ^ height ≡ index * 8 ^ height + 8 ^ height + 8 ^ height = omega arith in
+    record {
+      old = div-eq_of_lt-le {k = index} (8 ^ height) {m = rows} (omega (arith, e, is, one, some)) (omega (arith, e, is, one, some));
+      new = div-eq_of_lt-le {k = index + 1} (8 ^ height) {m = rows + 1} (omega (arith, e, is, one)) (omega (arith, e, is, one, two, some));
+    }
+
+-- the step to the next level up
+pub exact-next : (rows height index : ℕ) → 8 ^ height * (index + 1) ≡ rows + 1 → (index + 1) % 8 ≡ 0 → 8 ^ (height + 1) * (index / 8 + 1) ≡ rows + 1
+exact-next rows height index is whole =
+    let up : 8 * (index / 8 + 1) ≡ index + 1 = omega (arith, whole) in
+    let e : 8 ^ (height + 1) ≡ 8 * 8 ^ height = ap (λ (n : ℕ). 8 ^ n) (add-one height) ∙ eight-next height in
+    ap (λ (n : ℕ). n * (index / 8 + 1)) (e ∙ mul_comm 8 (8 ^ height))
+    ∙ mul_assoc (8 ^ height) 8 (index / 8 + 1)
+    ∙ ap (λ (n : ℕ). 8 ^ height * n) up ∙ is
+
+-- runs above two that are as long
+same-runs : (a b k h : ℕ) → run_len a k ≡ run_len b k → k ≤ h → run_len a h ≡ run_len b h
+same-runs a b k zero e within = let z : k ≡ 0 = omega (arith, within) in subst (λ (n : ℕ). run_len a n ≡ run_len b n) z e
+same-runs a b k (suc h) e within = elim (cases_eq k (suc h)) [
+  | inl is ↦ subst (λ (n : ℕ). run_len a n ≡ run_len b n) is e
+  | inr apart ↦ next-run a h ∙ ap (λ (n : ℕ). n / 8) (same-runs a b k h e (omega (arith, within, apart))) ∙ sym (next-run b h)
+]
+
+-- lengths amid
+amid-below : (rows done height : ℕ) → height < done → len_amid rows done height ≡ run_len (rows + 1) height
+amid-below rows done height h = choose-then (nat_lt height done) (run_len (rows + 1) height) (run_len rows height) (lt-ltb height done h)
+
+amid-above : (rows done height : ℕ) → done ≤ height → len_amid rows done height ≡ run_len rows height
+amid-above rows done height h = choose-else (nat_lt height done) (run_len (rows + 1) height) (run_len rows height) (le-ltb height done h)
+
+amid-same : (rows k height : ℕ) → height ≢ k → len_amid rows (k + 1) height ≡ len_amid rows k height
+amid-same rows k height apart = elim (cases_lt height k) [
+  | inl below ↦ amid-below rows (k + 1) height (omega (arith, below)) ∙ sym (amid-below rows k height below)
+  | inr above ↦ amid-above rows (k + 1) height (omega (arith, above, apart)) ∙ sym (amid-above rows k height above)
+]
+
+-- where no level above gets a cell
+pub amid-whole : (rows k index : ℕ) → IsExact rows k index → ((index + 1) % 8 ≡ 0 → ⊥) → (height : ℕ) → len_amid rows (k + 1) height ≡ run_len (rows + 1) height
+amid-whole rows k index exact rest height = elim (cases_lt height (k + 1)) [
+  | inl below ↦ amid-below rows (k + 1) height below
+  | inr above ↦
+      let same : index / 8 ≡ (index + 1) / 8 = omega (arith, rest) in
+      amid-above rows (k + 1) height above
+      ∙ same-runs rows (rows + 1) (suc k) height
+      (next-run rows k ∙ ap (λ (n : ℕ). n / 8) exact.old ∙ same ∙ ap (λ (n : ℕ). n / 8) (sym exact.new) ∙ sym (next-run (rows + 1) k)) (omega (arith, above))
+]
+
+-- rows behind which one was added
+row-before : (rows : List Row) (row : Row) (i : ℕ) → i < length rows → row_at (rows ++ row ∷ []) i ≡ row_at rows i
+row-before rows row i h = get_or_append_left rows (row ∷ []) no_row i h
+
+row-last : (rows : List Row) (row : Row) (i : ℕ) → i ≡ length rows → row_at (rows ++ row ∷ []) i ≡ row
+row-last rows row i e = ap (λ (n : ℕ). row_at (rows ++ row ∷ []) n) e ∙ get_or-append_seam rows row [] no_row
+
+filled-before : (rows : List Row) (row : Row) (height i : ℕ) → i < run_len (length rows) height → filled_cell (rows ++ row ∷ []) height i ≡ filled_cell rows height i
+filled-before rows row zero i h =
+    let e : i < length rows = (let d : length rows / 1 ≡ length rows = omega arith in omega (arith, h, d)) in
+    ap (λ (r : Row). row_cell r zero i) (row-before rows row i e)
+filled-before rows row (suc height) i h =
+    let m : 8 ^ suc height * (length rows / 8 ^ suc height) ≤ length rows = mul-div-le (length rows) (8 ^ suc height) in
+    let more : 8 ^ suc height * suc i ≤ 8 ^ suc height * (length rows / 8 ^ suc height) = mul-le-mul_left (8 ^ suc height) h in
+    let some = eight-some (suc height) in
+    let one : 8 ^ suc height * suc i ≡ 8 ^ suc height * i + 8 ^ suc height = omega arith in
+    ap (λ (r : Row). row_cell r (suc height) i) (row-before rows row (8 ^ suc height * suc i - 1) (omega (arith, m, more, some, one)))
+
+filled-last : (rows : List Row) (row : Row) (height index : ℕ) → 8 ^ height * (index + 1) ≡ length rows + 1 → filled_cell (rows ++ row ∷ []) height index ≡ row_cell row height index
+filled-last rows row zero index is = ap (λ (r : Row). row_cell r zero index) (row-last rows row index (let o : 8 ^ 0 ≡ 1 = refl in omega (arith, is)))
+filled-last rows row (suc height) index is =
+    let s : 8 ^ suc height * suc index ≡ 8 ^ suc height * (index + 1) = ap (λ (n : ℕ). 8 ^ suc height * n) (sym (add-one index)) in
+    ap (λ (r : Row). row_cell r (suc height) index) (row-last rows row (8 ^ suc height * suc index - 1) (omega (arith, is, s)))
+
+-- the cells of a row are put up to a height, where those of the rows before it were there
+abbrev pub PutsAmid : Loading → Loading → Row → ℕ → List ℕ → List ℕ → Type 0
+PutsAmid old new row done x y = (rows : List Row) → length rows ≡ old.rows → HasCells old (run_len old.rows) rows x → HasCells new (len_amid old.rows done) (rows ++ row ∷ []) y
+
+pub amid-begin : (loading : Loading) (row : Row) (x : List ℕ) → PutsAmid loading loading row 0 x x
+amid-begin loading row x rows many cells height index low within =
+    let n = loading.rows in
+    let e : len_amid n 0 height ≡ run_len n height = amid-above n 0 height (omega arith) in
+    let inside : index < run_len n height = subst (λ (m : ℕ). index < m) e within in
+    ap (λ (m : ℕ). standing_cell loading x m (loading.geometry.bottom - height) index) e
+    ∙ cells height index low inside
+    ∙ ap (λ (c : Cell). Some c) (sym (filled-before rows row height index (subst (λ (m : ℕ). index < run_len m height) (sym many) inside)))
+
+-- one level more
+pub amid-next : (old new next : Loading) (row : Row) (k index : ℕ) (x y z : List ℕ) → SameRows old new → SameRows new next → old.rows + 1 ≤ 2 ^ (old.geometry.bottom + 2) → k ≤ old.geometry.bottom
+    → 8 ^ k * (index + 1) ≡ old.rows + 1 → PutsAmid old new row k x y → HasMore new next (old.geometry.bottom - k) index (row_cell row k index) y z → PutsAmid old next row (k + 1) x z
+amid-next old new next row k index x y z first second few low_k is cells more rows many held height i low within =
+    let n = old.rows in
+    let bottom = old.geometry.bottom in
+    let one : new.geometry.bottom ≡ bottom = ap (λ (g : Geometry). g.bottom) first.geometry in
+    let two : next.geometry.bottom ≡ bottom = ap (λ (g : Geometry). g.bottom) second.geometry ∙ one in
+    let exact = exact-of n k index is in
+    let low_h : height ≤ bottom = omega (arith, low, two) in
+    let before : (j : ℕ) → j < len_amid n k height → standing_cell new y (len_amid n k height) (bottom - height) j ≡ Some (filled_cell (rows ++ row ∷ []) height j) =
+    λ j inside. ap (λ (b : ℕ). standing_cell new y (len_amid n k height) (b - height) j) (sym one) ∙ cells rows many held height j (omega (arith, low_h, one)) inside in
+    ap (λ (b : ℕ). standing_cell next z (len_amid n (k + 1) height) (b - height) i) two
+    ∙ elim (cases_eq height k) [
+      | inl here ↦
+          let len : len_amid n (k + 1) height ≡ index + 1 = amid-below n (k + 1) height (omega (arith, here)) ∙ ap (λ (h : ℕ). run_len (n + 1) h) here ∙ exact.new in
+          let was : len_amid n k height ≡ index = amid-above n k height (omega (arith, here)) ∙ ap (λ (h : ℕ). run_len n h) here ∙ exact.old in
+          let level : bottom - height ≡ bottom - k = ap (λ (h : ℕ). bottom - h) here in
+          ap (λ (m : ℕ). standing_cell next z m (bottom - height) i) len
+          ∙ ap (λ (l : ℕ). standing_cell next z (index + 1) l i) level
+          ∙ elim (cases_eq i index) [
+            | inl last ↦
+                ap (λ (j : ℕ). standing_cell next z (index + 1) (bottom - k) j) last ∙ more.is
+                ∙ ap (λ (c : Cell). Some c) (sym (filled-last rows row k index (is ∙ ap (λ (m : ℕ). m + 1) (sym many))))
+                ∙ ap (λ (h : ℕ). Some (filled_cell (rows ++ row ∷ []) h index)) (sym here) ∙ ap (λ (j : ℕ). Some (filled_cell (rows ++ row ∷ []) height j)) (sym last)
+            | inr other ↦
+                let under : i < index = omega (arith, within, len, other) in
+                more.same i under
+                ∙ ap (λ (l : ℕ). standing_cell new y index l i) (sym level)
+                ∙ ap (λ (m : ℕ). standing_cell new y m (bottom - height) i) (sym was)
+                ∙ before i (omega (arith, under, was))
+          ]
+      | inr apart ↦
+          let len = amid-same n k height apart in
+          let inside : i < len_amid n k height = subst (λ (m : ℕ). i < m) len within in
+          let fits : len_amid n k height ≤ slot_size (bottom - height) = amid-fits n k height bottom low_h few in
+          ap (λ (m : ℕ). standing_cell next z m (bottom - height) i) len
+          ∙ more.others (bottom - height) i (len_amid n k height) (omega (arith, one)) (λ e. omega (arith, e, apart, low_h, low_k)) (omega (arith, inside, fits))
+          ∙ before i inside
+    ]
+  where
+    amid-fits : (n k height bottom : ℕ) → height ≤ bottom → n + 1 ≤ 2 ^ (bottom + 2) → len_amid n k height ≤ slot_size (bottom - height)
+    amid-fits n k height bottom low few = elim (cases_lt height k) [
+      | inl below ↦ subst (λ (m : ℕ). m ≤ slot_size (bottom - height)) (sym (amid-below n k height below)) (run-fits (n + 1) height (bottom - height) bottom (omega (arith, low)) few)
+      | inr above ↦ subst (λ (m : ℕ). m ≤ slot_size (bottom - height)) (sym (amid-above n k height above)) (run-fits n height (bottom - height) bottom (omega (arith, low)) (omega (arith, few)))
+    ]
+
+-- all levels are done
+pub amid-end : (old new : Loading) (row : Row) (k : ℕ) (x y : List ℕ) → new.geometry ≡ old.geometry → ((height : ℕ) → height ≤ old.geometry.bottom → len_amid old.rows k height ≡ run_len (old.rows + 1) height) → PutsAmid old new row k x y
+    → (rows : List Row) → length rows ≡ old.rows → HasCells old (run_len old.rows) rows x → HasCells new (run_len (old.rows + 1)) (rows ++ row ∷ []) y
+amid-end old new row k x y geometry whole cells rows many held height index low within =
+    let low_h : height ≤ old.geometry.bottom = (let b : new.geometry.bottom ≡ old.geometry.bottom = ap (λ (g : Geometry). g.bottom) geometry in omega (arith, low, b)) in
+    let e = whole height low_h in
+    ap (λ (m : ℕ). standing_cell new y m (new.geometry.bottom - height) index) (sym e) ∙ cells rows many held height index low (subst (λ (m : ℕ). index < m) (sym e) within)
+
+pub amid-top : (rows bottom height : ℕ) → height ≤ bottom → len_amid rows (bottom + 1) height ≡ run_len (rows + 1) height
+amid-top rows bottom height low = amid-below rows (bottom + 1) height (omega (arith, low))
+
+-- ---- what a row writes
+
+pub div-up : (a b n : ℕ) → 0 < n → a ≤ b → a / n ≤ b / n
+div-up a b n some h = le-div (a / n) b n some (let s = div-mul-le_self a n in omega (arith, s, h))
+
+full-mono : (g : Geometry) (n k : ℕ) → full_below g n k ≤ full_below g (n + 1) k
+full-mono g n zero = omega arith
+full-mono g n (suc k) =
+    let i = full-mono g n k in
+    let d : run_len n k / block_cells g ≤ run_len (n + 1) k / block_cells g = div-up (run_len n k) (run_len (n + 1) k) (block_cells g) (pow_pos g.block_exp) (div-up n (n + 1) (8 ^ k) (eight-some k) (omega arith)) in
+    omega (arith, i, d)
+
+-- how many blocks the cells of one row more fill, of so many levels from the bottom on
+abbrev pub row_fills : Geometry → ℕ → ℕ → ℕ
+row_fills g n k = full_below g (n + 1) (min k (device_levels g)) - full_below g n (min k (device_levels g))
+
+fills-more : (g : Geometry) (n k : ℕ) → full_below g (n + 1) k - full_below g n k ≤ full_below g (n + 1) (suc k) - full_below g n (suc k)
+fills-more g n k =
+    let i = full-mono g n k in
+    let d : run_len n k / block_cells g ≤ run_len (n + 1) k / block_cells g = div-up (run_len n k) (run_len (n + 1) k) (block_cells g) (pow_pos g.block_exp) (div-up n (n + 1) (8 ^ k) (eight-some k) (omega arith)) in
+    omega (arith, i, d)
+
+fills-rise : (g : Geometry) (n d k : ℕ) → full_below g (n + 1) k - full_below g n k ≤ full_below g (n + 1) (d + k) - full_below g n (d + k)
+fills-rise g n zero k = let e : 0 + k ≡ k = omega arith in subst (λ (m : ℕ). full_below g (n + 1) k - full_below g n k ≤ full_below g (n + 1) m - full_below g n m) (sym e) (omega arith)
+fills-rise g n (suc d) k =
+    let i = fills-rise g n d k in
+    let m = fills-more g n (d + k) in
+    let e : suc d + k ≡ suc (d + k) = omega arith in
+    subst (λ (x : ℕ). full_below g (n + 1) k - full_below g n k ≤ full_below g (n + 1) x - full_below g n x) (sym e) (omega (arith, i, m))
+
+pub row_fills-most : (g : Geometry) (n k : ℕ) → row_fills g n k ≤ full_blocks g (n + 1) - full_blocks g n
+row_fills-most g n k =
+    let j : ℕ = min k (device_levels g) in
+    let rise = fills-rise g n (device_levels g - j) j in
+    let e : device_levels g - j + j ≡ device_levels g = omega arith in
+    subst (λ (m : ℕ). row_fills g n k ≤ full_below g (n + 1) m - full_below g n m) e rise
+
+-- a level more
+pub row_fills-next : (g : Geometry) (n k index : ℕ) → k ≤ g.bottom → IsExact n k index → row_fills g n k + filled_by g (g.bottom - k) index ≤ row_fills g n (k + 1)
+row_fills-next g n k index low exact = elim (cases_lt (g.bottom - k + 2) g.block_exp) [
+  | inl front ↦
+      let none : filled_by g (g.bottom - k) index ≡ 0 = choose-then (nat_lt (g.bottom - k + 2) g.block_exp) 0 ((index + 1) / block_cells g - index / block_cells g) (lt-ltb (g.bottom - k + 2) g.block_exp front) in
+      let a : min k (device_levels g) ≡ device_levels g = omega (arith, front, low) in
+      let b : min (k + 1) (device_levels g) ≡ device_levels g = omega (arith, front, low) in
+      let c : row_fills g n k ≡ row_fills g n (k + 1) = ap (λ (m : ℕ). full_below g (n + 1) m - full_below g n m) (a ∙ sym b) in
+      omega (arith, none, c)
+  | inr device ↦
+      let one : filled_by g (g.bottom - k) index ≡ (index + 1) / block_cells g - index / block_cells g =
+      choose-else (nat_lt (g.bottom - k + 2) g.block_exp) 0 ((index + 1) / block_cells g - index / block_cells g) (le-ltb (g.bottom - k + 2) g.block_exp device) in
+      let exp = g.block_fits.group in
+      let a : min k (device_levels g) ≡ k = omega (arith, device, low) in
+      let b : min (k + 1) (device_levels g) ≡ suc k = omega (arith, device, low) in
+      let x : row_fills g n k ≡ full_below g (n + 1) k - full_below g n k = ap (λ (m : ℕ). full_below g (n + 1) m - full_below g n m) a in
+      let y : row_fills g n (k + 1) ≡ full_below g (n + 1) (suc k) - full_below g n (suc k) = ap (λ (m : ℕ). full_below g (n + 1) m - full_below g n m) b in
+      let p : run_len n k / block_cells g ≡ index / block_cells g = ap (λ (m : ℕ). m / block_cells g) exact.old in
+      let q : run_len (n + 1) k / block_cells g ≡ (index + 1) / block_cells g = ap (λ (m : ℕ). m / block_cells g) exact.new in
+      let d : index / block_cells g ≤ (index + 1) / block_cells g = div-up index (index + 1) (block_cells g) (pow_pos g.block_exp) (omega arith) in
+      let i = full-mono g n k in
+      omega (arith, one, x, y, p, q, d, i)
+]
+
+-- a call that is allowed more
+pub called-within : {T E : Type 0} (result : Result T E) (before now : Counts) (reads writes others more : ℕ) → writes ≤ more → Called before now reads writes others result → Called before now reads more others result
+called-within result before now reads writes others more h c = record {
+  faults_stay = c.faults_stay;
+  cause = c.cause;
+  none_hidden = c.none_hidden;
+  reads_stay = c.reads_stay;
+  reads_rise = c.reads_rise;
+  writes_stay = c.writes_stay;
+  writes_rise = (let w = c.writes_rise in omega (arith, w, h));
+  others_stay = c.others_stay;
+  others_rise = c.others_rise;
+}
+
+-- nothing was called
+pub called-none : {T E : Type 0} (value : T) (counts : Counts) → Called {T = T} {E = E} counts counts 0 0 0 (Ok value)
+called-none value counts = record {
+  faults_stay = omega arith;
+  cause = tt;
+  none_hidden = refl;
+  reads_stay = omega arith;
+  reads_rise = omega arith;
+  writes_stay = omega arith;
+  writes_rise = omega arith;
+  others_stay = omega arith;
+  others_rise = omega arith;
+}
+
+-- ---- the loop over the levels
+
+pub same-two : (a b c : Loading) → SameRows a b → SameRows b c → SameRows a c
+same-two a b c x y = record { geometry = y.geometry ∙ x.geometry; last = y.last ∙ x.last; rows = y.rows ∙ x.rows; key = y.key ∙ x.key }
+
+pub front-two : (g : Geometry) (a b c : Option (List ℕ)) → Both a b (StaysInFront g) → Both b c (StaysInFront g) → Both a c (StaysInFront g)
+front-two g None None None h k = tt
+front-two g None None (Some z) h k = absurd k
+front-two g None (Some y) c h k = absurd h
+front-two g (Some x) None c h k = absurd h
+front-two g (Some x) (Some y) None h k = absurd k
+front-two g (Some x) (Some y) (Some z) h k = record { size_stays = k.size_stays ∙ h.size_stays; front_stays = k.front_stays ∙ h.front_stays }
+
+pub range-kept : (g : Geometry) (size : ℕ) (a b : Option (List ℕ)) → Both a b (StaysInFront g) → HasRange a 0 size → HasRange b 0 size
+range-kept g size None None h k = tt
+range-kept g size None (Some y) h k = absurd h
+range-kept g size (Some x) None h k = absurd h
+range-kept g size (Some x) (Some y) h k = let e = h.size_stays in omega (arith, e, k)
+
+-- the levels up to a height are done
+pub record IsRowed {D K : Type 0} (bytes : D → Option (List ℕ)) (counts : D → Counts) (kept : D → K) (old new : Loading) (before now : D) (row : Row) (done index : ℕ) : Type 0 where
+  pub exact : 8 ^ done * (index + 1) ≡ old.rows + 1
+  pub stays : SameRows old new
+  pub cells : Both (bytes before) (bytes now) (PutsAmid old new row done)
+  pub front : Both (bytes before) (bytes now) (StaysInFront old.geometry)
+  pub kept_stays : kept now ≡ kept before
+  pub called : Called {T = Unit {0}} {E = DeviceFault} (counts before) (counts now) 0 (row_fills old.geometry old.rows done) 0 (Ok (tt {0}))
+
+pub amid-told : {T : Type 0} (E : Type 0) (value : T) (old new next : Loading) (row : Row) (k index : ℕ) (a b c : Option (List ℕ)) → SameRows old new → SameRows new next → old.rows + 1 ≤ 2 ^ (old.geometry.bottom + 2) → k ≤ old.geometry.bottom
+    → 8 ^ k * (index + 1) ≡ old.rows + 1 → Both a b (PutsAmid old new row k) → Both b c (Puts {T = T} {E = E} (Ok value) new next (old.geometry.bottom - k) index (row_cell row k index)) → Both a c (PutsAmid old next row (k + 1))
+amid-told E value old new next row k index None None None first second few low is h p = tt
+amid-told E value old new next row k index None None (Some z) first second few low is h p = absurd p
+amid-told E value old new next row k index None (Some y) c first second few low is h p = absurd h
+amid-told E value old new next row k index (Some x) None c first second few low is h p = absurd h
+amid-told E value old new next row k index (Some x) (Some y) None first second few low is h p = absurd p
+amid-told E value old new next row k index (Some x) (Some y) (Some z) first second few low is h p = amid-next old new next row k index x y z first second few low is h p
+
+pub done-told : {T : Type 0} (E : Type 0) (value : T) (old new : Loading) (row : Row) (k : ℕ) (a b : Option (List ℕ)) → new.geometry ≡ old.geometry → ((height : ℕ) → height ≤ old.geometry.bottom → len_amid old.rows k height ≡ run_len (old.rows + 1) height)
+    → Both a b (PutsAmid old new row k) → Both a b (PutsRow {T = T} {E = E} (Ok value) old new row)
+done-told {T} E value old new row k a b geometry whole h =
+    both-so a b (PutsAmid old new row k) (PutsRow {T = T} {E = E} (Ok value) old new row) (λ x y cells. amid-end old new row k x y geometry whole cells) h
+
+pub row-room : (old : Loading) → old.rows < old.geometry.keys → old.rows + 1 ≤ 2 ^ (old.geometry.bottom + 2)
+row-room old few = let h = old.geometry.bottom_fits.holds in omega (arith, few, h)
+
+-- an index is within its slot
+pub index-fits : (old : Loading) (k index : ℕ) → old.rows < old.geometry.keys → k ≤ old.geometry.bottom → 8 ^ k * (index + 1) ≡ old.rows + 1 → index < slot_size (old.geometry.bottom - k)
+index-fits old k index few low is =
+    let exact = exact-of old.rows k index is in
+    let fits = run-fits (old.rows + 1) k (old.geometry.bottom - k) old.geometry.bottom (omega (arith, low)) (row-room old few) in
+    let new = exact.new in
+    omega (arith, fits, new)
+
+pub index-small : (old : Loading) (k index : ℕ) → old.rows < old.geometry.keys → 8 ^ k * (index + 1) ≡ old.rows + 1 → index < 2 ^ 24
+index-small old k index few is =
+    let exact = exact-of old.rows k index is in
+    let most : run_len old.rows k ≤ old.rows = run-most old.rows k in
+    let was = exact.old in
+    let keys : old.geometry.keys ≤ 2 ^ 24 = old.geometry.keys_in_range.few in
+    omega (arith, most, was, few, keys)
+
+-- one level is put
+module _ {D K : Type 0} (bytes : D → Option (List ℕ)) (counts : D → Counts) (kept : D → K) (old new next : Loading) (before now after : D) (row : Row) (k index level : ℕ) (cell : Cell)
+    (rowed : IsRowed bytes counts kept old new before now row k index) (few : old.rows < old.geometry.keys) (low : k ≤ old.geometry.bottom) (level_is : level ≡ old.geometry.bottom - k)
+    (cell_is : cell ≡ row_cell row k index) (stays : SameRows new next) where
+  pub next-called : {T : Type 0} (result : Result T DeviceFault) → Called (counts now) (counts after) 0 (filled_by new.geometry level index) 0 result
+      → Called (counts before) (counts after) 0 (row_fills old.geometry old.rows (k + 1)) 0 result
+  next-called result c =
+      let here : Called (counts now) (counts after) 0 (filled_by old.geometry (old.geometry.bottom - k) index) 0 result =
+      subst (λ (l : ℕ). Called (counts now) (counts after) 0 (filled_by old.geometry l index) 0 result) level_is
+      (subst (λ (g : Geometry). Called (counts now) (counts after) 0 (filled_by g level index) 0 result) rowed.stays.geometry c) in
+      called-within result (counts before) (counts after) 0 (row_fills old.geometry old.rows k + filled_by old.geometry (old.geometry.bottom - k) index) 0 (row_fills old.geometry old.rows (k + 1))
+      (row_fills-next old.geometry old.rows k index low (exact-of old.rows k index rowed.exact))
+      (called_two (tt {0}) result (counts before) (counts now) (counts after) 0 (row_fills old.geometry old.rows k) 0 0 (filled_by old.geometry (old.geometry.bottom - k) index) 0 rowed.called here)
+
+  pub next-called-all : {T : Type 0} (result : Result T DeviceFault) → Called (counts now) (counts after) 0 (filled_by new.geometry level index) 0 result
+      → Called (counts before) (counts after) 0 (full_blocks old.geometry (old.rows + 1) - full_blocks old.geometry old.rows) 0 result
+  next-called-all result c =
+      called-within result (counts before) (counts after) 0 (row_fills old.geometry old.rows (k + 1)) 0 (full_blocks old.geometry (old.rows + 1) - full_blocks old.geometry old.rows)
+      (row_fills-most old.geometry old.rows (k + 1)) (next-called result c)
+
+  pub next-cells : {T : Type 0} (value : T) → Both (bytes now) (bytes after) (Puts {T = T} {E = DeviceFault} (Ok value) new next level index cell) → Both (bytes before) (bytes after) (PutsAmid old next row (k + 1))
+  next-cells {T} value puts =
+      amid-told DeviceFault value old new next row k index (bytes before) (bytes now) (bytes after) rowed.stays stays (row-room old few) low rowed.exact rowed.cells
+      (subst (λ (c : Cell). Both (bytes now) (bytes after) (Puts {T = T} {E = DeviceFault} (Ok value) new next (old.geometry.bottom - k) index c)) cell_is
+      (subst (λ (l : ℕ). Both (bytes now) (bytes after) (Puts {T = T} {E = DeviceFault} (Ok value) new next l index cell)) level_is puts))
+
+  pub next-front : Both (bytes now) (bytes after) (StaysInFront new.geometry) → Both (bytes before) (bytes after) (StaysInFront old.geometry)
+  next-front front =
+      front-two old.geometry (bytes before) (bytes now) (bytes after) rowed.front (subst (λ (g : Geometry). Both (bytes now) (bytes after) (StaysInFront g)) rowed.stays.geometry front)
+
+  pub next-done : {T : Type 0} (value : T) → ((index + 1) % 8 ≡ 0 → ⊥) → Both (bytes now) (bytes after) (Puts {T = T} {E = DeviceFault} (Ok value) new next level index cell)
+      → Both (bytes before) (bytes after) (PutsRow {T = T} {E = DeviceFault} (Ok value) old next row)
+  next-done value rest puts =
+      done-told DeviceFault value old next row (k + 1) (bytes before) (bytes after) (stays.geometry ∙ rowed.stays.geometry)
+      (λ height low_h. amid-whole old.rows k index (exact-of old.rows k index rowed.exact) rest height) (next-cells value puts)
+
+  pub next-rowed : (value : Unit {0}) → (index + 1) % 8 ≡ 0 → Both (bytes now) (bytes after) (Puts {T = Unit {0}} {E = DeviceFault} (Ok value) new next level index cell)
+      → Both (bytes now) (bytes after) (StaysInFront new.geometry) → kept after ≡ kept now
+      → Called {T = Unit {0}} {E = DeviceFault} (counts now) (counts after) 0 (filled_by new.geometry level index) 0 (Ok value)
+      → IsRowed bytes counts kept old next before after row (k + 1) (index / 8)
+  next-rowed value whole puts front keeps called = record {
+    exact = exact-next old.rows k index rowed.exact whole;
+    stays = same-two old new next rowed.stays stays;
+    cells = next-cells value puts;
+    front = next-front front;
+    kept_stays = keeps ∙ rowed.kept_stays;
+    called = next-called (Ok value) called;
+  }

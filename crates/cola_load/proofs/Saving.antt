@@ -1,0 +1,282 @@
+-- What is left of a load: the blocks that are not full, and the front.
+use Rattle.std.proofs.Common.{◌≡◌, ◌≢◌, ◌⊎◌, inl, inr, ℕ, ◌+◌, ◌-◌, ◌*◌, ◌/◌, ◌%◌, ◌^◌, ◌<◌, ◌≤◌, List, length, take, Option, None, Some, Result, Ok, Err, refl, sym, ap, subst, ◌∙◌, arith, append_assoc}
+use Rattle.std.specs.Prelude.{OnOk}
+use Rattle.std.proofs.lemmas.Bool.{cases_lt, cases_eq}
+use Rattle.std.proofs.lemmas.List.{take_at}
+use Rattle.std.proofs.lemmas.Nat.{pow_pos}
+use Rattle.cola_outside.specs.Told.{Both}
+use Rattle.cola_cell.specs.declared.format.Format.{Format}
+use Rattle.cola_cell.specs.Decoded.{decoded}
+use Rattle.cola_cell.specs.Format.{width}
+use Rattle.cola_cell.specs.Places.{number_of, slot_size}
+use Rattle.cola_device.specs.declared.counts.Counts.{Counts}
+use Rattle.cola_device.specs.declared.device.DeviceFault.{DeviceFault}
+use Rattle.cola_device.specs.Bytes.{splice, HasRange, Wrote, WroteSome}
+use Rattle.cola_device.specs.Counts.{Called}
+use Rattle.cola_device.proofs.BytesLemmas.{length-splice, part-splice_above}
+use Rattle.cola_front.specs.Front.{IsFront, block_size, cell_at, cell_bytes, image}
+use Rattle.cola_layout.specs.declared.geometry.Geometry.{Geometry}
+use Rattle.cola_layout.specs.Header.{IsSpelling}
+use Rattle.cola_device.proofs.ToldLemmas.{length-WroteSome}
+use Rattle.cola_layout.proofs.Places.{front-below, device-behind, place-behind, slot-blocks}
+use Rattle.cola_layout.proofs.Powers.{next_power}
+use Rattle.cola_run.specs.Cells.{block_cells, block_bytes, block_number, file_bytes, device_levels}
+use Rattle.cola_run.specs.Parts.{tail_of, WroteTail}
+use Rattle.cola_run.proofs.Bytes.{room-of, room-sum}
+use Rattle.cola_run.proofs.Flushes.{image-many, written-loaded}
+use Rattle.cola_run.proofs.Heads.{head-long}
+use Rattle.cola_run.proofs.Numbers.{first-place}
+use Rattle.cola_run.proofs.Spots.{both-same}
+use Rattle.cola_run.proofs.Steps.{tail-many, tail-cell, written-many, written-there, written-stays}
+use Rattle.cola_load.specs.Filled.{Row, run_len, filled_cell, filled_header, IsFilled}
+use Rattle.cola_load.specs.Loading.{Loading, IsLoading, HoldsRows, HasSaved, Finishes, standing_cell}
+use Rattle.cola_load.proofs.Lengths.{run-fits}
+use Rattle.cola_load.proofs.Placing.{on-level, in-slot, stands-front, stands-tail, stands-block}
+
+-- the length of a level's run, and that it fits
+module _ (loading : Loading) (level : ℕ) (low : level ≤ loading.geometry.bottom) (few : loading.rows ≤ loading.geometry.keys) where
+  abbrev g : Geometry
+  g = loading.geometry
+
+  abbrev len : ℕ
+  len = run_len loading.rows (g.bottom - level)
+
+  pub len-fits : len ≤ slot_size level
+  len-fits = let h = g.bottom_fits.holds in run-fits loading.rows (g.bottom - level) level g.bottom (omega (arith, low)) (omega (arith, few, h))
+
+-- a level whose blocks are full has nothing left
+module _ (loading : Loading) (level : ℕ) (high : loading.geometry.block_exp ≤ level + 2) (low : level ≤ loading.geometry.bottom) (few : loading.rows ≤ loading.geometry.keys) where
+  abbrev h : Geometry
+  h = loading.geometry
+
+  abbrev n : ℕ
+  n = run_len loading.rows (h.bottom - level)
+
+  pub save-full : (before old : List ℕ) → n % block_cells h ≡ 0 → HasSaved loading level before old → HasSaved loading (level + 1) before old
+  save-full before old full was = record {
+    many = was.many;
+    saved = λ l i high_l below low_l within. elim (cases_eq l level) [
+      | inl here ↦
+          let at : i < n = subst (λ (x : ℕ). i < run_len loading.rows (h.bottom - x)) here within in
+          let fits = len-fits loading level low few in
+          let behind : i / block_cells h ≢ n / block_cells h = λ e. (let f = first-place (block_cells h) i n (pow_pos h.block_exp) e full in omega (arith, f, at)) in
+          ap (λ (x : ℕ). decoded h.format (cell_bytes h.format old (number_of x 0 i))) here
+          ∙ ap (λ (xs : List ℕ). decoded h.format xs) (was.rest level i high (omega arith) low (omega (arith, at, fits)))
+          ∙ sym (stands-block loading before n level i high behind)
+          ∙ ap (λ (x : ℕ). standing_cell loading before (run_len loading.rows (h.bottom - x)) x i) (sym here)
+      | inr apart ↦ was.saved l i high_l (omega (arith, below, apart)) low_l within
+    ];
+    rest = λ l i high_l above low_l within. was.rest l i high_l (omega (arith, above)) low_l within;
+  }
+
+  -- a block that is not full was written
+  pub save-part : (before old now : List ℕ) → n < slot_size level → file_bytes h ≤ length old
+      → length loading.tails ≡ width h.format * (block_cells h * device_levels h)
+      → now ≡ splice old (block_number h level 0 n * block_bytes h) (tail_of h loading.tails level) → HasSaved loading level before old → HasSaved loading (level + 1) before now
+  save-part before old now within_n long many stays was =
+      let on = on-level h level high low in
+      let tail = tail-many h loading.tails level h.block_fits on many in
+      let place = in-slot h.bottom level n low within_n in
+      let others : (l i : ℕ) → h.block_exp ≤ l + 2 → l ≤ h.bottom → i < slot_size l → (l ≢ level) ⊎ (0 ≢ 0) ⊎ (i / block_cells h ≢ n / block_cells h) →
+      cell_bytes h.format now (number_of l 0 i) ≡ cell_bytes h.format old (number_of l 0 i) =
+      λ l i high_l low_l inside apart. ap (λ (xs : List ℕ). cell_bytes h.format xs (number_of l 0 i)) stays
+      ∙ written-stays h h.block_fits level 0 n high place old (tail_of h loading.tails level) long tail l 0 i high_l (in-slot h.bottom l i low_l inside) apart in
+      let here-saved : (i : ℕ) → i < n → decoded h.format (cell_bytes h.format now (number_of level 0 i)) ≡ standing_cell loading before n level i =
+      λ i at. elim (cases_eq (i / block_cells h) (n / block_cells h)) [
+        | inl same ↦
+            ap (λ (xs : List ℕ). decoded h.format xs)
+            (ap (λ (xs : List ℕ). cell_bytes h.format xs (number_of level 0 i)) stays
+            ∙ written-there h h.block_fits level 0 n high place old (tail_of h loading.tails level) long tail i same ∙ tail-cell h loading.tails level i)
+            ∙ sym (stands-tail loading before n level i high same)
+        | inr other ↦
+            ap (λ (xs : List ℕ). decoded h.format xs) (others level i high low (omega (arith, at, within_n)) (inr (inr other)) ∙ was.rest level i high (omega arith) low (omega (arith, at, within_n)))
+            ∙ sym (stands-block loading before n level i high other)
+      ] in
+      record {
+        many = ap (λ (xs : List ℕ). length xs) stays ∙ written-many h h.block_fits level 0 n high place old (tail_of h loading.tails level) long tail ∙ was.many;
+        saved = λ l i high_l below low_l within. elim (cases_eq l level) [
+          | inl here ↦
+              ap (λ (x : ℕ). decoded h.format (cell_bytes h.format now (number_of x 0 i))) here
+              ∙ here-saved i (subst (λ (x : ℕ). i < run_len loading.rows (h.bottom - x)) here within)
+              ∙ ap (λ (x : ℕ). standing_cell loading before (run_len loading.rows (h.bottom - x)) x i) (sym here)
+          | inr apart ↦
+              let fits = len-fits loading l low_l few in
+              ap (λ (xs : List ℕ). decoded h.format xs) (others l i high_l low_l (omega (arith, within, fits)) (inl apart))
+              ∙ was.saved l i high_l (omega (arith, below, apart)) low_l within
+        ];
+        rest = λ l i high_l above low_l within. others l i high_l low_l within (inl (λ e. omega (arith, e, above))) ∙ was.rest l i high_l (omega (arith, above)) low_l within;
+      }
+
+  -- the same where bytes are told
+  pub saves-kept : (told : Option (List ℕ)) → n % block_cells h ≡ 0 → Both told told (λ old new. (before : List ℕ) → HasSaved loading level before old → HasSaved loading (level + 1) before new)
+  saves-kept told full = both-same told (λ old new. (before : List ℕ) → HasSaved loading level before old → HasSaved loading (level + 1) before new) (λ x before was. save-full before x full was)
+
+  pub saves-written : {T E : Type 0} (result : Result T E) (a b : Option (List ℕ)) → n < slot_size level → length loading.tails ≡ width h.format * (block_cells h * device_levels h)
+      → HasRange a 0 (file_bytes h) → WroteTail result h loading.tails level 0 n a b → Both a b (λ old new. (before : List ℕ) → HasSaved loading level before old → OnOk result (HasSaved loading (level + 1) before new))
+  saves-written result None None within_n many inside wrote = tt
+  saves-written result None (Some y) within_n many inside wrote = absurd wrote
+  saves-written result (Some x) None within_n many inside wrote = absurd wrote
+  saves-written (Err fault) (Some x) (Some y) within_n many inside wrote = λ before was. tt
+  saves-written {T} {E} (Ok value) (Some x) (Some y) within_n many inside wrote =
+      let w : WroteSome {T = T} {E = E} (Ok value) (block_number h level 0 n * block_bytes h) (tail_of h loading.tails level) x y = wrote in
+      λ before was. save-part before x y within_n (omega (arith, inside)) many
+      (w.others_stay ∙ ap (λ (left : List ℕ). splice x (block_number h level 0 n * block_bytes h) left) w.exact) was
+
+-- a run that has a part of a block is shorter than its slot
+pub part-fits : (loading : Loading) (level : ℕ) → loading.geometry.block_exp ≤ level + 2 → level ≤ loading.geometry.bottom → loading.rows ≤ loading.geometry.keys
+    → (run_len loading.rows (loading.geometry.bottom - level) % block_cells loading.geometry ≡ 0 → ⊥) → run_len loading.rows (loading.geometry.bottom - level) < slot_size level
+part-fits loading level high low few part =
+    let fits = len-fits loading level low few in
+    elim (cases_eq (run_len loading.rows (loading.geometry.bottom - level)) (slot_size level)) [
+      | inl full ↦ absurd (part (ap (λ (x : ℕ). x % block_cells loading.geometry) full ∙ (slot-blocks loading.geometry.block_exp level 0 high).1))
+      | inr apart ↦ omega (arith, fits, apart)
+    ]
+
+-- before the first level on the device nothing is saved
+pub save-none : (loading : Loading) (level : ℕ) (x : List ℕ) → level + 2 ≤ loading.geometry.block_exp → HasSaved loading level x x
+save-none loading level x first = record {
+  many = refl;
+  saved = λ l i high below low within. absurd (omega (arith, high, below, first));
+  rest = λ l i high above low within. refl;
+}
+
+-- ---- the header and the front
+
+-- bytes over which the front was stored
+module _ (loading : Loading) (header old : List ℕ) (is : IsFront loading.front) (sound : IsLoading loading) (head : length header ≡ 512) (long : file_bytes loading.geometry ≤ length old) where
+  abbrev k : Geometry
+  k = loading.geometry
+
+  abbrev new : List ℕ
+  new = splice old 0 (image loading.front header)
+
+  size-is : block_size loading.front ≡ block_bytes k
+  size-is = ap (λ (f : Format). width f * loading.front.block) sound.format ∙ ap (λ (b : ℕ). width k.format * b) sound.block
+
+  pub whole-image : length (image loading.front header) ≡ 2 * block_bytes k
+  whole-image = let m = image-many loading.front header is head in let e = size-is in omega (arith, m, e)
+
+  room : 2 * block_bytes k ≤ length old
+  room = let l = head-long k k.block_fits in omega (arith, l, long)
+
+  pub stored-many : length new ≡ length old
+  stored-many = length-splice old 0 (image loading.front header) (let w = whole-image in let r = room in omega (arith, w, r))
+
+  pub stored-head : take 512 new ≡ header
+  stored-head =
+      ap (λ (xs : List ℕ). take 512 xs) (append_assoc header _ _) ∙ take_at header _ 512 head
+
+  pub stored-front : (level index : ℕ) → level + 2 < k.block_exp → index < slot_size level
+      → decoded k.format (cell_bytes k.format new (number_of level 0 index)) ≡ cell_at loading.front (number_of level 0 index)
+  stored-front level index low within =
+      let below : number_of level 0 index < 2 ^ (k.block_exp + 1) = front-below k.block_exp level 0 index (omega arith) within low in
+      let twice : 2 ^ (k.block_exp + 1) ≡ 2 ^ k.block_exp + 2 ^ k.block_exp = next_power k.block_exp (k.block_exp + 1) (omega arith) in
+      let block = sound.block in
+      let e = size-is in
+      let r = room in
+      subst (λ (f : Format). decoded f (cell_bytes f new (number_of level 0 index)) ≡ cell_at loading.front (number_of level 0 index)) sound.format
+      (sym (written-loaded loading.front header old is head (omega (arith, e, r)) (number_of level 0 index) (place-behind level 0 index) (omega (arith, below, twice, block))))
+
+  pub stored-behind : (level index : ℕ) → k.block_exp ≤ level + 2 → cell_bytes k.format new (number_of level 0 index) ≡ cell_bytes k.format old (number_of level 0 index)
+  stored-behind level index high =
+      let far : 2 ^ (k.block_exp + 1) ≤ number_of level 0 index = device-behind k.block_exp level 0 index high in
+      let twice : 2 ^ (k.block_exp + 1) ≡ 2 ^ k.block_exp + 2 ^ k.block_exp = next_power k.block_exp (k.block_exp + 1) (omega arith) in
+      let more = room-of k.format (2 ^ k.block_exp + 2 ^ k.block_exp) (number_of level 0 index) (omega (arith, far, twice)) in
+      let sum = room-sum k.format (2 ^ k.block_exp) (2 ^ k.block_exp) in
+      let w = whole-image in
+      part-splice_above old 0 (image loading.front header) (width k.format * number_of level 0 index) (width k.format) (omega arith) (omega (arith, more, sum, w))
+
+  -- where the cells behind it were saved, the file is filled
+  pub stored-filled : (rows : List Row) (before : List ℕ) → IsSpelling (filled_header k loading.last loading.rows) header → HasSaved loading (k.bottom + 1) before old → HoldsRows loading before rows
+      → IsFilled k loading.last rows new
+  stored-filled rows before spelled was held = record {
+    header = subst (λ (m : ℕ). IsSpelling (filled_header k loading.last m) (take 512 new)) held.many
+        (subst (λ (xs : List ℕ). IsSpelling (filled_header k loading.last loading.rows) xs) (sym stored-head) spelled);
+    cells = λ level index low within.
+        let height : ℕ = k.bottom - level in
+        let inside : index < run_len loading.rows height = subst (λ (m : ℕ). index < run_len m height) (sym held.many) within in
+        let back : k.bottom - height ≡ level = omega (arith, low) in
+        let fits = len-fits loading level low sound.few in
+        let there : standing_cell loading before (run_len loading.rows height) level index ≡ Some (filled_cell rows height index) =
+        ap (λ (l : ℕ). standing_cell loading before (run_len loading.rows height) l index) (sym back) ∙ held.cells height index (omega arith) inside in
+        elim (cases_lt (level + 2) k.block_exp) [
+          | inl front ↦
+              stored-front level index front (omega (arith, inside, fits))
+              ∙ sym (stands-front loading before (run_len loading.rows height) level index front) ∙ there
+          | inr high ↦
+              ap (λ (xs : List ℕ). decoded k.format xs) (stored-behind level index high)
+              ∙ was.saved level index high (omega (arith, low)) low inside ∙ there
+        ];
+    whole = stored-many ∙ was.many ∙ held.size;
+  }
+
+-- the front that was stored, where bytes are told
+pub finishes-by : {T R : Type 0} (E F : Type 0) (value : T) (done : R) (loading : Loading) (header : List ℕ) (a b : Option (List ℕ)) → IsFront loading.front → IsLoading loading → length header ≡ 512 → HasRange a 0 (file_bytes loading.geometry)
+    → IsSpelling (filled_header loading.geometry loading.last loading.rows) header → Wrote {T = T} {E = E} (Ok value) 0 (image loading.front header) a b
+    → Both a b (λ old new. (before : List ℕ) → HasSaved loading (loading.geometry.bottom + 1) before old → Finishes {T = R} {E = F} (Ok done) loading before new)
+finishes-by E F value done loading header None None is sound head inside spelled wrote = tt
+finishes-by E F value done loading header None (Some y) is sound head inside spelled wrote = absurd wrote
+finishes-by E F value done loading header (Some x) None is sound head inside spelled wrote = absurd wrote
+finishes-by {T} {R} E F value done loading header (Some x) (Some y) is sound head inside spelled wrote =
+    let w : WroteSome {T = T} {E = E} (Ok value) 0 (image loading.front header) x y = wrote in
+    let at : y ≡ splice x 0 (image loading.front header) = w.others_stay ∙ ap (λ (left : List ℕ). splice x 0 left) w.exact in
+    λ before was rows held. subst (λ (z : List ℕ). IsFilled loading.geometry loading.last rows z) (sym at)
+    (stored-filled loading header x is sound head (omega (arith, inside)) rows before spelled was held)
+
+-- a store of the front keeps the size
+pub stored-size : {T E : Type 0} (result : Result T E) (loading : Loading) (header : List ℕ) (a b : Option (List ℕ)) → IsFront loading.front → IsLoading loading → length header ≡ 512 → HasRange a 0 (file_bytes loading.geometry)
+    → Wrote result 0 (image loading.front header) a b → Both a b (λ old new. length new ≡ length old)
+stored-size result loading header None None is sound head inside wrote = tt
+stored-size result loading header None (Some y) is sound head inside wrote = absurd wrote
+stored-size result loading header (Some x) None is sound head inside wrote = absurd wrote
+stored-size result loading header (Some x) (Some y) is sound head inside wrote =
+    let w : WroteSome result 0 (image loading.front header) x y = wrote in
+    let m = whole-image loading header x is sound head (omega (arith, inside)) in
+    let l = head-long loading.geometry loading.geometry.block_fits in
+    length-WroteSome w (omega (arith, m, l, inside))
+
+-- ---- the loop over the levels on the device
+
+-- the levels on the device up to one were written
+pub record IsSaving {D K : Type 0} (bytes : D → Option (List ℕ)) (counts : D → Counts) (kept : D → K) (loading : Loading) (before now : D) (level : ℕ) : Type 0 where
+  pub saved : Both (bytes before) (bytes now) (HasSaved loading level)
+  pub kept_stays : kept now ≡ kept before
+  pub called : Called {T = Unit {0}} {E = DeviceFault} (counts before) (counts now) 0 (level + 2 - loading.geometry.block_exp) 0 (Ok (tt {0}))
+
+pub saving-range : (loading : Loading) (level size : ℕ) (a b : Option (List ℕ)) → Both a b (HasSaved loading level) → HasRange a 0 size → HasRange b 0 size
+saving-range loading level size None None was more = tt
+saving-range loading level size None (Some y) was more = absurd was
+saving-range loading level size (Some x) None was more = absurd was
+saving-range loading level size (Some x) (Some y) was more = let e = was.many in omega (arith, e, more)
+
+pub saving-size : (loading : Loading) (level : ℕ) (a b c : Option (List ℕ)) → Both a b (HasSaved loading level) → Both b c (λ old new. length new ≡ length old) → Both a c (λ old new. length new ≡ length old)
+saving-size loading level None None None was more = tt
+saving-size loading level None None (Some z) was more = absurd more
+saving-size loading level None (Some y) c was more = absurd was
+saving-size loading level (Some x) None c was more = absurd was
+saving-size loading level (Some x) (Some y) None was more = absurd more
+saving-size loading level (Some x) (Some y) (Some z) was more = more ∙ was.many
+
+-- the front has room in the file
+pub front-room : (loading : Loading) (told : Option (List ℕ)) → IsLoading loading → HasRange told 0 (file_bytes loading.geometry) → HasRange told 0 (2 * block_size loading.front)
+front-room loading None sound inside = tt
+front-room loading (Some x) sound inside =
+    let size : block_size loading.front ≡ block_bytes loading.geometry =
+    ap (λ (f : Format). width f * loading.front.block) sound.format ∙ ap (λ (b : ℕ). width loading.geometry.format * b) sound.block in
+    let l = head-long loading.geometry loading.geometry.block_fits in
+    omega (arith, size, l, inside)
+
+-- what is left of a load, done in two parts
+pub finishes-two : {T E : Type 0} (result : Result T E) (loading : Loading) (a b settled c : Option (List ℕ)) → settled ≡ b → Both a b (HasSaved loading (loading.geometry.bottom + 1))
+    → Both settled c (λ old new. (before : List ℕ) → HasSaved loading (loading.geometry.bottom + 1) before old → Finishes result loading before new) → Both a c (Finishes result loading)
+finishes-two result loading a b settled c same saved more =
+    by-told a b c saved (subst (λ (z : Option (List ℕ)). Both z c (λ old new. (before : List ℕ) → HasSaved loading (loading.geometry.bottom + 1) before old → Finishes result loading before new)) same more)
+  where
+    by-told : (a b c : Option (List ℕ)) → Both a b (HasSaved loading (loading.geometry.bottom + 1))
+        → Both b c (λ old new. (before : List ℕ) → HasSaved loading (loading.geometry.bottom + 1) before old → Finishes result loading before new) → Both a c (Finishes result loading)
+    by-told None None None was next = tt
+    by-told None None (Some z) was next = absurd next
+    by-told None (Some y) c was next = absurd was
+    by-told (Some x) None c was next = absurd was
+    by-told (Some x) (Some y) None was next = absurd next
+    by-told (Some x) (Some y) (Some z) was next = next x was

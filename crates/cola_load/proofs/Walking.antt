@@ -1,0 +1,83 @@
+-- A file that is filled with the pairs of runs.
+use Rattle.std.proofs.Common.{◌≡◌, ℕ, List, ◌∷◌, Option, Some, None, Ok, Err, sym, subst, ◌∙◌}
+use Rattle.std.specs.Prelude.{IfSome}
+use Rattle.cola_outside.specs.Told.{Both}
+use Rattle.cola_cell.specs.declared.cell.Run.{Run}
+use Rattle.cola_cell.specs.Held.{Held, LawCell}
+use Rattle.cola_cell.specs.Order.{key_cmp}
+use Rattle.cola_cursor.specs.declared.cursor.Cursor.{Cursor}
+use Rattle.cola_cursor.specs.Seeking.{HasBadRun}
+use Rattle.cola_cursor.specs.Standing.{Ahead, AreSearched, runs_of}
+use Rattle.cola_layout.specs.declared.geometry.Geometry.{Geometry}
+use Rattle.cola_look.specs.Runs.{AreRuns}
+use Rattle.cola_pairs.specs.Live.{live, between}
+use Rattle.cola_table.specs.Terms.{shape_of}
+use Rattle.cola_load.specs.declared.fault.GrowFault.{GrowFault}
+use Rattle.cola_load.specs.declared.fault.GrowFault.TheVariants.{Small, NotStore, NotClosed, Fewer, OutOfMemory, BadCell, NotEmpty, Disorder, Device}
+use Rattle.cola_load.specs.Filled.{Row, AreRows, IsFilled}
+use Rattle.cola_load.specs.Loading.{Loading, HoldsRows, Finishes}
+use Rattle.cola_load.specs.Growing.{AreValuesOf, least, CopiesAll, IsWalked, Walks}
+
+-- what a finished file has, where the device tells its bytes
+finished : {T : Type 0} (E : Type 0) (value : T) (loading : Loading) (rows : List Row) (geometry : Geometry) (last : ℕ) (told now : Option (List ℕ)) → loading.geometry ≡ geometry → loading.last ≡ last →
+    IfSome told (λ bytes. HoldsRows loading bytes rows) → Both told now (Finishes {T = T} {E = E} (Ok value) loading) → IfSome now (λ bytes. IsFilled geometry last rows bytes)
+finished E value loading rows geometry last None None same final holds finishes = tt
+finished E value loading rows geometry last None (Some y) same final holds finishes = absurd finishes
+finished E value loading rows geometry last (Some x) None same final holds finishes = tt
+finished E value loading rows geometry last (Some x) (Some y) same final holds finishes =
+    subst (λ (n : ℕ). IsFilled geometry n rows y) final (subst (λ (g : Geometry). IsFilled g loading.last rows y) same (finishes rows holds))
+
+rows-told : {T : Type 0} (E : Type 0) (value : T) (loading : Loading) (rows : List Row) (geometry : Geometry) (last : ℕ) (told now : Option (List ℕ)) → loading.geometry ≡ geometry → loading.last ≡ last →
+    IfSome told (λ bytes. HoldsRows loading bytes rows) → Both told now (Finishes {T = T} {E = E} (Ok value) loading) → IfSome now (λ bytes. AreRows (shape_of geometry.format geometry.keys) last rows)
+rows-told E value loading rows geometry last None None same final holds finishes = tt
+rows-told E value loading rows geometry last None (Some y) same final holds finishes = absurd finishes
+rows-told E value loading rows geometry last (Some x) None same final holds finishes = tt
+rows-told E value loading rows geometry last (Some x) (Some y) same final holds finishes =
+    subst (λ (n : ℕ). AreRows (shape_of geometry.format geometry.keys) n rows) final (subst (λ (g : Geometry). AreRows (shape_of g.format g.keys) loading.last rows) same holds.are_rows)
+
+module _ (held other : Held) (same : other ≡ held) (runs : List Run) (key : List ℕ) (key-is : key ≡ least) (cursor : Cursor) (begins : runs_of cursor.lines.items ≡ runs)
+    (found : (lists : List (List LawCell)) → AreRuns held runs lists → AreSearched key lists → Ahead held cursor (live key_cmp (between key_cmp key None) lists)) (geometry : Geometry) (last : ℕ) where
+  ahead : (lists : List (List LawCell)) → AreRuns held runs lists → AreSearched least lists → Ahead other cursor (live key_cmp (between key_cmp least None) lists)
+  ahead lists told searched =
+      subst (λ (h : Held). Ahead h cursor (live key_cmp (between key_cmp least None) lists)) (sym same)
+      (subst (λ (k : List ℕ). AreSearched k lists → Ahead held cursor (live key_cmp (between key_cmp k None) lists)) key-is (found lists told) searched)
+
+  values : (rows : List Row) → AreValuesOf other.spots (runs_of cursor.lines.items) rows → AreValuesOf held.spots runs rows
+  values rows given = subst (λ (rs : List Run). AreValuesOf held.spots rs rows) begins (subst (λ (h : Held). AreValuesOf h.spots (runs_of cursor.lines.items) rows) same given)
+
+  pub fill-refused : (after : Cursor) (loading : Loading) (told : Option (List ℕ)) (fault : GrowFault) → CopiesAll other cursor geometry last after loading told (Err fault) → Walks held runs geometry last told (Err fault)
+  fill-refused after loading told Small all = all
+  fill-refused after loading told NotStore all = all
+  fill-refused after loading told NotClosed all = all
+  fill-refused after loading told (Fewer count) all = all
+  fill-refused after loading told OutOfMemory all = all
+  fill-refused after loading told (BadCell number) all =
+      (subst (λ (rs : List Run). HasBadRun held number rs) begins (subst (λ (h : Held). HasBadRun h number (runs_of cursor.lines.items)) same all.0), all.1)
+  fill-refused after loading told NotEmpty all = all
+  fill-refused after loading told (Disorder number) all = (
+    all.0,
+    record {
+      row = all.1.row;
+      number_is = all.1.number_is;
+      breaks = all.1.breaks;
+      pairs_are = λ lists are searched. all.1.gave (live key_cmp (between key_cmp least None) lists) (ahead lists are searched);
+      given = values (all.1.row ∷ all.0) all.1.given;
+      headless = all.1.headless;
+    },
+  )
+  fill-refused after loading told Device all = tt
+
+  pub fill-walked : {T : Type 0} (E : Type 0) (value : T) (after : Cursor) (loading : Loading) (told now : Option (List ℕ)) (found count : ℕ) → CopiesAll other cursor geometry last after loading told (Ok found) →
+      loading.geometry ≡ geometry → loading.last ≡ last → count ≡ loading.rows → Both told now (Finishes {T = T} {E = E} (Ok value) loading) → (rows : List Row) × IsWalked held runs geometry last now rows count
+  fill-walked E value after loading told now found count all geometry-is last-is count-is finishes =
+      let rows = all.0 in
+      let copied = all.1.1.0 in (
+        rows,
+        record {
+          count_is = count-is ∙ copied.many;
+          are_rows = rows-told E value loading rows geometry last told now geometry-is last-is copied.holds finishes;
+          filled = finished E value loading rows geometry last told now geometry-is last-is copied.holds finishes;
+          pairs_are = λ lists are searched. all.1.1.1 (live key_cmp (between key_cmp least None) lists) (ahead lists are searched);
+          given = values rows copied.given;
+        },
+      )

@@ -1,0 +1,15 @@
+use Rattle.std.proofs.Common.{◌≡◌, ◌+◌, ℕ, ap, subst, arith}
+use Rattle.cola_outside.specs.Told.{Both}
+use Rattle.cola_load.specs.Loading.{Loading, HasSaved}
+use Rattle.cola_load.proofs.loader.Loader.write_tails.Goals as goal
+
+pub returns-clause-saves : goal.returns-clause-saves
+returns-clause-saves g c =
+    let self = c.args.self.now in
+    let over = c.loop-level-test.false in
+    let end = c.levels-level-end.ensures.value in
+    let front = c.front_levels-level.ensures.within in
+    let most = c.loop-level.auto.level-end in
+    let deep : c.self.inside.geometry.bottom ≡ self.geometry.bottom = ap (λ (z : Loading). z.geometry.bottom) c.self.view_is in
+    let at : c.loop-level.level ≡ self.geometry.bottom + 1 = omega (arith, over, end, front, most, deep) in
+    subst (λ (k : ℕ). Both (g.D.Device.bytes c.args.device.now) (g.D.Device.bytes c.loop-level.device) (HasSaved self k)) at c.loop-level.invariant.saved
