@@ -102,6 +102,16 @@ check 'sorted pairs are loaded' replies 0 'loaded 3,' "$(tr '\n' ',' <sorted)" l
 check 'and found' replies 0 'val 2,' 'get fig,' run fruit
 check 'a line that is no row ends a load' replies 14 'bad 2,' 'row a 1,put b 2,' load none --keys 10
 check 'and its file is no store' replies 6 '' 'count,' run none
+# At a terminal the launcher says how far a long load is, and the program reads its input all the same.
+if command -v script >/dev/null; then
+    { echo 'row a 1'; head -c 68000000 /dev/zero | tr '\0' '\n'; echo 'row b 2'; } >long
+    script -qec "'$root/cola' load late --keys 10 <long" /dev/null >"$room/out" 2>"$room/err"
+    check 'a long load at a terminal reads its input' grep -q 'loaded 2' "$room/out"
+    check 'and it is said how far it is' grep -q 'MiB read so far; the input has 64 MiB' "$room/out"
+    rm long
+else
+    echo 'a long load at a terminal is skipped: there is no command script'
+fi
 check 'an index of words' gives words "$root/examples/words.sh" <"$root/examples/sonnet.txt"
 check 'a collector of log lines' gives log "$root/examples/log.sh"
 
