@@ -1,10 +1,12 @@
 -- A load that begins.
-use Rattle.std.proofs.Common.{◌≡◌, ℕ, ◌^◌, ◌≤◌, List, [], length, take, replicate, Option, None, Some, Ok, refl, sym, ap, subst, ◌∙◌, arith}
+use Rattle.std.proofs.Common.{◌≡◌, ℕ, ◌^◌, ◌≤◌, List, [], length, take, replicate, Option, None, Some, Ok, Err, refl, sym, ap, subst, ◌∙◌, arith}
 use Rattle.std.proofs.lemmas.List.{length-replicate}
 use Rattle.std.proofs.Math.Nat.{zero-div}
 use Rattle.std.specs.Prelude.{IfSome}
 use Rattle.cola_device.specs.Bytes.{LaidOut, HasSize, IsEmpty}
 use Rattle.cola_device.proofs.BytesLemmas.{part-replicate}
+use Rattle.cola_layout.specs.declared.geometry.Geometry.{Geometry}
+use Rattle.cola_run.proofs.Spots.{both-second}
 use Rattle.cola_run.specs.Cells.{file_bytes}
 use Rattle.std.proofs.lemmas.List.Elements.{All-nil}
 use Rattle.cola_spec.specs.Map.{EntryFits}
@@ -34,3 +36,8 @@ held-of E value loading size (Some x) (Some y) rows key is long laid =
 pub was-empty : (told : Option (List ℕ)) (size : ℕ) → size ≡ 0 → HasSize told size → IsEmpty told
 was-empty None size none has = tt
 was-empty (Some bytes) size none has = sym has ∙ none
+
+-- what a refused layout may leave
+pub partly-laid : (T : Type 0) {E : Type 0} (fault : E) (geometry : Geometry) (size : ℕ) (a b : Option (List ℕ)) → size ≡ file_bytes geometry → LaidOut {T = T} {E = E} (Err fault) size a b
+    → IfSome b (λ bytes. length bytes ≤ file_bytes geometry)
+partly-laid T fault geometry size a b is laid = both-second a b (λ old new. length new ≤ size) (λ bytes. length bytes ≤ file_bytes geometry) (λ x y few. subst (λ (n : ℕ). length y ≤ n) is few) laid

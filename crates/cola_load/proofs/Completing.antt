@@ -1,11 +1,13 @@
 -- What follows from the answer of growing a file.
-use Rattle.std.proofs.Common.{◌≡◌, inl, inr, ℕ, ◌<◌, ◌≤◌, true, false, List, [], length, take, Option, Some, Result, Ok, Err, sym, ap, subst, ◌∙◌, arith}
+use Rattle.std.proofs.Common.{◌≡◌, ◌⊎◌, inl, inr, ℕ, ◌<◌, ◌≤◌, true, false, List, [], length, take, Option, Some, Result, Ok, Err, sym, ap, subst, ◌∙◌, arith}
 use Rattle.std.specs.Prelude.{IfSome}
 use Rattle.std.specs.FinMap as finite
 use Rattle.std.proofs.lemmas.List.{length-map}
 use Rattle.cola_cell.specs.Format.{stamp_limit}
 use Rattle.cola_device.specs.declared.device.Device as device
 use Rattle.cola_image.specs.Standing.{HeaderStandsFor}
+use Rattle.cola_layout.specs.declared.geometry.Geometry.{Geometry}
+use Rattle.cola_layout.specs.declared.header.Header.{Header}
 use Rattle.cola_layout.specs.Fields.{fields_of}
 use Rattle.cola_layout.specs.Header.{Fields}
 use Rattle.cola_layout.proofs.Refusing.{spelling-one}
@@ -17,7 +19,8 @@ use Rattle.cola_table.specs.Terms.{shape_of}
 use Rattle.cola_load.specs.declared.fault.GrowFault.{GrowFault}
 use Rattle.cola_load.specs.declared.fault.GrowFault.TheVariants.{Small, NotStore, NotClosed, Fewer, OutOfMemory, BadCell, NotEmpty, Disorder, Device}
 use Rattle.cola_load.specs.Filled.{Row, AreRows, IsFilled, rows_of, row_of_entry, map_of, filled_header}
-use Rattle.cola_load.specs.Grow.{HasCopied, HasKeys, IsForNone, Grows, IsCountOrFull, IsFileOf}
+use Rattle.cola_load.specs.Grow.{HasCopied, HasKeys, IsForNone, HasStopped, Uncalled, NotBegun, Headless, NotFinished, Grows, IsCountOrFull, IsFileOf}
+use Rattle.cola_load.specs.Loading.{IsHeadless}
 use Rattle.cola_load.proofs.FilledLevels.{filled-stands}
 use Rattle.cola_load.proofs.FilledMaps.{map-again}
 
@@ -103,3 +106,30 @@ module _ (header : Fields) (bytes : List ℕ) (m : Map) (stands : HeaderStandsFo
         | inl rose ↦ calm rose
         | inr rose ↦ other-calm rose
       ]
+
+-- ---- what a refusal leaves
+
+module _ {D E : Type 0} (d : device.Ghosts D) (e : device.Ghosts E) (from from_now : D) (to to_now : E) (ticks ticks_now keys block_exp : ℕ) (calm : ¬ Rose (e.counts to).faults (e.counts to_now).faults) where
+  uncalled : to_now ≡ to → (e.bytes to_now ≡ e.bytes to) ⊎ IfSome (e.bytes to_now) IsHeadless
+  uncalled is = inl (ap (λ (x : E). e.bytes x) is)
+
+  stopped : (header : Header) (geometry : Geometry) (told : Option (List ℕ)) → HasStopped e header geometry told to to_now → (e.bytes to_now ≡ e.bytes to) ⊎ IfSome (e.bytes to_now) IsHeadless
+  stopped header geometry told (Uncalled is) = uncalled is
+  stopped header geometry told (NotBegun failed) = absurd (calm failed.cause)
+  stopped header geometry told (Headless none) = inr none
+  stopped header geometry told (NotFinished rows failed) = absurd (calm failed.cause)
+
+  pub headless-left : (fault : GrowFault) → Grows d e from from_now to to_now ticks ticks_now keys block_exp (Err fault) → (e.bytes to_now ≡ e.bytes to) ⊎ IfSome (e.bytes to_now) IsHeadless
+  headless-left Small h = uncalled h.untouched
+  headless-left NotStore h = uncalled h.untouched
+  headless-left NotClosed h = uncalled h.untouched
+  headless-left (Fewer count) h = uncalled h.0.untouched
+  headless-left OutOfMemory h = inl h.copies
+  headless-left (BadCell number) h = elim h.copies.left [
+    | inl same ↦ uncalled same
+    | inr none ↦ inr none
+  ]
+  headless-left NotEmpty h = inl h.copies.bytes_stay
+  headless-left (Disorder number) h = inr h.copies.left
+  headless-left Device (inl h) = uncalled h.untouched
+  headless-left Device (inr h) = stopped h.header h.geometry (d.bytes from) h.copies

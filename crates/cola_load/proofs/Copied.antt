@@ -23,6 +23,7 @@ use Rattle.cola_layout.specs.declared.header.Header.{Header}
 use Rattle.cola_layout.specs.Fields.{fields_of}
 use Rattle.cola_layout.specs.Marks.{all_numbers}
 use Rattle.cola_layout.proofs.Levels.{numbers-length, number-at}
+use Rattle.cola_outside.specs.Faults.{Rose}
 use Rattle.cola_run.specs.Saving as run
 use Rattle.cola_spec.specs.Map.{Map, Shape}
 use Rattle.cola_table.specs.Terms.{shape_of}
@@ -32,9 +33,11 @@ use Rattle.cola_verdict.proofs.Runs.{told-cells}
 use Rattle.cola_load.specs.declared.fault.GrowFault.{GrowFault}
 use Rattle.cola_load.specs.declared.fault.GrowFault.TheVariants.{Small, NotStore, NotClosed, Fewer, OutOfMemory, BadCell, NotEmpty, Disorder, Device}
 use Rattle.cola_load.specs.Filled.{Row, rows_of}
-use Rattle.cola_load.specs.Loading.{Loading, HasBegun, last_key}
+use Rattle.cola_load.specs.declared.fault.LoadFault.{LoadFault}
+use Rattle.cola_load.specs.declared.fault.LoadFault.TheVariants as load
+use Rattle.cola_load.specs.Loading.{Loading, HasBegun, Begins, last_key}
 use Rattle.cola_load.specs.Growing.{AreValuesOf, runs_in, least, pair_of, Breaks, OfPairs, Walks, unread_as}
-use Rattle.cola_load.specs.Grow.{AreInFile, IsForNone, Copies}
+use Rattle.cola_load.specs.Grow.{AreInFile, IsForNone, Copies, Uncalled, NotBegun, Headless, NotFinished, unbegun_as}
 use Rattle.cola_load.proofs.Maps.{runs-alike, runs-are, begins-near, chain-sampled, chain-says, pairs-all, rows-are, none-breaks, bad-none, bad-cell, no-bad, value-there}
 use Rattle.cola_pairs.proofs.Order.{all_change}
 
@@ -124,7 +127,14 @@ module _ {E : Type 0} (e : device.Ghosts E) (header : Header) (geometry : Geomet
   load-refused told to before now (read.BadCell number) result is answer =
       let seen = bad-told told number answer in
       subst (λ (r : GrowFault). Copies e header geometry told to to (Err r)) (sym is) (record { bad = seen.0; no_map = seen.1; left = inl refl })
-  load-refused told to before now read.Device result is answer = subst (λ (r : GrowFault). Copies e header geometry told to to (Err r)) (sym is) tt
+  load-refused told to before now read.Device result is answer = subst (λ (r : GrowFault). Copies e header geometry told to to (Err r)) (sym is) (Uncalled refl)
+
+  -- the new file was not begun
+  pub begin-refused : (told : Option (List ℕ)) (to now : E) (fault : LoadFault) (result : GrowFault) → result ≡ unbegun_as fault → Begins e geometry header.last to now (Err fault) → Copies e header geometry told to now (Err result)
+  begin-refused told to now load.NotEmpty result is begins =
+      subst (λ (r : GrowFault). Copies e header geometry told to now (Err r)) (sym is) (record { was = begins.why_is; bytes_stay = begins.bytes_stay })
+  begin-refused told to now load.OutOfMemory result is begins = subst (λ (r : GrowFault). Copies e header geometry told to now (Err r)) (sym is) begins.bytes_stay
+  begin-refused told to now load.Device result is begins = subst (λ (r : GrowFault). Copies e header geometry told to now (Err r)) (sym is) (NotBegun begins)
 
   module _ (held : Held) (told : Option (List ℕ)) (same : IfSome told (run.AreFileSpots header.geometry held.spots)) (format : geometry.format ≡ header.geometry.format) (few : header.count ≤ geometry.keys) where
     map-is : (told : Option (List ℕ)) → IfSome told (run.AreFileSpots header.geometry held.spots) → (rows : List Row) → OfPairs held (runs_in header) (λ pairs. pairs ≡ map pair_of rows) →
@@ -147,7 +157,7 @@ module _ {E : Type 0} (e : device.Ghosts E) (header : Header) (geometry : Geomet
     in-file None same rows given = tt
     in-file (Some bytes) same rows given = file-values header held bytes same rows given
 
-    copied : (to mid now : E) (loading : Loading) → HasBegun e geometry header.last to mid loading → (result : Result ℕ GrowFault) → Walks held (runs_in header) geometry header.last (e.bytes now) result →
+    copied : (to mid now : E) (loading : Loading) → HasBegun e geometry header.last to mid loading → (result : Result ℕ GrowFault) → Walks held (runs_in header) geometry header.last (e.counts mid).faults (e.counts now).faults (e.bytes now) result →
         OnOk result (IsSettled e now) → Copies e header geometry told to now result
     copied to mid now loading begun (Ok count) walks settled =
         let walked = walks.1 in (
@@ -181,9 +191,18 @@ module _ {E : Type 0} (e : device.Ghosts E) (header : Header) (geometry : Geomet
           no_map = no-map told same walks.0 broken.row broken.pairs_are broken.breaks;
           left = broken.headless;
         }
-    copied to mid now loading begun (Err Device) walks settled = tt
+    copied to mid now loading begun (Err Device) walks settled = elim walks [
+      | inl headless ↦ Headless headless
+      | inr w ↦ NotFinished w.0 (record {
+        cause = subst (λ (n : ℕ). Rose n (e.counts now).faults) begun.no_fault w.1.cause;
+        was_empty = begun.was_empty;
+        left = w.1.left;
+        map_is = map-is told same w.0 w.1.pairs_are;
+        given = in-file told same w.0 w.1.given;
+      })
+    ]
 
     pub store-copied : (runs : List Run) → runs ≡ runs_in header → (to mid now : E) (loading : Loading) → HasBegun e geometry header.last to mid loading → (result : Result ℕ GrowFault) →
-        Walks held runs geometry header.last (e.bytes now) result → OnOk result (IsSettled e now) → Copies e header geometry told to now result
+        Walks held runs geometry header.last (e.counts mid).faults (e.counts now).faults (e.bytes now) result → OnOk result (IsSettled e now) → Copies e header geometry told to now result
     store-copied runs are to mid now loading begun result walks settled =
-        copied to mid now loading begun result (subst (λ (rs : List Run). Walks held rs geometry header.last (e.bytes now) result) are walks) settled
+        copied to mid now loading begun result (subst (λ (rs : List Run). Walks held rs geometry header.last (e.counts mid).faults (e.counts now).faults (e.bytes now) result) are walks) settled

@@ -27,10 +27,12 @@ use Rattle.cola_load.specs.declared.fault.GrowFault.{GrowFault}
 use Rattle.cola_load.specs.declared.growing.Filling.{Filling}
 use Rattle.cola_load.specs.declared.fault.GrowFault.TheVariants.{Small, NotStore, NotClosed, Fewer, OutOfMemory, BadCell, NotEmpty, Disorder, Device}
 use Rattle.cola_load.specs.Filled.{Row}
-use Rattle.cola_load.specs.Loading.{Loading, HoldsRows, Pushes, last_key, full_blocks}
+use Rattle.cola_load.specs.Loading.{Loading, HoldsRows, IsHeadless, StaysInFront, Pushes, last_key, full_blocks}
 use Rattle.cola_load.proofs.Blocks.{blocks-rise}
 use Rattle.cola_load.proofs.Pushed.{last-is}
-use Rattle.cola_load.specs.Growing.{IsValueOf, pair_of, Breaks, IsFillingOf, IsHeadless, GaveAll, GaveThen, IsCopied, IsStopped, CopiesNext, CopiesAll, WritesOne, WritesNext, WritesRows, unread_as}
+use Rattle.cola_load.proofs.Saving.{headless-then}
+use Rattle.cola_run.proofs.Spots.{both-with, both-second}
+use Rattle.cola_load.specs.Growing.{IsValueOf, pair_of, Breaks, IsFillingOf, GaveAll, GaveThen, IsCopied, IsStopped, CopiesNext, CopiesAll, WritesOne, WritesNext, WritesRows, unread_as}
 
 -- ---- lines that go on
 
@@ -62,6 +64,12 @@ passed-value held other answered hidden row (old ∷ olds) (new ∷ news) p fits
 
 pub no-header : (loading : Loading) (told : Option (List ℕ)) (rows : List Row) → IfSome told (λ bytes. HoldsRows loading bytes rows) → IfSome told IsHeadless
 no-header loading told rows holds = IfSome_then told holds (λ bytes h. h.no_header)
+
+-- nor after a block behind the front was refused
+pub no-header-then : (loading : Loading) (told now : Option (List ℕ)) (rows : List Row) → IfSome told (λ bytes. HoldsRows loading bytes rows) → Both told now (StaysInFront loading.geometry) → IfSome now IsHeadless
+no-header-then loading told now rows holds stays =
+    both-second told now (λ x y. HoldsRows loading x rows × StaysInFront loading.geometry x y) IsHeadless (λ x y both. headless-then loading.geometry x y both.1 both.0.no_header)
+    (both-with told now (λ bytes. HoldsRows loading bytes rows) (StaysInFront loading.geometry) holds stays)
 
 pushed : {T : Type 0} (E : Type 0) (value : T) (old new : Loading) (row : Row) (rows : List Row) (before now : Option (List ℕ)) → IfSome before (λ bytes. HoldsRows old bytes rows) →
     Both before now (Pushes {T = T} {E = E} (Ok value) old new row) → IfSome now (λ bytes. HoldsRows new bytes (rows ++ row ∷ []))
@@ -147,7 +155,7 @@ next-unread held begun old new loading after told rows geometry last before now 
     subst (λ (r : GrowFault). CopiesNext held begun geometry last rows new after told (Err r)) (sym is)
     (subst (HasBadRun held number) copied.runs_are (bad-run held number old.lines.items cause), no-header loading told rows copied.holds)
 next-unread held begun old new loading after told rows geometry last before now read.Device result is cause copied =
-    subst (λ (r : GrowFault). CopiesNext held begun geometry last rows new after told (Err r)) (sym is) tt
+    subst (λ (r : GrowFault). CopiesNext held begun geometry last rows new after told (Err r)) (sym is) (no-header loading told rows copied.holds)
 
 -- a fault that is handed on
 pub refused-as : {T : Type 0} (result : Result T GrowFault) (fault : GrowFault) (P : Result T GrowFault → Type 0) → IsErrAnd result (λ e. e ≡ fault) → P (Err fault) → P result
@@ -187,7 +195,7 @@ all-refused held begun cursor loading told geometry last rows OutOfMemory next =
 all-refused held begun cursor loading told geometry last rows (BadCell number) next = next
 all-refused held begun cursor loading told geometry last rows NotEmpty next = next
 all-refused held begun cursor loading told geometry last rows (Disorder number) next = (rows, next)
-all-refused held begun cursor loading told geometry last rows Device next = tt
+all-refused held begun cursor loading told geometry last rows Device next = next
 
 -- a call that wrote for one row more behind those for so many, one that did so or was refused before, and one that found no pair
 module _ (geometry : Geometry) (filling : Filling) (a b c : Counts) (same : filling.geometry ≡ geometry) (before : Spends a b 0 (full_blocks geometry filling.rows) 0) where

@@ -1,8 +1,8 @@
 -- What is left of a load: the blocks that are not full, and the front.
-use Rattle.std.proofs.Common.{◌≡◌, ◌≢◌, ◌⊎◌, inl, inr, ℕ, ◌+◌, ◌-◌, ◌*◌, ◌/◌, ◌%◌, ◌^◌, ◌<◌, ◌≤◌, List, length, take, Option, None, Some, Result, Ok, Err, refl, sym, ap, subst, ◌∙◌, arith, append_assoc}
+use Rattle.std.proofs.Common.{◌≡◌, ◌≢◌, ◌⊎◌, inl, inr, ℕ, ◌+◌, ◌-◌, ◌*◌, ◌/◌, ◌%◌, ◌^◌, ◌<◌, ◌≤◌, List, ◌++◌, length, take, drop, Option, None, Some, Result, Ok, Err, refl, sym, ap, subst, ◌∙◌, arith, append_assoc}
 use Rattle.std.specs.Prelude.{OnOk}
 use Rattle.std.proofs.lemmas.Bool.{cases_lt, cases_eq}
-use Rattle.std.proofs.lemmas.List.{take_at}
+use Rattle.std.proofs.lemmas.List.{take_at, take-take, drop_at, drop-append-le, length-drop}
 use Rattle.std.proofs.lemmas.Nat.{pow_pos}
 use Rattle.cola_outside.specs.Told.{Both}
 use Rattle.cola_cell.specs.declared.format.Format.{Format}
@@ -10,11 +10,13 @@ use Rattle.cola_cell.specs.Decoded.{decoded}
 use Rattle.cola_cell.specs.Format.{width}
 use Rattle.cola_cell.specs.Places.{number_of, slot_size}
 use Rattle.cola_device.specs.declared.counts.Counts.{Counts}
+use Rattle.cola_device.specs.declared.device.Device as device
 use Rattle.cola_device.specs.declared.device.DeviceFault.{DeviceFault}
-use Rattle.cola_device.specs.Bytes.{splice, HasRange, Wrote, WroteSome}
+use Rattle.cola_device.specs.Bytes.{part, splice, HasRange, Wrote, WroteSome}
 use Rattle.cola_device.specs.Counts.{Called}
-use Rattle.cola_device.proofs.BytesLemmas.{length-splice, part-splice_above}
-use Rattle.cola_front.specs.Front.{IsFront, block_size, cell_at, cell_bytes, image}
+use Rattle.cola_device.proofs.BytesLemmas.{length-splice, part-splice_above, drop-splice_end}
+use Rattle.cola_front.specs.Front.{IsFront, InOrder, block_size, cell_at, cell_bytes, stored_all, second_block, image}
+use Rattle.cola_front.proofs.Writes.{image_is, headed_many, large}
 use Rattle.cola_layout.specs.declared.geometry.Geometry.{Geometry}
 use Rattle.cola_layout.specs.Header.{IsSpelling}
 use Rattle.cola_device.proofs.ToldLemmas.{length-WroteSome}
@@ -22,16 +24,17 @@ use Rattle.cola_layout.proofs.Places.{front-below, device-behind, place-behind, 
 use Rattle.cola_layout.proofs.Powers.{next_power}
 use Rattle.cola_run.specs.Cells.{block_cells, block_bytes, block_number, file_bytes, device_levels}
 use Rattle.cola_run.specs.Parts.{tail_of, WroteTail}
+use Rattle.cola_run.specs.Saving.{SameLevels}
 use Rattle.cola_run.proofs.Bytes.{room-of, room-sum}
 use Rattle.cola_run.proofs.Flushes.{image-many, written-loaded}
-use Rattle.cola_run.proofs.Heads.{head-long}
+use Rattle.cola_run.proofs.Heads.{head-long, block-least}
 use Rattle.cola_run.proofs.Numbers.{first-place}
-use Rattle.cola_run.proofs.Spots.{both-same}
-use Rattle.cola_run.proofs.Steps.{tail-many, tail-cell, written-many, written-there, written-stays}
+use Rattle.cola_run.proofs.Spots.{both-same, both-so}
+use Rattle.cola_run.proofs.Steps.{tail-many, tail-cell, written-there, written-stays}
 use Rattle.cola_load.specs.Filled.{Row, run_len, filled_cell, filled_header, IsFilled}
-use Rattle.cola_load.specs.Loading.{Loading, IsLoading, HoldsRows, HasSaved, Finishes, standing_cell}
+use Rattle.cola_load.specs.Loading.{Loading, IsLoading, IsHeadless, HoldsRows, HasSaved, Finishes, FrontWaited, FrontWaits, StaysInFront, standing_cell}
 use Rattle.cola_load.proofs.Lengths.{run-fits}
-use Rattle.cola_load.proofs.Placing.{on-level, in-slot, stands-front, stands-tail, stands-block}
+use Rattle.cola_load.proofs.Placing.{on-level, in-slot, stands-front, stands-tail, stands-block, front-written}
 
 -- the length of a level's run, and that it fits
 module _ (loading : Loading) (level : ℕ) (low : level ≤ loading.geometry.bottom) (few : loading.rows ≤ loading.geometry.keys) where
@@ -44,6 +47,18 @@ module _ (loading : Loading) (level : ℕ) (low : level ≤ loading.geometry.bot
   pub len-fits : len ≤ slot_size level
   len-fits = let h = g.bottom_fits.holds in run-fits loading.rows (g.bottom - level) level g.bottom (omega (arith, low)) (omega (arith, few, h))
 
+-- two calls behind the front
+stays-two : (geometry : Geometry) (x y z : List ℕ) → StaysInFront geometry x y → StaysInFront geometry y z → StaysInFront geometry x z
+stays-two geometry x y z first second = record { size_stays = second.size_stays ∙ first.size_stays; front_stays = second.front_stays ∙ first.front_stays }
+
+-- bytes that begin as those of a file without a header have none
+headless-as : (n : ℕ) (x y : List ℕ) → 512 ≤ n → take n y ≡ take n x → IsHeadless x → IsHeadless y
+headless-as n x y long same none = sym (take-take 512 n y long) ∙ ap (λ (xs : List ℕ). take 512 xs) same ∙ take-take 512 n x long ∙ none
+
+-- the first two blocks of a file without a header stay
+pub headless-then : (geometry : Geometry) (x y : List ℕ) → StaysInFront geometry x y → IsHeadless x → IsHeadless y
+headless-then geometry x y stays none = headless-as (2 * block_bytes geometry) x y (let least = block-least geometry geometry.block_fits in omega (arith, least)) stays.front_stays none
+
 -- a level whose blocks are full has nothing left
 module _ (loading : Loading) (level : ℕ) (high : loading.geometry.block_exp ≤ level + 2) (low : level ≤ loading.geometry.bottom) (few : loading.rows ≤ loading.geometry.keys) where
   abbrev h : Geometry
@@ -54,7 +69,7 @@ module _ (loading : Loading) (level : ℕ) (high : loading.geometry.block_exp �
 
   pub save-full : (before old : List ℕ) → n % block_cells h ≡ 0 → HasSaved loading level before old → HasSaved loading (level + 1) before old
   save-full before old full was = record {
-    many = was.many;
+    stays = was.stays;
     saved = λ l i high_l below low_l within. elim (cases_eq l level) [
       | inl here ↦
           let at : i < n = subst (λ (x : ℕ). i < run_len loading.rows (h.bottom - x)) here within in
@@ -71,9 +86,9 @@ module _ (loading : Loading) (level : ℕ) (high : loading.geometry.block_exp �
 
   -- a block that is not full was written
   pub save-part : (before old now : List ℕ) → n < slot_size level → file_bytes h ≤ length old
-      → length loading.tails ≡ width h.format * (block_cells h * device_levels h)
+      → length loading.tails ≡ width h.format * (block_cells h * device_levels h) → StaysInFront h old now
       → now ≡ splice old (block_number h level 0 n * block_bytes h) (tail_of h loading.tails level) → HasSaved loading level before old → HasSaved loading (level + 1) before now
-  save-part before old now within_n long many stays was =
+  save-part before old now within_n long many front stays was =
       let on = on-level h level high low in
       let tail = tail-many h loading.tails level h.block_fits on many in
       let place = in-slot h.bottom level n low within_n in
@@ -93,7 +108,7 @@ module _ (loading : Loading) (level : ℕ) (high : loading.geometry.block_exp �
             ∙ sym (stands-block loading before n level i high other)
       ] in
       record {
-        many = ap (λ (xs : List ℕ). length xs) stays ∙ written-many h h.block_fits level 0 n high place old (tail_of h loading.tails level) long tail ∙ was.many;
+        stays = stays-two h before old now was.stays front;
         saved = λ l i high_l below low_l within. elim (cases_eq l level) [
           | inl here ↦
               ap (λ (x : ℕ). decoded h.format (cell_bytes h.format now (number_of x 0 i))) here
@@ -119,7 +134,9 @@ module _ (loading : Loading) (level : ℕ) (high : loading.geometry.block_exp �
   saves-written (Err fault) (Some x) (Some y) within_n many inside wrote = λ before was. tt
   saves-written {T} {E} (Ok value) (Some x) (Some y) within_n many inside wrote =
       let w : WroteSome {T = T} {E = E} (Ok value) (block_number h level 0 n * block_bytes h) (tail_of h loading.tails level) x y = wrote in
-      λ before was. save-part before x y within_n (omega (arith, inside)) many
+      let answer : Result T E = Ok value in
+      let front : StaysInFront h x y = front-written h loading.tails level n low high within_n many answer (Some x) (Some y) inside wrote in
+      λ before was. save-part before x y within_n (omega (arith, inside)) many front
       (w.others_stay ∙ ap (λ (left : List ℕ). splice x (block_number h level 0 n * block_bytes h) left) w.exact) was
 
 -- a run that has a part of a block is shorter than its slot
@@ -135,7 +152,7 @@ part-fits loading level high low few part =
 -- before the first level on the device nothing is saved
 pub save-none : (loading : Loading) (level : ℕ) (x : List ℕ) → level + 2 ≤ loading.geometry.block_exp → HasSaved loading level x x
 save-none loading level x first = record {
-  many = refl;
+  stays = record { size_stays = refl; front_stays = refl };
   saved = λ l i high below low within. absurd (omega (arith, high, below, first));
   rest = λ l i high above low within. refl;
 }
@@ -207,8 +224,27 @@ module _ (loading : Loading) (header old : List ℕ) (is : IsFront loading.front
               ap (λ (xs : List ℕ). decoded k.format xs) (stored-behind level index high)
               ∙ was.saved level index high (omega (arith, low)) low inside ∙ there
         ];
-    whole = stored-many ∙ was.many ∙ held.size;
+    whole = stored-many ∙ was.stays.size_stays ∙ held.size;
   }
+
+  -- a refused store that wrote the second block left all behind the first as an accepted one does
+  pub stored-second : (left : List ℕ) → length left ≡ length (image loading.front header)
+      → part (splice old 0 left) (block_size loading.front) (block_size loading.front) ≡ second_block loading.front → drop (block_bytes k) (splice old 0 left) ≡ drop (block_bytes k) new
+  stored-second left many second =
+      let n : ℕ = block_size loading.front in
+      let pair = image-many loading.front header is head in
+      let own : length (drop n left) ≡ n = length-drop n left ∙ (omega (arith, many, pair)) in
+      let behind : drop n (splice old 0 left) ≡ drop n left ++ drop (length left) old = drop-append-le n left (drop (length left) old) (omega (arith, many, pair)) in
+      let there : drop n left ≡ second_block loading.front =
+      sym (ap (λ (xs : List ℕ). take n xs) behind ∙ take_at (drop n left) (drop (length left) old) n own) ∙ second in
+      let image-there : drop n (image loading.front header) ≡ second_block loading.front =
+      ap (λ (xs : List ℕ). drop n xs) (sym (image_is loading.front is header head))
+      ∙ drop_at (header ++ drop 512 (stored_all loading.front.format (take loading.front.block loading.front.cells))) (second_block loading.front) n (headed_many loading.front is header head) in
+      let whole : drop n new ≡ drop n (image loading.front header) ++ drop (length (image loading.front header)) old =
+      drop-append-le n (image loading.front header) (drop (length (image loading.front header)) old) (omega (arith, pair)) in
+      subst (λ (m : ℕ). drop m (splice old 0 left) ≡ drop m new) size-is
+      (behind ∙ ap (λ (xs : List ℕ). xs ++ drop (length left) old) (there ∙ sym image-there)
+      ∙ ap (λ (m : ℕ). drop n (image loading.front header) ++ drop m old) many ∙ sym whole)
 
 -- the front that was stored, where bytes are told
 pub finishes-by : {T R : Type 0} (E F : Type 0) (value : T) (done : R) (loading : Loading) (header : List ℕ) (a b : Option (List ℕ)) → IsFront loading.front → IsLoading loading → length header ≡ 512 → HasRange a 0 (file_bytes loading.geometry)
@@ -223,6 +259,48 @@ finishes-by {T} {R} E F value done loading header (Some x) (Some y) is sound hea
     λ before was rows held. subst (λ (z : List ℕ). IsFilled loading.geometry loading.last rows z) (sym at)
     (stored-filled loading header x is sound head (omega (arith, inside)) rows before spelled was held)
 
+-- the front that was refused: its first block is as it was, or its second one is written
+pub refused-by : (T R : Type 0) {E F : Type 0} (fault : E) (why : F) (loading : Loading) (header : List ℕ) (a b : Option (List ℕ)) → IsFront loading.front → IsLoading loading → length header ≡ 512 → HasRange a 0 (file_bytes loading.geometry)
+    → IsSpelling (filled_header loading.geometry loading.last loading.rows) header → Wrote {T = T} {E = E} (Err fault) 0 (image loading.front header) a b → Both a b (InOrder {T = T} {E = E} (Err fault) loading.front)
+    → Both a b (λ old new. (before : List ℕ) → HasSaved loading (loading.geometry.bottom + 1) before old → Finishes {T = R} {E = F} (Err why) loading before new)
+refused-by T R fault why loading header None None is sound head inside spelled wrote order = tt
+refused-by T R fault why loading header None (Some y) is sound head inside spelled wrote order = absurd wrote
+refused-by T R fault why loading header (Some x) None is sound head inside spelled wrote order = absurd wrote
+refused-by T R {E} {F} fault why loading header (Some x) (Some y) is sound head inside spelled wrote order =
+    let w : WroteSome {T = T} {E = E} (Err fault) 0 (image loading.front header) x y = wrote in
+    let long : file_bytes loading.geometry ≤ length x = omega (arith, inside) in
+    let either : (part y 0 (block_size loading.front) ≡ part x 0 (block_size loading.front))
+    ⊎ (part y (block_size loading.front) (block_size loading.front) ≡ second_block loading.front) = order in
+    λ before was rows held. elim either [
+      | inl stays ↦ inl (headless-as (block_size loading.front) x y (large loading.front is header head) stays (headless-then loading.geometry before x was.stays held.no_header))
+      | inr second ↦ inr (record {
+        whole = splice x 0 (image loading.front header);
+        filled = stored-filled loading header x is sound head long rows before spelled was held;
+        many =
+            let m = whole-image loading header x is sound head long in
+            let l = head-long loading.geometry loading.geometry.block_fits in
+            length-WroteSome w (omega (arith, m, l, long)) ∙ sym (stored-many loading header x is sound head long);
+        behind =
+            ap (λ (z : List ℕ). drop (block_bytes loading.geometry) z) w.others_stay
+            ∙ stored-second loading header x is sound head long w.left w.as_many
+            (subst (λ (z : List ℕ). part z (block_size loading.front) (block_size loading.front) ≡ second_block loading.front) w.others_stay second);
+      })
+    ]
+
+-- a file that is filled, and did not settle
+pub unsettled-by : (R E : Type 0) {F : Type 0} (done : R) (why : F) (loading : Loading) (a b : Option (List ℕ))
+    → Both a b (λ old new. (before : List ℕ) → HasSaved loading (loading.geometry.bottom + 1) before old → Finishes {T = R} {E = E} (Ok done) loading before new)
+    → Both a b (λ old new. (before : List ℕ) → HasSaved loading (loading.geometry.bottom + 1) before old → Finishes {T = R} {E = F} (Err why) loading before new)
+unsettled-by R E {F} done why loading a b finishes =
+    both-so a b (λ old new. (before : List ℕ) → HasSaved loading (loading.geometry.bottom + 1) before old → Finishes {T = R} {E = E} (Ok done) loading before new)
+    (λ old new. (before : List ℕ) → HasSaved loading (loading.geometry.bottom + 1) before old → Finishes {T = R} {E = F} (Err why) loading before new)
+    (λ old new filled before was rows held. inr (record { whole = new; filled = filled before was rows held; many = refl; behind = refl })) finishes
+
+-- a refusal before the front is stored
+pub unbegun-by : (R : Type 0) {F : Type 0} (why : F) (loading : Loading) (a b : Option (List ℕ)) → Both a b (StaysInFront loading.geometry) → Both a b (Finishes {T = R} {E = F} (Err why) loading)
+unbegun-by R {F} why loading a b stays =
+    both-so a b (StaysInFront loading.geometry) (Finishes {T = R} {E = F} (Err why) loading) (λ x y s rows held. inl (headless-then loading.geometry x y s held.no_header)) stays
+
 -- a store of the front keeps the size
 pub stored-size : {T E : Type 0} (result : Result T E) (loading : Loading) (header : List ℕ) (a b : Option (List ℕ)) → IsFront loading.front → IsLoading loading → length header ≡ 512 → HasRange a 0 (file_bytes loading.geometry)
     → Wrote result 0 (image loading.front header) a b → Both a b (λ old new. length new ≡ length old)
@@ -234,6 +312,24 @@ stored-size result loading header (Some x) (Some y) is sound head inside wrote =
     let m = whole-image loading header x is sound head (omega (arith, inside)) in
     let l = head-long loading.geometry loading.geometry.block_fits in
     length-WroteSome w (omega (arith, m, l, inside))
+
+-- and all behind the front
+pub stored-levels : {T E : Type 0} (result : Result T E) (loading : Loading) (header : List ℕ) (a b : Option (List ℕ)) → IsFront loading.front → IsLoading loading → length header ≡ 512 → HasRange a 0 (file_bytes loading.geometry)
+    → Wrote result 0 (image loading.front header) a b → Both a b (SameLevels loading.geometry)
+stored-levels result loading header None None is sound head inside wrote = tt
+stored-levels result loading header None (Some y) is sound head inside wrote = absurd wrote
+stored-levels result loading header (Some x) None is sound head inside wrote = absurd wrote
+stored-levels result loading header (Some x) (Some y) is sound head inside wrote =
+    let w : WroteSome result 0 (image loading.front header) x y = wrote in
+    let m = whole-image loading header x is sound head (omega (arith, inside)) in
+    let many : 0 + length w.left ≡ 2 * block_bytes loading.geometry = let e = w.as_many in omega (arith, e, m) in
+    ap (λ (z : List ℕ). drop (2 * block_bytes loading.geometry) z) w.others_stay
+    ∙ subst (λ (n : ℕ). drop n (splice x 0 w.left) ≡ drop n x) many (drop-splice_end x 0 w.left (omega arith))
+
+-- where the front waited, it waits
+pub waits-by : {T E : Type 0} {D : Type 0} (d : device.Ghosts D) (geometry : Geometry) (before now : D) (result : Result T E) → FrontWaited d geometry before now → FrontWaits d geometry before now result
+waits-by d geometry before now (Ok value) waited = waited
+waits-by d geometry before now (Err fault) waited = inr waited
 
 -- ---- the loop over the levels on the device
 
@@ -247,15 +343,15 @@ pub saving-range : (loading : Loading) (level size : ℕ) (a b : Option (List �
 saving-range loading level size None None was more = tt
 saving-range loading level size None (Some y) was more = absurd was
 saving-range loading level size (Some x) None was more = absurd was
-saving-range loading level size (Some x) (Some y) was more = let e = was.many in omega (arith, e, more)
+saving-range loading level size (Some x) (Some y) was more = let e = was.stays.size_stays in omega (arith, e, more)
 
-pub saving-size : (loading : Loading) (level : ℕ) (a b c : Option (List ℕ)) → Both a b (HasSaved loading level) → Both b c (λ old new. length new ≡ length old) → Both a c (λ old new. length new ≡ length old)
-saving-size loading level None None None was more = tt
-saving-size loading level None None (Some z) was more = absurd more
-saving-size loading level None (Some y) c was more = absurd was
-saving-size loading level (Some x) None c was more = absurd was
-saving-size loading level (Some x) (Some y) None was more = absurd more
-saving-size loading level (Some x) (Some y) (Some z) was more = more ∙ was.many
+pub saving-front : (loading : Loading) (level : ℕ) (a b c : Option (List ℕ)) → Both a b (HasSaved loading level) → Both b c (StaysInFront loading.geometry) → Both a c (StaysInFront loading.geometry)
+saving-front loading level None None None was more = tt
+saving-front loading level None None (Some z) was more = absurd more
+saving-front loading level None (Some y) c was more = absurd was
+saving-front loading level (Some x) None c was more = absurd was
+saving-front loading level (Some x) (Some y) None was more = absurd more
+saving-front loading level (Some x) (Some y) (Some z) was more = stays-two loading.geometry x y z was.stays more
 
 -- the front has room in the file
 pub front-room : (loading : Loading) (told : Option (List ℕ)) → IsLoading loading → HasRange told 0 (file_bytes loading.geometry) → HasRange told 0 (2 * block_size loading.front)
@@ -265,6 +361,18 @@ front-room loading (Some x) sound inside =
     ap (λ (f : Format). width f * loading.front.block) sound.format ∙ ap (λ (b : ℕ). width loading.geometry.format * b) sound.block in
     let l = head-long loading.geometry loading.geometry.block_fits in
     omega (arith, size, l, inside)
+
+-- the size over both parts of what is left of a load
+pub size-two : (geometry : Geometry) (a b settled c : Option (List ℕ)) → settled ≡ b → Both a b (StaysInFront geometry) → Both settled c (λ old new. length new ≡ length old) → Both a c (λ old new. length new ≡ length old)
+size-two geometry a b settled c same stays more = by-told a b c stays (subst (λ (z : Option (List ℕ)). Both z c (λ old new. length new ≡ length old)) same more)
+  where
+    by-told : (a b c : Option (List ℕ)) → Both a b (StaysInFront geometry) → Both b c (λ old new. length new ≡ length old) → Both a c (λ old new. length new ≡ length old)
+    by-told None None None was next = tt
+    by-told None None (Some z) was next = absurd next
+    by-told None (Some y) c was next = absurd was
+    by-told (Some x) None c was next = absurd was
+    by-told (Some x) (Some y) None was next = absurd next
+    by-told (Some x) (Some y) (Some z) was next = next ∙ was.size_stays
 
 -- what is left of a load, done in two parts
 pub finishes-two : {T E : Type 0} (result : Result T E) (loading : Loading) (a b settled c : Option (List ℕ)) → settled ≡ b → Both a b (HasSaved loading (loading.geometry.bottom + 1))

@@ -1,12 +1,15 @@
 -- A file that is filled with the pairs of runs.
-use Rattle.std.proofs.Common.{◌≡◌, ℕ, List, ◌∷◌, Option, Some, None, Ok, Err, sym, subst, ◌∙◌}
+use Rattle.std.proofs.Common.{◌≡◌, inl, inr, ℕ, List, [], ◌∷◌, Option, Some, None, Ok, Err, sym, subst, ◌∙◌}
 use Rattle.std.specs.Prelude.{IfSome}
+use Rattle.cola_outside.specs.Faults.{Rose}
 use Rattle.cola_outside.specs.Told.{Both}
 use Rattle.cola_cell.specs.declared.cell.Run.{Run}
+use Rattle.cola_cell.specs.declared.fault.ReadFault.{ReadFault}
+use Rattle.cola_cell.specs.declared.fault.ReadFault.TheVariants as read
 use Rattle.cola_cell.specs.Held.{Held, LawCell}
 use Rattle.cola_cell.specs.Order.{key_cmp}
 use Rattle.cola_cursor.specs.declared.cursor.Cursor.{Cursor}
-use Rattle.cola_cursor.specs.Seeking.{HasBadRun}
+use Rattle.cola_cursor.specs.Seeking.{HasBadRun, RunsCause}
 use Rattle.cola_cursor.specs.Standing.{Ahead, AreSearched, runs_of}
 use Rattle.cola_layout.specs.declared.geometry.Geometry.{Geometry}
 use Rattle.cola_look.specs.Runs.{AreRuns}
@@ -15,8 +18,9 @@ use Rattle.cola_table.specs.Terms.{shape_of}
 use Rattle.cola_load.specs.declared.fault.GrowFault.{GrowFault}
 use Rattle.cola_load.specs.declared.fault.GrowFault.TheVariants.{Small, NotStore, NotClosed, Fewer, OutOfMemory, BadCell, NotEmpty, Disorder, Device}
 use Rattle.cola_load.specs.Filled.{Row, AreRows, IsFilled}
-use Rattle.cola_load.specs.Loading.{Loading, HoldsRows, Finishes}
-use Rattle.cola_load.specs.Growing.{AreValuesOf, least, CopiesAll, IsWalked, Walks}
+use Rattle.cola_load.specs.Loading.{Loading, HoldsRows, IsUnfinished, Finishes}
+use Rattle.cola_load.specs.Growing.{AreValuesOf, least, CopiesAll, IsWalked, Walks, unread_as}
+use Rattle.cola_load.proofs.Copying.{no-header}
 
 -- what a finished file has, where the device tells its bytes
 finished : {T : Type 0} (E : Type 0) (value : T) (loading : Loading) (rows : List Row) (geometry : Geometry) (last : ℕ) (told now : Option (List ℕ)) → loading.geometry ≡ geometry → loading.last ≡ last →
@@ -35,6 +39,23 @@ rows-told E value loading rows geometry last (Some x) None same final holds fini
 rows-told E value loading rows geometry last (Some x) (Some y) same final holds finishes =
     subst (λ (n : ℕ). AreRows (shape_of geometry.format geometry.keys) n rows) final (subst (λ (g : Geometry). AreRows (shape_of g.format g.keys) loading.last rows) same holds.are_rows)
 
+-- what a file has that was not finished
+not-finished : (T : Type 0) {E : Type 0} (why : E) (loading : Loading) (rows : List Row) (geometry : Geometry) (last : ℕ) (told now : Option (List ℕ)) → loading.geometry ≡ geometry → loading.last ≡ last →
+    IfSome told (λ bytes. HoldsRows loading bytes rows) → Both told now (Finishes {T = T} {E = E} (Err why) loading) → IfSome now (IsUnfinished geometry last rows)
+not-finished T why loading rows geometry last None None same final holds finishes = tt
+not-finished T why loading rows geometry last None (Some y) same final holds finishes = absurd finishes
+not-finished T why loading rows geometry last (Some x) None same final holds finishes = tt
+not-finished T why loading rows geometry last (Some x) (Some y) same final holds finishes =
+    subst (λ (n : ℕ). IsUnfinished geometry n rows y) final (subst (λ (g : Geometry). IsUnfinished g loading.last rows y) same (finishes rows holds))
+
+-- a cell that was not read where a walk begins: the file has no header
+pub seek-refused : (held : Held) (runs : List Run) (geometry : Geometry) (last faults faults_now before now : ℕ) (loading : Loading) (told : Option (List ℕ)) (fault : ReadFault) (result : GrowFault) → result ≡ unread_as fault →
+    RunsCause held runs before now fault → IfSome told (λ bytes. HoldsRows loading bytes []) → Walks held runs geometry last faults faults_now told (Err result)
+seek-refused held runs geometry last faults faults_now before now loading told (read.BadCell number) result is cause holds =
+    subst (λ (r : GrowFault). Walks held runs geometry last faults faults_now told (Err r)) (sym is) (cause, no-header loading told [] holds)
+seek-refused held runs geometry last faults faults_now before now loading told read.Device result is cause holds =
+    subst (λ (r : GrowFault). Walks held runs geometry last faults faults_now told (Err r)) (sym is) (inl (no-header loading told [] holds))
+
 module _ (held other : Held) (same : other ≡ held) (runs : List Run) (key : List ℕ) (key-is : key ≡ least) (cursor : Cursor) (begins : runs_of cursor.lines.items ≡ runs)
     (found : (lists : List (List LawCell)) → AreRuns held runs lists → AreSearched key lists → Ahead held cursor (live key_cmp (between key_cmp key None) lists)) (geometry : Geometry) (last : ℕ) where
   ahead : (lists : List (List LawCell)) → AreRuns held runs lists → AreSearched least lists → Ahead other cursor (live key_cmp (between key_cmp least None) lists)
@@ -45,16 +66,16 @@ module _ (held other : Held) (same : other ≡ held) (runs : List Run) (key : Li
   values : (rows : List Row) → AreValuesOf other.spots (runs_of cursor.lines.items) rows → AreValuesOf held.spots runs rows
   values rows given = subst (λ (rs : List Run). AreValuesOf held.spots rs rows) begins (subst (λ (h : Held). AreValuesOf h.spots (runs_of cursor.lines.items) rows) same given)
 
-  pub fill-refused : (after : Cursor) (loading : Loading) (told : Option (List ℕ)) (fault : GrowFault) → CopiesAll other cursor geometry last after loading told (Err fault) → Walks held runs geometry last told (Err fault)
-  fill-refused after loading told Small all = all
-  fill-refused after loading told NotStore all = all
-  fill-refused after loading told NotClosed all = all
-  fill-refused after loading told (Fewer count) all = all
-  fill-refused after loading told OutOfMemory all = all
-  fill-refused after loading told (BadCell number) all =
+  pub fill-refused : (after : Cursor) (loading : Loading) (told : Option (List ℕ)) (faults faults_now : ℕ) (fault : GrowFault) → CopiesAll other cursor geometry last after loading told (Err fault) → Walks held runs geometry last faults faults_now told (Err fault)
+  fill-refused after loading told faults faults_now Small all = all
+  fill-refused after loading told faults faults_now NotStore all = all
+  fill-refused after loading told faults faults_now NotClosed all = all
+  fill-refused after loading told faults faults_now (Fewer count) all = all
+  fill-refused after loading told faults faults_now OutOfMemory all = all
+  fill-refused after loading told faults faults_now (BadCell number) all =
       (subst (λ (rs : List Run). HasBadRun held number rs) begins (subst (λ (h : Held). HasBadRun h number (runs_of cursor.lines.items)) same all.0), all.1)
-  fill-refused after loading told NotEmpty all = all
-  fill-refused after loading told (Disorder number) all = (
+  fill-refused after loading told faults faults_now NotEmpty all = all
+  fill-refused after loading told faults faults_now (Disorder number) all = (
     all.0,
     record {
       row = all.1.row;
@@ -65,7 +86,7 @@ module _ (held other : Held) (same : other ≡ held) (runs : List Run) (key : Li
       headless = all.1.headless;
     },
   )
-  fill-refused after loading told Device all = tt
+  fill-refused after loading told faults faults_now Device all = inl all
 
   pub fill-walked : {T : Type 0} (E : Type 0) (value : T) (after : Cursor) (loading : Loading) (told now : Option (List ℕ)) (found count : ℕ) → CopiesAll other cursor geometry last after loading told (Ok found) →
       loading.geometry ≡ geometry → loading.last ≡ last → count ≡ loading.rows → Both told now (Finishes {T = T} {E = E} (Ok value) loading) → (rows : List Row) × IsWalked held runs geometry last now rows count
@@ -77,6 +98,21 @@ module _ (held other : Held) (same : other ≡ held) (runs : List Run) (key : Li
           count_is = count-is ∙ copied.many;
           are_rows = rows-told E value loading rows geometry last told now geometry-is last-is copied.holds finishes;
           filled = finished E value loading rows geometry last told now geometry-is last-is copied.holds finishes;
+          pairs_are = λ lists are searched. all.1.1.1 (live key_cmp (between key_cmp least None) lists) (ahead lists are searched);
+          given = values rows copied.given;
+        },
+      )
+
+  pub fill-unfinished : (T : Type 0) {E : Type 0} (why : E) (after : Cursor) (loading : Loading) (told now : Option (List ℕ)) (found faults faults_now : ℕ) → CopiesAll other cursor geometry last after loading told (Ok found) →
+      loading.geometry ≡ geometry → loading.last ≡ last → Rose faults faults_now → Both told now (Finishes {T = T} {E = E} (Err why) loading) → Walks held runs geometry last faults faults_now now (Err Device)
+  fill-unfinished T why after loading told now found faults faults_now all geometry-is last-is cause finishes =
+      let rows = all.0 in
+      let copied = all.1.1.0 in
+      inr (
+        rows,
+        record {
+          cause = cause;
+          left = not-finished T why loading rows geometry last told now geometry-is last-is copied.holds finishes;
           pairs_are = λ lists are searched. all.1.1.1 (live key_cmp (between key_cmp least None) lists) (ahead lists are searched);
           given = values rows copied.given;
         },

@@ -16,6 +16,7 @@ use Rattle.cola_layout.specs.Header.{Fields}
 use Rattle.cola_opening.specs.declared.fault.ClosedFault.{ClosedFault}
 use Rattle.cola_opening.specs.declared.fault.ClosedFault.TheVariants as closed
 use Rattle.cola_opening.specs.Counted.{Spends}
+use Rattle.cola_outside.specs.Faults.{Rose}
 use Rattle.cola_opening.specs.Judged.{IsClosedWith, IsSmall, IsNoStore, IsInUse, IsSeen, FailedReading}
 use Rattle.cola_run.specs.Cells.{device_levels}
 use Rattle.cola_run.specs.Store.{beside}
@@ -26,8 +27,8 @@ use Rattle.cola_load.specs.declared.fault.GrowFault.TheVariants.{Small, NotStore
 use Rattle.cola_load.specs.declared.fault.LoadFault.{LoadFault}
 use Rattle.cola_load.specs.declared.fault.LoadFault.TheVariants as load
 use Rattle.cola_load.specs.Filled.{Row, AreRows, IsFilled, rows_of, filled_header}
-use Rattle.cola_load.specs.Loading.{last_key}
-use Rattle.cola_load.specs.Growing.{AreValuesOf, runs_in, Breaks, IsHeadless, BothCalm, WritesRows}
+use Rattle.cola_load.specs.Loading.{HasFailed, IsHeadless, IsUnfinished, last_key}
+use Rattle.cola_load.specs.Growing.{AreValuesOf, runs_in, Breaks, BothCalm, WritesRows}
 
 -- a block suits a store for so many keys
 abbrev pub Suits : ℕ → ℕ → Type 0
@@ -84,11 +85,11 @@ module _ {E : Type 0} (e : device.Ghosts E) (header : Header) (geometry : Geomet
     pub given : IfSome told (AreInFile header rows)
     pub settled : IsSettled e to_now
 
-  -- a cell of the file is none, and the new file stayed or has no header
+  -- a cell of the file is none, and the new file was not called or has no header
   pub record HasBad (number : ℕ) : Type 0 where
     pub bad : IfSome told (λ bytes. decoded header.geometry.format (cell_bytes header.geometry.format bytes number) ≡ None)
     pub no_map : IfSome told (IsForNone header)
-    pub left : (e.bytes to_now ≡ e.bytes to) ⊎ IfSome (e.bytes to_now) IsHeadless
+    pub left : (to_now ≡ to) ⊎ IfSome (e.bytes to_now) IsHeadless
 
   -- the pair with this number may not come behind the rows before it, and the new file has no header
   pub record IsDisordered (number : ℕ) : Type 0 where
@@ -105,6 +106,22 @@ module _ {E : Type 0} (e : device.Ghosts E) (header : Header) (geometry : Geomet
     pub was : IfSome (e.bytes to) (λ bytes. 0 < length bytes)
     pub bytes_stay : e.bytes to_now ≡ e.bytes to
 
+  -- the new file has all rows, those of the map where the old file stands for one, but it was not finished: its device refused a
+  -- call then
+  pub record IsNotFinished (rows : List Row) : Type 0 where
+    pub cause : Rose (e.counts to).faults (e.counts to_now).faults
+    pub was_empty : IsEmpty (e.bytes to)
+    pub left : IfSome (e.bytes to_now) (IsUnfinished geometry header.last rows)
+    pub map_is : IfSome told (λ bytes. (m : Map) → HeaderStandsFor (fields_of header) bytes m → rows ≡ rows_of m)
+    pub given : IfSome told (AreInFile header rows)
+
+  -- one of the devices refused a call: the new file was not called, was not begun, has no header, or was not finished
+  pub data HasStopped : Type 0 where
+    Uncalled : to_now ≡ to → HasStopped
+    NotBegun : HasFailed e geometry header.last to to_now → HasStopped
+    Headless : IfSome (e.bytes to_now) IsHeadless → HasStopped
+    NotFinished : (rows : List Row) → IsNotFinished rows → HasStopped
+
   -- what copying the map answered
   abbrev pub Copies : Result ℕ GrowFault → Type 0
   Copies (Ok count) = (rows : List Row) × IsGrown rows count
@@ -112,7 +129,7 @@ module _ {E : Type 0} (e : device.Ghosts E) (header : Header) (geometry : Geomet
   Copies (Err (BadCell number)) = HasBad number
   Copies (Err NotEmpty) = IsOccupied
   Copies (Err (Disorder number)) = IsDisordered number
-  Copies (Err Device) = Unit {0}
+  Copies (Err Device) = HasStopped
   Copies (Err Small) = ⊥
   Copies (Err NotStore) = ⊥
   Copies (Err NotClosed) = ⊥

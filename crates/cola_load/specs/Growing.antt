@@ -1,5 +1,5 @@
 -- How far a new file is filled with the pairs of a walk, and what one more pair and all of them leave.
-use Rattle.std.specs.Prelude.{◌≡◌, ◌⊎◌, ℕ, suc, ◌+◌, ◌-◌, ◌≤◌, ◌<◌, Bool, List, [], ◌∷◌, ◌++◌, length, map, take, replicate, Option, Some, None, Result, Ok, Err, IfSome, IfOk}
+use Rattle.std.specs.Prelude.{◌≡◌, ◌⊎◌, ℕ, suc, ◌+◌, ◌-◌, ◌≤◌, ◌<◌, Bool, List, [], ◌∷◌, ◌++◌, length, map, Option, Some, None, Result, Ok, Err, IfSome, IfOk}
 use Rattle.std.specs.List.{AllByRecursion}
 use Rattle.cola_outside.specs.Faults.{Rose}
 use Rattle.cola_cell.specs.declared.cell.Run.{Run}
@@ -27,7 +27,7 @@ use Rattle.cola_load.specs.declared.fault.GrowFault.{GrowFault}
 use Rattle.cola_load.specs.declared.fault.GrowFault.TheVariants.{Small, NotStore, NotClosed, Fewer, OutOfMemory, BadCell, NotEmpty, Disorder, Device}
 use Rattle.cola_load.specs.declared.growing.Filling.{Filling}
 use Rattle.cola_load.specs.Filled.{Row, AreRows, IsFilled}
-use Rattle.cola_load.specs.Loading.{Loading, HoldsRows, IsAbove, last_key, full_blocks}
+use Rattle.cola_load.specs.Loading.{Loading, HoldsRows, IsHeadless, IsUnfinished, IsAbove, last_key, full_blocks}
 
 -- ---- the runs that are walked
 
@@ -96,10 +96,6 @@ abbrev pub unread_as : ReadFault → GrowFault
 unread_as (read.BadCell number) = BadCell number
 unread_as read.Device = Device
 
--- the file has no header
-abbrev pub IsHeadless : List ℕ → Type 0
-IsHeadless bytes = take 512 bytes ≡ replicate 512 0
-
 module _ (held : Held) (begun : Cursor) where
   -- of the pairs that were ahead where a walk began, these rows are the first, and the others are ahead now
   abbrev pub Gave : Cursor → List Row → Type 0
@@ -143,7 +139,7 @@ module _ (held : Held) (begun : Cursor) where
   CopiesNext geometry last rows cursor loading told (Err (BadCell number)) =
       HasBadRun held number (runs_of begun.lines.items) × IfSome told IsHeadless
   CopiesNext geometry last rows cursor loading told (Err (Disorder number)) = IsStopped geometry last told rows number
-  CopiesNext geometry last rows cursor loading told (Err Device) = Unit {0}
+  CopiesNext geometry last rows cursor loading told (Err Device) = IfSome told IsHeadless
   CopiesNext geometry last rows cursor loading told (Err Small) = ⊥
   CopiesNext geometry last rows cursor loading told (Err NotStore) = ⊥
   CopiesNext geometry last rows cursor loading told (Err NotClosed) = ⊥
@@ -156,7 +152,7 @@ module _ (held : Held) (begun : Cursor) where
   CopiesAll geometry last cursor loading told (Ok count) = (rows : List Row) × ((count ≡ length rows) × (IsCopied cursor loading told rows × GaveAll rows))
   CopiesAll geometry last cursor loading told (Err (BadCell number)) = HasBadRun held number (runs_of begun.lines.items) × IfSome told IsHeadless
   CopiesAll geometry last cursor loading told (Err (Disorder number)) = (rows : List Row) × IsStopped geometry last told rows number
-  CopiesAll geometry last cursor loading told (Err Device) = Unit {0}
+  CopiesAll geometry last cursor loading told (Err Device) = IfSome told IsHeadless
   CopiesAll geometry last cursor loading told (Err Small) = ⊥
   CopiesAll geometry last cursor loading told (Err NotStore) = ⊥
   CopiesAll geometry last cursor loading told (Err NotClosed) = ⊥
@@ -220,15 +216,24 @@ module _ (held : Held) (runs : List Run) where
     pub given : AreValuesOf held.spots runs (row ∷ rows)
     pub headless : IfSome told IsHeadless
 
-  -- what a walk over the runs answered, that filled a file for this geometry and last number
-  abbrev pub Walks : Geometry → ℕ → Option (List ℕ) → Result ℕ GrowFault → Type 0
-  Walks geometry last told (Ok count) = (rows : List Row) × IsWalked geometry last told rows count
-  Walks geometry last told (Err (BadCell number)) = HasBadRun held number runs × IfSome told IsHeadless
-  Walks geometry last told (Err (Disorder number)) = (rows : List Row) × IsBroken geometry last told rows number
-  Walks geometry last told (Err Device) = Unit {0}
-  Walks geometry last told (Err Small) = ⊥
-  Walks geometry last told (Err NotStore) = ⊥
-  Walks geometry last told (Err NotClosed) = ⊥
-  Walks geometry last told (Err (Fewer count)) = ⊥
-  Walks geometry last told (Err OutOfMemory) = ⊥
-  Walks geometry last told (Err NotEmpty) = ⊥
+  -- all pairs of the runs were pushed, but the file was not finished: its device refused a call
+  pub record IsNotFinished (geometry : Geometry) (last faults faults_now : ℕ) (told : Option (List ℕ)) (rows : List Row) : Type 0 where
+    pub cause : Rose faults faults_now
+    pub left : IfSome told (IsUnfinished geometry last rows)
+    pub pairs_are : OfPairs (λ pairs. pairs ≡ map pair_of rows)
+    pub given : AreValuesOf held.spots runs rows
+
+  -- what a walk over the runs answered, that filled a file for this geometry and last number; the counts of faults are those of
+  -- the file's device
+  abbrev pub Walks : Geometry → (last faults faults_now : ℕ) → Option (List ℕ) → Result ℕ GrowFault → Type 0
+  Walks geometry last faults faults_now told (Ok count) = (rows : List Row) × IsWalked geometry last told rows count
+  Walks geometry last faults faults_now told (Err (BadCell number)) = HasBadRun held number runs × IfSome told IsHeadless
+  Walks geometry last faults faults_now told (Err (Disorder number)) = (rows : List Row) × IsBroken geometry last told rows number
+  Walks geometry last faults faults_now told (Err Device) =
+      IfSome told IsHeadless ⊎ ((rows : List Row) × IsNotFinished geometry last faults faults_now told rows)
+  Walks geometry last faults faults_now told (Err Small) = ⊥
+  Walks geometry last faults faults_now told (Err NotStore) = ⊥
+  Walks geometry last faults faults_now told (Err NotClosed) = ⊥
+  Walks geometry last faults faults_now told (Err (Fewer count)) = ⊥
+  Walks geometry last faults faults_now told (Err OutOfMemory) = ⊥
+  Walks geometry last faults faults_now told (Err NotEmpty) = ⊥

@@ -1,5 +1,5 @@
 -- What a loader has, when it holds rows together with its device, and what its calls answer.
-use Rattle.std.specs.Prelude.{◌≡◌, ℕ, zero, suc, ◌+◌, ◌-◌, ◌*◌, ◌/◌, ◌≤◌, ◌<◌, false, List, [], ◌∷◌, ◌++◌, length, take, replicate, Option, Some, None, Result, Ok, Err, IfSome, OnOk, IsTrue, ⊤, if◌then◌else◌, nat_lt, ◌==◌}
+use Rattle.std.specs.Prelude.{◌≡◌, ◌⊎◌, ℕ, zero, suc, ◌+◌, ◌-◌, ◌*◌, ◌/◌, ◌≤◌, ◌<◌, false, List, [], ◌∷◌, ◌++◌, length, take, drop, replicate, Option, Some, None, Result, Ok, Err, IfSome, OnOk, MatchResult, IsTrue, ⊤, if◌then◌else◌, nat_lt, ◌==◌}
 use Rattle.std.specs.Ordering.{is_lt}
 use Rattle.cola_outside.specs.Faults.{Rose}
 use Rattle.cola_outside.specs.Told.{Both}
@@ -11,9 +11,11 @@ use Rattle.cola_cell.specs.Format.{width, stamp_limit}
 use Rattle.cola_cell.specs.Places.{number_of, slot_size}
 use Rattle.cola_device.specs.declared.device.Device as device
 use Rattle.cola_device.specs.Bytes.{IsEmpty}
+use Rattle.cola_device.specs.Settling.{IsSettled}
 use Rattle.cola_front.specs.Front.{FrontCells, cell_at, cell_bytes}
 use Rattle.cola_layout.specs.declared.geometry.Geometry.{Geometry}
 use Rattle.cola_run.specs.Cells.{block_cells, block_bytes, device_levels, file_bytes, tail_number}
+use Rattle.cola_run.specs.Saving.{SameFront, SameLevels}
 use Rattle.cola_spec.specs.Map.{key_cmp}
 use Rattle.cola_table.specs.Terms.{shape_of}
 use Rattle.cola_load.specs.declared.fault.LoadFault.{LoadFault}
@@ -63,13 +65,17 @@ last_key [] = None
 last_key (row ∷ []) = Some row.key
 last_key (row ∷ next ∷ rows) = last_key (next ∷ rows)
 
+-- the file has no header
+abbrev pub IsHeadless : List ℕ → Type 0
+IsHeadless bytes = take 512 bytes ≡ replicate 512 0
+
 -- a loader over a device with these bytes holds these rows: their cells are there, and the file has no header
 pub record HoldsRows (loading : Loading) (bytes : List ℕ) (rows : List Row) : Type 0 where
   pub are_rows : AreRows (shape_of loading.geometry.format loading.geometry.keys) loading.last rows
   pub many : loading.rows ≡ length rows
   pub key_is : loading.key ≡ last_key rows
   pub size : length bytes ≡ file_bytes loading.geometry
-  pub no_header : take 512 bytes ≡ replicate 512 0
+  pub no_header : IsHeadless bytes
   pub cells : HasCells loading (run_len loading.rows) rows bytes
 
 -- a key may be pushed behind this one, if there is one
@@ -124,9 +130,10 @@ pub record StaysInFront (geometry : Geometry) (before now : List ℕ) : Type 0 w
   pub size_stays : length now ≡ length before
   pub front_stays : take (2 * block_bytes geometry) now ≡ take (2 * block_bytes geometry) before
 
--- the cells of the levels from the front on, up to a level, stand on the device, and those from there on as before
+-- the cells of the levels from the front on, up to a level, stand on the device, and those from there on as before; so do the
+-- first two blocks
 pub record HasSaved (loading : Loading) (level : ℕ) (before now : List ℕ) : Type 0 where
-  pub many : length now ≡ length before
+  pub stays : StaysInFront loading.geometry before now
   pub saved : (l i : ℕ) → loading.geometry.block_exp ≤ l + 2 → l < level → l ≤ loading.geometry.bottom
       → i < run_len loading.rows (loading.geometry.bottom - l)
       → decoded loading.geometry.format (cell_bytes loading.geometry.format now (number_of l 0 i))
@@ -151,12 +158,15 @@ module _ {D : Type 0} (d : device.Ghosts D) (geometry : Geometry) (last : ℕ) (
     pub bytes_stay : d.bytes now ≡ d.bytes before
     pub no_fault : (d.counts now).faults ≡ (d.counts before).faults
 
-  -- the device refused to tell its size or to be laid out: bytes that it had stay, and where it had none there are at most so
-  -- many as the file has
+  -- a layout of an empty device that was refused may leave any bytes, at most so many as the file has
+  pub record IsPartlyLaid : Type 0 where
+    pub was_empty : IsEmpty (d.bytes before)
+    pub at_most : IfSome (d.bytes now) (λ bytes. length bytes ≤ file_bytes geometry)
+
+  -- the device refused to tell its size, and its bytes stay, or it refused to be laid out
   pub record HasFailed : Type 0 where
     pub cause : Rose (d.counts before).faults (d.counts now).faults
-    pub others_stay : Both (d.bytes before) (d.bytes now) (λ old new. 0 < length old → new ≡ old)
-    pub at_most : Both (d.bytes before) (d.bytes now) (λ old new. length old ≡ 0 → length new ≤ file_bytes geometry)
+    pub left : (d.bytes now ≡ d.bytes before) ⊎ IsPartlyLaid
 
   -- what the beginning of a load answers
   abbrev pub Begins : Result Loading LoadFault → Type 0
@@ -165,10 +175,35 @@ module _ {D : Type 0} (d : device.Ghosts D) (geometry : Geometry) (last : ℕ) (
   Begins (Err OutOfMemory) = HasRefused (λ bytes. length bytes ≡ 0)
   Begins (Err Device) = HasFailed
 
+module _ {D : Type 0} (d : device.Ghosts D) (geometry : Geometry) (before now : D) where
+  -- the first two blocks waited for the others: the device settled in between, when these two were as before and all behind them
+  -- as now
+  pub record FrontWaited : Type 0 where
+    pub between : D
+    pub levels_settled : IsSettled d between
+    pub front_waits : Both (d.bytes before) (d.bytes between) (SameFront geometry)
+    pub levels_stay : Both (d.bytes between) (d.bytes now) (SameLevels geometry)
+
+  -- they are as before, or they waited
+  abbrev pub FrontWaits : {T E : Type 0} → Result T E → Type 0
+  FrontWaits result = MatchResult result (λ _. FrontWaited) (λ _. Both (d.bytes before) (d.bytes now) (SameFront geometry) ⊎ FrontWaited)
+
 -- a row was pushed, or may not be: where rows are held before, these and the new one are held after Ok
 abbrev pub Pushes : {T E : Type 0} → Result T E → Loading → Loading → Row → List ℕ → List ℕ → Type 0
 Pushes result old new row before now = (rows : List Row) → HoldsRows old before rows → OnOk result (HoldsRows new now (rows ++ row ∷ []))
 
--- the file was finished: where rows are held before, it is filled with them after Ok
+-- behind its first block a file has the bytes of one that is filled with these rows: it lacks nothing but its header
+pub record IsFilledBehind (geometry : Geometry) (last : ℕ) (rows : List Row) (bytes : List ℕ) : Type 0 where
+  pub whole : List ℕ
+  pub filled : IsFilled geometry last rows whole
+  pub many : length bytes ≡ length whole
+  pub behind : drop (block_bytes geometry) bytes ≡ drop (block_bytes geometry) whole
+
+-- what a file has that was not finished: no header, or all behind the block with the header, which is written last
+abbrev pub IsUnfinished : Geometry → ℕ → List Row → List ℕ → Type 0
+IsUnfinished geometry last rows bytes = IsHeadless bytes ⊎ IsFilledBehind geometry last rows bytes
+
+-- the file was finished, or was not: where rows are held before, it is filled with them after Ok
 abbrev pub Finishes : {T E : Type 0} → Result T E → Loading → List ℕ → List ℕ → Type 0
-Finishes result loading before now = (rows : List Row) → HoldsRows loading before rows → OnOk result (IsFilled loading.geometry loading.last rows now)
+Finishes result loading before now = (rows : List Row) → HoldsRows loading before rows
+    → MatchResult result (λ _. IsFilled loading.geometry loading.last rows now) (λ _. IsUnfinished loading.geometry loading.last rows now)

@@ -1,11 +1,12 @@
 //! Laws of a copy of a file's map into a new file. Each function does nothing: its clauses are the law.
-ghost use Rattle.std.specs.Prelude.{◌≡◌, ◌≤◌, ℕ, List, [], Some, Ok, Result};
+ghost use Rattle.std.specs.Prelude.{◌≡◌, ◌⊎◌, ◌≤◌, ℕ, List, [], Some, Ok, Err, Result, IfSome};
 ghost use Rattle.cola_image.specs.Standing.{HeaderStandsFor};
 ghost use Rattle.cola_layout.specs.Header.{Fields};
 ghost use Rattle.cola_outside.specs.Faults.{Rose};
 ghost use Rattle.cola_spec.specs.Map.{Map, count};
 ghost use Rattle.cola_load.specs.declared.fault.GrowFault.{GrowFault as AnyFault};
 ghost use Rattle.cola_load.specs.Grow.{Grows, IsCountOrFull, IsFileOf};
+ghost use Rattle.cola_load.specs.Loading.{IsHeadless};
 
 use cola_device::Device;
 
@@ -25,4 +26,12 @@ pub fn growing_completes<D: Device, E: Device>()
         (header : Fields) (bytes : List ℕ) (m : Map) → D.bytes from ≡ Some bytes → HeaderStandsFor header bytes m → count m ≤ keys → E.bytes to ≡ Some [] →
         ¬ Rose (D.counts from).faults (D.counts from_now).faults → ¬ Rose (E.counts to).faults (E.counts to_now).faults →
         Grows D.Device E.Device from from_now to to_now ticks ticks_now keys block_exp result → IsCountOrFull (count m) result }
+{}
+
+/// Where the new file's device met no fault, each refusal leaves the file as it was, or without a header.
+pub fn refused_files_have_no_header<D: Device, E: Device>()
+    ensures { (from from_now : D) (to to_now : E) (ticks ticks_now keys block_exp : ℕ) (fault : AnyFault) →
+        ¬ Rose (E.counts to).faults (E.counts to_now).faults →
+        Grows D.Device E.Device from from_now to to_now ticks ticks_now keys block_exp (Err fault) →
+        (E.bytes to_now ≡ E.bytes to) ⊎ IfSome (E.bytes to_now) IsHeadless }
 {}

@@ -269,7 +269,7 @@ fn fill<W: CellSource, E: Device, L: Ledger>(
     requires none { begun.now.rows ≡ 0 }
     requires no_key { begun.now.key ≡ None }
     requires holds { IfSome (E.bytes to.old) (λ bytes. HoldsRows loader bytes []) }
-    ensures walks { Walks (W.held work.old) runs.now.items begun.now.geometry begun.now.last (E.bytes to.new) result }
+    ensures walks { Walks (W.held work.old) runs.now.items begun.now.geometry begun.now.last (E.counts to.old).faults (E.counts to.new).faults (E.bytes to.new) result }
     ensures settled { OnOk result (IsSettled E.Device to.new) }
     ensures at_most { steps.new ≤ steps.old + range_ticks (W.held work.old).fixed.levels }
     ensures reading { Reading (W.spent work.old) (W.spent work.new) steps.old steps.new }
@@ -370,9 +370,13 @@ fn copy_file<D: Device, E: Device, L: Ledger>(
 ///
 /// `BadCell` where the bytes of a cell that is read spell none. `Disorder` where a pair is not above the one before it, is one
 /// more than the new store is for, has a stamp above the last number of `from`, or does not fit the format: no file that
-/// stands for a map has one. `Device` where one of the two refused a call. After `BadCell` the new file is as it was, or has no
-/// header; after `Disorder` it has none; after `Device` nothing is said of it. `from` is not written, and comes back. Each cell
-/// of its visible runs is read once at most, beside a search in eight cells of each.
+/// stands for a map has one. `Device` where one of the two refused a call.
+///
+/// After `BadCell` the new file was not called, or has no header: its first 512 bytes are zero. After `Disorder` it has none.
+/// After `Device` it was not called, kept its bytes where it refused to tell its size, has any bytes where it refused to be laid
+/// out, has no header where the call was refused before the last row was pushed, and behind that as [`Loader::finish`] says:
+/// only then, and where the new file's device failed, may it have a header. After every other refusal it keeps its bytes. `from`
+/// is not written, and comes back. Each cell of its visible runs is read once at most, beside a search in eight cells of each.
 pub fn grow<D: Device, E: Device, L: Ledger>(
     alloc: Global,
     from: D,

@@ -10,7 +10,8 @@ ghost use Rattle.cola_device.specs.Settling.{IsSettled};
 ghost use Rattle.cola_front.specs.Front.{new_front};
 ghost use Rattle.cola_opening.specs.Counted.{Spends};
 ghost use Rattle.cola_run.specs.Cells.{block_cells, device_levels, file_bytes};
-ghost use Rattle.cola_load.specs.Loading.{Begins, Pushes, Finishes, StaysInFront, IsAbove, IsLoading, SameRows};
+ghost use Rattle.cola_run.specs.Saving.{SameLevels};
+ghost use Rattle.cola_load.specs.Loading.{Begins, Pushes, Finishes, FrontWaits, StaysInFront, IsAbove, IsLoading, SameRows};
 ghost use Rattle.cola_load.specs.Loading.{Puts, PutsRow, HasSaved, row_cell, full_blocks, filled_by};
 
 use crate::fault::LoadFault;
@@ -111,7 +112,8 @@ impl Loader {
     /// Begins a file of a store with this geometry, whose map has the last number `last`: at most 2^63, and 0 in format One.
     ///
     /// In this order: the size is asked, and `NotEmpty` where it is not 0; all memory is taken, or `OutOfMemory`; the file is
-    /// laid out. `Device` where the device refused a call. With `NotEmpty` and `OutOfMemory` the file stays as it was.
+    /// laid out. `Device` where the device refused a call. With `NotEmpty` and `OutOfMemory` the file stays as it was, and with
+    /// `Device` too, but where the layout was refused: then it may have any bytes, at most as many as were asked for.
     pub fn begin<D: Device>(
         alloc: Global,
         device: &mut D,
@@ -217,7 +219,7 @@ impl Loader {
         requires inside { HasRange (D.bytes device.old) 0 (file_bytes self.now.geometry) }
         ensures saves { Both (D.bytes device.old) (D.bytes device.new) (λ old new. (before : List ℕ) → HasSaved self.now level before old
             → OnOk result (HasSaved self.now (level + 1) before new)) }
-        ensures size_stays { Both (D.bytes device.old) (D.bytes device.new) (λ old new. length new ≡ length old) }
+        ensures front_stays { Both (D.bytes device.old) (D.bytes device.new) (StaysInFront self.now.geometry) }
         ensures kept { D.kept device.new ≡ D.kept device.old }
         ensures counts { Called (D.counts device.old) (D.counts device.new) 0 1 0 result }
     {
@@ -233,7 +235,7 @@ impl Loader {
         requires inside { HasRange (D.bytes device.old) 0 (file_bytes self.now.geometry) }
         ensures saves { Both (D.bytes device.old) (D.bytes device.new)
             (λ old new. OnOk result (HasSaved self.now (self.now.geometry.bottom + 1) old new)) }
-        ensures size_stays { Both (D.bytes device.old) (D.bytes device.new) (λ old new. length new ≡ length old) }
+        ensures front_stays { Both (D.bytes device.old) (D.bytes device.new) (StaysInFront self.now.geometry) }
         ensures kept { D.kept device.new ≡ D.kept device.old }
         ensures counts { Called (D.counts device.old) (D.counts device.new) 0 (device_levels self.now.geometry) 0 result }
     {
@@ -253,6 +255,7 @@ impl Loader {
         ensures finishes { Both (D.bytes device.old) (D.bytes device.new) (λ old new. (before : List ℕ) →
             HasSaved self.now (self.now.geometry.bottom + 1) before old → Finishes result self.now before new) }
         ensures size_stays { Both (D.bytes device.old) (D.bytes device.new) (λ old new. length new ≡ length old) }
+        ensures levels_stay { Both (D.bytes device.old) (D.bytes device.new) (SameLevels self.now.geometry) }
         ensures settled { OnOk result (IsSettled D.Device device.new) }
         ensures kept { D.kept device.new ≡ D.kept device.old }
         ensures counts { Called (D.counts device.old) (D.counts device.new) 0 2 1 result }
@@ -311,13 +314,16 @@ impl Loader {
     }
 
     /// Writes what is left: the blocks that are not full, and the first two blocks, the header last; the device settles before
-    /// these two and at the end. Answers how many rows the file has. An error comes only where the device refused a call. No
-    /// memory is taken.
+    /// these two and at the end. Answers how many rows the file has. No memory is taken.
+    ///
+    /// An error comes only where the device refused a call. The file has no header then, or it has all that a finished file has
+    /// but for its first block, which may have any bytes: the write of that block was refused, or the settle behind it.
     pub fn finish<D: Device>(self, device: &mut D) -> Result<u64, DeviceFault>
         requires inside { HasRange (D.bytes device.old) 0 (file_bytes self.geometry) }
         ensures rows { IfOk result (λ rows. rows ≡ self.rows) }
         ensures finishes { Both (D.bytes device.old) (D.bytes device.new) (Finishes result self) }
         ensures size_stays { Both (D.bytes device.old) (D.bytes device.new) (λ old new. length new ≡ length old) }
+        ensures waits { FrontWaits D.Device self.geometry device.old device.new result }
         ensures settled { OnOk result (IsSettled D.Device device.new) }
         ensures kept { D.kept device.new ≡ D.kept device.old }
         ensures counts { Called (D.counts device.old) (D.counts device.new) 0 (device_levels self.geometry + 2) 2 result }

@@ -4,7 +4,7 @@ use Rattle.cola_cell.specs.Held.{Stamped}
 use Rattle.cola_cursor.specs.Standing.{Ahead, TakesNext, IsPassed, none_hidden, answered_key}
 use Rattle.cola_device.specs.declared.device.DeviceFault.{DeviceFault}
 use Rattle.cola_load.specs.Filled.{Row}
-use Rattle.cola_load.proofs.Copying.{same-runs, passed-value, next-none, next-stops, next-copied, next-unread, pushed-spends}
+use Rattle.cola_load.proofs.Copying.{same-runs, passed-value, next-none, next-stops, next-copied, next-unread, no-header-then, pushed-spends}
 use Rattle.cola_load.proofs.growing.copy_next.Goals as goal
 
 pub returns-in-Ok-None-clause-copies : goal.returns-in-Ok-None-clause-copies
@@ -68,3 +68,7 @@ returns-in-Ok-clause-writes g c = (pushed-spends c.args.filling.now c.args.loade
 
 pub returns-in-Err-push-clause-writes : goal.returns-in-Err-push-clause-writes
 returns-in-Err-push-clause-writes g c = inr (pushed-spends c.args.filling.now c.args.loader.now c.requires.filling (c.admits.ensures.yes c.if-not-admits.false).room c.push.ensures.counts)
+
+pub returns-in-Err-push-clause-copies : goal.returns-in-Err-push-clause-copies
+returns-in-Err-push-clause-copies g c = λ begun rows copied.
+    no-header-then c.args.loader.now (g.E.Device.bytes c.args.to.now) (g.E.Device.bytes c.push.new.device) rows copied.holds c.push.ensures.front_stays

@@ -1,4 +1,4 @@
-use Rattle.std.proofs.Common.{◌≡◌, ◌≤◌, ◌<◌, ◌+◌, ◌-◌, ◌%◌, ℕ, List, length, ap, sym, subst, ◌∙◌}
+use Rattle.std.proofs.Common.{◌≡◌, ◌≤◌, ◌<◌, ◌+◌, ◌-◌, ◌%◌, ℕ, List, ap, refl, sym, subst, ◌∙◌, length}
 use Rattle.std.specs.Prelude.{OnOk}
 use Rattle.std.specs.Box.{boxed_slice_items}
 use Rattle.cola_outside.specs.Told.{Both}
@@ -6,10 +6,9 @@ use Rattle.cola_cell.specs.Places.{slot_size}
 use Rattle.cola_device.specs.Bytes.{HasRange}
 use Rattle.cola_run.specs.Cells.{block_cells, file_bytes}
 use Rattle.cola_run.specs.Parts.{WroteTail}
-use Rattle.cola_run.proofs.Spots.{both-so}
 use Rattle.cola_load.specs.Filled.{run_len}
 use Rattle.cola_load.specs.Loading.{Loading, HasSaved, StaysInFront}
-use Rattle.cola_load.proofs.Placing.{front-written}
+use Rattle.cola_load.proofs.Placing.{front-same, front-written}
 use Rattle.cola_load.proofs.Saving.{saves-kept, saves-written, part-fits}
 use Rattle.cola_load.proofs.loader.Loader.write_tail_of.Goals as goal
 
@@ -58,8 +57,8 @@ returns-clause-saves g c =
     subst (λ (z : Loading). Both told now (λ old new. (before : List ℕ) → HasSaved z level before old → OnOk c.write_tail.result (HasSaved z (level + 1) before new))) c.self.view_is
     (saves-written l level high low c.self.invariant.few c.write_tail.result told now (part-fits l level high low c.self.invariant.few part) c.self.invariant.tails_many room wrote)
 
-pub returns-clause-size_stays : goal.returns-clause-size_stays
-returns-clause-size_stays g c =
+pub returns-clause-front_stays : goal.returns-clause-front_stays
+returns-clause-front_stays g c =
     let i = c.self.inside in
     let l : Loading = record { geometry = i.geometry; last = i.last; rows = i.rows; key = i.key; front = i.front; tails = boxed_slice_items i.tails } in
     let told = g.D.Device.bytes c.args.device.now in
@@ -73,5 +72,8 @@ returns-clause-size_stays g c =
     (subst (λ (b : ℕ). run_len i.rows (i.geometry.bottom - level) % b ≡ 0) (sym c.cells_of_block.ensures.value) e)) in
     let within : c.len_of_run-len.result < slot_size level = subst (λ (n : ℕ). n < slot_size level) (sym c.len_of_run-len.ensures.value) (part-fits l level high low c.self.invariant.few part) in
     let many = ap length c.deref.ensures.value ∙ c.self.invariant.tails_many in
-    both-so told now (StaysInFront i.geometry) (λ old new. length new ≡ length old) (λ x y s. s.size_stays)
+    subst (λ (z : Loading). Both told now (StaysInFront z.geometry)) c.self.view_is
     (front-written i.geometry c.deref.result.now level c.len_of_run-len.result low high within many c.write_tail.result told now room c.write_tail.ensures.wrote)
+
+pub returns-then-len-cells_of_block-eq0-clause-front_stays : goal.returns-then-len-cells_of_block-eq0-clause-front_stays
+returns-then-len-cells_of_block-eq0-clause-front_stays g c = front-same c.args.self.now.geometry (g.D.Device.bytes c.args.device.now) (g.D.Device.bytes c.args.device.now) refl

@@ -1,6 +1,8 @@
 use Rattle.std.proofs.Common.{◌≡◌, ◌+◌, ℕ, ap, subst, arith}
 use Rattle.cola_outside.specs.Told.{Both}
-use Rattle.cola_load.specs.Loading.{Loading, HasSaved}
+use Rattle.cola_run.proofs.Spots.{both-so}
+use Rattle.cola_load.specs.Loading.{Loading, HasSaved, StaysInFront}
+use Rattle.cola_load.proofs.Saving.{saving-front}
 use Rattle.cola_load.proofs.loader.Loader.write_tails.Goals as goal
 
 pub returns-clause-saves : goal.returns-clause-saves
@@ -13,3 +15,11 @@ returns-clause-saves g c =
     let deep : c.self.inside.geometry.bottom ≡ self.geometry.bottom = ap (λ (z : Loading). z.geometry.bottom) c.self.view_is in
     let at : c.loop-level.level ≡ self.geometry.bottom + 1 = omega (arith, over, end, front, most, deep) in
     subst (λ (k : ℕ). Both (g.D.Device.bytes c.args.device.now) (g.D.Device.bytes c.loop-level.device) (HasSaved self k)) at c.loop-level.invariant.saved
+
+pub returns-in-Err-clause-front_stays : goal.returns-in-Err-clause-front_stays
+returns-in-Err-clause-front_stays g c =
+    saving-front c.args.self.now c.loop-level.level (g.D.Device.bytes c.args.device.now) (g.D.Device.bytes c.loop-level.device) (g.D.Device.bytes c.write_tail_of.new.device) c.loop-level.invariant.saved c.write_tail_of.ensures.front_stays
+
+pub returns-clause-front_stays : goal.returns-clause-front_stays
+returns-clause-front_stays g c =
+    both-so (g.D.Device.bytes c.args.device.now) (g.D.Device.bytes c.loop-level.device) (HasSaved c.args.self.now c.loop-level.level) (StaysInFront c.args.self.now.geometry) (λ x y was. was.stays) c.loop-level.invariant.saved
