@@ -45,9 +45,9 @@ module _ {S K D : Type 0} (g : source.Ghosts S) (h : sink.Ghosts K) (d : device.
   load-known-by geometry source source' sink sink' device device' n (loads.Stopped between rose stops) = stopped-known stops
     where
       stopped-known : StopsBefore g h d (shape_of geometry.format geometry.keys) source source' sink sink' between device' n → IsStatus n
-      stopped-known (loads.Status3 is why stays none) = one known.SourceFailed n is
+      stopped-known (loads.Status3 is why stopped) = one known.SourceFailed n is
       stopped-known (loads.Status5 is why) = one known.DeviceFailed n is
-      stopped-known (loads.Status9 is why stays none) = one known.Spent n is
+      stopped-known (loads.Status9 is why stopped) = one known.Spent n is
       stopped-known (loads.AtWord at) = by-line (word_line at.word) 14 n sink sink' (one known.BadLine 14 refl) at.wrote
   load-known-by geometry source source' sink sink' device device' n (loads.AtEnd is failed) = one known.DeviceFailed n is
   load-known-by geometry source source' sink sink' device device' n (loads.Loaded was) = by-line (loaded_line (length was.rows)) 0 n sink sink' (one known.Done 0 refl) was.wrote

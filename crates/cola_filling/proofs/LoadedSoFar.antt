@@ -1,15 +1,12 @@
 -- Lines that are loaded one after another: what there is behind each.
-use Rattle.std.proofs.Common.{◌≡◌, inl, inr, ℕ, zero, suc, ◌+◌, ◌-◌, ◌*◌, ◌^◌, ◌≤◌, ◌<◌, take, replicate, List, [], ◌∷◌, ◌++◌, length, Option, Some, None, Ok, IfSome, refl, sym, ap, ◌∙◌, subst, append-nil, arith, false, true, Bool, IsTrue, nat_le, if◌then◌else◌, length-append}
+use Rattle.std.proofs.Common.{◌≡◌, inl, inr, ℕ, zero, suc, ◌+◌, ◌-◌, ◌*◌, ◌^◌, ◌≤◌, ◌<◌, List, [], ◌∷◌, ◌++◌, length, Option, Some, None, Result, Ok, IfSome, refl, sym, ap, ◌∙◌, subst, append-nil, arith, false, true, Bool, IsTrue, nat_le, if◌then◌else◌, length-append}
 use Rattle.std.specs.declared.cmp.Ordering.{Ordering}
 use Rattle.std.specs.declared.cmp.Ordering.TheVariants.{Less, Equal, Greater}
 use Rattle.std.specs.Ordering.{is_le, is_lt}
 use Rattle.std.proofs.lemmas.Bool.{leb-false}
 use Rattle.std.proofs.lemmas.List.{map-append, length-map}
-use Rattle.std.proofs.Math.Pow.{pow_mono}
 use Rattle.cola_outside.specs.Told.{Both}
 use Rattle.cola_cell.specs.declared.format.Format.{Format}
-use Rattle.cola_cell.specs.declared.format.Format.TheVariants.{One, Two}
-use Rattle.cola_cell.specs.Format.{width}
 use Rattle.cola_device.specs.declared.device.Device as device
 use Rattle.cola_device.specs.declared.device.DeviceFault.{DeviceFault}
 use Rattle.cola_device.specs.Bytes.{HasRange}
@@ -21,7 +18,7 @@ use Rattle.cola_io.specs.Law.{all_ended_lines}
 use Rattle.cola_layout.specs.declared.geometry.Geometry.{Geometry}
 use Rattle.cola_spec.specs.Lines.{Line}
 use Rattle.cola_run.proofs.Spots.{both-with, both-second}
-use Rattle.cola_run.specs.Cells.{block_bytes, file_bytes}
+use Rattle.cola_run.specs.Cells.{file_bytes}
 use Rattle.cola_session.specs.Ends.{ReadToEnd}
 use Rattle.cola_session.specs.Reading.{AreFirstLines}
 use Rattle.cola_session.proofs.ReadingOn.{ReadSoFar}
@@ -40,6 +37,11 @@ use Rattle.cola_load.specs.Judged.{Judging, Judged, settled, answer_of, given, w
 use Rattle.cola_load.specs.Loading.{Loading, HoldsRows, Pushes, StaysInFront, IsAbove, full_blocks}
 use Rattle.cola_filling.specs.Lines.{IsFresh, AreLoaded}
 use Rattle.cola_filling.specs.Loads.{HaveNoWord, HasNoHeader, loaded_rows, unstamped}
+use Rattle.cola_load.proofs.Copying as headless
+use Rattle.cola_load.proofs.Blocks.{blocks-rise}
+use Rattle.cola_opening.specs.Counted.{Spends}
+use Rattle.cola_opening.proofs.Spending.{spends-none, spends-then, called-spends}
+use Rattle.cola_device.specs.Counts.{Called}
 use Rattle.cola_load.proofs.Chains.{behind, standing_more, rows_more, last_more}
 use Rattle.cola_load.proofs.FirstWords.{all_without_word, next_word}
 
@@ -79,7 +81,8 @@ pub record LoadedSoFar {D : Type 0} (d : device.Ghosts D) (geometry : Geometry) 
   pub rows_are : loading.rows ≡ state.before.rows
   pub key_is : loading.key ≡ state.before.last
   pub holds : IfSome (d.bytes now) (λ bytes. HoldsRows loading bytes (unstamped (rows_said (shape_of geometry.format geometry.keys) told)))
-  pub few_writes : (d.counts now).writes ≤ (d.counts before).writes + full_blocks geometry loading.rows
+  pub few : loading.rows ≤ geometry.keys
+  pub spends : Spends (d.counts before) (d.counts now) 0 (full_blocks geometry loading.rows) 0
   pub no_fault : (d.counts now).faults ≡ (d.counts before).faults
 
 module _ (keys : ℕ) (format : Format) (told : List Line) (line : Line) (old new : Judging) (answered : RowLine) (old_is : old ≡ behind keys format told) (no_word : HaveNoWord (shape_of format keys) told) (judged : Judged old line answered new) where
@@ -169,7 +172,8 @@ module _ {D : Type 0} (d : device.Ghosts D) (geometry : Geometry) where
     rows_are = fresh.no_rows;
     key_is = fresh.no_key;
     holds = fresh.holds;
-    few_writes = omega arith;
+    few = (let none = fresh.no_rows in omega (arith, none));
+    spends = spends-none;
     no_fault = refl;
   }
 
@@ -187,7 +191,8 @@ module _ {D : Type 0} (d : device.Ghosts D) (geometry : Geometry) where
           rows_are = so_far.rows_are ∙ ap (λ (s : Judging). s.before.rows) so_far.state_is ∙ sym (ap (λ (s : Judging). s.before.rows) state ∙ ap length rows);
           key_is = so_far.key_is ∙ ap (λ (s : Judging). s.before.last) so_far.state_is ∙ sym (ap (λ (s : Judging). s.before.last) state ∙ ap last_key rows);
           holds = subst (λ r. IfSome (d.bytes mid) (λ bytes. HoldsRows loading bytes (unstamped r))) (sym rows) so_far.holds;
-          few_writes = so_far.few_writes;
+          few = so_far.few;
+          spends = so_far.spends;
           no_fault = so_far.no_fault;
         }
 
@@ -212,11 +217,24 @@ module _ {D : Type 0} (d : device.Ghosts D) (geometry : Geometry) where
       pub is-higher : IsAbove loading.key key
       is-higher = subst (λ k. IsAbove k key) (sym (so_far.key_is ∙ ap (λ (s : Judging). s.before.last) so_far.state_is)) (is-above (standing limits told).last key tests.0)
 
+      -- a push of it makes the writes of one row more
+      pub row-spends : {T E : Type 0} {result : Result T E} (now : D) → Called (d.counts mid) (d.counts now) 0 (full_blocks loading.geometry (loading.rows + 1) - full_blocks loading.geometry loading.rows) 0 result
+          → Spends (d.counts before) (d.counts now) 0 (full_blocks geometry (loading.rows + 1)) 0
+      row-spends now called =
+          let more = blocks-rise loading.geometry loading.rows (loading.rows + 1) (omega arith) in
+          let same : full_blocks geometry loading.rows ≡ full_blocks loading.geometry loading.rows = ap (λ (g : Geometry). full_blocks g loading.rows) (sym so_far.geometry_is) in
+          let next : full_blocks geometry (loading.rows + 1) ≡ full_blocks loading.geometry (loading.rows + 1) = ap (λ (g : Geometry). full_blocks g (loading.rows + 1)) (sym so_far.geometry_is) in
+          spends-then so_far.spends (called-spends called) (omega arith) (omega (arith, more, same, next)) (omega arith)
+
+      pub one-more : loading.rows + 1 ≤ geometry.keys
+      one-more =
+          let keys : loading.geometry.keys ≡ geometry.keys = ap (λ (g : Geometry). g.keys) so_far.geometry_is in
+          omega (arith, has-room, keys)
+
       -- and where it was pushed, it is loaded
       pub row-loaded : (after : Loading) (now : D) → Both (d.bytes mid) (d.bytes now) (Pushes {T = Unit {0}} {E = DeviceFault} (Ok tt) loading after (one_row key value)) → after.geometry ≡ loading.geometry → after.last ≡ loading.last
-          → after.rows ≡ loading.rows + 1 → after.key ≡ Some key → (d.counts now).writes ≤ (d.counts mid).writes + (full_blocks loading.geometry (loading.rows + 1) - full_blocks loading.geometry loading.rows)
-          → full_blocks loading.geometry loading.rows ≤ full_blocks loading.geometry (loading.rows + 1) → (d.counts now).faults ≡ (d.counts mid).faults → LoadedSoFar d geometry (told ++ line ∷ []) new after before now
-      row-loaded after now pushes same_geometry same_last more_rows new_key writes more faults =
+          → after.rows ≡ loading.rows + 1 → after.key ≡ Some key → Spends (d.counts before) (d.counts now) 0 (full_blocks geometry (loading.rows + 1)) 0 → (d.counts now).faults ≡ (d.counts mid).faults → LoadedSoFar d geometry (told ++ line ∷ []) new after before now
+      row-loaded after now pushes same_geometry same_last more_rows new_key spent faults =
           let state = state-now geometry.keys geometry.format told line old new answered so_far.state_is so_far.no_word judged none in
           let rows = row-more geometry.keys geometry.format told line old new answered so_far.state_is so_far.no_word judged none key value is in
           let alike = so_far.rows_are ∙ ap (λ (s : Judging). s.before.rows) so_far.state_is in
@@ -233,29 +251,12 @@ module _ {D : Type 0} (d : device.Ghosts D) (geometry : Geometry) where
                 (sym (ap unstamped rows ∙ unstamped-more (rows_said limits told) ((key, value) ∷ [])))
                 (both-second (d.bytes mid) (d.bytes now) _ (λ bytes. HoldsRows after bytes (unstamped (rows_said limits told) ++ one_row key value ∷ [])) (λ x y both. both.1 (unstamped (rows_said limits told)) both.0)
                 (both-with (d.bytes mid) (d.bytes now) (λ bytes. HoldsRows loading bytes (unstamped (rows_said limits told))) _ so_far.holds pushes));
-            few_writes =
-                let same : full_blocks geometry loading.rows ≡ full_blocks loading.geometry loading.rows = ap (λ (g : Geometry). full_blocks g loading.rows) (sym so_far.geometry_is) in
-                let last : full_blocks geometry after.rows ≡ full_blocks loading.geometry (loading.rows + 1) = ap (λ (g : Geometry). full_blocks g after.rows) (sym so_far.geometry_is) ∙ ap (full_blocks loading.geometry) more_rows in
-                omega (arith, so_far.few_writes, writes, more, same, last);
+            few = subst (λ (n : ℕ). n ≤ geometry.keys) (sym more_rows) one-more;
+            spends = subst (λ (n : ℕ). Spends (d.counts before) (d.counts now) 0 (full_blocks geometry n) 0) (sym more_rows) spent;
             no_fault = faults ∙ so_far.no_fault;
           }
 
 -- ---- how the lines end
-
-take_front : {A : Type 0} (n m : ℕ) (xs : List A) → n ≤ m → take n (take m xs) ≡ take n xs
-take_front zero m xs within = refl
-take_front (suc n) zero xs within = absurd (omega (arith, within))
-take_front (suc n) (suc m) [] within = refl
-take_front (suc n) (suc m) (x ∷ xs) within = ap (λ l. x ∷ l) (take_front n m xs (omega (arith, within)))
-
-two-blocks : (geometry : Geometry) → 512 ≤ 2 * block_bytes geometry
-two-blocks geometry =
-    let few : 2 ^ 3 ≤ 2 ^ geometry.block_exp = pow_mono {i = 3} {j = geometry.block_exp} geometry.block_fits.group in
-    by-format geometry.format (2 ^ geometry.block_exp) few
-  where
-    by-format : (format : Format) (cells : ℕ) → 8 ≤ cells → 512 ≤ 2 * (width format * cells)
-    by-format One cells few = omega (arith, few)
-    by-format Two cells few = omega (arith, few)
 
 -- the first lines of what was read
 pub first-told : {S : Type 0} (g : source.Ghosts S) (source source' : S) (reader : Reading) (reads : List Read) (told : List Line) → ReadSoFar g source source' reader reads told → AreFirstLines told reads
@@ -280,14 +281,11 @@ module _ {D : Type 0} (d : device.Ghosts D) (geometry : Geometry) (told : List L
       so_far.rows_are ∙ ap (λ (s : Judging). s.before.rows) so_far.state_is ∙ sym (length-map (rows_said shape-is told) (λ row. one_row row.0 row.1)) ∙ ap length rows-same
 
   pub no-header : HasNoHeader (d.bytes now)
-  no-header = some-option (d.bytes now) (λ bytes. HoldsRows loading bytes (unstamped (rows_said shape-is told))) (λ bytes. take 512 bytes ≡ replicate 512 0) (λ bytes held. held.no_header) so_far.holds
+  no-header = headless.no-header loading (d.bytes now) (unstamped (rows_said shape-is told)) so_far.holds
 
   -- nor after a write that failed
   pub no-header-then : (later : D) → Both (d.bytes now) (d.bytes later) (StaysInFront loading.geometry) → HasNoHeader (d.bytes later)
-  no-header-then later stays =
-      both-second (d.bytes now) (d.bytes later) (λ x y. (take 512 x ≡ replicate 512 0) × StaysInFront loading.geometry x y) (λ bytes. take 512 bytes ≡ replicate 512 0)
-      (λ x y both. sym (take_front 512 (2 * block_bytes loading.geometry) y (two-blocks loading.geometry)) ∙ ap (take 512) both.1.front_stays ∙ take_front 512 (2 * block_bytes loading.geometry) x (two-blocks loading.geometry) ∙ both.0)
-      (both-with (d.bytes now) (d.bytes later) (λ bytes. take 512 bytes ≡ replicate 512 0) (StaysInFront loading.geometry) no-header stays)
+  no-header-then later stays = headless.no-header-then loading (d.bytes now) (d.bytes later) (unstamped (rows_said shape-is told)) so_far.holds stays
 
   -- the device has the file
   pub has-file : HasRange (d.bytes now) 0 (file_bytes loading.geometry)
@@ -308,6 +306,6 @@ module _ {D : Type 0} (d : device.Ghosts D) (geometry : Geometry) (told : List L
     sink_stays = stays;
     few_writes =
         subst (λ (G : Geometry). (d.counts now).writes ≤ (d.counts before).writes + full_blocks G (length (loaded_rows (shape_of G.format G.keys) told))) same
-        (subst (λ n. (d.counts now).writes ≤ (d.counts before).writes + full_blocks geometry n) many-loaded so_far.few_writes);
+        (subst (λ n. (d.counts now).writes ≤ (d.counts before).writes + full_blocks geometry n) many-loaded so_far.spends.writes_rise);
     no_fault = so_far.no_fault;
   }

@@ -10,7 +10,7 @@ use Rattle.cola_report.specs.Line.{LineEnds}
 use Rattle.cola_run.specs.Cells.{file_bytes, device_levels}
 use Rattle.cola_session.specs.Ends.{ReadToEnd}
 use Rattle.cola_table.specs.Terms.{shape_of}
-use Rattle.cola_load.specs.Loading.{Loading, HoldsRows, HasBegun, full_blocks}
+use Rattle.cola_load.specs.Loading.{Loading, HoldsRows, IsUnfinished, HasBegun, full_blocks}
 use Rattle.cola_filling.specs.Lines.{IsFresh, AreLoaded, LoadFinishes}
 use Rattle.cola_filling.specs.Loads as ends
 use Rattle.cola_filling.specs.Loads.{HaveNoWord, loaded_rows, loaded_line, LoadEndsBy, StopsBefore, IsFilledWith, most_writes}
@@ -31,7 +31,7 @@ module _ {S K D : Type 0} (g : source.Ghosts S) (h : sink.Ghosts K) (d : device.
   -- lines that stopped
   pub stopped : StopsBefore g h d (shape_of old.geometry.format old.geometry.keys) source source' sink sink1 begun-at mid status → LoadEndsBy g h d geometry source source' sink sink1 before mid status
   stopped stops =
-      ends.Stopped begun-at (omega (arith, begun.no_fault)) (subst (λ (G : Geometry). StopsBefore g h d (shape_of G.format G.keys) source source' sink sink1 begun-at mid status) begun.geometry_is stops)
+      ends.Stopped begun-at begun.no_fault (subst (λ (G : Geometry). StopsBefore g h d (shape_of G.format G.keys) source source' sink sink1 begun-at mid status) begun.geometry_is stops)
 
   -- all lines
   pub ended : AreLoaded g h d old new source source' sink sink1 begun-at mid → LoadFinishes h d new sink1 sink' mid now status → full_blocks geometry new.rows + (device_levels geometry + 2) ≤ most_writes geometry new.rows
@@ -54,25 +54,11 @@ module _ {S K D : Type 0} (g : source.Ghosts S) (h : sink.Ghosts K) (d : device.
         (subst (λ n. LineEnds h (loaded_line n) 0 sink1 sink' status) loaded.many finished.wrote);
   })
   ended loaded (inr failed) few = ends.AtEnd failed.status_is (record {
-    read = at-end;
+    rows = loaded.rows;
+    read = subst (λ (G : Geometry). ReadToEnd g h source source' sink sink (λ lines. HaveNoWord (shape_of G.format G.keys) lines × (loaded.rows ≡ loaded_rows (shape_of G.format G.keys) lines))) begun.geometry_is loaded.read;
+    left =
+        subst (λ (G : Geometry). IfSome (d.bytes now) (IsUnfinished G 0 loaded.rows)) (loaded.geometry_stays ∙ begun.geometry_is)
+        (subst (λ n. IfSome (d.bytes now) (IsUnfinished new.geometry n loaded.rows)) (loaded.last_stays ∙ begun.last_is) (failed.left loaded.rows loaded.holds));
     sink_stays = failed.sink_stays ∙ loaded.sink_stays;
     cause = subst (λ n. Rose n (d.counts now).faults) (loaded.no_fault ∙ begun.no_fault) failed.cause;
   })
-    where
-      whole : ReadToEnd g h source source' sink sink (HaveNoWord (shape_of geometry.format geometry.keys))
-      whole =
-          let read = subst (λ (G : Geometry). ReadToEnd g h source source' sink sink (λ lines. HaveNoWord (shape_of G.format G.keys) lines × (loaded.rows ≡ loaded_rows (shape_of G.format G.keys) lines))) begun.geometry_is loaded.read in
-          record {
-            reads = read.reads;
-            lines = read.lines;
-            all = read.all;
-            read = read.read;
-            met_the_end = read.met_the_end;
-            fewer = read.fewer;
-            carried = read.carried.0;
-            source_faults = read.source_faults;
-            sink_faults = read.sink_faults;
-          }
-
-      at-end : ReadToEnd g h source source' sink sink' (HaveNoWord (shape_of geometry.format geometry.keys))
-      at-end = subst (λ (k : K). ReadToEnd g h source source' sink k (HaveNoWord (shape_of geometry.format geometry.keys))) (sym (failed.sink_stays ∙ loaded.sink_stays)) whole

@@ -66,9 +66,9 @@ module _ {S K D : Type 0} (g : source.Ghosts S) (h : sink.Ghosts K) (d : device.
     not-begun load.Device e = cc
 
     stops-not : (between : D) → StopsBefore g h d (shape_of geometry.format geometry.keys) source source' sink sink' between device' 0 → ⊥
-    stops-not between (loads.Status3 is why stays none) = cc
+    stops-not between (loads.Status3 is why stopped) = cc
     stops-not between (loads.Status5 is why) = cc
-    stops-not between (loads.Status9 is why stays none) = cc
+    stops-not between (loads.Status9 is why stopped) = cc
     stops-not between (loads.AtWord at) = elim at.wrote [
       | WroteLine is wrote counted ↦ cc
       | WroteFront is k wrote counted ↦ cc
@@ -84,9 +84,6 @@ module _ {S K D : Type 0} (g : source.Ghosts S) (h : sink.Ghosts K) (d : device.
 
   rose-one : (before now : ℕ) → now ≡ after_fault before → Rose before now
   rose-one before now is = omega (arith, is)
-
-  earlier : (a b c : ℕ) → a ≤ b → Rose b c → Rose a c
-  earlier a b c up rose = omega (arith, up, rose)
 
   module _ (geometry : Geometry) (is : IsFor keys block_exp format geometry) (status : ℕ) (can : CanBeLoaded g h d (shape_of format keys) source source' sink sink' device device') where
     for-shape-there : (P : Shape → Type 0) → P (shape_of geometry.format geometry.keys) → P (shape_of format keys)
@@ -108,10 +105,10 @@ module _ {S K D : Type 0} (g : source.Ghosts S) (h : sink.Ghosts K) (d : device.
     some-none : (word : Word) (found : Option Word) → found ≡ Some word → found ≡ None → ⊥
     some-none word found a b = cc
 
-    by-stop : (between : D) → (d.counts device).faults ≤ (d.counts between).faults → StopsBefore g h d (shape_of geometry.format geometry.keys) source source' sink sink' between device' status → (status ≡ 0) ⊎ (status ≡ 1)
-    by-stop between up (loads.Status3 e why stays none) = absurd (can.nothing_fails.source_answers (rose-one (g.faults source) (g.faults source') why.source_faults))
-    by-stop between up (loads.Status5 e why) = absurd (can.device_answers (earlier (d.counts device).faults (d.counts between).faults (d.counts device').faults up why.cause))
-    by-stop between up (loads.Status9 e why stays none) = absurd (let few = can.nothing_fails.few why.lines why.reads why.read in omega (arith, few, why.all))
+    by-stop : (between : D) → (d.counts between).faults ≡ (d.counts device).faults → StopsBefore g h d (shape_of geometry.format geometry.keys) source source' sink sink' between device' status → (status ≡ 0) ⊎ (status ≡ 1)
+    by-stop between up (loads.Status3 e why stopped) = absurd (can.nothing_fails.source_answers (rose-one (g.faults source) (g.faults source') why.source_faults))
+    by-stop between up (loads.Status5 e why) = absurd (can.device_answers (subst (λ (n : ℕ). Rose n (d.counts device').faults) up why.cause))
+    by-stop between up (loads.Status9 e why stopped) = absurd (let few = can.nothing_fails.few why.lines why.reads why.read in omega (arith, few, why.all))
     by-stop between up (loads.AtWord at) =
         absurd (some-none at.word (word_of (shape_of format keys) (at.before ++ at.last ∷ []))
         (for-shape-there (λ s. word_of s (at.before ++ at.last ∷ []) ≡ Some at.word) at.word_is)

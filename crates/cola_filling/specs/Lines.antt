@@ -10,7 +10,7 @@ use Rattle.cola_run.specs.Cells.{device_levels}
 use Rattle.cola_session.specs.Ends.{ReadToEnd}
 use Rattle.cola_table.specs.Terms.{shape_of}
 use Rattle.cola_load.specs.Filled.{Row}
-use Rattle.cola_load.specs.Loading.{Loading, HoldsRows, full_blocks}
+use Rattle.cola_load.specs.Loading.{Loading, HoldsRows, IsUnfinished, full_blocks}
 use Rattle.cola_filling.specs.Loads.{HaveNoWord, loaded_rows, loaded_line, IsFilledWith, StopsBefore}
 
 -- a loader without a row, over a device with these bytes, if they are told
@@ -48,9 +48,11 @@ module _ {K D : Type 0} (h : sink.Ghosts K) (d : device.Ghosts D) (loading : Loa
     pub no_fault : (d.counts device').faults ≡ (d.counts device).faults
     pub wrote : LineEnds h (loaded_line loading.rows) 0 sink sink' status
 
-  -- the device refused a call
+  -- the device refused a call: the file has no header, or all behind the block with the header
   pub record HasNotFinished (status : ℕ) : Type 0 where
     pub status_is : status ≡ 5
+    pub left : (rows : List Row) → IfSome (d.bytes device) (λ bytes. HoldsRows loading bytes rows)
+        → IfSome (d.bytes device') (IsUnfinished loading.geometry loading.last rows)
     pub cause : Rose (d.counts device).faults (d.counts device').faults
     pub sink_stays : sink' ≡ sink
 

@@ -1,5 +1,5 @@
 -- How a load ends: its line, its status, what it read, and what it leaves.
-use Rattle.std.specs.Prelude.{◌≡◌, ℕ, ◌+◌, ◌*◌, ◌/◌, ◌≤◌, false, List, [], ◌∷◌, ◌++◌, map, length, take, replicate, codes, decimal, Option, Some, None, Err, IfSome, IsSomeAnd}
+use Rattle.std.specs.Prelude.{◌≡◌, ℕ, ◌+◌, ◌*◌, ◌/◌, ◌≤◌, false, List, [], ◌∷◌, ◌++◌, map, length, codes, decimal, Option, Some, None, Err, IfSome, IsSomeAnd}
 use Rattle.cola_outside.specs.Faults.{Rose}
 use Rattle.cola_cell.specs.declared.format.Format.{Format}
 use Rattle.cola_device.specs.declared.device.Device as device
@@ -15,8 +15,9 @@ use Rattle.cola_load.specs.declared.fault.LoadFault.{LoadFault}
 use Rattle.cola_load.specs.declared.fault.LoadFault.TheVariants.{NotEmpty, OutOfMemory, Device}
 use Rattle.cola_load.specs.Filled.{Row, AreRows, IsFilled, filled_header, map_of}
 use Rattle.cola_load.specs.Grow.{IsFor}
-use Rattle.cola_load.specs.Loading.{Begins}
+use Rattle.cola_load.specs.Loading.{Begins, IsHeadless, IsUnfinished}
 use Rattle.cola_load.specs.Rows.{word_of, rows_of}
+use Rattle.cola_opening.specs.Counted.{Spends}
 use Rattle.cola_report.specs.Line.{LineEnds}
 use Rattle.cola_run.specs.Cells.{block_cells}
 use Rattle.cola_session.specs.Ends.{ReadToEnd, SourceFailed, Spent, NothingFails}
@@ -61,7 +62,7 @@ HaveNoWord shape lines = word_of shape lines ≡ None
 
 -- where bytes are told, the first 512 are zero: the file has no header
 abbrev pub HasNoHeader : Option (List ℕ) → Type 0
-HasNoHeader told = IfSome told (λ bytes. take 512 bytes ≡ replicate 512 0)
+HasNoHeader told = IfSome told IsHeadless
 
 -- the most writes of a file with so many rows
 abbrev pub most_writes : Geometry → ℕ → ℕ
@@ -81,6 +82,7 @@ module _ {S K D : Type 0} (g : source.Ghosts S) (h : sink.Ghosts K) (d : device.
     pub word_is : word_of shape (before ++ last ∷ []) ≡ Some word
     pub wrote : LineEnds h (word_line word) 14 sink sink' status
     pub source_faults : g.faults source' ≡ g.faults source
+    pub no_fault : (d.counts device').faults ≡ (d.counts device).faults
     pub no_header : HasNoHeader (d.bytes device')
 
   -- the device refused to write a block of rows, and the source was not read again
@@ -96,11 +98,17 @@ module _ {S K D : Type 0} (g : source.Ghosts S) (h : sink.Ghosts K) (d : device.
     pub cause : Rose (d.counts device).faults (d.counts device').faults
     pub no_header : HasNoHeader (d.bytes device')
 
+  -- the source gave no more: nothing was written to the sink, the device refused no call, and its file has no header
+  pub record SourceStopped : Type 0 where
+    pub sink_stays : sink' ≡ sink
+    pub no_fault : (d.counts device').faults ≡ (d.counts device).faults
+    pub no_header : HasNoHeader (d.bytes device')
+
   -- how the lines end before the end of the source, by the status
   pub data StopsBefore (status : ℕ) : Type 0 where
-    Status3 : status ≡ 3 → SourceFailed g h source source' sink sink' (HaveNoWord shape) → sink' ≡ sink → HasNoHeader (d.bytes device') → StopsBefore status
+    Status3 : status ≡ 3 → SourceFailed g h source source' sink sink' (HaveNoWord shape) → SourceStopped → StopsBefore status
     Status5 : status ≡ 5 → FailedAtLine → StopsBefore status
-    Status9 : status ≡ 9 → Spent g h source source' sink sink' (HaveNoWord shape) → sink' ≡ sink → HasNoHeader (d.bytes device') → StopsBefore status
+    Status9 : status ≡ 9 → Spent g h source source' sink sink' (HaveNoWord shape) → SourceStopped → StopsBefore status
     AtWord : StoppedAtLine status → StopsBefore status
 
 module _ {S K D : Type 0} (g : source.Ghosts S) (h : sink.Ghosts K) (d : device.Ghosts D) (geometry : Geometry) (source source' : S) (sink sink' : K) (device device' : D) where
@@ -114,9 +122,13 @@ module _ {S K D : Type 0} (g : source.Ghosts S) (h : sink.Ghosts K) (d : device.
     pub no_fault : (d.counts device').faults ≡ (d.counts device).faults
     pub wrote : LineEnds h (loaded_line (length rows)) 0 sink sink' status
 
-  -- all lines were read, and none has a word, but the device refused a call behind the rows
+  -- all lines were read, none has a word, and their rows were pushed, but the device refused a call behind the last of them: the
+  -- file has no header, or all behind the block with the header
   pub record FailedAtEnd : Type 0 where
-    pub read : ReadToEnd g h source source' sink sink' (HaveNoWord (shape_of geometry.format geometry.keys))
+    pub rows : List Row
+    pub read : ReadToEnd g h source source' sink sink
+        (λ lines. HaveNoWord (shape_of geometry.format geometry.keys) lines × (rows ≡ loaded_rows (shape_of geometry.format geometry.keys) lines))
+    pub left : IfSome (d.bytes device') (IsUnfinished geometry 0 rows)
     pub sink_stays : sink' ≡ sink
     pub cause : Rose (d.counts device).faults (d.counts device').faults
 
@@ -126,18 +138,20 @@ module _ {S K D : Type 0} (g : source.Ghosts S) (h : sink.Ghosts K) (d : device.
     pub source_stays : source' ≡ source
     pub sink_stays : sink' ≡ sink
 
-  -- how a load ends, by the status
+  -- how a load ends, by the status; of a load that stops at its lines, the device in between is the one over which it began
   pub data LoadEndsBy (status : ℕ) : Type 0 where
     NotBegun : (fault : LoadFault) → status ≡ load_status fault → HasNotBegun fault → LoadEndsBy status
-    Stopped : (between : D) → (d.counts device).faults ≤ (d.counts between).faults → StopsBefore g h d (shape_of geometry.format geometry.keys) source source' sink sink' between device' status → LoadEndsBy status
+    Stopped : (between : D) → (d.counts between).faults ≡ (d.counts device).faults → StopsBefore g h d (shape_of geometry.format geometry.keys) source source' sink sink' between device' status → LoadEndsBy status
     AtEnd : status ≡ 5 → FailedAtEnd → LoadEndsBy status
     Loaded : WasLoaded status → LoadEndsBy status
 
--- the same in a store for so many keys, with such blocks, in a format
+-- the same in a store for so many keys, with such blocks, in a format; however it ends, the device is not read, is written at most
+-- as for a file with a row for each key, and is called beside at most four times
 pub record LoadEnds {S K D : Type 0} (g : source.Ghosts S) (h : sink.Ghosts K) (d : device.Ghosts D) (keys block_exp : ℕ) (format : Format) (source source' : S) (sink sink' : K) (device device' : D) (status : ℕ) : Type 0 where
   pub geometry : Geometry
   pub is : IsFor keys block_exp format geometry
   pub ends : LoadEndsBy g h d geometry source source' sink sink' device device' status
+  pub spends : Spends (d.counts device) (d.counts device') 0 (most_writes geometry geometry.keys) 4
 
 -- a file is that of a store for so many keys, with such blocks, in a format, and stands for the map of the rows of these lines, of which none has a word
 pub record StandsForLines (keys block_exp : ℕ) (format : Format) (bytes : List ℕ) (lines : List Line) : Type 0 where

@@ -1,11 +1,13 @@
 //! Rows of text, loaded into a new file.
-ghost use Rattle.std.specs.Prelude.{◌≡◌, ◌≤◌, ◌++◌, length, decimal};
+ghost use Rattle.std.specs.Prelude.{◌≡◌, ◌+◌, ◌≤◌, ◌++◌, length, decimal};
 ghost use Rattle.cola_device.specs.Bytes.{HasRange};
 ghost use Rattle.cola_words.specs.Sizes.{SuitStore};
 ghost use Rattle.cola_spec.specs.Reply.{line};
 ghost use Rattle.cola_report.specs.Line.{LineEnds};
-ghost use Rattle.cola_run.specs.Cells.{file_bytes};
-ghost use Rattle.cola_filling.specs.Loads.{LoadEnds, LoadEndsBy, loaded_line, word_line, load_status};
+ghost use Rattle.cola_opening.specs.Counted.{Spends};
+ghost use Rattle.cola_load.specs.Loading.{full_blocks};
+ghost use Rattle.cola_run.specs.Cells.{device_levels, file_bytes};
+ghost use Rattle.cola_filling.specs.Loads.{LoadEnds, LoadEndsBy, loaded_line, word_line, load_status, most_writes};
 ghost use Rattle.cola_filling.specs.Lines.{LinesLoad, IsFresh, LoadFinishes};
 
 use cola_cell::Format;
@@ -73,6 +75,7 @@ fn load_lines<S: Source, K: Sink, D: Device>(
     requires fresh { IsFresh (D.bytes device.old) loader.old }
     requires same { geometry.now ≡ loader.old.geometry }
     ensures ends { LinesLoad S.Source K.Sink D.Device loader.old loader.new source.old source.new sink.old sink.new device.old device.new result }
+    ensures spends { Spends (D.counts device.old) (D.counts device.new) 0 (full_blocks geometry.now geometry.now.keys) 0 }
     ensures kept { D.kept device.new ≡ D.kept device.old }
 {
     let mut rows = Rows::begin(geometry.keys, geometry.format);
@@ -102,6 +105,7 @@ fn load_lines<S: Source, K: Sink, D: Device>(
 fn finish_load<K: Sink, D: Device>(loader: Loader, sink: &mut K, device: &mut D) -> u8
     requires { HasRange (D.bytes device.old) 0 (file_bytes loader.geometry) }
     ensures finishes { LoadFinishes K.Sink D.Device loader sink.old sink.new device.old device.new result }
+    ensures spends { Spends (D.counts device.old) (D.counts device.new) 0 (device_levels loader.geometry + 2) 2 }
     ensures kept { D.kept device.new ≡ D.kept device.old }
 {
     match loader.finish(device) {
@@ -130,6 +134,7 @@ fn load_into<S: Source, K: Sink, D: Device>(
     device: &mut D,
 ) -> u8
     ensures ends { LoadEndsBy S.Source K.Sink D.Device geometry source.old source.new sink.old sink.new device.old device.new result }
+    ensures spends { Spends (D.counts device.old) (D.counts device.new) 0 (most_writes geometry geometry.keys) 4 }
     ensures kept { D.kept device.new ≡ D.kept device.old }
 {
     let mut loader = match Loader::begin(alloc, device, geometry, 0) {
@@ -153,7 +158,11 @@ fn load_into<S: Source, K: Sink, D: Device>(
 /// - 1 where there was no memory, and 8 where the device has bytes: then nothing was read;
 /// - 5 where the device refused a call.
 ///
-/// At every status but 0 and 4 with a finished file, the new file has no header.
+/// At 1 and 8 the device keeps its bytes. At 3, 9 and 14, and at 4 behind the line of a word, the new file has no header: its
+/// first 512 bytes are zero. At 5 it depends on the call that was refused. The size: the bytes stay. The layout: any bytes, at
+/// most as many as the file has. A block while rows are pushed: no header. A call behind the last row: no header, or all that
+/// the file has when it is done but for its first block, which has the header and is written last; that block may have any
+/// bytes then.
 pub fn load_file<S: Source, K: Sink, D: Device>(
     alloc: Global,
     keys: u64,

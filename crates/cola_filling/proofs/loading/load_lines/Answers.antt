@@ -8,10 +8,11 @@ use Rattle.cola_session.specs.Reading.{line_read}
 use Rattle.cola_session.proofs.ReadingOn.{ReadSoFar, read_none, read_line, ends_whole, ends_by_source, ends_spent, holds_line, line_no_fault, line_faults, fewer_left}
 use Rattle.cola_table.specs.Terms.{shape_of}
 use Rattle.cola_load.proofs.Blocks.{blocks-rise}
+use Rattle.cola_opening.proofs.Spending.{spends-more}
 use Rattle.cola_load.specs.Rows.{word_of}
 use Rattle.cola_filling.specs.Loads as ends
 use Rattle.cola_filling.specs.Loads.{HaveNoWord, word_line}
-use Rattle.cola_filling.proofs.LoadedSoFar.{LoadedSoFar, none-loaded, line-loaded, row-loaded, is-higher, first-told, found-word, none-now, no-header, no-header-then, all-are-loaded}
+use Rattle.cola_filling.proofs.LoadedSoFar.{LoadedSoFar, none-loaded, line-loaded, row-loaded, row-spends, one-more, is-higher, first-told, found-word, none-now, no-header, no-header-then, all-are-loaded}
 use Rattle.cola_filling.proofs.loading.load_lines.Goals as goal
 
 pub lines-init : goal.lines-init
@@ -40,7 +41,11 @@ returns-in-Fault-clause-ends g c =
     ends.Status3 refl
     (ends_by_source g.S.Source g.K.Sink c.args.source.now c.lines.source c.next_line-next.new.source c.args.sink.now c.lines.sink c.lines.reader c.next_line-next.new.self i.reads i.told _ i.read
     (subst (λ (G : Geometry). HaveNoWord (shape_of G.format G.keys) i.told) c.requires.same i.loaded.no_word) (ap g.K.Sink.faults i.sink_stays) c.in-Fault.ensures.lines c.in-Fault.ensures.faults)
-    i.sink_stays (no-header g.D.Device c.args.geometry.now i.told c.lines.rows c.lines.loader c.args.device.now c.lines.device i.loaded)
+    (record {
+      sink_stays = i.sink_stays;
+      no_fault = i.loaded.no_fault;
+      no_header = no-header g.D.Device c.args.geometry.now i.told c.lines.rows c.lines.loader c.args.device.now c.lines.device i.loaded;
+    })
 
 pub returns-in-Budget-clause-ends : goal.returns-in-Budget-clause-ends
 returns-in-Budget-clause-ends g c =
@@ -48,7 +53,11 @@ returns-in-Budget-clause-ends g c =
     ends.Status9 refl
     (ends_spent g.S.Source g.K.Sink c.args.source.now c.lines.source c.next_line-next.new.source c.args.sink.now c.lines.sink c.lines.reader c.next_line-next.new.self i.reads i.told _ i.read
     (subst (λ (G : Geometry). HaveNoWord (shape_of G.format G.keys) i.told) c.requires.same i.loaded.no_word) (ap g.K.Sink.faults i.sink_stays) c.in-Budget.ensures.lines c.in-Budget.ensures.faults)
-    i.sink_stays (no-header g.D.Device c.args.geometry.now i.told c.lines.rows c.lines.loader c.args.device.now c.lines.device i.loaded)
+    (record {
+      sink_stays = i.sink_stays;
+      no_fault = i.loaded.no_fault;
+      no_header = no-header g.D.Device c.args.geometry.now i.told c.lines.rows c.lines.loader c.args.device.now c.lines.device i.loaded;
+    })
 
 pub returns-in-Some-clause-ends : goal.returns-in-Some-clause-ends
 returns-in-Some-clause-ends g c =
@@ -75,6 +84,7 @@ returns-in-Some-clause-ends g c =
           (sym c.word.ensures ∙ c.in-Some.is));
       wrote = subst (λ (k : g.row.K.Denot). LineEnds g.K.Sink (word_line c.in-Some.word) 14 k c.write_word.new.sink c.write_word.result) i.sink_stays c.write_word.ensures;
       source_faults = now.source_faults;
+      no_fault = i.loaded.no_fault;
       no_header = no-header g.D.Device c.args.geometry.now i.told c.lines.rows c.lines.loader c.args.device.now c.lines.device i.loaded;
     })
 
@@ -131,7 +141,8 @@ lines-preserved-in_default-push g c =
           c.text_of-text.ensures (line_no_fault next reader.line holds) (line_faults next reader.line _ _ holds c.next_line-next.ensures.faults);
       loaded = row-loaded g.D.Device c.args.geometry.now i.told line c.lines.rows c.line-answer.new.self c.lines.loader c.args.device.now c.lines.device c.line-answer.result i.loaded c.line-answer.ensures.judged
           (sym c.word.ensures ∙ c.in_default-word.is) c.in-Row.key c.in-Row.value c.in-Row.is c.push.new.self c.push.new.device c.in_default-push.ensures.pushes c.push.ensures.geometry c.push.ensures.last c.in_default-push.ensures.rows c.in_default-push.ensures.key
-          c.push.ensures.counts.writes_rise (blocks-rise c.lines.loader.geometry c.lines.loader.rows (c.lines.loader.rows + 1) (omega arith)) c.in_default-push.ensures.counts.none_hidden;
+          (row-spends g.D.Device c.args.geometry.now i.told line c.lines.rows c.line-answer.new.self c.lines.loader c.args.device.now c.lines.device c.line-answer.result i.loaded c.line-answer.ensures.judged
+          (sym c.word.ensures ∙ c.in_default-word.is) c.in-Row.key c.in-Row.value c.in-Row.is c.push.new.device c.push.ensures.counts) c.in_default-push.ensures.counts.none_hidden;
       few = omega (arith, i.few, fewer, length-append i.told (line ∷ []));
       sink_stays = i.sink_stays;
       kept = c.push.ensures.kept ∙ i.kept;
@@ -162,3 +173,37 @@ lines-preserved g c =
       sink_stays = i.sink_stays;
       kept = i.kept;
     }
+
+pub returns-in-End-clause-spends : goal.returns-in-End-clause-spends
+returns-in-End-clause-spends g c =
+    let i = c.lines.invariant in
+    spends-more i.loaded.spends (omega arith) (blocks-rise c.args.geometry.now c.lines.loader.rows c.args.geometry.now.keys i.loaded.few) (omega arith)
+
+pub returns-in-Fault-clause-spends : goal.returns-in-Fault-clause-spends
+returns-in-Fault-clause-spends g c =
+    let i = c.lines.invariant in
+    spends-more i.loaded.spends (omega arith) (blocks-rise c.args.geometry.now c.lines.loader.rows c.args.geometry.now.keys i.loaded.few) (omega arith)
+
+pub returns-in-Budget-clause-spends : goal.returns-in-Budget-clause-spends
+returns-in-Budget-clause-spends g c =
+    let i = c.lines.invariant in
+    spends-more i.loaded.spends (omega arith) (blocks-rise c.args.geometry.now c.lines.loader.rows c.args.geometry.now.keys i.loaded.few) (omega arith)
+
+pub returns-in-Some-clause-spends : goal.returns-in-Some-clause-spends
+returns-in-Some-clause-spends g c =
+    let i = c.lines.invariant in
+    spends-more i.loaded.spends (omega arith) (blocks-rise c.args.geometry.now c.lines.loader.rows c.args.geometry.now.keys i.loaded.few) (omega arith)
+
+pub returns-in-Err-clause-spends : goal.returns-in-Err-clause-spends
+returns-in-Err-clause-spends g c =
+    let i = c.lines.invariant in
+    let line = line_read (option_copied c.text_of-text.result) in
+    let none = sym c.word.ensures ∙ c.in_default-word.is in
+    spends-more
+    (row-spends g.D.Device c.args.geometry.now i.told line c.lines.rows c.line-answer.new.self c.lines.loader c.args.device.now c.lines.device c.line-answer.result i.loaded c.line-answer.ensures.judged
+    none c.in-Row.key c.in-Row.value c.in-Row.is c.push.new.device c.push.ensures.counts)
+    (omega arith)
+    (blocks-rise c.args.geometry.now (c.lines.loader.rows + 1) c.args.geometry.now.keys
+    (one-more g.D.Device c.args.geometry.now i.told line c.lines.rows c.line-answer.new.self c.lines.loader c.args.device.now c.lines.device c.line-answer.result i.loaded c.line-answer.ensures.judged
+    none c.in-Row.key c.in-Row.value c.in-Row.is))
+    (omega arith)
