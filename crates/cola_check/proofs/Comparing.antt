@@ -16,8 +16,8 @@ use Rattle.cola_merge.specs.Pulls.{AreInOrder, ahead, Gives, given_cells}
 use Rattle.cola_merge.proofs.Sums.{spends_none, spends_then}
 use Rattle.cola_merge.proofs.Stepping.{all_read}
 use Rattle.cola_merge.proofs.Pulling.{fewer_left}
-use Rattle.cola_check.specs.Cut.{Compared}
-use Rattle.cola_check.proofs.Following.{Pulled, pull_cause, calm_then, heads_same, tails_same, none_some}
+use Rattle.cola_check.specs.Cut.{Compared, Pulled}
+use Rattle.cola_check.proofs.Following.{pull_cause, calm_then, heads_same, tails_same, none_some}
 
 -- the same cells were given by both
 pub record Comparing (held : Held) (aim : Aim) (a b : Spent) (first one second two : Merger) (from to : ℕ) : Type 0 where

@@ -1,5 +1,5 @@
 -- The test of a level inside its window: its cursors cut its build after its shadow.
-use Rattle.std.proofs.Common.{◌≡◌, ◌↔◌, inl, inr, ℕ, zero, suc, ◌+◌, ◌-◌, ◌*◌, ◌/◌, ◌^◌, ◌<◌, ◌≤◌, Bool, true, false, cond, IsTrue, List, [], ◌∷◌, length, drop, Result, Ok, Err, IfOk, IfErr, refl, sym, ap, subst, ◌∙◌, arith}
+use Rattle.std.proofs.Common.{◌≡◌, ◌≢◌, ◌↔◌, inl, inr, ℕ, zero, suc, ◌+◌, ◌-◌, ◌*◌, ◌/◌, ◌^◌, ◌<◌, ◌≤◌, Bool, true, false, cond, IsTrue, List, [], ◌∷◌, length, drop, Result, Ok, Err, IfOk, IfErr, refl, sym, ap, subst, ◌∙◌, arith}
 use Rattle.std.specs.List.{AllByRecursion}
 use Rattle.std.specs.List.Sorted.{IsStrictlySortedBy}
 use Rattle.std.proofs.lemmas.Bool.{cases_lt}
@@ -26,15 +26,17 @@ use Rattle.cola_runs.specs.Weave.{Part, IsCut, bottom_items}
 use Rattle.cola_told.specs.Cells.{run_cells}
 use Rattle.cola_verdict.specs.Tests.{FileLevel, below_at, AreCellsTold}
 use Rattle.cola_check.specs.declared.cut.Cursors.{Cursors}
-use Rattle.cola_check.specs.Cut.{CutFits, CutsAfter, runs_of_aim}
+use Rattle.cola_check.specs.Blocks.{run_blocks, shadow_blocks}
+use Rattle.cola_check.specs.Cut.{CutFits, CutsAfter, runs_of_aim, aim_blocks}
 use Rattle.cola_check.specs.Found.{tested_by, numbers_at, visible_of, shadow_of}
 use Rattle.cola_check.specs.Reading.{IsRunTold, PassCause}
 use Rattle.cola_check.specs.Shadows.{next_of, upper_aim, lowest_aim, IsAimAt, cursors_of, IsReached, CutAt}
 use Rattle.cola_check.specs.Testing.{HasLevels, TestCause}
+use Rattle.cola_check.proofs.AllBlocks.{upper-cut, lowest-cut}
 use Rattle.cola_check.proofs.BadRuns.{level-in}
 use Rattle.cola_check.proofs.Keys.{key_total}
 use Rattle.cola_check.proofs.FileLevels.{levels, visible-is, shadow-is, own-is, incoming-is, sampled-is, visible-told, shadow-told, below-next, below-none}
-use Rattle.cola_check.proofs.ShadowRuns.{cause-of-test, visible-fits, shadow-fits, slot-is, twice, next-few, visible-has, shadow-has, next-has, next-told, next-keys, no-keys, next-rises, visible-rises}
+use Rattle.cola_check.proofs.ShadowRuns.{of-next, cause-of-test, visible-fits, shadow-fits, slot-is, twice, next-few, visible-has, shadow-has, next-has, next-told, next-keys, no-keys, next-rises, visible-rises}
 
 -- ---- a cut, by equal sources
 
@@ -123,6 +125,18 @@ module _ (header : Header) (i : ℕ) (low : suc i ≤ header.geometry.bottom) wh
   source held run has = record { level_in = has.level_in; slot_in = has.slot_in; within = has.within }
 
   module _ (held : Held) (has : HasLevels header held) (inside : works header.clock (suc i) ≡ true) where
+    one-apart : suc i ≢ i
+    one-apart e = omega (arith, e)
+
+    next-level : (next_of header (suc i)).level ≡ suc (suc i)
+    next-level = of-next header (λ r. r.level ≡ suc (suc i)) (suc i) refl refl
+
+    next-apart : (level : ℕ) → level < suc (suc i) → level ≢ (next_of header (suc i)).level
+    next-apart level h e = let n = next-level in omega (arith, h, e, n)
+
+    next-away : (next_of header (suc i)).level ≢ suc i
+    next-away e = let n = next-level in omega (arith, e, n)
+
     upper-fits : suc i < header.geometry.bottom → CutFits held (upper_aim odd (visible_of header (suc i)) (visible_of header i) (next_of header (suc i))) (cursors_of (numbers_at header (suc i))) (shadow_of header (suc i))
     upper-fits above =
         let m = (marks-each header.clock (all_numbers header.levels.items) header.marks_fit (suc i) (level-in header (suc i) low)).inside (omega arith) inside in
@@ -134,6 +148,8 @@ module _ (header : Header) (i : ℕ) (low : suc i ≤ header.geometry.bottom) wh
           own_within = m.own_within;
           incoming_within = m.incoming_within;
           sample_within = subst (λ (n : ℕ). (numbers_at header (suc i)).sampled ≤ n) (sample-ends above) m.sampled_within;
+          spread = record { own_incoming = one-apart; incoming_sample = next-apart i (omega arith); sample_own = next-away };
+          shadow_away = one-apart;
         }
 
     lowest-fits : header.geometry.bottom ≤ suc i → CutFits held (lowest_aim (visible_of header (suc i)) (visible_of header i)) (cursors_of (numbers_at header (suc i))) (shadow_of header (suc i))
@@ -147,6 +163,8 @@ module _ (header : Header) (i : ℕ) (low : suc i ≤ header.geometry.bottom) wh
           own_within = m.own_within;
           incoming_within = m.incoming_within;
           sample_within = subst (λ (n : ℕ). (numbers_at header (suc i)).sampled ≤ n) (sample-none bottom) m.sampled_within;
+          spread = record { own_incoming = one-apart; incoming_sample = tt; sample_own = tt };
+          shadow_away = one-apart;
         }
 
     pub cut-fits : (aim : Aim) (cursors : Cursors) (shadow : Run) → IsAimAt header (suc i) aim → cursors ≡ cursors_of (numbers_at header (suc i)) → shadow ≡ shadow_of header (suc i) → CutFits held aim cursors shadow
@@ -154,6 +172,12 @@ module _ (header : Header) (i : ℕ) (low : suc i ≤ header.geometry.bottom) wh
         subst (λ (r : Run). CutFits held aim cursors r) (sym same)
         (subst (λ (c : Cursors). CutFits held aim c (shadow_of header (suc i))) (sym at)
         (by-aim (λ a. CutFits held a (cursors_of (numbers_at header (suc i))) (shadow_of header (suc i))) aim is upper-fits lowest-fits))
+
+  -- how many blocks the test turns to
+  pub cut-blocks : (held : Held) (aim : Aim) (shadow : Run) → IsAimAt header (suc i) aim → shadow ≡ shadow_of header (suc i) → 2 * aim_blocks held aim + run_blocks held shadow ≤ shadow_blocks header held (suc i)
+  cut-blocks held aim shadow is same =
+      subst (λ (r : Run). 2 * aim_blocks held aim + run_blocks held r ≤ shadow_blocks header held (suc i)) (sym same)
+      (by-aim (λ a. 2 * aim_blocks held a + run_blocks held (shadow_of header (suc i)) ≤ shadow_blocks header held (suc i)) aim is (upper-cut header held i) (λ bottom. lowest-cut header held i))
 
   -- ---- the sources are told and in order
 
@@ -247,6 +271,11 @@ module _ (header : Header) (i : ℕ) (low : suc i ≤ header.geometry.bottom) wh
 pub ticks-at : (header : Header) (level : ℕ) → 1 ≤ level → level ≤ header.geometry.bottom → (aim : Aim) (shadow : Run) → IsAimAt header level aim → shadow ≡ shadow_of header level → 2 * cells_read aim + shadow.len ≤ 18 * 2 ^ level
 ticks-at header zero one low = absurd (omega (arith, one))
 ticks-at header (suc i) one low = cut-ticks header i low
+
+pub blocks-at : (header : Header) (held : Held) (level : ℕ) → 1 ≤ level → level ≤ header.geometry.bottom → (aim : Aim) (shadow : Run) → IsAimAt header level aim → shadow ≡ shadow_of header level →
+    2 * aim_blocks held aim + run_blocks held shadow ≤ shadow_blocks header held level
+blocks-at header held zero one low = absurd (omega (arith, one))
+blocks-at header held (suc i) one low = cut-blocks header i low held
 
 pub fits-at : (header : Header) (held : Held) (level : ℕ) → 1 ≤ level → level ≤ header.geometry.bottom → HasLevels header held → works header.clock level ≡ true →
     (aim : Aim) (cursors : Cursors) (shadow : Run) → IsAimAt header level aim → cursors ≡ cursors_of (numbers_at header level) → shadow ≡ shadow_of header level → CutFits held aim cursors shadow

@@ -17,14 +17,14 @@ use Rattle.cola_merge.specs.declared.aims.Feed.TheVariants as feed
 use Rattle.cola_merge.specs.declared.aims.Aim.{Aim}
 use Rattle.cola_merge.specs.declared.merging.Merger.{Merger}
 use Rattle.cola_merge.specs.Feeds.{feed_of, IsBadAt}
-use Rattle.cola_merge.specs.Heads.{head_of, consumed, HasHeads, fetched}
+use Rattle.cola_merge.specs.Heads.{head_of, HasHeads, fetched}
 use Rattle.cola_merge.specs.States.{Spends}
 use Rattle.cola_merge.specs.Advance.{cells_read}
-use Rattle.cola_merge.specs.Pulls.{AreInOrder, ahead, Gives, given_cells, HasPullCause, IsFrugal}
+use Rattle.cola_merge.specs.Pulls.{AreInOrder, ahead, Gives, HasPullCause}
 use Rattle.cola_merge.proofs.Sums.{spends_none, spends_then}
 use Rattle.cola_merge.proofs.Stepping.{all_read}
 use Rattle.cola_check.specs.Reading.{IsRunTold, HasBadRun, PassCause}
-use Rattle.cola_check.specs.Cut.{runs_of_feed, runs_of_aim, Followed}
+use Rattle.cola_check.specs.Cut.{runs_of_feed, runs_of_aim, Followed, Pulled}
 
 -- one read spends as steps of a merge do
 read_spends : {held : Held} {old new : Spent} {buffer : Buffer} {level slot index : ℕ} {result : Result Cell ReadFault} {from to : ℕ} →
@@ -81,17 +81,6 @@ calm_then T S before between now Device e c = tt
 calm_then T S before between now (BadCell number) e c = c ∙ e
 
 -- ---- one pull
-
--- what a pull says, of the cells that the object had first
-pub record Pulled (held : Held) (aim : Aim) (a b : Spent) (m n : Merger) (from to : ℕ) (result : Result (Option Cell) ReadFault) : Type 0 where
-  pub gives : AreInOrder held aim → Gives held aim m n result
-  pub heads : HasHeads held aim n
-  pub consumes : consumed m + given_cells result ≤ consumed n
-  pub cause : HasPullCause held aim a.faults b n to result
-  pub calm : ReadCalm a.faults b.faults result
-  pub ticks : IsFrugal aim m n from to result
-  pub spends : Spends a b from to
-  pub written_is : b.written ≡ a.written
 
 pub pulled_at : {h : Held} {aim : Aim} {a b : Spent} {m n : Merger} {i j : ℕ} {result : Result (Option Cell) ReadFault} (held : Held) → h ≡ held → Pulled h aim a b m n i j result → Pulled held aim a b m n i j result
 pulled_at {h} {aim} {a} {b} {m} {n} {i} {j} {result} held e p = subst (λ (x : Held). Pulled x aim a b m n i j result) e p

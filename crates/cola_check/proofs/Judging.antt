@@ -1,6 +1,7 @@
 -- The answer of a test by that of its cells, and by that of their load.
-use Rattle.std.proofs.Common.{◌≡◌, ◌≢◌, ℕ, ◌+◌, min, ◌<◌, ◌≤◌, ◌==◌, true, false, if◌then◌else◌, List, Option, None, Some, Result, Ok, Err, is_some, refl, sym, ap, subst, ◌∙◌, arith}
+use Rattle.std.proofs.Common.{◌≡◌, ◌≢◌, inl, inr, ℕ, ◌+◌, min, ◌<◌, ◌≤◌, ◌==◌, true, false, if◌then◌else◌, List, Option, None, Some, Result, Ok, Err, OnOk, is_some, refl, sym, ap, subst, ◌∙◌, arith}
 use Rattle.std.specs.Prelude.{IfSome}
+use Rattle.std.proofs.lemmas.Bool.{true≢false}
 use Rattle.cola_outside.specs.Faults.{Rose}
 use Rattle.cola_cell.specs.declared.cell.Cell.{Cell}
 use Rattle.cola_cell.specs.declared.fault.ReadFault.{ReadFault}
@@ -27,7 +28,7 @@ use Rattle.cola_verdict.specs.Tests.{Tested, tested_of, IsOfRun, IsLowestBad, ru
 use Rattle.cola_verdict.specs.Verdict.{IsVerdict}
 use Rattle.cola_verdict.proofs.Alike.{same-verdicts}
 use Rattle.cola_check.specs.declared.fault.CheckFault.{CheckFault}
-use Rattle.cola_check.specs.Check.{IsLevelOf, Judges, TestsAnswer}
+use Rattle.cola_check.specs.Check.{IsLevelOf, IsSure, Judges, TestsAnswer, test_blocks}
 use Rattle.cola_check.specs.Found.{tested_by}
 use Rattle.cola_check.specs.Testing.{Tests}
 use Rattle.cola_check.proofs.BadRuns.{level-in, level-low, run-fits}
@@ -88,17 +89,24 @@ module _ {D : Type 0} (d : device.Ghosts D) (header : Header) (before now : D) w
       sym (are.1 l s i (record { level_in = omega (arith, low); slot_in = place.slot_in; index_in = omega (arith, place.within, fits) })))
       verdict).0 (is are.0)
 
+  -- a cell that is bad at a second reading stands in a file whose bytes are not told
+  not-sure : (held : Held) (told : Option (List ℕ)) (level number : ℕ) → IfSome told (λ bytes. IsTelling held × run.AreFileSpots header.geometry held.spots bytes) → (IsTelling held → ⊥) → IsSure told (Broken CellFlaw level number) → ⊥
+  not-sure held None level number are untold (inl some) = true≢false (sym some)
+  not-sure held (Some bytes) level number are untold (inl some) = untold are.0
+  not-sure held told level number are untold (inr other) = other level number refl
+
   -- the answer of a test, by that of its cells
   pub by-cells : (held : Held) (faults : ℕ) (answer : Result Verdict ReadFault) (result : Result Verdict CheckFault) →
       IfSome (d.bytes before) (λ bytes. IsTelling held × run.AreFileSpots header.geometry held.spots bytes) →
+      (loaded : ℕ) → loaded ≤ (d.counts before).reads + (header.geometry.bottom + 3) → OnOk answer ((d.counts now).reads ≤ loaded + test_blocks (fields_of header)) →
       faults ≡ (d.counts before).faults → Tests header held faults (d.counts now).faults answer → ReadCalm faults (d.counts now).faults answer →
       Judges answer result → TestsAnswer d header before now result
-  by-cells held faults (Ok verdict) result are same tests calm judges =
-      subst (TestsAnswer d header before now) (sym judges) (record { verdict_is = of-file held (d.bytes before) verdict are tests; no_fault = calm ∙ same })
-  by-cells held faults (Err (read.BadCell number)) result are same tests calm judges =
+  by-cells held faults (Ok verdict) result are loaded load blocks same tests calm judges =
+      subst (TestsAnswer d header before now) (sym judges) (record { verdict_is = of-file held (d.bytes before) verdict are tests; few_reads = λ sure. omega (arith, load, blocks); no_fault = calm ∙ same })
+  by-cells held faults (Err (read.BadCell number)) result are loaded load blocks same tests calm judges =
       subst (TestsAnswer d header before now) (sym judges.1.0)
-      (record { verdict_is = of-file held (d.bytes before) (Broken CellFlaw judges.0 number) are (λ tells. absurd (tests tells)); no_fault = calm ∙ same })
-  by-cells held faults (Err read.Device) result are same tests calm judges =
+      (record { verdict_is = of-file held (d.bytes before) (Broken CellFlaw judges.0 number) are (λ tells. absurd (tests tells)); few_reads = λ sure. absurd (not-sure held (d.bytes before) judges.0 number are tests sure); no_fault = calm ∙ same })
+  by-cells held faults (Err read.Device) result are loaded load blocks same tests calm judges =
       subst (TestsAnswer d header before now) (sym judges) (subst (λ (n : ℕ). Rose n (d.counts now).faults) same tests)
 
   in-front : (told : Option (List ℕ)) (level number : ℕ) → IsLevelOf number level → IfSome told (λ bytes. run.IsLowestBad header (file_spots header.geometry.format bytes) number) →
@@ -108,11 +116,12 @@ module _ {D : Type 0} (d : device.Ghosts D) (header : Header) (before now : D) w
 
   -- the same, by that of a load that was refused
   pub by-load : (fault : ReadFault) (result : Result Verdict CheckFault) →
+      (d.counts now).reads ≤ (d.counts before).reads + (header.geometry.bottom + 3) →
       run.LoadAnswers header (d.bytes before) (d.counts before).faults (d.counts now).faults (Err fault) → ReadCalm {T = Unit {0}} (d.counts before).faults (d.counts now).faults (Err fault) →
       Judges (Err fault) result → TestsAnswer d header before now result
-  by-load (read.BadCell number) result bad calm judges =
-      subst (TestsAnswer d header before now) (sym judges.1.0) (record { verdict_is = in-front (d.bytes before) judges.0 number judges.1.1 bad; no_fault = calm })
-  by-load read.Device result rose calm judges = subst (TestsAnswer d header before now) (sym judges) rose
+  by-load (read.BadCell number) result load bad calm judges =
+      subst (TestsAnswer d header before now) (sym judges.1.0) (record { verdict_is = in-front (d.bytes before) judges.0 number judges.1.1 bad; few_reads = λ sure. omega (arith, load); no_fault = calm })
+  by-load read.Device result load rose calm judges = subst (TestsAnswer d header before now) (sym judges) rose
 
 -- where bytes are told, every place of their object is
 pub tells-all : (held : Held) (geometry : Geometry) (told : Option (List ℕ)) → (is_some told ≡ true → (l s i : ℕ) → is_untold (held.spots l s i) ≡ false) → IfSome told (run.AreFileSpots geometry held.spots)

@@ -1,12 +1,15 @@
 mod After
+mod AllBlocks
 mod BadRuns
 mod Behind
 mod Bounds
 mod Carrying
 mod ChainRuns
 mod Comparing
+mod CutBlocks
 mod CutTests
 mod Cutting
+mod FileBlocks
 mod FileLevels
 mod FinishedTests
 mod Following
@@ -14,6 +17,7 @@ mod Fronts
 mod Judging
 mod Keys
 mod Least
+mod LevelBlocks
 mod LevelLists
 mod LevelMore
 mod LevelOf
@@ -21,6 +25,7 @@ mod LiveSteps
 mod LiveTests
 mod LiveWalk
 mod Made
+mod OtherReaders
 mod Prefixes
 mod RunBlocks
 mod Sampling
@@ -28,4 +33,5 @@ mod ShadowRuns
 mod ShadowTests
 mod TestsAt
 mod Turning
+mod WalkBlocks
 mod Windows

@@ -6,6 +6,7 @@ use Rattle.cola_runs.specs.Cells.{IsRising}
 use Rattle.cola_runs.specs.Seen.{seen, holds}
 use Rattle.cola_cell.specs.declared.cell.Run.{Run}
 use Rattle.cola_cell.specs.Held.{Held}
+use Rattle.cola_cell.specs.Spent.{Spent}
 use Rattle.cola_cell.specs.Order.{key_cmp}
 use Rattle.cola_cell.specs.Places.{slot_size}
 use Rattle.cola_cell.proofs.PlaceNumbers.{slot_size-mono}
@@ -19,7 +20,7 @@ use Rattle.cola_check.specs.declared.walk.Walk.{Walk}
 use Rattle.cola_check.specs.Reading.{HasBadRun, HasBadIn}
 use Rattle.cola_check.specs.Walks.{rest, least_from}
 use Rattle.cola_check.specs.Beside.{IsInOrder}
-use Rattle.cola_check.specs.LevelWalks.{HasLevel, shadow_or_none, shadow_run, with_shadow, runs_of, cells_in, AreRunsInOrder, cells_of, walks_in, runs_in, LevelFits, IsLevelReady, all_unread, all_ahead, Each, BeginsLevel, Hears, PassesLevel}
+use Rattle.cola_check.specs.LevelWalks.{HasLevel, shadow_or_none, shadow_run, with_shadow, runs_of, cells_in, AreRunsInOrder, cells_of, walks_in, runs_in, LevelFits, IsLevelReady, all_unread, all_ahead, Each, BeginsLevel, Hears, PassesLevel, all_left, AllReadOn}
 use Rattle.cola_check.specs.Chains.{LevelCells, visible_runs, AreLiveCounts, AreStamped}
 use Rattle.cola_check.specs.Tally.{IsWithin, visible_said, no_count, counted}
 use Rattle.cola_check.proofs.Fronts.{ahead_stays, ahead_falls}
@@ -363,6 +364,15 @@ refilled_unread held k {xs} {olds} news before after f h u =
     let a = ap all_unread (refilled_walks held k news f h) in
     let b = ap all_unread f in
     omega (arith, a, b, u)
+
+pub refilled_blocks : {held : Held} {a b : Spent} {n : ℕ} (object : Held) (k : List ℕ) {xs olds : List LevelWalks} (news : List LevelWalks) → held ≡ object → xs ≡ olds → Each (PassesLevel held k) xs news → AllReadOn held a b n xs news →
+    b.turned + all_left object b (refill (length olds) olds news) ≤ a.turned + all_left object a olds
+refilled_blocks {held} {a} {b} object k {xs} {olds} news e f h r =
+    let x : b.turned + all_left held b news ≤ a.turned + all_left held a xs = r.blocks in
+    let y : b.turned + all_left object b news ≤ a.turned + all_left object a xs = subst (λ (z : Held). b.turned + all_left z b news ≤ a.turned + all_left z a xs) e x in
+    let p = ap (all_left object b) (refilled_walks held k news f h) in
+    let q = ap (all_left object a) f in
+    omega (arith, y, p, q)
 
 pub same_least : {xs ys : List LevelWalks} {answer wanted : Option (List ℕ)} → xs ≡ ys → answer ≡ least_from None (walks_in xs) → answer ≡ wanted → least_from None (walks_in ys) ≡ wanted
 same_least {xs} {ys} e f g = ap (λ (z : List LevelWalks). least_from None (walks_in z)) (sym e) ∙ sym f ∙ g

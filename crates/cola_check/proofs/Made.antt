@@ -13,7 +13,7 @@ use Rattle.cola_verdict.specs.Tests.{tested_of}
 use Rattle.cola_verdict.specs.Verdict.{IsVerdict}
 use Rattle.cola_check.specs.declared.fault.CheckFault.{CheckFault}
 use Rattle.cola_check.specs.declared.fault.CheckFault.TheVariants.{NotStore, NotClosed, Small, Device, OutOfMemory}
-use Rattle.cola_check.specs.Check.{IsReadBy, TestsAnswer, ReadsCells, TestsMade, Checks, test_reads, test_ticks}
+use Rattle.cola_check.specs.Check.{IsSure, IsReadBy, TestsAnswer, ReadsCells, TestsMade, Checks, test_reads, test_ticks}
 
 both : {X : Type 0} (told : Option X) {P Q R : X → Type 0} → IfSome told P → IfSome told Q → ((x : X) → P x → Q x → R x) → IfSome told R
 both None p q f = tt
@@ -35,6 +35,10 @@ module _ {D : Type 0} (d : device.Ghosts D) (header : Header) (before mid now : 
             (subst (λ (told : Option (List ℕ)). IfSome told (λ bytes. IsVerdict (tested_of (fields_of header) bytes) verdict)) seen.bytes_stay answer.verdict_is)
             (λ bytes was is. record { was = was; verdict_is = is });
         reading = is-read seen reads;
+        few_reads = λ sure.
+            let here = answer.few_reads (subst (λ (told : Option (List ℕ)). IsSure told verdict) (sym seen.bytes_stay) sure) in
+            let first = seen.spends.reads_rise in
+            omega (arith, here, first);
         no_fault = answer.no_fault ∙ seen.no_fault;
       }
   tested (Err Device) seen rose reads =

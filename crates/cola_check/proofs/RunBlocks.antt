@@ -1,60 +1,150 @@
 -- The blocks of runs that are read in order.
-use Rattle.std.proofs.Common.{◌≡◌, ℕ, suc, ◌+◌, ◌-◌, ◌*◌, ◌/◌, ◌<◌, ◌≤◌, Bool, true, false, nat_lt, if◌then◌else◌, Option, Ok, subst, arith}
+use Rattle.std.proofs.Common.{◌≡◌, ℕ, suc, ◌+◌, ◌-◌, ◌*◌, ◌/◌, ◌^◌, ◌<◌, ◌≤◌, Bool, true, false, nat_lt, if◌then◌else◌, Option, None, Some, Result, Ok, Err, OnOk, refl, sym, ap, subst, ◌∙◌, arith}
+use Rattle.std.proofs.lemmas.Bool.{ltb-true}
 use Rattle.std.proofs.lemmas.Nat.{pow_pos, le-div}
-use Rattle.std.proofs.Math.Nat.{div-mul-le_self}
+use Rattle.std.proofs.Math.Nat.{div-mul-le_self, div-div-eq-div-mul}
 use Rattle.cola_cell.specs.declared.cell.Cell.{Cell}
 use Rattle.cola_cell.specs.declared.cell.Reader.{Reader}
+use Rattle.cola_cell.specs.declared.cell.Reader.TheVariants.{Own, Sample}
 use Rattle.cola_cell.specs.declared.cell.Run.{Run}
+use Rattle.cola_cell.specs.declared.fault.ReadFault.{ReadFault}
 use Rattle.cola_cell.specs.Held.{Held, span}
-use Rattle.cola_cell.specs.Places.{slot_size, Block}
+use Rattle.cola_cell.specs.Places.{slot_size, Block, block_of}
 use Rattle.cola_cell.specs.Spent.{Spent, By, Reads}
 use Rattle.cola_layout.specs.declared.header.Header.{Header}
 use Rattle.cola_merge.specs.Blocks.{is_last, groups, run_left}
-use Rattle.cola_merge.proofs.Groups.{div-mono, read_left, run_left-next}
+use Rattle.cola_merge.proofs.Groups.{div-mono, sampled_block, read_left, run_left-next}
 use Rattle.cola_check.specs.BadCells.{cells_above}
-use Rattle.cola_check.specs.Blocks.{GoesOn, run_blocks, level_blocks, blocks_above, all_blocks}
+use Rattle.cola_check.specs.Blocks.{blocks_from, GoesOn, sample_from, SampleReadsOn, TurnsTo, run_blocks, run_blocks_or, level_blocks, blocks_above, all_blocks}
 use Rattle.cola_check.specs.Found.{run_in}
 use Rattle.cola_check.proofs.BadRuns.{some-cells}
 
-span-pos : (held : Held) → 0 < span held
+pub span-pos : (held : Held) → 0 < span held
 span-pos held = let p = pow_pos held.fixed.doublings in omega (arith, p)
 
--- a read of the cell at an index goes on to the next one
+-- a read of the cell at an index takes as many blocks as it turns to
+pub read-here : {held : Held} {old new : Spent} (reader : Reader) (run : Run) (cell : Cell) (at : ℕ) → Reads held old new (By reader run.level) run.level run.slot at (Ok cell) → at < run.len →
+    GoesOn held old new reader run at at
+read-here {held} {old} {new} reader run cell at r h =
+    let s : ℕ = span held in
+    read_left s (old.lasts (By reader run.level)) (new.lasts (By reader run.level)) run s run.len at old.turned new.turned h r.turned_rises (λ e. (r.in_small e).turned_is)
+    (λ b. let i = r.in_last b in (i.turned_is, i.last_is)) r.moves
+
+-- and goes on to the next one
 pub read-goes : {held : Held} {old new : Spent} (reader : Reader) (run : Run) (cell : Cell) (at : ℕ) → Reads held old new (By reader run.level) run.level run.slot at (Ok cell) → at < run.len →
     GoesOn held old new reader run at (at + 1)
 read-goes {held} {old} {new} reader run cell at r h =
-    let s : ℕ = span held in
-    let last : Option Block = new.lasts (By reader run.level) in
-    let here = read_left s (old.lasts (By reader run.level)) last run s run.len at old.turned new.turned h r.turned_rises (λ e. (r.in_small e).turned_is)
-    (λ b. let i = r.in_last b in (i.turned_is, i.last_is)) r.moves in
-    let next = run_left-next s last run s run.len at (span-pos held) h in
+    let here : GoesOn held old new reader run at at = read-here reader run cell at r h in
+    let next = run_left-next (span held) (new.lasts (By reader run.level)) run (span held) run.len at (span-pos held) h in
     omega (arith, here, next)
 
-groups-most : (s len : ℕ) → 0 < s → groups s 0 len ≤ len / s + 1
-groups-most s len p = go (nat_lt 0 len)
+groups-most : (size at len : ℕ) → 0 < size → groups size at len ≤ len / size + 1
+groups-most size at len p = go (nat_lt at len)
   where
-    less : (len - 1) / s ≤ len / s
-    less = div-mono (len - 1) len s p (omega arith)
+    less : (len - 1) / size ≤ len / size
+    less = div-mono (len - 1) len size p (omega arith)
 
-    go : (b : Bool) → (if b then (len - 1) / s - 0 / s + 1 else 0) ≤ len / s + 1
+    go : (b : Bool) → (if b then (len - 1) / size - at / size + 1 else 0) ≤ len / size + 1
     go true = let l = less in omega (arith, l)
     go false = omega arith
 
-left-most : (s : ℕ) (last : Option Block) (run : Run) (len : ℕ) → 0 < s → run_left s last run s len 0 ≤ len / s + 1
-left-most s last run len p = go (nat_lt (slot_size run.level) s)
+left-most : (s : ℕ) (last : Option Block) (run : Run) (size len at : ℕ) → 0 < size → run_left s last run size len at ≤ len / size + 1
+left-most s last run size len at p = go (nat_lt (slot_size run.level) s)
   where
-    most : groups s 0 len ≤ len / s + 1
-    most = groups-most s len p
+    most : groups size at len ≤ len / size + 1
+    most = groups-most size at len p
 
-    go : (b : Bool) → (if b then 0 else groups s 0 len - (if is_last last run.level run.slot (0 / s) then 1 else 0)) ≤ len / s + 1
+    go : (b : Bool) → (if b then 0 else groups size at len - (if is_last last run.level run.slot (at / size) then 1 else 0)) ≤ len / size + 1
     go true = omega arith
     go false = let m = most in omega (arith, m)
+
+none-by : (b : Bool) (g : ℕ) → (b ≡ true → ⊥) → (if b then g else 0) ≡ 0
+none-by true g h = absurd (h refl)
+none-by false g h = refl
+
+groups-none : (size at len : ℕ) → len ≤ at → groups size at len ≡ 0
+groups-none size at len h = none-by (nat_lt at len) ((len - 1) / size - at / size + 1) (λ e. let l : at < len = ltb-true at len e in omega (arith, l, h))
+
+left-none : (s : ℕ) (last : Option Block) (run : Run) (size len at : ℕ) → len ≤ at → run_left s last run size len at ≡ 0
+left-none s last run size len at h = go (nat_lt (slot_size run.level) s)
+  where
+    go : (b : Bool) → (if b then 0 else groups size at len - (if is_last last run.level run.slot (at / size) then 1 else 0)) ≡ 0
+    go true = refl
+    go false = let e = groups-none size at len h in omega (arith, e)
+
+-- whatever was read last, and from whichever cell on, a run has no more blocks left than it fills
+pub run-most : (held : Held) (spent : Spent) (reader : Reader) (run : Run) (at : ℕ) → blocks_from held spent reader run at + 1 ≤ run_blocks held run
+run-most held spent reader run at = let m = left-most (span held) (spent.lasts (By reader run.level)) run (span held) run.len at (span-pos held) in omega (arith, m)
+
+-- ---- the sample of a run, every eighth of its cells
+
+-- whatever was read last, and from whichever key on, a sample has no more blocks left than its run fills
+pub every-eighth : (held : Held) (spent : Spent) (reader : Reader) (run : Run) (at : ℕ) →
+    run_left (span held) (spent.lasts (By reader run.level)) run (2 ^ held.fixed.doublings) (run.len / 8) at ≤ run_blocks held run
+every-eighth held spent reader run at =
+    let d : ℕ = held.fixed.doublings in
+    let m = left-most (span held) (spent.lasts (By reader run.level)) run (2 ^ d) (run.len / 8) at (pow_pos d) in
+    let e : run.len / 8 / 2 ^ d ≡ run.len / (8 * 2 ^ d) = div-div-eq-div-mul run.len 8 (2 ^ d) in
+    omega (arith, m, e)
+
+pub sample-most : (held : Held) (spent : Spent) (run : Option Run) (at : ℕ) → sample_from held spent run at ≤ run_blocks_or held run
+sample-most held spent None at = omega arith
+sample-most held spent (Some run) at = every-eighth held spent Sample run at
+
+pub sample-reads : {held : Held} {old new : Spent} (run : Run) (cell : Cell) (at : ℕ) → Reads held old new (By Sample run.level) run.level run.slot (8 * at + 7) (Ok cell) → at < run.len / 8 →
+    SampleReadsOn held old new (Some run) at (at + 1)
+sample-reads {held} {old} {new} run cell at r h =
+    let d : ℕ = held.fixed.doublings in
+    let s : ℕ = span held in
+    let before : Option Block = old.lasts (By Sample run.level) in
+    let last : Option Block = new.lasts (By Sample run.level) in
+    let same : (8 * at + 7) / s ≡ at / 2 ^ d = sampled_block at d in
+    let block : Some (block_of s run.level run.slot (8 * at + 7)) ≡ Some (record { level = run.level; slot = run.slot; number = at / 2 ^ d }) =
+    ap (λ (n : ℕ). Some (record { level = run.level; slot = run.slot; number = n })) same in
+    let here : new.turned + run_left s last run (2 ^ d) (run.len / 8) at ≤ old.turned + run_left s before run (2 ^ d) (run.len / 8) at =
+    read_left s before last run (2 ^ d) (run.len / 8) at old.turned new.turned h r.turned_rises (λ e. (r.in_small e).turned_is)
+    (λ b. let i = r.in_last (b ∙ sym block) in (i.turned_is, i.last_is)) (λ m. r.moves m ∙ block) in
+    let next = run_left-next s last run (2 ^ d) (run.len / 8) at (pow_pos d) h in
+    record { blocks = omega (arith, here, next); own_stays = λ level. r.others_stay (By Own level) (λ e. cc) }
+
+-- behind its last key nothing is left
+pub sample-past : (held : Held) (spent : Spent) (run : Run) (at : ℕ) → run.len / 8 ≤ at → SampleReadsOn held spent spent (Some run) at (at + 1)
+sample-past held spent run at h =
+    let e = left-none (span held) (spent.lasts (By Sample run.level)) run (2 ^ held.fixed.doublings) (run.len / 8) at h in
+    let f = left-none (span held) (spent.lasts (By Sample run.level)) run (2 ^ held.fixed.doublings) (run.len / 8) (at + 1) (omega (arith, h)) in
+    record { blocks = omega (arith, e, f); own_stays = λ level. refl }
+
+-- a cell that is no lookahead cell asks for no key
+pub sample-stays : (held : Held) (spent : Spent) (run : Option Run) (at to : ℕ) → to ≡ at → SampleReadsOn held spent spent run at to
+sample-stays held spent run at to e = record { blocks = subst (λ (n : ℕ). spent.turned + sample_from held spent run n ≤ spent.turned + sample_from held spent run at) (sym e) (omega arith); own_stays = λ level. refl }
 
 -- a way from the first cell on, and one more block
 pub goes-few : (held : Held) (a b : Spent) (reader : Reader) (run : Run) (at now : ℕ) → GoesOn held a b reader run 0 at → now ≤ b.turned + 1 → now ≤ a.turned + run_blocks held run
 goes-few held a b reader run at now g h =
-    let m = left-most (span held) (a.lasts (By reader run.level)) run run.len (span-pos held) in
+    let m = run-most held a reader run 0 in
     omega (arith, g, h, m)
+
+-- ---- a run, and the sample of the run below it
+
+-- a cell of the run is read
+pub own-read : (held : Held) {a b : Spent} (run : Run) (below : Option Run) (cell : Cell) (at looks : ℕ) → Reads held a b (By Own run.level) run.level run.slot at (Ok cell) → at < run.len →
+    b.turned + blocks_from held b Own run (at + 1) + sample_from held b below looks ≤ a.turned + blocks_from held a Own run at + sample_from held a below looks
+own-read held {a} {b} run below cell at looks r h =
+    let goes = read-goes Own run cell at r h in
+    let same = kept below in
+    omega (arith, goes, same)
+  where
+    kept : (some : Option Run) → sample_from held b some looks ≡ sample_from held a some looks
+    kept None = refl
+    kept (Some next) = ap (λ (last : Option Block). run_left (span held) last next (2 ^ held.fixed.doublings) (next.len / 8) looks) (r.others_stay (By Sample next.level) (λ e. cc))
+
+-- a key of the sample may be read
+pub sample-read : (held : Held) {a b : Spent} (run : Run) (below : Option Run) (at from to more : ℕ) → to ≡ from + more → SampleReadsOn held a b below from (from + more) →
+    b.turned + blocks_from held b Own run at + sample_from held b below to ≤ a.turned + blocks_from held a Own run at + sample_from held a below from
+sample-read held {a} {b} run below at from to more e r =
+    let goes : b.turned + sample_from held b below to ≤ a.turned + sample_from held a below from = subst (λ (n : ℕ). b.turned + sample_from held b below n ≤ a.turned + sample_from held a below from) (sym e) r.blocks in
+    let same : blocks_from held b Own run at ≡ blocks_from held a Own run at = ap (λ (last : Option Block). run_left (span held) last run (span held) run.len at) (r.own_stays run.level) in
+    omega (arith, goes, same)
 
 -- ---- sums over levels
 
@@ -101,3 +191,15 @@ blocks-then header {held} {object} level old mid new e h k =
   where
     three : (o m n x y z : ℕ) → m ≤ o + x → n ≤ m + y → x + y ≤ z → n ≤ o + z
     three o m n x y z h k l = omega (arith, h, k, l)
+
+-- ---- calls
+
+-- a call turns to no more than one that turns to fewer blocks
+pub turns-within : {T : Type 0} (old new : Spent) (few many : ℕ) (result : Result T ReadFault) → few ≤ many → OnOk result (TurnsTo old new few) → OnOk result (TurnsTo old new many)
+turns-within old new few many (Ok answer) h k = omega (arith, h, k)
+turns-within old new few many (Err fault) h k = tt
+
+-- one behind another
+pub turns-then : {T : Type 0} (old between new : Spent) (few more most : ℕ) (result : Result T ReadFault) → TurnsTo old between few → few + more ≤ most → OnOk result (TurnsTo between new more) → OnOk result (TurnsTo old new most)
+turns-then old between new few more most (Ok answer) h l k = omega (arith, h, l, k)
+turns-then old between new few more most (Err fault) h l k = tt

@@ -1,16 +1,19 @@
 -- Walks over a finished shadow and the runs beside it.
-use Rattle.std.specs.Prelude.{◌≡◌, ℕ, ◌+◌, List, [], ◌∷◌, Result, Ok, Err}
+use Rattle.std.specs.Prelude.{◌≡◌, ℕ, ◌+◌, ◌≤◌, List, [], ◌∷◌, Result, Ok, Err}
 use Rattle.cola_runs.specs.Cells.{IsRising}
 use Rattle.cola_cell.specs.declared.cell.Run.{Run}
+use Rattle.cola_cell.specs.declared.cell.Reader.TheVariants.{Own, Incoming, Sample}
 use Rattle.cola_cell.specs.declared.fault.ReadFault.{ReadFault}
 use Rattle.cola_cell.specs.Held.{Held}
 use Rattle.cola_cell.specs.Order.{key_cmp}
+use Rattle.cola_cell.specs.Spent.{Spent}
 use Rattle.cola_told.specs.Cells.{run_cells}
 use Rattle.cola_check.specs.declared.carried.Beside.{Beside}
 use Rattle.cola_check.specs.declared.carried.Step.{Step}
 use Rattle.cola_check.specs.declared.walk.Walk.{Walk}
 use Rattle.cola_check.specs.Reading.{IsRunTold, PassCause}
-use Rattle.cola_check.specs.Walks.{WalkFits, IsReady, unread, Passes}
+use Rattle.cola_check.specs.Blocks.{run_blocks}
+use Rattle.cola_check.specs.Walks.{WalkFits, IsReady, unread, walk_blocks, Passes}
 
 -- a run of which each cell is told, and whose cells rise
 pub record IsInOrder (held : Held) (run : Run) : Type 0 where
@@ -75,3 +78,22 @@ pub record StepsBeside (held : Held) (key : List ℕ) (old new : Beside) (step :
   pub above : Passes held key old.above new.above step.above
   pub own : Passes held key old.own new.own step.own
   pub shadow : Passes held key old.shadow new.shadow step.shadow
+
+-- each walk reads by a reader of its own
+pub record ReadApart (walks : Beside) : Type 0 where
+  pub above : walks.above.reader ≡ Incoming
+  pub own : walks.own.reader ≡ Own
+  pub shadow : walks.shadow.reader ≡ Sample
+
+-- the blocks that the walks have still to turn to
+abbrev pub beside_blocks : Held → Spent → Beside → ℕ
+beside_blocks held spent walks = walk_blocks held spent walks.above + walk_blocks held spent walks.own + walk_blocks held spent walks.shadow
+
+-- the walks went on: the object turned to no more blocks than lie between
+pub record BesideReadsOn (held : Held) (a b : Spent) (old new : Beside) : Type 0 where
+  pub blocks : b.turned + beside_blocks held b new ≤ a.turned + beside_blocks held a old
+
+-- the walks begun: they read apart, and with what they have still to turn to they take no more blocks than their runs fill
+pub record BesideBegan (held : Held) (a b : Spent) (above own shadow : Run) (walks : Beside) : Type 0 where
+  pub apart : ReadApart walks
+  pub blocks : b.turned + beside_blocks held b walks ≤ a.turned + (run_blocks held above + run_blocks held own + run_blocks held shadow)

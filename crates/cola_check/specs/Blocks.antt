@@ -1,6 +1,7 @@
 -- How many blocks a pass turns to that reads a run in order.
-use Rattle.std.specs.Prelude.{ℕ, ◌+◌, ◌*◌, ◌/◌, ◌≤◌}
+use Rattle.std.specs.Prelude.{◌≡◌, ℕ, zero, suc, ◌+◌, ◌*◌, ◌/◌, ◌^◌, ◌≤◌, nat_lt, if◌then◌else◌, Option, None, Some}
 use Rattle.cola_cell.specs.declared.cell.Reader.{Reader}
+use Rattle.cola_cell.specs.declared.cell.Reader.TheVariants.{Own, Sample}
 use Rattle.cola_cell.specs.declared.cell.Run.{Run}
 use Rattle.cola_cell.specs.Held.{Held, span}
 use Rattle.cola_cell.specs.Spent.{Spent, By}
@@ -17,9 +18,29 @@ blocks_from held spent reader run at = run_left (span held) (spent.lasts (By rea
 abbrev pub GoesOn : Held → Spent → Spent → Reader → Run → ℕ → ℕ → Type 0
 GoesOn held old new reader run from to = new.turned + blocks_from held new reader run to ≤ old.turned + blocks_from held old reader run from
 
+-- the same of the cells of its sample, every eighth cell of the run, of which so many were read; none where there is no run
+abbrev pub sample_from : Held → Spent → Option Run → ℕ → ℕ
+sample_from held spent None at = 0
+sample_from held spent (Some run) at = run_left (span held) (spent.lasts (By Sample run.level)) run (2 ^ held.fixed.doublings) (run.len / 8) at
+
+-- the sample of a run was read on, from one of its cells to another: the object turned to no more blocks than lie between, and
+-- no buffer changed by which a level's own run is read
+pub record SampleReadsOn (held : Held) (a b : Spent) (run : Option Run) (from to : ℕ) : Type 0 where
+  pub blocks : b.turned + sample_from held b run to ≤ a.turned + sample_from held a run from
+  pub own_stays : (level : ℕ) → b.lasts (By Own level) ≡ a.lasts (By Own level)
+
+-- a call turned to at most so many blocks
+abbrev pub TurnsTo : Spent → Spent → ℕ → Type 0
+TurnsTo old new blocks = new.turned ≤ old.turned + blocks
+
 -- at most how many blocks are turned to for the cells of a run: those that lie whole in it, and one at each of its ends
 abbrev pub run_blocks : Held → Run → ℕ
 run_blocks held run = run.len / span held + 2
+
+-- the same of a run that may be there
+abbrev pub run_blocks_or : Held → Option Run → ℕ
+run_blocks_or held None = 0
+run_blocks_or held (Some run) = run_blocks held run
 
 -- the same of both runs of a level
 abbrev pub level_blocks : Header → Held → ℕ → ℕ
@@ -32,3 +53,13 @@ blocks_above header held level = cells_above header level / span held + 4 * leve
 -- the same of all runs of a file
 abbrev pub all_blocks : Header → Held → ℕ
 all_blocks header held = blocks_above header held (header.geometry.bottom + 1)
+
+-- the same of both runs of the level below one; none below the bottom
+abbrev pub blocks_below : Header → Held → ℕ → ℕ
+blocks_below header held level = if nat_lt level header.geometry.bottom then level_blocks header held (level + 1) else 0
+
+-- at most how many blocks the test of the shadow of a level of 1 and more turns to: twice those of the level's runs, of those
+-- above it and of those below it
+abbrev pub shadow_blocks : Header → Held → ℕ → ℕ
+shadow_blocks header held zero = 0
+shadow_blocks header held (suc above) = 2 * (level_blocks header held above + level_blocks header held (suc above) + blocks_below header held (suc above))

@@ -1,11 +1,12 @@
 -- What a test of a file answers, with the cause of each answer, and what the device has then.
-use Rattle.std.specs.Prelude.{◌≡◌, ◌⊎◌, ℕ, ◌+◌, ◌*◌, ◌^◌, ◌≤◌, ◌<◌, true, false, List, Result, Ok, Err, IfSome}
+use Rattle.std.specs.Prelude.{◌≡◌, ◌≢◌, ◌⊎◌, ℕ, ◌+◌, ◌*◌, ◌/◌, ◌^◌, ◌≤◌, ◌<◌, true, List, [], ◌∷◌, Option, is_some, Result, Ok, Err, IfSome}
 use Rattle.cola_outside.specs.Faults.{Rose}
 use Rattle.cola_cell.specs.declared.fault.ReadFault.{ReadFault}
 use Rattle.cola_cell.specs.declared.fault.ReadFault.TheVariants as read
 use Rattle.cola_cell.specs.Places.{number_of, slot_size}
 use Rattle.cola_device.specs.declared.device.Device as device
 use Rattle.cola_layout.specs.declared.header.Header.{Header}
+use Rattle.cola_layout.specs.declared.marks.Marks.{Marks}
 use Rattle.cola_layout.specs.Fields.{fields_of}
 use Rattle.cola_layout.specs.Header.{Fields}
 use Rattle.cola_opening.specs.Counted.{Spends}
@@ -37,6 +38,20 @@ Judges (Err read.Device) result = result ≡ Err Device
 abbrev pub test_ticks : ℕ → ℕ
 test_ticks bottom = 5 * 2 ^ (bottom + 4)
 
+-- the cells of both runs of each level
+abbrev pub runs_cells : List Marks → ℕ
+runs_cells [] = 0
+runs_cells (marks ∷ levels) = marks.visible + marks.shadow + runs_cells levels
+
+-- how many blocks the test of a file reads at most, where no read of a cell is refused: ten times those that its runs fill, and
+-- forty for each level
+abbrev pub test_blocks : Fields → ℕ
+test_blocks header = 10 * (runs_cells header.levels / 2 ^ header.block_exp + 4 * (header.bottom + 1))
+
+-- a verdict for which no read of a cell was refused: the bytes are told, or it is another than that a cell is bad
+abbrev pub IsSure : Option (List ℕ) → Verdict → Type 0
+IsSure told verdict = (is_some told ≡ true) ⊎ ((level number : ℕ) → verdict ≢ Broken Cell level number)
+
 -- how many reads of the device: that of the header, those that load the cells, and one for each tick at most
 abbrev pub test_reads : ℕ → ℕ
 test_reads bottom = 1 + (bottom + 3) + test_ticks bottom
@@ -53,6 +68,7 @@ module _ {D : Type 0} (d : device.Ghosts D) (before now : D) (from to : ℕ) whe
     pub header : Fields
     pub is : IfSome (d.bytes before) (HasVerdict header verdict)
     pub reading : IsReadBy header
+    pub few_reads : IsSure (d.bytes before) verdict → (d.counts now).reads ≤ (d.counts before).reads + (1 + (header.bottom + 3) + test_blocks header)
     pub no_fault : (d.counts now).faults ≡ (d.counts before).faults
 
   -- the device failed while the cells were read
@@ -85,6 +101,7 @@ module _ {D : Type 0} (d : device.Ghosts D) (header : Header) (before now : D) w
   -- the verdict on the cells of a file with this header, where its bytes are told
   pub record HasCellsTested (verdict : Verdict) : Type 0 where
     pub verdict_is : IfSome (d.bytes before) (λ bytes. IsVerdict (tested_of (fields_of header) bytes) verdict)
+    pub few_reads : IsSure (d.bytes before) verdict → (d.counts now).reads ≤ (d.counts before).reads + ((header.geometry.bottom + 3) + test_blocks (fields_of header))
     pub no_fault : (d.counts now).faults ≡ (d.counts before).faults
 
   -- why the cells of a file were not tested

@@ -1,10 +1,11 @@
 -- When cursors cut a build after a shadow, and what the test of it reads.
-use Rattle.std.specs.Prelude.{◌≡◌, ℕ, ◌+◌, ◌*◌, ◌≤◌, ⊤, Bool, true, false, List, [], ◌∷◌, ◌++◌, drop, ◌↔◌, IsTrue, IfOk, IfErr, Result, Ok, Err}
+use Rattle.std.specs.Prelude.{◌≡◌, ◌≢◌, ℕ, ◌+◌, ◌*◌, ◌≤◌, ⊤, Option, Bool, true, false, List, [], ◌∷◌, ◌++◌, drop, ◌↔◌, IsTrue, IfOk, IfErr, Result, Ok, Err}
 use Rattle.cola_runs.specs.Weave.{IsCut}
+use Rattle.cola_cell.specs.declared.cell.Cell.{Cell}
 use Rattle.cola_cell.specs.declared.cell.Run.{Run}
 use Rattle.cola_cell.specs.declared.fault.ReadFault.{ReadFault}
 use Rattle.cola_cell.specs.Held.{Held, LawCell}
-use Rattle.cola_cell.specs.Spent.{Spent, ReadCalm}
+use Rattle.cola_cell.specs.Spent.{Buffer, Spent, ReadCalm}
 use Rattle.cola_cell.specs.Order.{key_cmp}
 use Rattle.cola_told.specs.Cells.{run_cells}
 use Rattle.cola_look.specs.Runs.{HasRun}
@@ -13,14 +14,35 @@ use Rattle.cola_merge.specs.declared.aims.Feed.TheVariants as feed
 use Rattle.cola_merge.specs.declared.aims.Aim.{Aim}
 use Rattle.cola_merge.specs.declared.merging.Merger.{Merger}
 use Rattle.cola_merge.specs.Feeds.{part_of, feed_len, feed_cells, feed_keys, IsFeed}
-use Rattle.cola_merge.specs.Heads.{head_at, HasHeads, fetched}
-use Rattle.cola_merge.specs.States.{Spends}
+use Rattle.cola_merge.specs.Blocks.{blocks_left}
+use Rattle.cola_merge.specs.Heads.{head_at, consumed, HasHeads, fetched}
+use Rattle.cola_merge.specs.States.{Spends, IsBeside}
 use Rattle.cola_merge.specs.Advance.{cells_read}
-use Rattle.cola_merge.specs.Pulls.{AreInOrder, ahead}
+use Rattle.cola_merge.specs.Pulls.{AreInOrder, ahead, Gives, given_cells, HasPullCause, IsFrugal}
 use Rattle.cola_check.specs.declared.cut.Cursors.{Cursors}
+use Rattle.cola_check.specs.Blocks.{run_blocks}
+use Rattle.cola_check.specs.Others.{by_others}
 use Rattle.cola_check.specs.Reading.{IsRunTold, PassCause}
 
--- the feeds of the aim and the shadow can be read, and no cursor is past the end of its feed
+-- this holds of the level of which a feed is read, if it is read
+abbrev pub AtLevel : Feed → (ℕ → Type 0) → Type 0
+AtLevel (feed.Run run) P = P run.level
+AtLevel (feed.Sampled run) P = P run.level
+AtLevel (feed.One cell) P = ⊤
+AtLevel feed.Nothing P = ⊤
+
+-- a feed is read of no cell of a level
+abbrev pub IsAway : ℕ → Feed → Type 0
+IsAway level f = AtLevel f (λ other. level ≢ other)
+
+-- no two feeds of an aim are read of the same level
+pub record IsSpread (aim : Aim) : Type 0 where
+  pub own_incoming : AtLevel aim.own (λ level. IsAway level aim.incoming)
+  pub incoming_sample : AtLevel aim.incoming (λ level. IsAway level aim.sample)
+  pub sample_own : AtLevel aim.sample (λ level. IsAway level aim.own)
+
+-- the feeds of the aim and the shadow can be read, no cursor is past the end of its feed, and the runs that are read together
+-- stand at different levels
 pub record CutFits (held : Held) (aim : Aim) (cursors : Cursors) (shadow : Run) : Type 0 where
   pub own : IsFeed held.fixed aim.own
   pub incoming : IsFeed held.fixed aim.incoming
@@ -29,6 +51,8 @@ pub record CutFits (held : Held) (aim : Aim) (cursors : Cursors) (shadow : Run) 
   pub own_within : cursors.own ≤ feed_len aim.own
   pub incoming_within : cursors.incoming ≤ feed_len aim.incoming
   pub sample_within : cursors.sample ≤ feed_len aim.sample
+  pub spread : IsSpread aim
+  pub shadow_away : IsAway shadow.level aim.incoming
 
 -- the cursors cut the build of the aim after these cells
 abbrev pub CutsAfter : Held → Aim → Cursors → List LawCell → Type 0
@@ -80,3 +104,45 @@ pub record Compared (held : Held) (aim : Aim) (old new : Spent) (first second : 
   pub written_is : new.written ≡ old.written
   pub cause : IfErr result (PassCause held (runs_of_aim aim) old.faults new.faults)
   pub calm : ReadCalm old.faults new.faults result
+
+-- ---- one pull of a merge
+
+-- what a pull of a merge says
+pub record Pulled (held : Held) (aim : Aim) (a b : Spent) (m n : Merger) (from to : ℕ) (result : Result (Option Cell) ReadFault) : Type 0 where
+  pub gives : AreInOrder held aim → Gives held aim m n result
+  pub heads : HasHeads held aim n
+  pub consumes : consumed m + given_cells result ≤ consumed n
+  pub cause : HasPullCause held aim a.faults b n to result
+  pub calm : ReadCalm a.faults b.faults result
+  pub ticks : IsFrugal aim m n from to result
+  pub spends : Spends a b from to
+  pub written_is : b.written ≡ a.written
+
+-- ---- blocks
+
+-- the blocks that a merge has still to turn to
+abbrev pub merge_blocks : Held → Spent → Aim → Merger → ℕ
+merge_blocks held spent aim m = blocks_left held.fixed.doublings spent.lasts aim m
+
+-- a merge went on: the object turned to no more blocks than lie between, and no buffer changed but the merge's
+pub record MergeReadsOn (held : Held) (aim : Aim) (a b : Spent) (m n : Merger) : Type 0 where
+  pub blocks : b.turned + merge_blocks held b aim n ≤ a.turned + merge_blocks held a aim m
+  pub others_stay : (buffer : Buffer) → IsBeside aim buffer → b.lasts buffer ≡ a.lasts buffer
+
+-- a merge went along a run: with what it has still to turn to it took no more blocks than it had before and the run fills
+abbrev pub FollowsBlocks : Held → Aim → Run → Spent → Spent → Merger → Merger → Type 0
+FollowsBlocks held aim run a b m n = b.turned + merge_blocks held b aim n ≤ a.turned + merge_blocks held a aim m + run_blocks held run
+
+-- two merges went on side by side, the second by the other readers: they turned to no more blocks than both had still to turn to
+abbrev pub ComparesBlocks : Held → Aim → Spent → Spent → Merger → Merger → Type 0
+ComparesBlocks held aim a b first second = b.turned ≤ a.turned + merge_blocks held a aim first + merge_blocks held (by_others a) aim second
+
+-- at most how many blocks are turned to for a feed, and for those of an aim
+abbrev pub feed_blocks : Held → Feed → ℕ
+feed_blocks held (feed.Run run) = run_blocks held run
+feed_blocks held (feed.Sampled run) = run_blocks held run
+feed_blocks held (feed.One cell) = 0
+feed_blocks held feed.Nothing = 0
+
+abbrev pub aim_blocks : Held → Aim → ℕ
+aim_blocks held aim = feed_blocks held aim.own + feed_blocks held aim.incoming + feed_blocks held aim.sample

@@ -1,11 +1,13 @@
 -- Walks over the runs of several levels: how they begin, stand and pass a key.
-use Rattle.std.specs.Prelude.{◌≡◌, ℕ, ◌+◌, List, [], ◌∷◌, Option, None, Some, IfSome, Result, Ok, Err, ⊤}
+use Rattle.std.specs.Prelude.{◌≡◌, ◌≢◌, ℕ, suc, ◌+◌, ◌≤◌, ◌<◌, List, [], ◌∷◌, Option, None, Some, IfSome, Result, Ok, Err, ⊤}
 use Rattle.std.specs.List.{AllByRecursion}
 use Rattle.arrayvec.specs.declared.array_vec.ArrayVec.{ArrayVec}
 use Rattle.cola_cell.specs.declared.cell.Run.{Run}
+use Rattle.cola_cell.specs.declared.cell.Reader.{Reader}
 use Rattle.cola_cell.specs.declared.cell.Reader.TheVariants.{Own, Incoming}
 use Rattle.cola_cell.specs.declared.fault.ReadFault.{ReadFault}
 use Rattle.cola_cell.specs.Held.{Held}
+use Rattle.cola_cell.specs.Spent.{By, Spent}
 use Rattle.cola_look.specs.Runs.{HasRun}
 use Rattle.cola_told.specs.Cells.{run_cells}
 use Rattle.cola_check.specs.declared.walk.Found.{Found}
@@ -14,7 +16,8 @@ use Rattle.cola_check.specs.declared.tally.Said.{Said}
 use Rattle.cola_check.specs.declared.level_walks.LevelRuns.{LevelRuns}
 use Rattle.cola_check.specs.declared.level_walks.LevelWalks.{LevelWalks}
 use Rattle.cola_check.specs.Beside.{IsInOrder}
-use Rattle.cola_check.specs.Walks.{WalkFits, IsReady, unread, ahead, Begins, Passes}
+use Rattle.cola_check.specs.Blocks.{run_blocks}
+use Rattle.cola_check.specs.Walks.{WalkFits, IsReady, unread, ahead, walk_blocks, Begins, Passes}
 use Rattle.cola_check.specs.Chains.{LevelCells}
 use Rattle.cola_check.specs.Tally.{said_of}
 
@@ -126,3 +129,59 @@ pub record PassesLevel (held : Held) (key : List ℕ) (old new : LevelWalks) : T
   pub visible : Hears held key old.visible.walk new.visible.walk new.visible.said
   pub shadow : Hears held key old.shadow.walk new.shadow.walk new.shadow.said
   pub odd_is : new.odd ≡ old.odd
+
+-- ---- blocks
+
+-- the runs of a level stand at this level
+pub record StandsAt (n : ℕ) (level : LevelRuns) : Type 0 where
+  pub visible : level.visible.level ≡ n
+  pub shadow : (shadow_run level).level ≡ n
+
+-- the runs of levels stand at neighbouring levels, from this one on
+abbrev pub StandFrom : ℕ → List LevelRuns → Type 0
+StandFrom n [] = ⊤
+StandFrom n (level ∷ levels) = StandsAt n level × StandFrom (suc n) levels
+
+-- at most how many blocks are turned to for the runs of a level, and of levels
+abbrev pub blocks_at : Held → LevelRuns → ℕ
+blocks_at held level = run_blocks held level.visible + run_blocks held (shadow_run level)
+
+abbrev pub blocks_of : Held → List LevelRuns → ℕ
+blocks_of held [] = 0
+blocks_of held (level ∷ levels) = blocks_at held level + blocks_of held levels
+
+-- the walks over the runs of this level, each by a reader of its own
+pub record ReadsAt (n : ℕ) (level : LevelWalks) : Type 0 where
+  pub visible_by : level.visible.walk.reader ≡ Own
+  pub visible_at : level.visible.walk.run.level ≡ n
+  pub shadow_by : level.shadow.walk.reader ≡ Incoming
+  pub shadow_at : level.shadow.walk.run.level ≡ n
+
+-- the same of neighbouring levels, from this one on
+abbrev pub ReadFrom : ℕ → List LevelWalks → Type 0
+ReadFrom n [] = ⊤
+ReadFrom n (level ∷ levels) = ReadsAt n level × ReadFrom (suc n) levels
+
+-- the blocks that the walks of a level have still to turn to, and those of levels
+abbrev pub level_left : Held → Spent → LevelWalks → ℕ
+level_left held spent level = walk_blocks held spent level.visible.walk + walk_blocks held spent level.shadow.walk
+
+abbrev pub all_left : Held → Spent → List LevelWalks → ℕ
+all_left held spent [] = 0
+all_left held spent (level ∷ levels) = level_left held spent level + all_left held spent levels
+
+-- the walks of this level went on: the object turned to no more blocks than lie between, and no buffer of another level changed
+pub record LevelReadsOn (held : Held) (a b : Spent) (n : ℕ) (old new : LevelWalks) : Type 0 where
+  pub blocks : b.turned + level_left held b new ≤ a.turned + level_left held a old
+  pub others_stay : (reader : Reader) (level : ℕ) → level ≢ n → b.lasts (By reader level) ≡ a.lasts (By reader level)
+
+-- the same of levels, from this one on
+pub record AllReadOn (held : Held) (a b : Spent) (n : ℕ) (old new : List LevelWalks) : Type 0 where
+  pub blocks : b.turned + all_left held b new ≤ a.turned + all_left held a old
+  pub others_stay : (reader : Reader) (level : ℕ) → level < n → b.lasts (By reader level) ≡ a.lasts (By reader level)
+
+-- the walks over the runs of this level begun: with what they have still to turn to they take no more blocks than these fill,
+-- and no buffer of another level changed
+pub record LevelBegan (held : Held) (a b : Spent) (n : ℕ) (level : LevelRuns) (new : LevelWalks) : Type 0 where
+  pub blocks : b.turned + level_left held b new ≤ a.turned + blocks_at held level
+  pub others_stay : (reader : Reader) (other : ℕ) → other ≢ n → b.lasts (By reader other) ≡ a.lasts (By reader other)

@@ -10,6 +10,7 @@ pub mod Found
 pub mod Kinds
 pub mod LevelWalks
 pub mod Living
+pub mod Others
 pub mod Prefix
 pub mod Reading
 pub mod Shadows

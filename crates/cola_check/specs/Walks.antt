@@ -1,5 +1,5 @@
 -- A walk over one run: how it stands there, what is left of the run, and what it passes.
-use Rattle.std.specs.Prelude.{◌≡◌, ℕ, ◌-◌, ◌≤◌, ◌<◌, Bool, false, cond, List, [], ◌∷◌, drop, Option, None, Some, Result, Ok, Err, ⊤, IsTrue}
+use Rattle.std.specs.Prelude.{◌≡◌, ◌≢◌, ℕ, ◌+◌, ◌-◌, ◌≤◌, ◌<◌, Bool, false, cond, List, [], ◌∷◌, drop, Option, None, Some, Result, Ok, Err, ⊤, IsTrue}
 use Rattle.std.specs.Ordering.{is_eq, is_lt}
 use Rattle.cola_runs.specs.Cells as laws
 use Rattle.cola_runs.specs.Seen as seen
@@ -13,13 +13,14 @@ use Rattle.cola_cell.specs.declared.fault.ReadFault.{ReadFault}
 use Rattle.cola_cell.specs.Cell.{key_of}
 use Rattle.cola_cell.specs.Held.{Held, Told, Tells, LawCell, Stamped, as_cell, as_item}
 use Rattle.cola_cell.specs.Order.{key_cmp}
-use Rattle.cola_cell.specs.Spent.{Spent}
+use Rattle.cola_cell.specs.Spent.{Buffer, By, Spent}
 use Rattle.cola_cell.specs.Costs.{Costs}
 use Rattle.cola_look.specs.Runs.{HasRun}
 use Rattle.cola_told.specs.Cells.{run_cells}
 use Rattle.cola_check.specs.declared.walk.Found.{Found}
 use Rattle.cola_check.specs.declared.walk.Found.TheVariants.{Nothing, Old, Young}
 use Rattle.cola_check.specs.declared.walk.Walk.{Walk}
+use Rattle.cola_check.specs.Blocks.{blocks_from}
 use Rattle.cola_check.specs.Reading.{IsRunTold}
 
 -- what was found of a key, as the laws of runs have it
@@ -101,6 +102,19 @@ unread_after walk (Err fault) = 0
 -- a call that reads spends this: each tick turns to at most one block
 abbrev pub Turns : Spent → Spent → ℕ → ℕ → Type 0
 Turns old new before after = Costs old new before after (after - before) (after - before)
+
+-- the blocks that a walk has still to turn to
+abbrev pub walk_blocks : Held → Spent → Walk → ℕ
+walk_blocks held spent walk = blocks_from held spent walk.reader walk.run walk.at
+
+-- a walk before the first cell of a run, which is not read
+abbrev pub unbegun : Run → Reader → Walk
+unbegun run reader = record { run = run; reader = reader; at = 0; head = None }
+
+-- a walk went on: the object turned to no more blocks than lie between, and no buffer changed but the walk's
+pub record ReadsOn (held : Held) (a b : Spent) (old new : Walk) : Type 0 where
+  pub blocks : b.turned + walk_blocks held b new ≤ a.turned + walk_blocks held a old
+  pub others_stay : (other : Buffer) → other ≢ By old.reader old.run.level → b.lasts other ≡ a.lasts other
 
 -- a call that reads at most so many cells spends this
 abbrev pub ReadsUpTo : Spent → Spent → ℕ → ℕ → ℕ → Type 0

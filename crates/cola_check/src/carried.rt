@@ -1,7 +1,8 @@
 //! A walk over a finished shadow and the runs beside it, key by key.
-ghost use Rattle.std.specs.Prelude.{◌≡◌, ◌+◌, ◌↔◌, IfOk, IfErr, IsTrue};
+ghost use Rattle.std.specs.Prelude.{◌≡◌, ◌+◌, ◌↔◌, IfOk, IfErr, OnOk, IsTrue};
 ghost use Rattle.cola_cell.specs.Spent.{ReadCalm};
 ghost use Rattle.cola_look.specs.Runs.{HasRun};
+ghost use Rattle.cola_check.specs.Blocks.{TurnsTo, run_blocks};
 ghost use Rattle.cola_check.specs.Walks.{ReadsUpTo};
 ghost use Rattle.cola_check.specs.Carrying.{AreCarried};
 ghost use Rattle.cola_check.specs.Beside.{AreInOrder, BesideCause};
@@ -29,11 +30,11 @@ pub(crate) struct Step {
 }
 
 impl Beside {
-    ghost use Rattle.std.specs.Prelude.{◌≡◌, ◌+◌, ◌≤◌, [], ◌∷◌, IfOk, IfErr, None};
+    ghost use Rattle.std.specs.Prelude.{◌≡◌, ◌+◌, ◌≤◌, [], ◌∷◌, IfOk, IfErr, OnOk, None};
     ghost use Rattle.cola_look.specs.Runs.{HasRun};
     ghost use Rattle.cola_check.specs.Reading.{PassCause};
     ghost use Rattle.cola_check.specs.Walks.{Turns, least_from};
-    ghost use Rattle.cola_check.specs.Beside.{BesideCause, BeginBeside, BesideFits, AreReady, StepsBeside};
+    ghost use Rattle.cola_check.specs.Beside.{BesideCause, BeginBeside, BesideFits, AreReady, StepsBeside, ReadApart, BesideBegan, BesideReadsOn};
     ghost use Rattle.cola_check.specs.Beside.{all_unread, unread_begun, unread_stepped, runs_of, walks_of};
 
     /// The walks before the first cells of their runs.
@@ -50,6 +51,7 @@ impl Beside {
         ensures begins { IfOk result (BeginBeside (W.held work.old) above.now own.now shadow.now) }
         ensures unread { steps.new + unread_begun result ≤ steps.old + (above.now.len + own.now.len + shadow.now.len) }
         ensures turns { Turns (W.spent work.old) (W.spent work.new) steps.old steps.new }
+        ensures blocks { IfOk result (BesideBegan (W.held work.old) (W.spent work.old) (W.spent work.new) above.now own.now shadow.now) }
         ensures cause { IfErr result (BesideCause (W.held work.old) above.now own.now shadow.now (W.spent work.old).faults (W.spent work.new).faults) }
         ensures cells_stay { W.held work.new ≡ W.held work.old }
         ensures kept { W.kept work.new ≡ W.kept work.old }
@@ -84,6 +86,7 @@ impl Beside {
         ensures passes { IfOk result (StepsBeside (W.held work.old) key.now self.old self.new) }
         ensures unread { steps.new + unread_stepped self.new result ≤ steps.old + all_unread self.old }
         ensures turns { Turns (W.spent work.old) (W.spent work.new) steps.old steps.new }
+        ensures blocks { OnOk result (ReadApart self.old → BesideReadsOn (W.held work.old) (W.spent work.old) (W.spent work.new) self.old self.new) }
         ensures cause { IfErr result (PassCause (W.held work.old) (runs_of self.old) (W.spent work.old).faults (W.spent work.new).faults) }
         ensures cells_stay { W.held work.new ≡ W.held work.old }
         ensures kept { W.kept work.new ≡ W.kept work.old }
@@ -113,6 +116,7 @@ pub(crate) fn is_carried<W: CellSource, L: Ledger>(
     ensures carried { IfOk result (λ carried. AreInOrder (W.held work.old) above.now own.now shadow.now →
         IsTrue carried ↔ AreCarried (W.held work.old) odd bottom above.now own.now shadow.now) }
     ensures costs { ReadsUpTo (W.spent work.old) (W.spent work.new) steps.old steps.new (above.now.len + own.now.len + shadow.now.len) }
+    ensures blocks { OnOk result (TurnsTo (W.spent work.old) (W.spent work.new) (run_blocks (W.held work.old) above.now + run_blocks (W.held work.old) own.now + run_blocks (W.held work.old) shadow.now)) }
     ensures cause { IfErr result (BesideCause (W.held work.old) above.now own.now shadow.now (W.spent work.old).faults (W.spent work.new).faults) }
     ensures cells_stay { W.held work.new ≡ W.held work.old }
     ensures kept { W.kept work.new ≡ W.kept work.old }

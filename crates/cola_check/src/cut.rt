@@ -1,5 +1,5 @@
 //! Whether cursors cut a build after its shadow.
-ghost use Rattle.std.specs.Prelude.{◌≡◌, ◌+◌, ◌*◌, ◌↔◌, IsTrue, IfOk, IfErr, ◌∷◌};
+ghost use Rattle.std.specs.Prelude.{◌≡◌, ◌+◌, ◌*◌, ◌↔◌, IsTrue, IfOk, IfErr, OnOk, ◌∷◌};
 ghost use Rattle.cola_cell.specs.Held.{as_cell};
 ghost use Rattle.cola_cell.specs.Spent.{ReadCalm};
 ghost use Rattle.cola_cell.specs.Costs.{Costs};
@@ -9,8 +9,12 @@ ghost use Rattle.cola_merge.specs.Heads.{HasHeads};
 ghost use Rattle.cola_merge.specs.Advance.{cells_read};
 ghost use Rattle.cola_merge.specs.Pulls.{AreInOrder};
 ghost use Rattle.cola_check.specs.Reading.{IsRunTold, PassCause};
+ghost use Rattle.cola_check.specs.Blocks.{TurnsTo, run_blocks};
 ghost use Rattle.cola_check.specs.Cut.{CutFits, CutsAfter, Followed, Compared, runs_of_aim};
+ghost use Rattle.cola_check.specs.Cut.{IsAway, IsSpread, Pulled, MergeReadsOn, FollowsBlocks, ComparesBlocks, aim_blocks};
+ghost use Rattle.cola_check.specs.Others.{by_others};
 
+use crate::others::ByOthers;
 use cola_cell::{Cell, CellSource, ReadFault, Reader, Run};
 use cola_merge::{Aim, Merger};
 use cola_outside::Steps;
@@ -43,6 +47,7 @@ fn gives_run<W: CellSource, L: Ledger>(
 ) -> Result<bool, ReadFault>
     requires heads { HasHeads (W.held work.old) aim.now merger.old }
     requires run { HasRun (W.held work.old) run.now }
+    ensures blocks { OnOk result (IsAway run.now.level aim.now.incoming → FollowsBlocks (W.held work.old) aim.now run.now (W.spent work.old) (W.spent work.new) merger.old merger.new) }
     ensures followed { Followed (W.held work.old) aim.now run.now (W.spent work.old) (W.spent work.new) merger.old merger.new steps.old steps.new result }
     ensures cells_stay { W.held work.new ≡ W.held work.old }
     ensures kept { W.kept work.new ≡ W.kept work.old }
@@ -59,7 +64,25 @@ fn gives_run<W: CellSource, L: Ledger>(
     Ok(true)
 }
 
-/// Whether two merges of an aim give the same cells until both have none.
+/// The next cell of a merge, which reads by the other readers.
+fn pull_by_others<W: CellSource, L: Ledger>(
+    merger: &mut Merger,
+    work: &mut W,
+    aim: &Aim,
+    steps: &mut Steps<L>,
+) -> Result<Option<Cell>, ReadFault>
+    requires { HasHeads (W.held work.old) aim.now merger.old }
+    ensures pulled { Pulled (W.held work.old) aim.now (by_others (W.spent work.old)) (by_others (W.spent work.new)) merger.old merger.new steps.old steps.new result }
+    ensures blocks { OnOk result (MergeReadsOn (W.held work.old) aim.now (by_others (W.spent work.old)) (by_others (W.spent work.new)) merger.old merger.new) }
+    ensures cells_stay { W.held work.new ≡ W.held work.old }
+    ensures kept { W.kept work.new ≡ W.kept work.old }
+{
+    let mut others = ByOthers { object: work };
+    merger.pull(&mut others, aim, steps)
+}
+
+/// Whether two merges of an aim give the same cells until both have none. They read the same runs by different buffers, since
+/// their cursors may stand far apart.
 fn gives_same<W: CellSource, L: Ledger>(
     first: &mut Merger,
     second: &mut Merger,
@@ -69,19 +92,20 @@ fn gives_same<W: CellSource, L: Ledger>(
 ) -> Result<bool, ReadFault>
     requires first { HasHeads (W.held work.old) aim.now first.old }
     requires second { HasHeads (W.held work.old) aim.now second.old }
+    ensures blocks { OnOk result (IsSpread aim.now → ComparesBlocks (W.held work.old) aim.now (W.spent work.old) (W.spent work.new) first.old second.old) }
     ensures compared { Compared (W.held work.old) aim.now (W.spent work.old) (W.spent work.new) first.old second.old steps.old steps.new result }
     ensures cells_stay { W.held work.new ≡ W.held work.old }
     ensures kept { W.kept work.new ≡ W.kept work.old }
 {
     while let Some(one) = first.pull(work, aim, steps)? {
-        let Some(other) = second.pull(work, aim, steps)? else {
+        let Some(other) = pull_by_others(second, work, aim, steps)? else {
             return Ok(false);
         };
         if !is_same(&one, &other) {
             return Ok(false);
         }
     }
-    Ok(second.pull(work, aim, steps)?.is_none())
+    Ok(pull_by_others(second, work, aim, steps)?.is_none())
 }
 
 /// Whether the cursors cut the build of the aim after its shadow: the shadow, followed by the weave of what is left of the
@@ -102,6 +126,7 @@ pub(crate) fn is_cut<W: CellSource, L: Ledger>(
         IfOk result (λ cut. IsTrue cut ↔ CutsAfter (W.held work.old) aim.now cursors.now (run_cells (W.held work.old) shadow.now)) }
     ensures costs { Costs (W.spent work.old) (W.spent work.new) steps.old steps.new
         (2 * cells_read aim.now + shadow.now.len) (2 * cells_read aim.now + shadow.now.len) }
+    ensures blocks { OnOk result (TurnsTo (W.spent work.old) (W.spent work.new) (2 * aim_blocks (W.held work.old) aim.now + run_blocks (W.held work.old) shadow.now)) }
     ensures cause { IfErr result (PassCause (W.held work.old) (shadow.now ∷ runs_of_aim aim.now) (W.spent work.old).faults (W.spent work.new).faults) }
     ensures calm { ReadCalm (W.spent work.old).faults (W.spent work.new).faults result }
     ensures cells_stay { W.held work.new ≡ W.held work.old }

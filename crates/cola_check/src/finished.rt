@@ -1,9 +1,10 @@
 //! Whether the shadow of a level is finished, once its window is over.
-ghost use Rattle.std.specs.Prelude.{◌≡◌, ◌↔◌, ◌*◌, ◌^◌, ◌≤◌, None, IsTrue, IfOk, IfErr};
+ghost use Rattle.std.specs.Prelude.{◌≡◌, ◌↔◌, ◌+◌, ◌*◌, ◌^◌, ◌≤◌, None, IsTrue, IfOk, IfErr, OnOk};
 ghost use Rattle.cola_cell.specs.Costs.{Costs};
 ghost use Rattle.cola_cell.specs.Spent.{ReadCalm};
 ghost use Rattle.cola_verdict.specs.Tests.{AreCellsTold};
-ghost use Rattle.cola_check.specs.Found.{tested_by};
+ghost use Rattle.cola_check.specs.Blocks.{TurnsTo, run_blocks, blocks_below, shadow_blocks};
+ghost use Rattle.cola_check.specs.Found.{tested_by, shadow_of};
 ghost use Rattle.cola_check.specs.Shadows.{IsReached, FitAt, FinishedAt};
 ghost use Rattle.cola_check.specs.Testing.{HasLevels, TestCause};
 
@@ -36,6 +37,7 @@ fn is_fit<W: CellSource, L: Ledger>(
         (IsTrue fit ↔ FitAt (tested_by header.now (W.held work.old)) level)) }
     ensures cause { IfErr result (TestCause header.now (W.held work.old) (W.spent work.old).faults (W.spent work.new).faults) }
     ensures cost { Costs (W.spent work.old) (W.spent work.new) steps.old steps.new (5 * 2 ^ level) (5 * 2 ^ level) }
+    ensures blocks { OnOk result (TurnsTo (W.spent work.old) (W.spent work.new) (run_blocks (W.held work.old) (shadow_of header.now level) + blocks_below header.now (W.held work.old) level)) }
     ensures cells_stay { W.held work.new ≡ W.held work.old }
     ensures kept { W.kept work.new ≡ W.kept work.old }
     ensures calm { ReadCalm (W.spent work.old).faults (W.spent work.new).faults result }
@@ -62,6 +64,7 @@ pub(crate) fn is_finished<W: CellSource, L: Ledger>(
         (IsTrue finished ↔ FinishedAt (tested_by header.now (W.held work.old)) level)) }
     ensures cause { IfErr result (TestCause header.now (W.held work.old) (W.spent work.old).faults (W.spent work.new).faults) }
     ensures cost { Costs (W.spent work.old) (W.spent work.new) steps.old steps.new (18 * 2 ^ level) (18 * 2 ^ level) }
+    ensures blocks { OnOk result (TurnsTo (W.spent work.old) (W.spent work.new) (shadow_blocks header.now (W.held work.old) level)) }
     ensures cells_stay { W.held work.new ≡ W.held work.old }
     ensures kept { W.kept work.new ≡ W.kept work.old }
     ensures calm { ReadCalm (W.spent work.old).faults (W.spent work.new).faults result }

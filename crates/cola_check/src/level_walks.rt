@@ -1,10 +1,10 @@
 //! Walks over the runs of several levels at once.
-ghost use Rattle.std.specs.Prelude.{◌≡◌, ◌+◌, ◌≤◌, length, None, IfOk, IfErr, OnOk};
+ghost use Rattle.std.specs.Prelude.{◌≡◌, ℕ, ◌+◌, ◌≤◌, length, None, IfOk, IfErr, OnOk};
 ghost use Rattle.std.specs.List.{AllByRecursion};
 ghost use Rattle.cola_cell.specs.Spent.{ReadCalm};
 ghost use Rattle.cola_check.specs.Reading.{PassCause};
 ghost use Rattle.cola_check.specs.Walks.{Turns, least_from};
-ghost use Rattle.cola_check.specs.LevelWalks.{HasLevel, runs_of, cells_in, Each, BeginsLevel};
+ghost use Rattle.cola_check.specs.LevelWalks.{HasLevel, runs_of, cells_in, Each, BeginsLevel, StandFrom, blocks_of, ReadFrom, all_left, AllReadOn};
 ghost use Rattle.cola_check.specs.LevelWalks.{runs_in, walks_in, LevelFits, IsLevelReady, all_unread, all_unread_begun, all_unread_after, PassesLevel};
 
 use crate::tally::Said;
@@ -84,7 +84,7 @@ impl LevelRuns {
 impl Heard {
     ghost use Rattle.std.specs.Prelude.{◌≡◌, ◌+◌, ◌≤◌, [], ◌∷◌, IfErr, OnOk};
     ghost use Rattle.cola_check.specs.Reading.{PassCause};
-    ghost use Rattle.cola_check.specs.Walks.{Turns, WalkFits, IsReady, unread, unread_after};
+    ghost use Rattle.cola_check.specs.Walks.{Turns, ReadsOn, WalkFits, IsReady, unread, unread_after};
     ghost use Rattle.cola_check.specs.LevelWalks.{Hears};
 
     /// Passes the cells at the front of its walk that have this key, and hears what the run has of it there.
@@ -99,6 +99,7 @@ impl Heard {
         ensures hears { OnOk result (Hears (W.held work.old) key.now self.old.walk self.new.walk self.new.said) }
         ensures unread { steps.new + unread_after self.new.walk result ≤ steps.old + unread self.old.walk }
         ensures turns { Turns (W.spent work.old) (W.spent work.new) steps.old steps.new }
+        ensures blocks { OnOk result (ReadsOn (W.held work.old) (W.spent work.old) (W.spent work.new) self.old.walk self.new.walk) }
         ensures cause { IfErr result (PassCause (W.held work.old) (self.old.walk.run ∷ []) (W.spent work.old).faults (W.spent work.new).faults) }
         ensures cells_stay { W.held work.new ≡ W.held work.old }
         ensures kept { W.kept work.new ≡ W.kept work.old }
@@ -123,6 +124,7 @@ impl Heard {
         ensures hears { OnOk result (Hears (W.held work.old) key.now self.old.walk self.new.walk self.new.said) }
         ensures unread { steps.new + unread_after self.new.walk result ≤ steps.old + unread self.old.walk }
         ensures turns { Turns (W.spent work.old) (W.spent work.new) steps.old steps.new }
+        ensures blocks { OnOk result (ReadsOn (W.held work.old) (W.spent work.old) (W.spent work.new) self.old.walk self.new.walk) }
         ensures cause { IfErr result (PassCause (W.held work.old) (self.old.walk.run ∷ []) (W.spent work.old).faults (W.spent work.new).faults) }
         ensures cells_stay { W.held work.new ≡ W.held work.old }
         ensures kept { W.kept work.new ≡ W.kept work.old }
@@ -135,10 +137,10 @@ impl Heard {
 }
 
 impl LevelWalks {
-    ghost use Rattle.std.specs.Prelude.{◌≡◌, ◌+◌, ◌≤◌, [], ◌∷◌, IfOk, IfErr, OnOk};
+    ghost use Rattle.std.specs.Prelude.{◌≡◌, ℕ, ◌+◌, ◌≤◌, [], ◌∷◌, IfOk, IfErr, OnOk};
     ghost use Rattle.cola_check.specs.Reading.{PassCause};
     ghost use Rattle.cola_check.specs.Walks.{Turns, lesser};
-    ghost use Rattle.cola_check.specs.LevelWalks.{HasLevel, runs_of, cells_in, BeginsLevel};
+    ghost use Rattle.cola_check.specs.LevelWalks.{HasLevel, runs_of, cells_in, BeginsLevel, StandsAt, LevelBegan, ReadsAt, LevelReadsOn};
     ghost use Rattle.cola_check.specs.LevelWalks.{runs_in, LevelFits, IsLevelReady, level_unread, unread_level_begun, level_unread_after, PassesLevel};
 
     /// The walks before the first cells of a level's runs, with these cells read. The visible run is read as a level's own,
@@ -152,6 +154,7 @@ impl LevelWalks {
         ensures begins { IfOk result (BeginsLevel (W.held work.old) level.now) }
         ensures unread { steps.new + unread_level_begun result ≤ steps.old + cells_in (runs_of (level.now ∷ [])) }
         ensures turns { Turns (W.spent work.old) (W.spent work.new) steps.old steps.new }
+        ensures blocks { IfOk result (λ walks. (n : ℕ) → StandsAt n level.now → LevelBegan (W.held work.old) (W.spent work.old) (W.spent work.new) n level.now walks) }
         ensures cause { IfErr result (PassCause (W.held work.old) (runs_of (level.now ∷ [])) (W.spent work.old).faults (W.spent work.new).faults) }
         ensures cells_stay { W.held work.new ≡ W.held work.old }
         ensures kept { W.kept work.new ≡ W.kept work.old }
@@ -193,6 +196,7 @@ impl LevelWalks {
         ensures passes { OnOk result (PassesLevel (W.held work.old) key.now self.old self.new) }
         ensures unread { steps.new + level_unread_after self.new result ≤ steps.old + level_unread self.old }
         ensures turns { Turns (W.spent work.old) (W.spent work.new) steps.old steps.new }
+        ensures blocks { OnOk result ((n : ℕ) → ReadsAt n self.old → LevelReadsOn (W.held work.old) (W.spent work.old) (W.spent work.new) n self.old self.new) }
         ensures cause { IfErr result (PassCause (W.held work.old) (runs_in (self.old ∷ [])) (W.spent work.old).faults (W.spent work.new).faults) }
         ensures cells_stay { W.held work.new ≡ W.held work.old }
         ensures kept { W.kept work.new ≡ W.kept work.old }
@@ -214,6 +218,8 @@ pub(crate) fn begin_all<W: CellSource, L: Ledger>(
     ensures begins { IfOk result (λ walks. Each (BeginsLevel (W.held work.old)) levels.now walks.items) }
     ensures unread { steps.new + all_unread_begun result ≤ steps.old + cells_in (runs_of levels.now) }
     ensures turns { Turns (W.spent work.old) (W.spent work.new) steps.old steps.new }
+    ensures blocks { IfOk result (λ walks. StandFrom 0 levels.now →
+        (W.spent work.new).turned + all_left (W.held work.old) (W.spent work.new) walks.items ≤ (W.spent work.old).turned + blocks_of (W.held work.old) levels.now) }
     ensures cause { IfErr result (PassCause (W.held work.old) (runs_of levels.now) (W.spent work.old).faults (W.spent work.new).faults) }
     ensures cells_stay { W.held work.new ≡ W.held work.old }
     ensures kept { W.kept work.new ≡ W.kept work.old }
@@ -251,6 +257,7 @@ pub(crate) fn pass_all<W: CellSource, L: Ledger>(
     ensures passes { OnOk result (Each (PassesLevel (W.held work.old) key.now) levels.old levels.new) }
     ensures unread { steps.new + all_unread_after levels.new result ≤ steps.old + all_unread levels.old }
     ensures turns { Turns (W.spent work.old) (W.spent work.new) steps.old steps.new }
+    ensures blocks { OnOk result ((n : ℕ) → ReadFrom n levels.old → AllReadOn (W.held work.old) (W.spent work.old) (W.spent work.new) n levels.old levels.new) }
     ensures cause { IfErr result (PassCause (W.held work.old) (runs_in levels.old) (W.spent work.old).faults (W.spent work.new).faults) }
     ensures cells_stay { W.held work.new ≡ W.held work.old }
     ensures kept { W.kept work.new ≡ W.kept work.old }

@@ -1,12 +1,13 @@
 //! The live keys of several levels, counted in one walk over all their runs.
-ghost use Rattle.std.specs.Prelude.{◌≡◌, ◌≤◌, ◌↔◌, length, map, IfOk, IfErr, IsTrue};
+ghost use Rattle.std.specs.Prelude.{◌≡◌, ◌≤◌, ◌↔◌, length, map, IfOk, IfErr, OnOk, IsTrue};
 ghost use Rattle.std.specs.List.{AllByRecursion};
 ghost use Rattle.cola_cell.specs.Costs.{Costs};
 ghost use Rattle.cola_cell.specs.Spent.{ReadCalm};
 ghost use Rattle.cola_verdict.specs.Tests.{live_pairs};
+ghost use Rattle.cola_check.specs.Blocks.{TurnsTo};
 ghost use Rattle.cola_check.specs.Reading.{PassCause};
 ghost use Rattle.cola_check.specs.Chains.{visible_runs, AreLiveCounts, AreStamped};
-ghost use Rattle.cola_check.specs.LevelWalks.{HasLevel, runs_of, cells_in, cells_of, AreRunsInOrder};
+ghost use Rattle.cola_check.specs.LevelWalks.{HasLevel, runs_of, cells_in, cells_of, AreRunsInOrder, StandFrom, blocks_of};
 
 use crate::level_walks::{LevelRuns, begin_all, least_key, pass_all};
 use crate::tally::Tally;
@@ -31,6 +32,7 @@ pub(crate) fn count_live<W: CellSource, L: Ledger>(
     ensures stamped { IfOk result (λ tally. AreRunsInOrder (W.held work.old) levels.now →
         IsTrue tally.stamped ↔ AreStamped last (live_pairs (visible_runs (map (cells_of (W.held work.old)) levels.now)))) }
     ensures costs { Costs (W.spent work.old) (W.spent work.new) steps.old steps.new (cells_in (runs_of levels.now)) (cells_in (runs_of levels.now)) }
+    ensures blocks { OnOk result (StandFrom 0 levels.now → TurnsTo (W.spent work.old) (W.spent work.new) (blocks_of (W.held work.old) levels.now)) }
     ensures cause { IfErr result (PassCause (W.held work.old) (runs_of levels.now) (W.spent work.old).faults (W.spent work.new).faults) }
     ensures cells_stay { W.held work.new ≡ W.held work.old }
     ensures kept { W.kept work.new ≡ W.kept work.old }

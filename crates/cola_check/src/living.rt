@@ -1,9 +1,10 @@
 //! The tests of the live keys.
-ghost use Rattle.std.specs.Prelude.{◌≡◌, ◌≤◌, ◌+◌, ◌↔◌, ◌∷◌, [], length, IfOk, IfErr, IsTrue};
+ghost use Rattle.std.specs.Prelude.{◌≡◌, ◌≤◌, ◌+◌, ◌↔◌, ◌∷◌, [], length, IfOk, IfErr, OnOk, IsTrue};
 ghost use Rattle.cola_cell.specs.Costs.{Costs};
 ghost use Rattle.cola_cell.specs.Spent.{ReadCalm};
 ghost use Rattle.cola_clock.specs.Clock.{is_over};
 ghost use Rattle.cola_verdict.specs.declared.verdict.Flaw.TheVariants as flaw;
+ghost use Rattle.cola_check.specs.Blocks.{TurnsTo, all_blocks};
 ghost use Rattle.cola_check.specs.Found.{tested_by};
 ghost use Rattle.cola_check.specs.Living.{finished_shadow, counted_level, counted_from, AreFew, FindsCrowded, JudgesWhole, JudgesCounts};
 ghost use Rattle.cola_check.specs.Testing.{HasLevels, FindsVerdict, TestCause, live_ticks};
@@ -128,6 +129,7 @@ pub(crate) fn test_live<W: CellSource, L: Ledger>(
     ensures cause { IfErr result (TestCause header.now (W.held work.old) (W.spent work.old).faults (W.spent work.new).faults) }
     ensures cost { Costs (W.spent work.old) (W.spent work.new) steps.old steps.new
         (live_ticks header.now.geometry.bottom) (live_ticks header.now.geometry.bottom) }
+    ensures blocks { OnOk result (TurnsTo (W.spent work.old) (W.spent work.new) (all_blocks header.now (W.held work.old))) }
     ensures cells_stay { W.held work.new ≡ W.held work.old }
     ensures kept { W.kept work.new ≡ W.kept work.old }
     ensures calm { ReadCalm (W.spent work.old).faults (W.spent work.new).faults result }

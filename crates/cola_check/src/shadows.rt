@@ -1,5 +1,5 @@
 //! The tests of the shadows, from the bottom up.
-ghost use Rattle.std.specs.Prelude.{◌≡◌, ◌∷◌, ◌↔◌, ◌*◌, ◌-◌, ◌^◌, ◌≤◌, [], true, IsTrue, IfOk, IfErr};
+ghost use Rattle.std.specs.Prelude.{◌≡◌, ◌∷◌, ◌↔◌, ◌*◌, ◌-◌, ◌^◌, ◌≤◌, [], true, IsTrue, IfOk, IfErr, OnOk};
 ghost use Rattle.cola_cell.specs.Costs.{Costs};
 ghost use Rattle.cola_cell.specs.Places.{number_of};
 ghost use Rattle.cola_cell.specs.Spent.{ReadCalm};
@@ -7,6 +7,7 @@ ghost use Rattle.cola_clock.specs.Clock.{works, visible_slot};
 ghost use Rattle.cola_clock.specs.Schedule.{phase_at};
 ghost use Rattle.cola_verdict.specs.Tests.{ShadowAt};
 ghost use Rattle.cola_verdict.specs.declared.verdict.Flaw.TheVariants as flaw;
+ghost use Rattle.cola_check.specs.Blocks.{TurnsTo, shadow_blocks, all_blocks};
 ghost use Rattle.cola_check.specs.Found.{tested_by};
 ghost use Rattle.cola_check.specs.Shadows.{IsReached, CutAt};
 ghost use Rattle.cola_check.specs.Testing.{HasLevels, FindsFlaw, TestCause, shadow_ticks};
@@ -37,6 +38,7 @@ fn has_cut<W: CellSource, L: Ledger>(
         (IsTrue cut ↔ CutAt (tested_by header.now (W.held work.old)) level)) }
     ensures cause { IfErr result (TestCause header.now (W.held work.old) (W.spent work.old).faults (W.spent work.new).faults) }
     ensures cost { Costs (W.spent work.old) (W.spent work.new) steps.old steps.new (18 * 2 ^ level) (18 * 2 ^ level) }
+    ensures blocks { OnOk result (TurnsTo (W.spent work.old) (W.spent work.new) (shadow_blocks header.now (W.held work.old) level)) }
     ensures cells_stay { W.held work.new ≡ W.held work.old }
     ensures kept { W.kept work.new ≡ W.kept work.old }
     ensures calm { ReadCalm (W.spent work.old).faults (W.spent work.new).faults result }
@@ -70,6 +72,7 @@ fn has_shadow<W: CellSource, L: Ledger>(
         (IsTrue has ↔ ShadowAt (tested_by header.now (W.held work.old)) level)) }
     ensures cause { IfErr result (TestCause header.now (W.held work.old) (W.spent work.old).faults (W.spent work.new).faults) }
     ensures cost { Costs (W.spent work.old) (W.spent work.new) steps.old steps.new (18 * 2 ^ level) (18 * 2 ^ level) }
+    ensures blocks { OnOk result (TurnsTo (W.spent work.old) (W.spent work.new) (shadow_blocks header.now (W.held work.old) level)) }
     ensures cells_stay { W.held work.new ≡ W.held work.old }
     ensures kept { W.kept work.new ≡ W.kept work.old }
     ensures calm { ReadCalm (W.spent work.old).faults (W.spent work.new).faults result }
@@ -93,6 +96,7 @@ pub(crate) fn test_shadows<W: CellSource, L: Ledger>(
     ensures cause { IfErr result (TestCause header.now (W.held work.old) (W.spent work.old).faults (W.spent work.new).faults) }
     ensures cost { Costs (W.spent work.old) (W.spent work.new) steps.old steps.new
         (shadow_ticks header.now.geometry.bottom) (shadow_ticks header.now.geometry.bottom) }
+    ensures blocks { OnOk result (TurnsTo (W.spent work.old) (W.spent work.new) (6 * all_blocks header.now (W.held work.old))) }
     ensures cells_stay { W.held work.new ≡ W.held work.old }
     ensures kept { W.kept work.new ≡ W.kept work.old }
     ensures calm { ReadCalm (W.spent work.old).faults (W.spent work.new).faults result }

@@ -1,8 +1,9 @@
 //! The tests of the cells of a file, one after another.
-ghost use Rattle.std.specs.Prelude.{◌≡◌, ◌+◌, ◌*◌, ◌^◌, ◌∷◌, [], IfOk, IfErr};
+ghost use Rattle.std.specs.Prelude.{◌≡◌, ◌+◌, ◌*◌, ◌^◌, ◌∷◌, [], IfOk, IfErr, OnOk};
 ghost use Rattle.cola_cell.specs.Costs.{Costs};
 ghost use Rattle.cola_cell.specs.Spent.{ReadCalm};
 ghost use Rattle.cola_verdict.specs.declared.verdict.Flaw.TheVariants as flaw;
+ghost use Rattle.cola_check.specs.Blocks.{TurnsTo, all_blocks};
 ghost use Rattle.cola_check.specs.Check.{test_ticks};
 ghost use Rattle.cola_check.specs.Found.{tested_by};
 ghost use Rattle.cola_check.specs.Testing.{HasLevels, FindsVerdict, TestCause, Tests, rest_ticks, run_ticks};
@@ -28,6 +29,7 @@ fn test_rest<W: CellSource, L: Ledger>(
     ensures cause { IfErr result (TestCause header.now (W.held work.old) (W.spent work.old).faults (W.spent work.new).faults) }
     ensures cost { Costs (W.spent work.old) (W.spent work.new) steps.old steps.new
         (rest_ticks header.now.geometry.bottom) (rest_ticks header.now.geometry.bottom) }
+    ensures blocks { OnOk result (TurnsTo (W.spent work.old) (W.spent work.new) (7 * all_blocks header.now (W.held work.old))) }
     ensures cells_stay { W.held work.new ≡ W.held work.old }
     ensures kept { W.kept work.new ≡ W.kept work.old }
     ensures calm { ReadCalm (W.spent work.old).faults (W.spent work.new).faults result }
@@ -49,6 +51,7 @@ fn test_runs<W: CellSource, L: Ledger>(
     ensures cause { IfErr result (TestCause header.now (W.held work.old) (W.spent work.old).faults (W.spent work.new).faults) }
     ensures cost { Costs (W.spent work.old) (W.spent work.new) steps.old steps.new
         (run_ticks header.now.geometry.bottom) (run_ticks header.now.geometry.bottom) }
+    ensures blocks { OnOk result (TurnsTo (W.spent work.old) (W.spent work.new) (9 * all_blocks header.now (W.held work.old))) }
     ensures cells_stay { W.held work.new ≡ W.held work.old }
     ensures kept { W.kept work.new ≡ W.kept work.old }
     ensures calm { ReadCalm (W.spent work.old).faults (W.spent work.new).faults result }
@@ -70,6 +73,7 @@ pub(crate) fn test_cells<W: CellSource, L: Ledger>(
     ensures tests { Tests header.now (W.held work.old) (W.spent work.old).faults (W.spent work.new).faults result }
     ensures costs { Costs (W.spent work.old) (W.spent work.new) steps.old steps.new
         (test_ticks header.now.geometry.bottom) (test_ticks header.now.geometry.bottom) }
+    ensures blocks { OnOk result (TurnsTo (W.spent work.old) (W.spent work.new) (10 * all_blocks header.now (W.held work.old))) }
     ensures calm { ReadCalm (W.spent work.old).faults (W.spent work.new).faults result }
     ensures cells_stay { W.held work.new ≡ W.held work.old }
     ensures kept { W.kept work.new ≡ W.kept work.old }

@@ -1,13 +1,14 @@
 //! The tests of one run: its order, its sample of the run below, and how many cells it has.
-ghost use Rattle.std.specs.Prelude.{◌≡◌, ◌↔◌, ◌+◌, ◌-◌, ◌≤◌, ◌<◌, ◌/◌, ◌∷◌, [], List, IsTrue, IfOk, IfErr, IfSome, Some, slice_get, min};
+ghost use Rattle.std.specs.Prelude.{◌≡◌, ◌↔◌, ◌+◌, ◌-◌, ◌≤◌, ◌<◌, ◌/◌, ◌∷◌, [], List, IsTrue, IfOk, IfErr, OnOk, IfSome, Some, slice_get, min};
 ghost use Rattle.std.specs.Option.{option_to_list};
 ghost use Rattle.cola_cell.specs.Costs.{Costs};
 ghost use Rattle.cola_cell.specs.Held.{Held, LawCell, as_cell};
 ghost use Rattle.cola_cell.specs.Spent.{ReadCalm};
 ghost use Rattle.cola_look.specs.Runs.{HasRun};
-ghost use Rattle.cola_runs.specs.Cells.{sample};
+ghost use Rattle.cola_runs.specs.Cells.{sample, count_looks};
 ghost use Rattle.cola_told.specs.Cells.{run_cells};
 ghost use Rattle.cola_verdict.specs.Tests.{HasSample};
+ghost use Rattle.cola_check.specs.Blocks.{TurnsTo, SampleReadsOn, run_blocks, run_blocks_or};
 ghost use Rattle.cola_check.specs.Prefix.{AreBothTold, OrderIs, IsFew, lists_below, sample_len, sample_reads, Suits, IsSeen};
 ghost use Rattle.cola_check.specs.Reading.{IsRunTold, PassCause};
 
@@ -95,6 +96,7 @@ fn has_sampled<W: CellSource, L: Ledger>(
         (IsTrue is ↔ (slice_get (sample (run_cells (W.held work.old) run.now)) number ≡ Some key.now))) }
     ensures cause { IfErr result (PassCause (W.held work.old) (run.now ∷ []) (W.spent work.old).faults (W.spent work.new).faults) }
     ensures cost { Costs (W.spent work.old) (W.spent work.new) steps.old steps.new (min 1 (run.now.len / 8 - number)) (min 1 (run.now.len / 8 - number)) }
+    ensures blocks { OnOk result (SampleReadsOn (W.held work.old) (W.spent work.old) (W.spent work.new) (Some run.now) number (number + 1)) }
     ensures cells_stay { W.held work.new ≡ W.held work.old }
     ensures kept { W.kept work.new ≡ W.kept work.old }
     ensures calm { ReadCalm (W.spent work.old).faults (W.spent work.new).faults result }
@@ -121,6 +123,7 @@ fn suits_at<W: CellSource, L: Ledger>(
     ensures cause { IfErr result (PassCause (W.held work.old) (option_to_list below) (W.spent work.old).faults (W.spent work.new).faults) }
     ensures cost { Costs (W.spent work.old) (W.spent work.new) steps.old steps.new
         (sample_reads below looks (as_cell cell.now)) (sample_reads below looks (as_cell cell.now)) }
+    ensures blocks { OnOk result (SampleReadsOn (W.held work.old) (W.spent work.old) (W.spent work.new) below looks (looks + count_looks (as_cell cell.now ∷ []))) }
     ensures cells_stay { W.held work.new ≡ W.held work.old }
     ensures kept { W.kept work.new ≡ W.kept work.old }
     ensures calm { ReadCalm (W.spent work.old).faults (W.spent work.new).faults result }
@@ -152,6 +155,7 @@ fn read_all<W: CellSource, L: Ledger>(
     ensures cause { IfErr result (PassCause (W.held work.old) (run.now ∷ option_to_list below) (W.spent work.old).faults (W.spent work.new).faults) }
     ensures cost { Costs (W.spent work.old) (W.spent work.new) steps.old steps.new
         (run.now.len + sample_len below) (run.now.len + sample_len below) }
+    ensures blocks { OnOk result (TurnsTo (W.spent work.old) (W.spent work.new) (run_blocks (W.held work.old) run.now + run_blocks_or (W.held work.old) below)) }
     ensures cells_stay { W.held work.new ≡ W.held work.old }
     ensures kept { W.kept work.new ≡ W.kept work.old }
     ensures calm { ReadCalm (W.spent work.old).faults (W.spent work.new).faults result }
@@ -186,6 +190,7 @@ pub(crate) fn test_run<W: CellSource, L: Ledger>(
     ensures cause { IfErr result (PassCause (W.held work.old) (run.now ∷ option_to_list below) (W.spent work.old).faults (W.spent work.new).faults) }
     ensures cost { Costs (W.spent work.old) (W.spent work.new) steps.old steps.new
         (run.now.len + sample_len below) (run.now.len + sample_len below) }
+    ensures blocks { OnOk result (TurnsTo (W.spent work.old) (W.spent work.new) (run_blocks (W.held work.old) run.now + run_blocks_or (W.held work.old) below)) }
     ensures cells_stay { W.held work.new ≡ W.held work.old }
     ensures kept { W.kept work.new ≡ W.kept work.old }
     ensures calm { ReadCalm (W.spent work.old).faults (W.spent work.new).faults result }

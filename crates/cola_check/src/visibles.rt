@@ -1,10 +1,11 @@
 //! The tests of the visible runs, from level 0 down.
-ghost use Rattle.std.specs.Prelude.{◌≡◌, ◌*◌, ◌^◌, ◌≤◌, ◌<◌, ◌∷◌, [], IfOk, IfErr, IfSome};
+ghost use Rattle.std.specs.Prelude.{◌≡◌, ◌+◌, ◌*◌, ◌^◌, ◌≤◌, ◌<◌, ◌∷◌, [], IfOk, IfErr, OnOk, IfSome};
 ghost use Rattle.cola_cell.specs.Costs.{Costs};
 ghost use Rattle.cola_cell.specs.Places.{slot_size};
 ghost use Rattle.cola_cell.specs.Spent.{ReadCalm};
 ghost use Rattle.cola_verdict.specs.Tests.{AreCellsTold};
 ghost use Rattle.cola_verdict.specs.declared.verdict.Flaw.TheVariants as flaw;
+ghost use Rattle.cola_check.specs.Blocks.{TurnsTo, level_blocks, blocks_below, all_blocks};
 ghost use Rattle.cola_check.specs.Firsts.{IsBelow, AreTestsAt};
 ghost use Rattle.cola_check.specs.Found.{tested_by};
 ghost use Rattle.cola_check.specs.Testing.{HasLevels, FindsFlaw, TestCause, visible_ticks};
@@ -44,6 +45,7 @@ fn test_level<W: CellSource, L: Ledger>(
     ensures within { IfOk result (λ tests. IfSome tests.disorder (λ index. index < slot_size level)) }
     ensures cause { IfErr result (TestCause header.now (W.held work.old) (W.spent work.old).faults (W.spent work.new).faults) }
     ensures cost { Costs (W.spent work.old) (W.spent work.new) steps.old steps.new (5 * 2 ^ level) (5 * 2 ^ level) }
+    ensures blocks { OnOk result (TurnsTo (W.spent work.old) (W.spent work.new) (level_blocks header.now (W.held work.old) level + blocks_below header.now (W.held work.old) level)) }
     ensures cells_stay { W.held work.new ≡ W.held work.old }
     ensures kept { W.kept work.new ≡ W.kept work.old }
     ensures calm { ReadCalm (W.spent work.old).faults (W.spent work.new).faults result }
@@ -67,6 +69,7 @@ pub(crate) fn test_visibles<W: CellSource, L: Ledger>(
     ensures cause { IfErr result (TestCause header.now (W.held work.old) (W.spent work.old).faults (W.spent work.new).faults) }
     ensures cost { Costs (W.spent work.old) (W.spent work.new) steps.old steps.new
         (visible_ticks header.now.geometry.bottom) (visible_ticks header.now.geometry.bottom) }
+    ensures blocks { OnOk result (TurnsTo (W.spent work.old) (W.spent work.new) (2 * all_blocks header.now (W.held work.old))) }
     ensures cells_stay { W.held work.new ≡ W.held work.old }
     ensures kept { W.kept work.new ≡ W.kept work.old }
     ensures calm { ReadCalm (W.spent work.old).faults (W.spent work.new).faults result }

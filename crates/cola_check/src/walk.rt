@@ -57,7 +57,7 @@ impl Walk {
     ghost use Rattle.std.specs.Prelude.{◌≡◌, ◌+◌, ◌<◌, ◌≤◌, [], ◌∷◌, IfOk, IfErr, OnOk, None};
     ghost use Rattle.cola_look.specs.Runs.{HasRun};
     ghost use Rattle.cola_check.specs.Reading.{PassCause};
-    ghost use Rattle.cola_check.specs.Walks.{WalkFits, IsReady, unread, unread_after, unread_begun, Turns, Begins, Fetches, Passes, has_key, found_of, lesser};
+    ghost use Rattle.cola_check.specs.Walks.{WalkFits, IsReady, unread, unread_after, unread_begun, Turns, unbegun, ReadsOn, Begins, Fetches, Passes, has_key, found_of, lesser};
 
     /// A walk before the first cell of a run, with that cell read, if there is one.
     pub(crate) fn begin<W: CellSource, L: Ledger>(
@@ -70,6 +70,7 @@ impl Walk {
         ensures begins { IfOk result (Begins (W.held work.old) run.now reader) }
         ensures unread { steps.new + unread_begun result ≤ steps.old + run.now.len }
         ensures turns { Turns (W.spent work.old) (W.spent work.new) steps.old steps.new }
+        ensures blocks { IfOk result (ReadsOn (W.held work.old) (W.spent work.old) (W.spent work.new) (unbegun run.now reader)) }
         ensures cause { IfErr result (PassCause (W.held work.old) (run.now ∷ []) (W.spent work.old).faults (W.spent work.new).faults) }
         ensures cells_stay { W.held work.new ≡ W.held work.old }
         ensures kept { W.kept work.new ≡ W.kept work.old }
@@ -95,6 +96,7 @@ impl Walk {
         ensures fetches { OnOk result (Fetches (W.held work.old) self.old self.new) }
         ensures unread { steps.new + unread_after self.new result ≤ steps.old + unread self.old }
         ensures turns { Turns (W.spent work.old) (W.spent work.new) steps.old steps.new }
+        ensures blocks { OnOk result (ReadsOn (W.held work.old) (W.spent work.old) (W.spent work.new) self.old self.new) }
         ensures cause { IfErr result (PassCause (W.held work.old) (self.old.run ∷ []) (W.spent work.old).faults (W.spent work.new).faults) }
         ensures cells_stay { W.held work.new ≡ W.held work.old }
         ensures kept { W.kept work.new ≡ W.kept work.old }
@@ -182,6 +184,7 @@ impl Walk {
         ensures passes { IfOk result (Passes (W.held work.old) key.now self.old self.new) }
         ensures unread { steps.new + unread_after self.new result ≤ steps.old + unread self.old }
         ensures turns { Turns (W.spent work.old) (W.spent work.new) steps.old steps.new }
+        ensures blocks { OnOk result (ReadsOn (W.held work.old) (W.spent work.old) (W.spent work.new) self.old self.new) }
         ensures cause { IfErr result (PassCause (W.held work.old) (self.old.run ∷ []) (W.spent work.old).faults (W.spent work.new).faults) }
         ensures cells_stay { W.held work.new ≡ W.held work.old }
         ensures kept { W.kept work.new ≡ W.kept work.old }

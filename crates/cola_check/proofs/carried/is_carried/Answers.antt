@@ -3,6 +3,7 @@ use Rattle.cola_cell.specs.Held.{Held}
 use Rattle.cola_check.specs.Beside.{StepsBeside}
 use Rattle.cola_check.proofs.Carrying.{going_begins, going_on, going_ends, going_fails, going_less, fits_nothing, carried_each, each_carried}
 use Rattle.cola_check.proofs.Turning.{turns_then}
+use Rattle.cola_check.proofs.WalkBlocks.{beside-at, apart-stays}
 use Rattle.cola_check.proofs.carried.is_carried.Goals as goal
 
 pub loop-key-init : goal.loop-key-init
@@ -12,6 +13,8 @@ loop-key-init g c = record {
   calm = c.in_ok-walks.ensures.calm;
   turns = c.in_ok-walks.ensures.turns;
   unread = c.in_ok-walks.ensures.unread;
+  apart = c.in_ok-walks.ensures.blocks.apart;
+  blocks = c.in_ok-walks.ensures.blocks.blocks;
   going = going_begins c.in_ok-walks.ensures.begins;
 }
 
@@ -26,6 +29,8 @@ loop-key-preserved g c =
       calm = c.in_ok-step.ensures.calm ∙ i.calm;
       turns = turns_then i.turns c.in_ok-step.ensures.turns;
       unread = let l = i.unread in omega arith;
+      apart = let p = c.in_ok-step.ensures.passes in apart-stays p.above.reader_is p.own.reader_is p.shadow.reader_is i.apart;
+      blocks = let b = i.blocks in let more = (beside-at (g.W.CellSource.held c.args.work.now) i.held_is (c.in_ok-step.ensures.blocks i.apart)).blocks in omega (arith, b, more);
       going = going_on (fits_nothing c.args.odd c.args.bottom) i.going (sym c.least_key.ensures ∙ c.in-Some.is) (subst S i.held_is c.in_ok-step.ensures.passes) (c.fits.ensures.0 c.if-not-fits.false);
     }
 
@@ -48,3 +53,13 @@ returns-then-not-fits-clause-carried g c =
 pub returns-clause-carried : goal.returns-clause-carried
 returns-clause-carried g c =
     λ o. (λ e. carried_each c.args.odd c.args.bottom _ _ _ (going_ends (fits_nothing c.args.odd c.args.bottom) c.loop-key.invariant.going o (sym c.least_key.ensures ∙ c.in_default.is)), λ h. refl)
+
+pub returns-then-not-fits-clause-blocks : goal.returns-then-not-fits-clause-blocks
+returns-then-not-fits-clause-blocks g c =
+    let i = c.loop-key.invariant in
+    let b = i.blocks in
+    let more = (beside-at (g.W.CellSource.held c.args.work.now) i.held_is (c.in_ok-step.ensures.blocks i.apart)).blocks in
+    omega (arith, b, more)
+
+pub returns-clause-blocks : goal.returns-clause-blocks
+returns-clause-blocks g c = let b = c.loop-key.invariant.blocks in omega (arith, b)

@@ -1,7 +1,8 @@
 use Rattle.std.proofs.Common.{◌≡◌, ◌+◌, ◌≤◌}
 use Rattle.cola_check.specs.Walks.{Turns, ahead}
 use Rattle.cola_check.specs.Carrying.{FitsAt}
-use Rattle.cola_check.specs.Beside.{all_unread}
+use Rattle.cola_check.specs.Beside.{all_unread, ReadApart, beside_blocks}
+use Rattle.cola_check.specs.Blocks.{run_blocks}
 use Rattle.cola_check.proofs.Carrying.{IsGoing}
 use Rattle.cola_check.proofs.carried.is_carried.Given as goal
 
@@ -12,6 +13,9 @@ invariant-loop-key g l = record {
   calm : (g.W.CellSource.spent l.work).faults ≡ (g.W.CellSource.spent l.fn.work).faults;
   turns : Turns (g.W.CellSource.spent l.fn.work) (g.W.CellSource.spent l.work) l.fn.steps l.steps;
   unread : l.steps + all_unread l.walks ≤ l.fn.steps + (l.fn.above.len + l.fn.own.len + l.fn.shadow.len);
+  apart : ReadApart l.walks;
+  blocks : (g.W.CellSource.spent l.work).turned + beside_blocks (g.W.CellSource.held l.fn.work) (g.W.CellSource.spent l.work) l.walks
+      ≤ (g.W.CellSource.spent l.fn.work).turned + (run_blocks (g.W.CellSource.held l.fn.work) l.fn.above + run_blocks (g.W.CellSource.held l.fn.work) l.fn.own + run_blocks (g.W.CellSource.held l.fn.work) l.fn.shadow);
   going : IsGoing (FitsAt l.fn.odd l.fn.bottom) (g.W.CellSource.held l.fn.work) l.fn.above l.fn.own l.fn.shadow l.walks;
 }
 

@@ -2,12 +2,14 @@
 use Rattle.std.proofs.Common.{◌≡◌, refl, ◌∙◌, arith}
 use Rattle.cola_merge.proofs.Reading.{err_is}
 use Rattle.cola_check.proofs.Following.{pulled_at, following_none, pull_stops, pull_ends, read_stops, cells_differ, follows_on, follows_all, differ_by}
+use Rattle.cola_check.proofs.CutBlocks.{merge-at, reads-at, along-none, merge-along, run-along, along-ends}
 use Rattle.cola_check.proofs.cut.gives_run.Goals as goal
 
 pub loop-index-init : goal.loop-index-init
 loop-index-init g c = record {
   cells_stay = refl;
   kept = refl;
+  blocks = λ away. along-none (g.W.CellSource.held c.args.work.now) c.args.aim.now c.args.run.now (g.W.CellSource.spent c.args.work.now) c.args.merger.now;
   following = following_none c.args.run.now (g.W.CellSource.spent c.args.work.now) c.args.steps.now c.requires.heads;
 }
 
@@ -37,6 +39,7 @@ pub loop-index-preserved : goal.loop-index-preserved
 loop-index-preserved g c = record {
   cells_stay = c.in_ok-cell.ensures.cells_stay ∙ c.in_ok-given.ensures.cells_stay ∙ c.loop-index.invariant.cells_stay;
   kept = c.in_ok-cell.ensures.kept ∙ c.in_ok-given.ensures.kept ∙ c.loop-index.invariant.kept;
+  blocks = λ away. run-along c.in_ok-cell.cell away (merge-along away (c.loop-index.invariant.blocks away) (merge-at (g.W.CellSource.held c.args.work.now) (g.W.CellSource.spent c.pull.new.work) c.pull.new.self c.loop-index.invariant.cells_stay (record { blocks = c.in_ok-given.ensures.turned; others_stay = c.in_ok-given.ensures.lasts }))) (reads-at (g.W.CellSource.held c.args.work.now) (c.in_ok-given.ensures.cells_stay ∙ c.loop-index.invariant.cells_stay) c.in_ok-cell.ensures.reads) c.loop-index-test.true;
   following = follows_on c.loop-index.invariant.following c.in_ok-given.field-0 (pulled_at (g.W.CellSource.held c.args.work.now) c.loop-index.invariant.cells_stay (record { gives = c.in_ok-given.ensures.gives; heads = c.in_ok-given.ensures.heads; consumes = c.in_ok-given.ensures.consumes; cause = c.in_ok-given.ensures.cause; calm = c.in_ok-given.ensures.calm; ticks = c.in_ok-given.ensures.ticks; spends = c.in_ok-given.ensures.spends; written_is = c.in_ok-given.ensures.written }))
       (c.in_ok-given.ensures.cells_stay ∙ c.loop-index.invariant.cells_stay) c.loop-index-test.true c.in_ok-cell.ensures.one_tick
       c.in-Some.given c.in_ok-cell.cell c.in-Some.is c.in_ok-cell.ensures.reads (c.is_same.ensures.0 c.if-not-is_same.false);
@@ -44,3 +47,12 @@ loop-index-preserved g c = record {
 
 pub returns-clause-followed : goal.returns-clause-followed
 returns-clause-followed g c = follows_all c.loop-index.invariant.following (let e : c.loop-index.index ≡ c.args.run.now.len = omega (arith, c.loop-index-test.false, c.loop-index.auto.index-end) in e)
+
+pub returns-in_default-clause-blocks : goal.returns-in_default-clause-blocks
+returns-in_default-clause-blocks g c = λ away. along-ends (merge-along away (c.loop-index.invariant.blocks away) (merge-at (g.W.CellSource.held c.args.work.now) (g.W.CellSource.spent c.pull.new.work) c.pull.new.self c.loop-index.invariant.cells_stay (record { blocks = c.in_ok-given.ensures.turned; others_stay = c.in_ok-given.ensures.lasts })))
+
+pub returns-then-not-is_same-clause-blocks : goal.returns-then-not-is_same-clause-blocks
+returns-then-not-is_same-clause-blocks g c = λ away. along-ends (run-along c.in_ok-cell.cell away (merge-along away (c.loop-index.invariant.blocks away) (merge-at (g.W.CellSource.held c.args.work.now) (g.W.CellSource.spent c.pull.new.work) c.pull.new.self c.loop-index.invariant.cells_stay (record { blocks = c.in_ok-given.ensures.turned; others_stay = c.in_ok-given.ensures.lasts }))) (reads-at (g.W.CellSource.held c.args.work.now) (c.in_ok-given.ensures.cells_stay ∙ c.loop-index.invariant.cells_stay) c.in_ok-cell.ensures.reads) c.loop-index-test.true)
+
+pub returns-clause-blocks : goal.returns-clause-blocks
+returns-clause-blocks g c = λ away. along-ends (c.loop-index.invariant.blocks away)

@@ -1,5 +1,7 @@
 -- The cells of the run up to the index were given.
 use Rattle.std.proofs.Common.{◌≡◌}
+use Rattle.cola_check.specs.Cut.{IsAway}
+use Rattle.cola_check.proofs.CutBlocks.{AlongReadsOn}
 use Rattle.cola_check.proofs.Following.{Following}
 use Rattle.cola_check.proofs.cut.gives_run.Given as goal
 
@@ -7,5 +9,6 @@ abbrev pub invariant-loop-index : goal.invariant-loop-index
 invariant-loop-index g l = record {
   cells_stay : g.W.CellSource.held l.work ≡ g.W.CellSource.held l.fn.work;
   kept : g.W.CellSource.kept l.work ≡ g.W.CellSource.kept l.fn.work;
+  blocks : IsAway l.run.level l.aim.incoming → AlongReadsOn (g.W.CellSource.held l.fn.work) l.aim l.run (g.W.CellSource.spent l.fn.work) (g.W.CellSource.spent l.work) l.fn.merger l.merger l.index;
   following : Following (g.W.CellSource.held l.fn.work) l.aim l.run (g.W.CellSource.spent l.fn.work) (g.W.CellSource.spent l.work) l.fn.merger l.merger l.fn.steps l.steps l.index;
 }

@@ -2,13 +2,16 @@
 use Rattle.std.proofs.Common.{◌≡◌, ◌+◌, ◌-◌}
 use Rattle.cola_merge.specs.Feeds.{feed_len}
 use Rattle.cola_merge.specs.Heads.{consumed}
+use Rattle.cola_check.specs.Cut.{IsSpread}
 use Rattle.cola_check.proofs.Comparing.{Comparing}
+use Rattle.cola_check.proofs.CutBlocks.{BothReadOn}
 use Rattle.cola_check.proofs.cut.gives_same.Given as goal
 
 abbrev pub invariant-loop-one : goal.invariant-loop-one
 invariant-loop-one g l = record {
   cells_stay : g.W.CellSource.held l.work ≡ g.W.CellSource.held l.fn.work;
   kept : g.W.CellSource.kept l.work ≡ g.W.CellSource.kept l.fn.work;
+  blocks : IsSpread l.aim → BothReadOn (g.W.CellSource.held l.fn.work) l.aim (g.W.CellSource.spent l.fn.work) (g.W.CellSource.spent l.work) l.fn.first l.fn.second l.first l.second;
   comparing : Comparing (g.W.CellSource.held l.fn.work) l.aim (g.W.CellSource.spent l.fn.work) (g.W.CellSource.spent l.work) l.fn.first l.first l.fn.second l.second l.fn.steps l.steps;
 }
 

@@ -3,11 +3,12 @@ use Rattle.std.specs.List.{AllByRecursion, refill}
 use Rattle.cola_cell.specs.Held.{Held}
 use Rattle.cola_check.specs.declared.level_walks.LevelWalks.{LevelWalks}
 use Rattle.cola_check.specs.Reading.{PassCause}
-use Rattle.cola_check.specs.LevelWalks.{runs_of, cells_in, runs_in, LevelFits, IsLevelReady, all_ahead}
+use Rattle.cola_check.specs.LevelWalks.{runs_of, cells_in, runs_in, LevelFits, IsLevelReady, all_ahead, ReadFrom}
 use Rattle.cola_check.specs.Tally.{IsWithin, visible_said, counted}
+use Rattle.cola_check.proofs.LevelBlocks.{read-from, read-from_stays}
 use Rattle.cola_check.proofs.LevelLists.{refused, cause_later}
 use Rattle.cola_check.proofs.LiveSteps.{has_rooms}
-use Rattle.cola_check.proofs.LiveWalk.{all_fit, all_ready, bad_of_levels, few_cells, counting_begins, counting_on, counting_less, counting_same, counting_many, counting_ends, stamped_ends, refilled_passes, refilled_unread, same_least}
+use Rattle.cola_check.proofs.LiveWalk.{all_fit, all_ready, bad_of_levels, few_cells, counting_begins, counting_on, counting_less, counting_same, counting_many, counting_ends, stamped_ends, refilled_passes, refilled_unread, refilled_blocks, same_least}
 use Rattle.cola_check.proofs.Turning.{turns_then}
 use Rattle.cola_check.proofs.live.count_live.Goals as goal
 
@@ -18,6 +19,8 @@ loop-key-init g c = record {
   calm = c.in_ok-walks.ensures.calm;
   turns = c.in_ok-walks.ensures.turns;
   unread = c.in_ok-walks.ensures.unread;
+  placed = λ at. read-from (g.W.CellSource.held c.args.work.now) 0 c.args.levels.now c.in_ok-walks.walks.items at c.in_ok-walks.ensures.begins;
+  blocks = c.in_ok-walks.ensures.blocks;
   counting = counting_begins c.in_ok-walks.ensures.begins c.none-tally.ensures.counts c.none-tally.ensures.stamped;
 }
 
@@ -68,6 +71,12 @@ loop-key-preserved g c =
       calm = c.in_ok-pass_all.ensures.calm ∙ i.calm;
       turns = turns_then i.turns c.in_ok-pass_all.ensures.turns;
       unread = let l = i.unread in omega (arith, left, l);
+      placed = λ at. read-from_stays (g.W.CellSource.held c.args.work.now) c.in-Some.key 0 c.loop-key.walks.items news (i.placed at) (refilled_passes c.in-Some.key c.pass_all.new.levels i.held_is c.as_mut_slice.ensures.value c.in_ok-pass_all.ensures.passes);
+      blocks = λ at.
+          let b = i.blocks at in
+          let from = subst (ReadFrom 0) (sym c.as_mut_slice.ensures.value) (i.placed at) in
+          let more = refilled_blocks (g.W.CellSource.held c.args.work.now) c.in-Some.key c.pass_all.new.levels i.held_is c.as_mut_slice.ensures.value c.in_ok-pass_all.ensures.passes (c.in_ok-pass_all.ensures.blocks 0 from) in
+          omega (arith, b, more);
       counting = counting_on i.counting c.in-Some.key (same_least c.as_slice.ensures.value c.least_key.ensures c.in-Some.is) news
           (refilled_passes c.in-Some.key c.pass_all.new.levels i.held_is c.as_mut_slice.ensures.value c.in_ok-pass_all.ensures.passes)
           (c.count.ensures.counted ∙ ap (counted c.loop-key.tally.counts.items) e) (subst S e c.count.ensures.stamped);
@@ -95,3 +104,6 @@ returns-clause-stamped g c = stamped_ends c.loop-key.invariant.counting (same_le
 
 pub returns-clause-many : goal.returns-clause-many
 returns-clause-many g c = counting_many c.loop-key.invariant.counting
+
+pub returns-clause-blocks : goal.returns-clause-blocks
+returns-clause-blocks g c = λ at. let b = c.loop-key.invariant.blocks at in omega (arith, b)

@@ -5,6 +5,7 @@ use Rattle.cola_cell.proofs.CostsLemmas.{costs_within}
 use Rattle.cola_check.specs.declared.level_walks.LevelRuns.{LevelRuns}
 use Rattle.cola_check.specs.LevelWalks.{HasLevel}
 use Rattle.cola_check.specs.Testing.{TestCause}
+use Rattle.cola_check.proofs.AllBlocks.{counted-stand_all, counted-all}
 use Rattle.cola_check.proofs.LevelLists.{refused}
 use Rattle.cola_check.proofs.LiveTests.{counted-many, levels-have, counting-cause, finds-verdict, few-counted}
 use Rattle.cola_check.proofs.living.test_live.Goals as goal
@@ -45,3 +46,12 @@ pub returns-clause-cost : goal.returns-clause-cost
 returns-clause-cost g c =
     let few = few-counted c.args.header.now c.as_slice.result.now (c.as_slice.ensures.value ∙ c.counted_levels-levels.ensures) in
     costs_within c.in_ok-tally.ensures.costs few few
+
+pub returns-clause-blocks : goal.returns-clause-blocks
+returns-clause-blocks g c =
+    let header = c.args.header.now in
+    let held = g.W.CellSource.held c.args.work.now in
+    let is = c.as_slice.ensures.value ∙ c.counted_levels-levels.ensures in
+    let b = c.in_ok-tally.ensures.blocks (counted-stand_all header held c.as_slice.result.now is) in
+    let all = counted-all header held c.as_slice.result.now is in
+    omega (arith, b, all)

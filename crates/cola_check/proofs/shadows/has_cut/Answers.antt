@@ -1,5 +1,6 @@
 use Rattle.cola_cell.proofs.CostsLemmas.{costs_within}
-use Rattle.cola_check.proofs.CutTests.{ticks-at, fits-at, cause-at, answer-at}
+use Rattle.cola_check.proofs.CutTests.{ticks-at, blocks-at, fits-at, cause-at, answer-at}
+use Rattle.cola_check.proofs.RunBlocks.{turns-within}
 use Rattle.cola_check.proofs.shadows.has_cut.Goals as goal
 
 pub is_cut-requires : goal.is_cut-requires
@@ -22,3 +23,8 @@ pub returns-clause-cost : goal.returns-clause-cost
 returns-clause-cost g c =
     let few = ticks-at c.args.header.now c.args.level c.requires.above c.requires.level c.aim_at-aim.result c.shadow_run-shadow.result c.aim_at-aim.ensures c.shadow_run-shadow.ensures.value in
     costs_within c.is_cut.ensures.costs few few
+
+pub returns-clause-blocks : goal.returns-clause-blocks
+returns-clause-blocks g c =
+    turns-within (g.W.CellSource.spent c.args.work.now) (g.W.CellSource.spent c.is_cut.new.work) _ _ c.is_cut.result
+    (blocks-at c.args.header.now (g.W.CellSource.held c.args.work.now) c.args.level c.requires.above c.requires.level c.aim_at-aim.result c.shadow_run-shadow.result c.aim_at-aim.ensures c.shadow_run-shadow.ensures.value) c.is_cut.ensures.blocks

@@ -1,4 +1,4 @@
-use Rattle.std.proofs.Common.{◌↔◌, ◌≤◌, IsTrue, ap, subst, ◌∙◌, arith}
+use Rattle.std.proofs.Common.{◌↔◌, ◌+◌, ◌≤◌, IsTrue, ap, subst, ◌∙◌, arith}
 use Rattle.cola_cell.specs.declared.cell.Run.{Run}
 use Rattle.cola_cell.specs.Held.{Held}
 use Rattle.cola_cell.specs.Places.{number_of}
@@ -6,8 +6,10 @@ use Rattle.cola_cell.proofs.CostsLemmas.{costs_then, costs_within}
 use Rattle.cola_verdict.specs.declared.verdict.Flaw.TheVariants.{Shadow}
 use Rattle.cola_verdict.specs.declared.verdict.Verdict.TheVariants.{Broken}
 use Rattle.cola_verdict.specs.Tests.{ShadowAt}
+use Rattle.cola_check.specs.Blocks.{shadow_blocks}
 use Rattle.cola_check.specs.Found.{tested_by}
 use Rattle.cola_check.specs.Shadows.{IsReached}
+use Rattle.cola_check.proofs.AllBlocks.{shadow-done, shadows-all}
 use Rattle.cola_check.proofs.BadRuns.{level-in}
 use Rattle.cola_check.proofs.ShadowTests.{one-more, one-fails, more-ticks, some-ticks}
 use Rattle.cola_check.proofs.shadows.test_shadows.Goals as goal
@@ -40,6 +42,28 @@ loop-level-preserved g c =
       kept_is = c.in_ok-has_shadow.ensures.kept ∙ i.kept_is;
       calm = c.in_ok-has_shadow.ensures.calm ∙ i.calm;
       cost = costs_within (costs_then i.cost c.in_ok-has_shadow.ensures.cost) more more;
+      blocks =
+          let held = g.W.CellSource.held c.args.work.now in
+          let here : (g.W.CellSource.spent c.has_shadow.new.work).turned ≤ (g.W.CellSource.spent c.loop-level.work).turned + shadow_blocks c.args.header.now held c.loop-level.level =
+          subst (λ (h : Held). (g.W.CellSource.spent c.has_shadow.new.work).turned ≤ (g.W.CellSource.spent c.loop-level.work).turned + shadow_blocks c.args.header.now h c.loop-level.level) i.held_is c.in_ok-has_shadow.ensures.blocks in
+          shadow-done c.args.header.now held c.loop-level.level (g.W.CellSource.spent c.loop-level.work).turned (g.W.CellSource.spent c.args.work.now).turned (g.W.CellSource.spent c.has_shadow.new.work).turned one i.blocks here;
       low = let l = i.low in omega (arith, l);
       behind = one-more (tested_by c.args.header.now (g.W.CellSource.held c.args.work.now)) c.loop-level.level c.in_ok-has_shadow.field-0 c.if-not-branch.false one i.behind has;
     }
+
+pub returns-then-not-branch-clause-blocks : goal.returns-then-not-branch-clause-blocks
+returns-then-not-branch-clause-blocks g c =
+    let held = g.W.CellSource.held c.args.work.now in
+    let i = c.loop-level.invariant in
+    let here : (g.W.CellSource.spent c.has_shadow.new.work).turned ≤ (g.W.CellSource.spent c.loop-level.work).turned + shadow_blocks c.args.header.now held c.loop-level.level =
+    subst (λ (h : Held). (g.W.CellSource.spent c.has_shadow.new.work).turned ≤ (g.W.CellSource.spent c.loop-level.work).turned + shadow_blocks c.args.header.now h c.loop-level.level) i.held_is c.in_ok-has_shadow.ensures.blocks in
+    let one : 1 ≤ c.loop-level.level = let t = c.loop-level-test.true in omega (arith, t) in
+    let done = shadow-done c.args.header.now held c.loop-level.level (g.W.CellSource.spent c.loop-level.work).turned (g.W.CellSource.spent c.args.work.now).turned (g.W.CellSource.spent c.has_shadow.new.work).turned one i.blocks here in
+    let all = shadows-all c.args.header.now held in
+    omega (arith, done, all)
+
+pub returns-clause-blocks : goal.returns-clause-blocks
+returns-clause-blocks g c =
+    let b = c.loop-level.invariant.blocks in
+    let all = shadows-all c.args.header.now (g.W.CellSource.held c.args.work.now) in
+    omega (arith, b, all)

@@ -1,4 +1,5 @@
-use Rattle.std.proofs.Common.{◌≡◌, ◌+◌, ◌≤◌, ℕ, min, List, IfSome, IsTrue, ◌↔◌, refl, Ok, sym, subst, ◌∙◌, arith}
+use Rattle.std.proofs.Common.{◌≡◌, ◌+◌, ◌≤◌, ℕ, min, List, [], ◌∷◌, IfSome, IsTrue, ◌↔◌, refl, Ok, sym, subst, ◌∙◌, arith}
+use Rattle.cola_runs.specs.Cells.{count_looks}
 use Rattle.cola_cell.specs.Held.{Held, LawCell, as_cell}
 use Rattle.cola_cell.specs.Spent.{By, IsGiven}
 use Rattle.cola_cell.specs.declared.cell.Reader.TheVariants.{Own}
@@ -6,6 +7,9 @@ use Rattle.cola_cell.proofs.CostsLemmas.{costs_none, costs_read_then, costs_then
 use Rattle.cola_told.specs.Cells.{cells}
 use Rattle.cola_check.specs.Prefix.{lists_below, sample_len, sample_reads, Suits, IsSeen}
 use Rattle.cola_check.specs.Reading.{IsRunTold}
+use Rattle.cola_check.specs.Blocks.{SampleReadsOn}
+use Rattle.cola_check.proofs.CutBlocks.{reads-at}
+use Rattle.cola_check.proofs.RunBlocks.{run-most, sample-most, own-read, sample-read}
 use Rattle.cola_check.proofs.Sampling.{given-at, cells-next, reads-one}
 use Rattle.cola_check.proofs.visible.read_all.Goals as goal
 
@@ -15,6 +19,12 @@ loop-index-init g c = record {
   kept_is = refl;
   calm = refl;
   cost = costs_within (costs_none (g.W.CellSource.spent c.args.work.now) c.args.steps.now) (omega arith) (omega arith);
+  blocks =
+      let held = g.W.CellSource.held c.args.work.now in
+      let spent = g.W.CellSource.spent c.args.work.now in
+      let a = run-most held spent Own c.args.run.now 0 in
+      let b = sample-most held spent c.args.below c.empty-seen.result.looks in
+      omega (arith, a, b);
   place_is = c.empty-seen.ensures.place;
   seen = λ told rest. c.empty-seen.ensures.seen (lists_below (g.W.CellSource.held c.args.work.now) c.args.below rest);
 }
@@ -37,6 +47,12 @@ loop-index-preserved g c =
       kept_is = c.in_ok-suits.ensures.kept ∙ c.in_ok-cell.ensures.kept ∙ i.kept_is;
       calm = c.in_ok-suits.ensures.calm ∙ c.in_ok-cell.ensures.reads.calm ∙ i.calm;
       cost = costs_within (costs_then {more = sample_reads below old.looks (as_cell cell)} {others = sample_reads below old.looks (as_cell cell)} (costs_read_then {buffer = By Own run.level} {result = Ok cell} i.cost c.in_ok-cell.ensures.reads c.in_ok-cell.ensures.one_tick) c.in_ok-suits.ensures.cost) bound bound;
+      blocks =
+          let b = i.blocks in
+          let one = own-read held run below cell index old.looks (reads-at held i.held_is c.in_ok-cell.ensures.reads) c.loop-index-test.true in
+          let S : Held → Type 0 = λ h. SampleReadsOn h (g.W.CellSource.spent c.read_for.new.self) (g.W.CellSource.spent c.suits_at.new.work) below old.looks (old.looks + count_looks (as_cell cell ∷ [])) in
+          let two = sample-read held run below (index + 1) old.looks new.looks (count_looks (as_cell cell ∷ [])) c.with-seen.ensures.looks (subst S (c.in_ok-cell.ensures.cells_stay ∙ i.held_is) c.in_ok-suits.ensures.blocks) in
+          omega (arith, b, one, two);
       place_is = let a = c.with-seen.ensures.place in let b = i.place_is in omega (arith, a, b);
       seen = λ told rest.
           let given = subst (λ (h : Held). IsGiven h run.level run.slot index cell) i.held_is c.in_ok-cell.ensures.reads.answer in
@@ -54,3 +70,6 @@ returns-clause-seen g c = λ told rest.
     let done = c.loop-index-test.false in
     let whole : c.loop-index.index ≡ run.len = omega (arith, end, done) in
     subst (λ (n : ℕ). IsSeen (lists_below held c.args.below rest) (cells (held.spots run.level run.slot) 0 n) c.loop-index.seen) whole (c.loop-index.invariant.seen told rest)
+
+pub returns-clause-blocks : goal.returns-clause-blocks
+returns-clause-blocks g c = let b = c.loop-index.invariant.blocks in omega (arith, b)

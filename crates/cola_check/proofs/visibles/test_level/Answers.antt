@@ -4,6 +4,8 @@ use Rattle.cola_cell.proofs.CostsLemmas.{costs_within}
 use Rattle.cola_check.specs.Firsts.{AreFewAt}
 use Rattle.cola_check.specs.Prefix.{sample_len}
 use Rattle.cola_check.proofs.TestsAt.{below-runs, tests-answer, cause-answer, level-ticks}
+use Rattle.cola_check.proofs.AllBlocks.{visible-blocks}
+use Rattle.cola_check.proofs.RunBlocks.{turns-within}
 use Rattle.cola_check.proofs.visibles.test_level.Goals as goal
 
 pub test_run-requires-clause-below : goal.test_run-requires-clause-below
@@ -25,3 +27,7 @@ returns-clause-cost g c =
     let few = subst (λ (r : Run). r.len + sample_len c.below_run-below.result ≤ 5 * 2 ^ c.args.level) (sym c.visible_run-run.ensures.value)
     (level-ticks c.args.header.now c.args.level c.below_run-below.result c.requires.level c.below_run-below.ensures) in
     costs_within c.test_run.ensures.cost few few
+
+pub returns-clause-blocks : goal.returns-clause-blocks
+returns-clause-blocks g c =
+    turns-within (g.W.CellSource.spent c.args.work.now) (g.W.CellSource.spent c.test_run.new.work) _ _ c.test_run.result (visible-blocks c.args.header.now (g.W.CellSource.held c.args.work.now) c.args.level c.visible_run-run.result c.below_run-below.result c.visible_run-run.ensures.value c.below_run-below.ensures) c.test_run.ensures.blocks

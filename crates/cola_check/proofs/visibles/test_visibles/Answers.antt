@@ -1,9 +1,11 @@
-use Rattle.std.proofs.Common.{◌≡◌, ◌+◌, ◌*◌, ◌^◌, ℕ, subst, ◌∙◌, arith}
+use Rattle.std.proofs.Common.{◌≡◌, ◌+◌, ◌*◌, ◌^◌, ◌≤◌, ℕ, subst, ◌∙◌, arith}
 use Rattle.cola_cell.specs.Held.{Held}
 use Rattle.cola_cell.proofs.CostsLemmas.{costs_then, costs_within}
 use Rattle.cola_verdict.specs.Tests.{AreCellsTold}
+use Rattle.cola_check.specs.Blocks.{level_blocks, blocks_below}
 use Rattle.cola_check.specs.Firsts.{AreTestsAt, AreFirstFlaws}
 use Rattle.cola_check.specs.Found.{tested_by}
+use Rattle.cola_check.proofs.AllBlocks.{visibles-more, visibles-all}
 use Rattle.cola_check.proofs.TestsAt.{next-ticks, all-ticks}
 use Rattle.cola_check.proofs.visibles.test_visibles.Goals as goal
 
@@ -27,6 +29,12 @@ loop-level-preserved g c =
       kept_is = tests.kept ∙ i.kept_is;
       calm = tests.calm ∙ i.calm;
       cost = costs_within (costs_then {more = 5 * 2 ^ level} {others = 5 * 2 ^ level} i.cost tests.cost) some some;
+      blocks =
+          let b = i.blocks in
+          let more = visibles-more header held level in
+          let here : (g.W.CellSource.spent c.test_level.new.work).turned ≤ (g.W.CellSource.spent c.loop-level.work).turned + (level_blocks header held level + blocks_below header held level) =
+          subst (λ (h : Held). (g.W.CellSource.spent c.test_level.new.work).turned ≤ (g.W.CellSource.spent c.loop-level.work).turned + (level_blocks header h level + blocks_below header h level)) i.held_is tests.blocks in
+          omega (arith, b, more, here);
       placed = c.with-flaws.ensures.placed i.placed tests.within;
       found = λ told.
           c.with-flaws.ensures.found (tested_by header held) (i.found told)
@@ -42,3 +50,11 @@ returns-clause-finds g c =
     let done = c.loop-level-test.false in
     let whole : c.loop-level.level ≡ header.geometry.bottom + 1 = omega (arith, end, last, done) in
     c.verdict_by.ensures held (λ told. subst (λ (n : ℕ). AreFirstFlaws (tested_by header held) n c.loop-level.flaws) whole (c.loop-level.invariant.found told))
+
+pub returns-clause-blocks : goal.returns-clause-blocks
+returns-clause-blocks g c =
+    let end = c.levels-level-end.ensures.value in
+    let last = c.loop-level.auto.level-end in
+    let b = c.loop-level.invariant.blocks in
+    let all = visibles-all c.args.header.now (g.W.CellSource.held c.args.work.now) c.loop-level.level (omega (arith, end, last)) in
+    omega (arith, b, all)

@@ -1,9 +1,10 @@
 use Rattle.std.proofs.Common.{◌≡◌, ◌≤◌, sym, subst, ◌∙◌, arith}
 use Rattle.cola_cell.specs.Held.{Held}
 use Rattle.cola_check.specs.declared.walk.Found.{Found}
-use Rattle.cola_check.specs.Walks.{unread, found_or, found_of, Fetches}
-use Rattle.cola_check.proofs.Fronts.{Passing, passing_goes_on, passing_ends, unread_behind}
+use Rattle.cola_check.specs.Walks.{unread, found_or, found_of, Fetches, ReadsOn}
+use Rattle.cola_check.proofs.Fronts.{Passing, passing_goes_on, passing_ends, unread_behind, has_room}
 use Rattle.cola_check.proofs.Turning.{turns_then}
+use Rattle.cola_check.proofs.WalkBlocks.{reads-then}
 use Rattle.cola_check.proofs.walk.Walk.pass.Goals as goal
 
 pub loop-self-preserved : goal.loop-self-preserved
@@ -21,6 +22,9 @@ loop-self-preserved g c =
       calm = c.in_ok-fetch.ensures.calm ∙ i.calm;
       turns = turns_then i.turns c.in_ok-fetch.ensures.turns;
       unread = let l = i.unread in omega arith;
+      blocks =
+          let R : Held → Type 0 = λ h. ReadsOn h (g.W.CellSource.spent c.loop-self.work) (g.W.CellSource.spent c.fetch.new.work) c.advance.new.self c.fetch.new.self in
+          reads-then i.blocks i.passing.run_is i.passing.reader_is c.advance.ensures.run c.advance.ensures.reader c.advance.ensures.at (has_room c.args.key.now i.passing.fits has) (subst R i.held_is c.in_ok-fetch.ensures.blocks);
       passing = subst P found
           (passing_goes_on i.passing has c.advance.ensures.run c.advance.ensures.reader c.advance.ensures.at (subst F i.held_is c.in_ok-fetch.ensures.fetches));
     }

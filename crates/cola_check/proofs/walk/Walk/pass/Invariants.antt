@@ -1,5 +1,5 @@
 use Rattle.std.proofs.Common.{◌≡◌, ◌+◌, ◌≤◌}
-use Rattle.cola_check.specs.Walks.{Turns, unread, ahead}
+use Rattle.cola_check.specs.Walks.{Turns, ReadsOn, unread, ahead}
 use Rattle.cola_check.proofs.Fronts.{Passing}
 use Rattle.cola_check.proofs.walk.Walk.pass.Given as goal
 
@@ -10,6 +10,7 @@ invariant-loop-self g l = record {
   calm : (g.W.CellSource.spent l.work).faults ≡ (g.W.CellSource.spent l.fn.work).faults;
   turns : Turns (g.W.CellSource.spent l.fn.work) (g.W.CellSource.spent l.work) l.fn.steps l.steps;
   unread : l.steps + unread l.self ≤ l.fn.steps + unread l.fn.self;
+  blocks : ReadsOn (g.W.CellSource.held l.fn.work) (g.W.CellSource.spent l.fn.work) (g.W.CellSource.spent l.work) l.fn.self l.self;
   passing : Passing (g.W.CellSource.held l.fn.work) l.key l.fn.self l.self l.found;
 }
 
