@@ -26,13 +26,6 @@ not-below l b x h = by-test (nat_lt l b) (λ e. let k : l < b = ltb-true l b e i
     by-test true n = absurd (n refl)
     by-test false n = refl
 
-at-most : (l b : ℕ) (x : ℕ) → (if nat_lt l b then x else 0) ≤ x
-at-most l b x = by-test (nat_lt l b)
-  where
-    by-test : (t : Bool) → (if t then x else 0) ≤ x
-    by-test true = omega arith
-    by-test false = omega arith
-
 module _ (header : Header) (held : Held) where
   abbrev bottom : ℕ
   bottom = header.geometry.bottom

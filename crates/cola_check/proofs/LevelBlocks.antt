@@ -90,9 +90,6 @@ left-stays held a b n (x ∷ levels) at h =
     let z = left-stays held a b (suc n) levels at.1 (λ reader level low high. h reader level (omega (arith, low)) (omega (arith, high))) in
     omega (arith, y, z)
 
-pub all-none : (held : Held) (spent : Spent) (n : ℕ) (levels : List LevelWalks) → AllReadOn held spent spent n levels levels
-all-none held spent n levels = record { blocks = omega arith; others_stay = λ reader level low. refl }
-
 pub all-reads : {held : Held} {a b c : Spent} (n : ℕ) (old new : LevelWalks) (olds news : List LevelWalks) → ReadsAt n new → ReadFrom (suc n) olds → LevelReadsOn held a b n old new → AllReadOn held b c (suc n) olds news →
     AllReadOn held a c n (old ∷ olds) (new ∷ news)
 all-reads {held} {a} {b} {c} n old new olds news at from h k = record {

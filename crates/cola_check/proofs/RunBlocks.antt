@@ -114,10 +114,6 @@ sample-past held spent run at h =
     let f = left-none (span held) (spent.lasts (By Sample run.level)) run (2 ^ held.fixed.doublings) (run.len / 8) (at + 1) (omega (arith, h)) in
     record { blocks = omega (arith, e, f); own_stays = λ level. refl }
 
--- a cell that is no lookahead cell asks for no key
-pub sample-stays : (held : Held) (spent : Spent) (run : Option Run) (at to : ℕ) → to ≡ at → SampleReadsOn held spent spent run at to
-sample-stays held spent run at to e = record { blocks = subst (λ (n : ℕ). spent.turned + sample_from held spent run n ≤ spent.turned + sample_from held spent run at) (sym e) (omega arith); own_stays = λ level. refl }
-
 -- a way from the first cell on, and one more block
 pub goes-few : (held : Held) (a b : Spent) (reader : Reader) (run : Run) (at now : ℕ) → GoesOn held a b reader run 0 at → now ≤ b.turned + 1 → now ≤ a.turned + run_blocks held run
 goes-few held a b reader run at now g h =

@@ -1,11 +1,10 @@
 -- The blocks that walks turn to.
-use Rattle.std.proofs.Common.{◌≡◌, ◌≢◌, ℕ, ◌+◌, ◌<◌, ◌≤◌, Ok, refl, sym, ap, subst, ◌∙◌, arith}
-use Rattle.cola_cell.specs.declared.cell.Cell.{Cell}
+use Rattle.std.proofs.Common.{◌≡◌, ◌≢◌, ℕ, ◌+◌, ◌<◌, ◌≤◌, refl, sym, ap, subst, ◌∙◌, arith}
 use Rattle.cola_cell.specs.declared.cell.Reader.{Reader}
 use Rattle.cola_cell.specs.declared.cell.Reader.TheVariants.{Own, Incoming, Sample}
 use Rattle.cola_cell.specs.declared.cell.Run.{Run}
 use Rattle.cola_cell.specs.Held.{Held, span}
-use Rattle.cola_cell.specs.Spent.{By, Spent, Reads}
+use Rattle.cola_cell.specs.Spent.{By, Spent}
 use Rattle.cola_merge.specs.Blocks.{run_left}
 use Rattle.cola_merge.proofs.Groups.{run_left-next}
 use Rattle.cola_check.specs.declared.carried.Beside.{Beside}
@@ -13,16 +12,11 @@ use Rattle.cola_check.specs.declared.walk.Walk.{Walk}
 use Rattle.cola_check.specs.Beside.{ReadApart, BesideReadsOn, BesideBegan}
 use Rattle.cola_check.specs.Blocks.{blocks_from, run_blocks}
 use Rattle.cola_check.specs.Walks.{walk_blocks, unbegun, ReadsOn}
-use Rattle.cola_check.proofs.RunBlocks.{span-pos, read-here, run-most}
+use Rattle.cola_check.proofs.RunBlocks.{span-pos, run-most}
 
 -- ---- one walk
 
--- a walk that stands as another has the same blocks left
-pub walk-same : (held : Held) (spent : Spent) (x y : Walk) → y.run ≡ x.run → y.reader ≡ x.reader → y.at ≡ x.at → walk_blocks held spent y ≡ walk_blocks held spent x
-walk-same held spent x y run reader at =
-    ap (λ (r : Run). blocks_from held spent y.reader r y.at) run ∙ ap (λ (r : Reader). blocks_from held spent r x.run y.at) reader ∙ ap (λ (n : ℕ). blocks_from held spent x.reader x.run n) at
-
--- the same where its buffer has the block that it had
+-- a walk has the same blocks left where its buffer has the block that it had
 pub walk-stays : (held : Held) (a b : Spent) (walk : Walk) → b.lasts (By walk.reader walk.run.level) ≡ a.lasts (By walk.reader walk.run.level) → walk_blocks held b walk ≡ walk_blocks held a walk
 walk-stays held a b walk e = ap (λ last. run_left (span held) last walk.run (span held) walk.run.len walk.at) e
 
@@ -34,17 +28,6 @@ walk-behind held spent walk behind run reader at h =
     let same : walk_blocks held spent behind ≡ blocks_from held spent walk.reader walk.run (walk.at + 1) =
     ap (λ (r : Run). blocks_from held spent behind.reader r behind.at) run ∙ ap (λ (r : Reader). blocks_from held spent r walk.run behind.at) reader ∙ ap (λ (n : ℕ). blocks_from held spent walk.reader walk.run n) at in
     omega (arith, next, same)
-
-pub reads-none : (held : Held) (spent : Spent) (walk : Walk) → ReadsOn held spent spent walk walk
-reads-none held spent walk = record { blocks = omega arith; others_stay = λ other n. refl }
-
--- its next cell is read
-pub reads-here : {held : Held} {a b : Spent} (walk new : Walk) (cell : Cell) → Reads held a b (By walk.reader walk.run.level) walk.run.level walk.run.slot walk.at (Ok cell) → walk.at < walk.run.len →
-    new.run ≡ walk.run → new.reader ≡ walk.reader → new.at ≡ walk.at → ReadsOn held a b walk new
-reads-here {held} {a} {b} walk new cell r h run reader at = record {
-  blocks = let here = read-here walk.reader walk.run cell walk.at r h in let same = walk-same held b walk new run reader at in omega (arith, here, same);
-  others_stay = r.others_stay;
-}
 
 -- it passes a cell and reads the next one
 pub reads-then : {held : Held} {a b c : Spent} {old walk behind new : Walk} → ReadsOn held a b old walk → walk.run ≡ old.run → walk.reader ≡ old.reader →
