@@ -71,9 +71,17 @@ while read -r number meaning; do
     count "docs/COMMANDS.md says that status $number means: $meaning" $?
 done <"$words"
 
-long=$(cat README.md docs/*.md bench/README.md | wc -w)
+# How long the pages are. The manual (the commands, and docs/manual) is counted apart.
+is_manual() { case $1 in docs/COMMANDS.md | docs/manual/*) true ;; *) false ;; esac; }
+long=0 manual=0
+for page in README.md docs/*.md docs/manual/*.md bench/README.md; do
+    [ -e "$page" ] || continue
+    if is_manual "$page"; then manual=$((manual + $(wc -w <"$page"))); else long=$((long + $(wc -w <"$page"))); fi
+done
 [ "$long" -le 14600 ]
 count "the documents have $long words, of at most 14,600" $?
+[ "$manual" -le 7500 ]
+count "the manual has $manual words, of at most 7,500" $?
 
 echo "$passed passed, $failed failed"
 [ "$failed" -eq 0 ]

@@ -36,7 +36,7 @@ is_silent() { [ ! -s "$room/err" ]; }
 # A folder with the commands that the launcher calls, and without rt.
 without_rt=$room/without_rt
 mkdir "$without_rt"
-for it in awk cat dirname env find flock mv readlink sha256sum sh sort touch true; do
+for it in awk cat dirname env find flock head mv readlink sed sha256sum sh sort tail touch tr true; do
     found=$(command -v "$it") && ln -s "$(readlink -f "$found")" "$without_rt/$it"
 done
 
@@ -50,7 +50,7 @@ check 'a built program runs with no word of the launcher' is_silent
 run "$root/cola" </dev/null
 check 'no words end with 2' ended 2
 check 'no words write nothing' wrote_text ''
-check 'no words say how it is called' grep -q '^cola: .*/cola mem N' "$room/err"
+check 'no words say how it is called' grep -q '^cola: .*cola mem N' "$room/err"
 run "$root/cola" mem 0 </dev/null
 check 'mem 0 ends with 2' ended 2
 check 'wrong words say what the status means' grep -q '^cola: .*status 2: the words are none of its modes' "$room/err"
@@ -74,16 +74,81 @@ check 'with no rt on PATH it ends with 100' ended 100
 check 'with no rt on PATH it says so in one line' complained PATH
 check 'with no rt on PATH it writes nothing' wrote_text ''
 
-# What it says that a status means: what the program says.
-"$root/tests/rows.sh" --statuses | sed '/^0 /d' >"$room/statuses"
-sed -n "s/^    \([0-9]*\)) echo '\(.*\)' ;;\$/\1 \2/p" "$root/cola" >"$room/meanings"
-check 'each status means what the program says' cmp "$room/statuses" "$room/meanings"
+# What the system says of the files of a status.
+causes() { tail -n +2 "$room/err" | sed 's/^cola: //'; }
+caused() { [ "$(causes)" = "$1" ] || { causes; false; }; }
+run "$root/cola" run missing </dev/null
+check 'status 5 names a file that is not there' caused 'missing: there is no such file'
+run "$root/cola" create there/one --keys 1
+check 'and a folder that is not there' caused 'there/one: there is no folder there'
+run "$root/cola" check .
+check 'and a folder in the place of a file' caused '.: is a folder'
+ln -s nowhere dangling
+run "$root/cola" check dangling
+check 'and a link to nothing' caused 'dangling: is a link to a file that is not there'
+run "$root/cola" create one --keys 1
+cp one two
+run "$root/cola" run one --cost --mirror missing </dev/null
+check 'and the second file of a mirror' \
+    caused $'one: the system names no cause now; dmesg may, and df and quota say what room is left\nmissing: there is no such file'
+: >none
+run "$root/cola" run none </dev/null
+check 'status 6 names an empty file' caused 'none: is empty; cola create makes a store of it'
+run "$root/cola" run "$root/cola" </dev/null
+check 'and a file that is no store' caused "$root/cola: does not begin as a store does"
+head -c 600 one >short
+run "$root/cola" check short
+check 'and one that was cut short' \
+    caused 'short: begins as a store does; it was cut short, or its header is damaged, or of a version that is not known'
+mkfifo lines
+"$root/cola" run one <lines >/dev/null 2>&1 &
+exec 8>lines
+until [ "$(od -An -tu1 -j14 -N1 one | tr -d ' ')" = 1 ]; do sleep 0.1; done
+run "$root/cola" run one </dev/null
+check 'a file in use ends with 7' ended 7
+check 'status 7 names the process' grep -Eq '^cola: one: process [0-9]+ has it open' "$room/err"
+cp one killed
+exec 8>&-
+wait
+run "$root/cola" run killed </dev/null
+check 'and says where there is none' \
+    caused 'killed: no process is seen that has it open: the last session ended before it closed the file'
+run "$root/cola" grow one </dev/null
+check 'wrong words of a mode say how it is called' caused $'    cola grow FILE TO --keys N [--block b]\n        copies the map of a closed file into a new one for N keys'
+
+# What it answers by itself, with no toolchain.
+PATH=$without_rt run "$root/cola" --version
+check 'the version' wrote_text $'cola 1.0, for stores of version 1 and 2\n'
+PATH=$without_rt run "$root/cola" --help
+check 'a call for help ends with 0' ended 0
+check 'and says nothing else' is_silent
+cp "$room/out" "$room/help"
+PATH=$without_rt run "$root/cola" help
+check 'help is --help' wrote "$room/help"
+sed -n 's/^| `\([a-z]* .*\)` | \(.*\) |$/    cola \1\n        \2/p; /^###/q' "$root/docs/COMMANDS.md" >"$room/modes"
+check 'help has all modes' test "$(wc -l <"$room/modes")" -ge 18
+check 'as the manual has them' test "$(grep '^    ' "$room/help")" = "$(cat "$room/modes")"
+for mode in $(sed -n 's/^    cola \([a-z]*\) .*/\1/p' "$room/modes"); do
+    PATH=$without_rt run "$root/cola" help "$mode"
+    check "help $mode ends with 0" ended 0
+    check "help $mode begins with its words" test "$(head -n 1 "$room/out")" = "$(grep "^    cola $mode " "$room/modes")"
+    check "help $mode has its example" grep -q "^    \$ .*cola.* $mode " "$room/out"
+    cp "$room/out" "$room/help"
+    PATH=$without_rt run "$root/cola" "$mode" --help
+    check "$mode --help is help $mode" wrote "$room/help"
+done
+PATH=$without_rt run "$root/cola" help statuses
+check 'help statuses has each' test "$(grep -c '^    [0-9][0-9]*$' "$room/out")" -eq 19
+PATH=$without_rt run "$root/cola" help nothing
+check 'a section that the manual has not ends with 2' ended 2
+check 'and is told in one line' complained 'the manual has no section nothing; it has these: modes, create'
 
 # A copy over a toolchain that is played by a script: its rt notes each build, and builds a program
 # that shows its words, its folder and its input, and ends with the status that its first word names.
 copy="$room/a copy"
-mkdir -p "$copy/crates/cola/src" "$copy/crates/low/src" "$copy/crates/apart/src" "$room/bin"
+mkdir -p "$copy/crates/cola/src" "$copy/crates/low/src" "$copy/crates/apart/src" "$copy/docs" "$room/bin"
 cp "$root/cola" "$copy/cola"
+cp "$root/docs/COMMANDS.md" "$copy/docs/COMMANDS.md"
 printf '%s\n' '# crates' 'low:' 'cola: low std_like' 'apart: low' >"$copy/crates.txt"
 touch "$copy/crates/cola/src/main.rt" "$copy/crates/low/src/lib.rt" "$copy/crates/apart/src/lib.rt"
 cat >"$room/bin/rt" <<'PLAYED'
@@ -132,10 +197,15 @@ done
 check 'a built program is not built again' builds 1
 run "$copy/cola" 0 </dev/null
 check 'a built program that ends with 0 runs with no word of the launcher' is_silent
-for status_named in 1 3 4 5 8 9; do
-    run "$copy/cola" "$status_named" </dev/null
-    check "status $status_named has a meaning" complained "status $status_named: [a-z0-9].*docs/COMMANDS.md"
-done
+# What it says that a status means: what the program says.
+"$root/tests/rows.sh" --statuses | sed '/^0 /d' >"$room/statuses"
+check 'the program has its statuses' test "$(wc -l <"$room/statuses")" -eq 18
+while read -r number meaning; do
+    [ "$number" -ne 2 ] || continue
+    run "$copy/cola" "$number" </dev/null
+    check "status $number means what the program says" \
+        test "$(cat "$room/err")" = "cola: the program ended with status $number: $meaning (cola help statuses has what to do)"
+done <"$room/statuses"
 touch "$copy/crates/cola/src/main.rt"
 run "$copy/cola" 0 </dev/null
 check 'a touched file with the same text is not built again' builds 1
