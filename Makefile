@@ -23,7 +23,7 @@ program:
 	./cola mem 1 </dev/null
 
 check: program
-	for it in launcher create run mirror examples manual install documents; do tests/$$it.sh || exit 1; done
+	for it in launcher create run mirror examples shards manual install documents; do tests/$$it.sh || exit 1; done
 
 install: install-program
 

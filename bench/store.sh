@@ -5,11 +5,11 @@
 #
 # It makes the texts, compiles one plain reader of the same lines (bench/peers.cpp) for each library that is installed, runs every
 # store on every text, compares all outputs byte for byte, and times single calls by one driver (bench/driver.c). It writes
-# FOLDER/measured.md with all numbers, and the plots FOLDER/*.svg.
+# FOLDER/measured.md with all numbers, and the plots FOLDER/*.svg (bench/plots.awk).
 #
 # It wants the built program (./cola builds it; COLA names another one), a C and a C++ compiler and awk. What else is not there is
-# skipped and named: the libraries (Debian: libleveldb-dev librocksdb-dev liblmdb-dev libsqlite3-dev libtkrzw-dev), gnuplot, and rustc
-# and rt for bench/mem.sh and bench/cells.sh. STORES picks stores by the beginnings of their names, as STORES='cola-5 leveldb'.
+# skipped and named: the libraries (Debian: libleveldb-dev librocksdb-dev liblmdb-dev libsqlite3-dev libtkrzw-dev), and rustc and rt for
+# bench/mem.sh and bench/cells.sh. STORES picks stores by the beginnings of their names, as STORES='cola-5 leveldb'.
 # It takes minutes and a gigabyte below TMPDIR, and means something on an idle machine alone.
 set -euo pipefail
 root=$(cd "$(dirname "$0")/.." && pwd -P)
@@ -321,62 +321,5 @@ report() {
 }
 report >"$folder/measured.md"
 
-# The plots.
-command -v gnuplot >/dev/null || { skip 'the plots (gnuplot is not installed)'; exit 0; }
-lines_of() {
-    local it first=plot
-    for it in "${stores[@]}"; do
-        IFS='|' read -r name title words <<<"$it"
-        case $name in cola-7-* | cola-9-*) continue ;; esac
-        [ -e "$room/points/$name.$1" ] || continue
-        printf '%s "%s" using 1:2 with lines linewidth %s title "%s"' "$first" "$room/points/$name.$1" "$([[ $name = cola-* ]] && echo 3 || echo 1.5)" "$title"
-        first=,
-    done
-}
-awk '
-    { if (!($1 in seen)) { seen[$1]; order[++count] = $1 }; took[$1, $2] = $3 }
-    END {
-        for (at = 1; at <= count; at++) if ((order[at], "random-puts") in took)
-            print order[at], took[order[at], "random-puts"], took[order[at], "random-gets"], took[order[at], "rising-puts"], took[order[at], "rising-gets"]
-    }' "$results" >"$room/bars"
-colours=(9400d3 009e73 56b4e9 e69f00 c0a000 0072b2 e51e10 000000 808080 a0522d ff69b4)
-# plot SIZE NAME: draws what the input says.
-plot() {
-    {
-        printf 'set terminal svg size %s font "sans,11" background "white"\nset output "%s"\nset grid\n' "$1" "$folder/$2.svg"
-        for it in "${!colours[@]}"; do echo "set linetype $((it + 1)) linecolor rgb \"#${colours[it]}\""; done
-        cat
-    } | gnuplot
-}
-plot 1000,420 calls <<EOF
-set multiplot layout 1,2
-set logscale xy
-set xlabel "microseconds"
-set ylabel "share of calls that took at least as long"
-set key font ",9" top right
-set title "puts"
-$(lines_of put)
-set title "gets"
-$(lines_of get)
-EOF
-plot 1200,420 times <<EOF
-set style data histogram
-set style histogram clustered gap 1
-set style fill solid 0.8
-set logscale y
-set xtics font ",9"
-set ylabel "seconds, $lines lines"
-set key top right
-plot "$room/bars" using 2:xtic(1) title "random puts", "" using 3 title "random gets", "" using 4 title "rising puts", "" using 5 title "rising gets"
-EOF
-plot 1000,460 growth <<EOF
-set multiplot layout 1,2
-set logscale x 2
-set xlabel "keys"
-set key below font ",9"
-set title "cell accesses"
-plot "$room/growth" using 1:5 with lines linewidth 4 linecolor "gray60" title "put, bound", "" using 1:4 with linespoints title "put, most", "" using 1:3 with linespoints title "put, mean", "" using 1:8 with lines linewidth 4 linecolor "gray80" title "get, bound", "" using 1:7 with linespoints title "get, most", "" using 1:6 with linespoints title "get, mean"
-set title "microseconds"
-set logscale y
-plot "$room/growth" using 1:(\$10/1000) with linespoints title "put, worst", "" using 1:(\$9/1000) with linespoints title "put, median", "" using 1:(\$12/1000) with linespoints title "get, worst", "" using 1:(\$11/1000) with linespoints title "get, median"
-EOF
+# The plots, from the tables.
+awk -v folder="$folder" -f "$root/bench/plots.awk" "$folder/measured.md"

@@ -71,6 +71,51 @@ while read -r number meaning; do
     count "docs/COMMANDS.md says that status $number means: $meaning" $?
 done <"$words"
 
+# Each link leads to a page, and to a section of it; each page is one step from README, and so is all that it says is to be found.
+has_section() { # PAGE ANCHOR: a title as a viewer of Markdown makes an anchor of it
+    grep '^#' "$1" | sed 's/^#* //; s/[^A-Za-z0-9 _-]//g; s/ /-/g' | tr 'A-Z' 'a-z' | grep -qx -- "$2"
+}
+for page in $pages; do
+    folder=$(dirname "$page")
+    while IFS= read -r link; do
+        case $link in '' | http*) continue ;; esac
+        file=${link%%#*} anchor=
+        [ "$file" = "$link" ] || anchor=${link#*#}
+        [ -e "$folder/$file" ] && { [ -z "$anchor" ] || has_section "$folder/${file:-$(basename "$page")}" "$anchor"; }
+        count "$page has a link to $link" $?
+    done < <(grep -v '^    ' "$page" | grep -o ']([^)]*)' | sed 's/^](//; s/)$//' | sort -u)
+done
+for page in docs/*.md docs/manual/*.md bench/README.md bench/STORE.md; do
+    grep -q "]($page[#)]" README.md
+    count "README.md leads to $page" $?
+done
+rows=$(sed -n '/^## Where you find it/,/^## /s/^| \([^-Y].*\) | \(.*\) |$/\1: \2/p' README.md)
+count 'README.md says where things are found' "$([ "$(wc -l <<<"$rows")" -ge 20 ]; echo $?)"
+while IFS= read -r row; do
+    grep -q ']([a-zA-Z/.]*\.md' <<<"$row"
+    count "README.md leads to a page for what is looked for: $row" $?
+done <<<"$rows"
+
+# The table of blocks and caches has the numbers that were measured.
+awk -f bench/choosing.awk bench/measured.md | while IFS= read -r row; do grep -qxF -- "$row" docs/manual/OPERATIONS.md || { echo "$row"; exit 1; }; done
+count 'docs/manual/OPERATIONS.md has the table that bench/choosing.awk makes of bench/measured.md' $?
+
+# The plots are drawn from what was measured, and the page on the design says what it says.
+plots=$(mktemp -d) || exit 1
+awk -v folder="$plots" -f bench/plots.awk bench/measured.md
+for plot in times calls growth amortized; do
+    cmp "bench/$plot.svg" "$plots/$plot.svg"
+    count "bench/$plot.svg is what bench/plots.awk draws of bench/measured.md" $?
+done
+rm -rf "$plots"
+for number in $(awk -F ' *[|] *' '/^## / { growth = /^## Growth/ } growth && /^\| [0-9]/ { last = $4 " " $5 " " $6 " " $7 " " $8 " " $9 } END { print last }' bench/measured.md); do
+    grep -q "[^0-9.]$number[^0-9]" docs/manual/DESIGN.md
+    count "docs/manual/DESIGN.md has $number, as bench/measured.md" $?
+done
+
+[ -z "$(sed -n 's/^| \([^-].*\) | .*/\1/p' docs/PROMISES.md | grep -vx Promise | sort | uniq -d)" ]
+count 'docs/PROMISES.md names each promise once' $?
+
 # How long the pages are. The manual (the commands, and docs/manual) is counted apart.
 is_manual() { case $1 in docs/COMMANDS.md | docs/manual/*) true ;; *) false ;; esac; }
 long=0 manual=0

@@ -16,10 +16,12 @@ passed=0 failed=0
 commands() {
     awk -v room="$room/blocks" '
         function begin() { if (count) { close(command); close(wanted) }; count++; command = room "/" count ".command"; wanted = room "/" count ".wanted"; printf "" >wanted }
-        /^    \$ / { begin(); inside = 1; print substr($0, 7) >command; next }
+        /^    \$ / { begin(); inside = 1; empty = ""; print substr($0, 7) >command; next }
         inside && /^    > / { print substr($0, 7) >command; next }
-        inside && /^    / { print substr($0, 5) >wanted; next }
-        { inside = 0 }
+        inside && /^    / { printf "%s%s\n", empty, substr($0, 5) >wanted; empty = ""; next }
+        # (an empty line is written, where what is written goes on behind it)
+        inside && /^$/ { empty = empty "\n"; next }
+        { inside = 0; empty = "" }
     ' "$1"
 }
 
