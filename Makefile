@@ -42,3 +42,6 @@ uninstall: uninstall-program
 uninstall-program:
 	rm -f '$(bin)/cola' '$(program)/cola' '$(texts)/COMMANDS.md' '$(manual)/cola.1' '$(completion)/cola'
 	-rmdir '$(program)' '$(texts)' 2>/dev/null
+
+# The library, where there is one: it adds to all, check, install and uninstall.
+-include bindings/c/library.mk

@@ -21,7 +21,8 @@ crates=$(sed -n 's/#.*//; s/^\([a-z][a-z0-9_]*\)[^:]*:.*/\1/p' crates.txt)
 words=$(mktemp) || exit 1
 trap 'rm -f "$words"' EXIT
 # Every word of the code, of the launcher and of the scripts.
-cat crates.txt cola tests/*.sh bench/* $(find crates -path '*/out' -prune -o \( -name '*.rt' -o -name '*.antt' \) -print) |
+cat crates.txt cola Makefile docs/manual.awk docs/cola.bash tests/*.sh bench/* \
+    $(find crates -path '*/out' -prune -o \( -name '*.rt' -o -name '*.antt' \) -print; find include bindings -type f 2>/dev/null) |
     tr -c 'A-Za-z0-9_' '\n' | sort -u >"$words"
 
 # spoken FILE: what stands in backquotes in a page, but for its indented examples.
@@ -116,11 +117,20 @@ done
 [ -z "$(sed -n 's/^| \([^-].*\) | .*/\1/p' docs/PROMISES.md | grep -vx Promise | sort | uniq -d)" ]
 count 'docs/PROMISES.md names each promise once' $?
 
-# How long the pages are. The manual (the commands, and docs/manual) is counted apart.
+# A command of cola stands in an example that tests/examples.sh runs.
+for page in $pages; do
+    case $page in crates/*) continue ;; esac
+    bare=$(awk '/^    [$] / { example = 1 } !/^    / && !/^$/ { example = 0 } !example && /^    ([.]\/)?cola [a-z]/' "$page")
+    [ -z "$bare" ]
+    count "$page has no command of cola that is not run${bare:+: $bare}" $?
+done
+
+# How long the pages are. The manual (the commands, and docs/manual) is counted apart, and the pages on the library, a language
+# each, have limits of their own.
 is_manual() { case $1 in docs/COMMANDS.md | docs/manual/*) true ;; *) false ;; esac; }
 long=0 manual=0
 for page in README.md docs/*.md docs/manual/*.md bench/README.md; do
-    [ -e "$page" ] || continue
+    case $page in docs/C.md | docs/RUST.md | docs/PYTHON.md | docs/RATTLE.md) continue ;; esac
     if is_manual "$page"; then manual=$((manual + $(wc -w <"$page"))); else long=$((long + $(wc -w <"$page"))); fi
 done
 [ "$long" -le 14600 ]
