@@ -15,7 +15,7 @@ texts = $(DESTDIR)$(PREFIX)/share/cola
 manual = $(DESTDIR)$(PREFIX)/share/man/man1
 completion = $(DESTDIR)$(PREFIX)/share/bash-completion/completions
 
-.PHONY: all program check install install-program uninstall uninstall-program
+.PHONY: all program check documents install install-program uninstall uninstall-program
 
 all: program
 
@@ -24,6 +24,11 @@ program:
 
 check: program
 	for it in launcher create run mirror examples shards manual install documents; do tests/$$it.sh || exit 1; done
+
+# The manual page and the plots, made anew of docs/COMMANDS.md and bench/measured.md.
+documents:
+	awk -v version="$$(./cola --version | sed 's/^cola //; s/,.*//')" -f docs/manual.awk docs/COMMANDS.md >docs/cola.1
+	awk -v folder=bench -f bench/plots.awk bench/measured.md
 
 install: install-program
 

@@ -106,7 +106,7 @@ plots=$(mktemp -d) || exit 1
 awk -v folder="$plots" -f bench/plots.awk bench/measured.md
 for plot in times calls growth amortized; do
     cmp "bench/$plot.svg" "$plots/$plot.svg"
-    count "bench/$plot.svg is what bench/plots.awk draws of bench/measured.md" $?
+    count "bench/$plot.svg is what bench/plots.awk draws of bench/measured.md (make documents)" $?
 done
 rm -rf "$plots"
 for number in $(awk -F ' *[|] *' '/^## / { growth = /^## Growth/ } growth && /^\| [0-9]/ { last = $4 " " $5 " " $6 " " $7 " " $8 " " $9 } END { print last }' bench/measured.md); do

@@ -23,7 +23,7 @@ check() {
 cd "$root" || exit 1
 version=$("$root/cola" --version | sed 's/^cola \([^,]*\),.*/\1/')
 awk -v version="$version" -f docs/manual.awk docs/COMMANDS.md >"$room/cola.1"
-check 'docs/cola.1 is what docs/manual.awk makes of docs/COMMANDS.md' cmp "$room/cola.1" docs/cola.1
+check 'docs/cola.1 is what docs/manual.awk makes of docs/COMMANDS.md (make documents)' cmp "$room/cola.1" docs/cola.1
 
 if command -v groff >/dev/null; then
     groff -man -Tutf8 -ww -rLL=2000n docs/cola.1 2>"$room/warnings" | sed 's/\x1b\[[0-9;]*m//g; s/.\x08//g' >"$room/text"
