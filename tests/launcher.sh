@@ -103,7 +103,7 @@ check 'and one that was cut short' \
 mkfifo lines
 "$root/cola" run one <lines >/dev/null 2>&1 &
 exec 8>lines
-until [ "$(od -An -tu1 -j14 -N1 one | tr -d ' ')" = 1 ]; do sleep 0.1; done
+for it in $(seq 100); do [ "$(od -An -tu1 -j14 -N1 one | tr -d ' ')" = 1 ] && break; sleep 0.1; done # (until it is in use)
 run "$root/cola" run one </dev/null
 check 'a file in use ends with 7' ended 7
 check 'status 7 names the process' grep -Eq '^cola: one: process [0-9]+ has it open' "$room/err"
