@@ -93,7 +93,7 @@ done
 rows=$(sed -n '/^## Where you find it/,/^## /s/^| \([^-Y].*\) | \(.*\) |$/\1: \2/p' README.md)
 count 'README.md says where things are found' "$([ "$(wc -l <<<"$rows")" -ge 20 ]; echo $?)"
 while IFS= read -r row; do
-    grep -q ']([a-zA-Z/.]*\.md' <<<"$row"
+    grep -q ']([a-zA-Z_/.]*\.md' <<<"$row"
     count "README.md leads to a page for what is looked for: $row" $?
 done <<<"$rows"
 
