@@ -1,0 +1,317 @@
+"""An ordered key-value store in one file: a mapping of bytes to bytes.
+
+    import cola
+
+    cola.create("notes", keys=1000)
+    with cola.open("notes") as store:
+        store[b"user:1001"] = b"Ada"
+        store[b"user:1002"] = b"Grace"
+        print(store[b"user:1001"], b"user:1003" in store, len(store))
+        for key, value in store[b"user:":b"user;"]:
+            print(key, value)
+        store.checkpoint("notes.copy")
+
+A store is for a number of keys that is chosen when its file is made. Keys are ordered byte by byte. They have from 1 to 24
+bytes and values up to 32, or up to 40 and 72 in a file of version 2. A process that dies leaves a file that is refused from
+then on (NotClosed): go back to the copy of the last checkpoint.
+
+Threads may share a store: no call lets another thread run before it has ended. It stands on libcola.so over ctypes alone.
+"""
+
+import ctypes
+import ctypes.util
+import os
+from collections.abc import ItemsView, MutableMapping, ValuesView
+
+__all__ = ["create", "open", "Store", "Error", "Full", "Worn", "Closed", "Length", "Options", "NotEmpty", "NotStore",
+           "Small", "NotClosed", "BadCell", "Overfull", "KEY_MAX", "VALUE_MAX", "KEYS_MAX"]
+
+KEY_MAX = 40  #: bytes of a key in a file of version 2; 24 in one of version 1
+VALUE_MAX = 72  #: bytes of a value in a file of version 2; 32 in one of version 1
+KEYS_MAX = 1 << 24  #: keys that a store may be for
+
+_OK, _NONE, _OTHER, _MEMORY, _SYSTEM = 0, 1, 2, 16, 17
+_ROWS = 32  # how many rows an iteration asks for at once
+
+
+class Error(Exception):
+    """A call was refused; nothing changed. `answer` is its number in cola.h."""
+
+    answer = None
+
+
+class Full(Error):
+    """The key is new, and the store has as many keys as it is for."""
+
+    answer = 3
+
+
+class Worn(Error):
+    """No stamp is left to give."""
+
+    answer = 4
+
+
+class Closed(Error, ValueError):
+    """The store is closed."""
+
+    answer = 5
+
+
+class Length(Error, ValueError):
+    """A key has no byte or more, or a value more, than the file's version allows."""
+
+    answer = 7
+
+
+class Options(Error, ValueError):
+    """No store has these keys, this block or this version."""
+
+    answer = 9
+
+
+class NotEmpty(Error):
+    """The file that was to be made is not empty."""
+
+    answer = 10
+
+
+class NotStore(Error):
+    """The file has no store's header."""
+
+    answer = 11
+
+
+class Small(Error):
+    """The file has fewer bytes than its store."""
+
+    answer = 12
+
+
+class NotClosed(Error):
+    """The store was not closed: a process has it open, or died."""
+
+    answer = 13
+
+
+class BadCell(Error):
+    """A cell of the file is damaged."""
+
+    answer = 14
+
+
+class Overfull(Error):
+    """The levels of the file are damaged."""
+
+    answer = 15
+
+
+_errors = {kind.answer: kind for kind in Error.__subclasses__()}
+
+
+class _Cola(ctypes.Structure):
+    _fields_ = [("is_open", ctypes.c_bool), ("at", ctypes.c_void_p)]
+
+
+class _File(ctypes.Structure):
+    _fields_ = [("store", _Cola), ("bytes", ctypes.c_void_p), ("length", ctypes.c_size_t),
+                ("descriptor", ctypes.c_int), ("owner", ctypes.c_long)]
+
+
+class _Row(ctypes.Structure):
+    _fields_ = [("key_len", ctypes.c_uint8), ("value_len", ctypes.c_uint8),
+                ("key", ctypes.c_uint8 * KEY_MAX), ("value", ctypes.c_uint8 * VALUE_MAX)]
+
+
+class _Cursor(ctypes.Structure):
+    _fields_ = [("from_len", ctypes.c_uint8), ("until_len", ctypes.c_uint8), ("behind", ctypes.c_bool),
+                ("bounded", ctypes.c_bool), ("from_", ctypes.c_uint8 * KEY_MAX), ("until", ctypes.c_uint8 * KEY_MAX)]
+
+
+def _load():
+    """libcola.so: the file that COLA_LIBRARY names, else where the system finds it."""
+    name = os.environ.get("COLA_LIBRARY") or ctypes.util.find_library("cola") or "libcola.so"
+    library = ctypes.PyDLL(name, use_errno=True)  # (PyDLL: the other threads wait)
+    at, size, text, number = ctypes.c_void_p, ctypes.c_size_t, ctypes.c_char_p, ctypes.POINTER(ctypes.c_uint64)
+    for call, words in {
+        "cola_put": [at, text, size, text, size, at],
+        "cola_put_if": [at, text, size, ctypes.c_uint64, text, size, number],
+        "cola_get": [at, text, size, text, ctypes.POINTER(size)],
+        "cola_stamp": [at, text, size, number],
+        "cola_delete": [at, text, size],
+        "cola_count": [at, number],
+        "cola_seek": [ctypes.POINTER(_Cursor), text, size, text, size],
+        "cola_next": [at, ctypes.POINTER(_Cursor), ctypes.POINTER(_Row), size, ctypes.POINTER(size)],
+        "cola_file_create": [text, ctypes.c_uint64, ctypes.c_uint8, ctypes.c_uint8],
+        "cola_file_open": [ctypes.POINTER(_File), text],
+        "cola_file_checkpoint": [ctypes.POINTER(_File), text],
+        "cola_file_close": [ctypes.POINTER(_File)],
+    }.items():
+        getattr(library, call).argtypes = words
+        getattr(library, call).restype = ctypes.c_int32
+    library.cola_strerror.argtypes = [ctypes.c_int32]
+    library.cola_strerror.restype = ctypes.c_char_p
+    return library
+
+
+_library = _load()
+
+
+def _check(answer, path=None):
+    """Raises the error of an answer that is not 0."""
+    if answer == _OK:
+        return
+    if answer == _SYSTEM:
+        number = ctypes.get_errno()
+        raise OSError(number, os.strerror(number), path)
+    words = _library.cola_strerror(answer).decode()
+    if answer == _MEMORY:
+        raise MemoryError(words)
+    raise _errors.get(answer, Error)(words if path is None else f"{words}: {os.fsdecode(path)}")
+
+
+def _bytes(it):
+    """The bytes of a key or a value."""
+    if isinstance(it, (bytes, bytearray, memoryview)):
+        return bytes(it)
+    raise TypeError(f"a key or a value is bytes, and not {type(it).__name__}")
+
+
+def create(path, keys, block=5, version=1):
+    """Makes the file of a new, closed store for so many keys, with blocks of 2**block cells. A file that is there has to be
+    empty (NotEmpty)."""
+    if not (0 <= keys < 1 << 64 and 0 <= block < 256 and 0 <= version < 256):
+        raise Options("no store has these keys, this block or this version")
+    _check(_library.cola_file_create(os.fsencode(path), keys, block, version), path)
+
+
+def open(path):
+    """Opens the store in a file, for this process alone: Store(path)."""
+    return Store(path)
+
+
+class _Items(ItemsView):
+    def __iter__(self):
+        return self._mapping[:]
+
+
+class _Values(ValuesView):
+    def __iter__(self):
+        return (value for _, value in self._mapping[:])
+
+
+class Store(MutableMapping):
+    """An open store: a mapping, whose keys come in their order. Close it, or use it in a `with`.
+
+    A slice store[low:high] gives the pairs of the keys from low on and below high, one by one; either bound may be missing.
+    An iteration asks for some rows at once: what is put or deleted meanwhile may show in it or not.
+    """
+
+    def __init__(self, path):
+        self._file = _File(descriptor=-1)
+        self._at = ctypes.byref(self._file)
+        _check(_library.cola_file_open(self._file, os.fsencode(path)), path)
+
+    def __enter__(self):
+        return self
+
+    def __exit__(self, *what):
+        self.close()
+
+    def __del__(self):
+        file = getattr(self, "_file", None)
+        if file is not None and file.bytes:
+            _library.cola_file_close(file)
+
+    def close(self):
+        """Closes the store and its file; then all is on the disk. A store that is closed stays so."""
+        if self._file.bytes:
+            _check(_library.cola_file_close(self._file))
+
+    def checkpoint(self, copy):
+        """Makes a copy of the store as it is now, a closed store, in a file that is replaced as a whole and is on the disk
+        then. It writes as many bytes as the file has."""
+        _check(_library.cola_file_checkpoint(self._file, os.fsencode(copy)), copy)
+
+    def __getitem__(self, key):
+        if isinstance(key, slice):
+            return self._range(key)
+        key = _bytes(key)
+        value = ctypes.create_string_buffer(VALUE_MAX)
+        length = ctypes.c_size_t()
+        answer = _library.cola_get(self._at, key, len(key), value, length)
+        if answer == _NONE:
+            raise KeyError(key)
+        _check(answer)
+        return value.raw[:length.value]
+
+    def __setitem__(self, key, value):
+        key, value = _bytes(key), _bytes(value)
+        _check(_library.cola_put(self._at, key, len(key), value, len(value), None))
+
+    def __delitem__(self, key):
+        key = _bytes(key)
+        answer = _library.cola_delete(self._at, key, len(key))
+        if answer == _NONE:
+            raise KeyError(key)
+        _check(answer)
+
+    def __len__(self):
+        count = ctypes.c_uint64()
+        _check(_library.cola_count(self._at, count))
+        return count.value
+
+    def __iter__(self):
+        return (key for key, _ in self[:])
+
+    def items(self):
+        return _Items(self)
+
+    def values(self):
+        return _Values(self)
+
+    def put_if(self, key, seen, value):
+        """Puts the value where the key has the stamp that was seen, 0 where it is absent, and says whether it did."""
+        key, value = _bytes(key), _bytes(value)
+        stamp = ctypes.c_uint64()
+        answer = _library.cola_put_if(self._at, key, len(key), seen, value, len(value), stamp)
+        if answer != _OTHER:
+            _check(answer)
+        return answer == _OK
+
+    def stamp(self, key):
+        """The number of the put that gave the key its value; 0 where it is absent, and in a file of version 1."""
+        key = _bytes(key)
+        stamp = ctypes.c_uint64()
+        answer = _library.cola_stamp(self._at, key, len(key), stamp)
+        if answer != _NONE:
+            _check(answer)
+        return stamp.value
+
+    def _range(self, bounds):
+        if bounds.step is not None:
+            raise ValueError("a range of keys has no step")
+        low = b"" if bounds.start is None else _bytes(bounds.start)
+        high = None if bounds.stop is None else _bytes(bounds.stop)
+        if not self._file.bytes:
+            _check(Closed.answer)
+        return self._rows(low, high)
+
+    def _rows(self, low, high):
+        cursor = _Cursor()
+        # No key is longer than KEY_MAX: those from a longer bound on are those behind its first KEY_MAX bytes.
+        until = high if high is not None and len(high) <= KEY_MAX else None
+        _check(_library.cola_seek(cursor, low[:KEY_MAX], len(low[:KEY_MAX]), until, len(until or b"")))
+        cursor.behind = len(low) > KEY_MAX
+        rows = (_Row * _ROWS)()
+        given = ctypes.c_size_t()
+        while True:
+            answer = _library.cola_next(self._at, cursor, rows, _ROWS, given)
+            if answer == _NONE:
+                return
+            _check(answer)
+            pairs = [(bytes(row.key[:row.key_len]), bytes(row.value[:row.value_len])) for row in rows[:given.value]]
+            for key, value in pairs:
+                if high is not None and key >= high:
+                    return
+                yield key, value

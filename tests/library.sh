@@ -1,0 +1,170 @@
+#!/usr/bin/env bash
+# The library as users of C, Rust and Python meet it: it is built, installed and linked, the header is compiled alone, each of
+# its answers is met, random calls are compared with a sorted array, and copies of the file are opened by the program. Processes
+# are killed in mid-session. The examples and the first programs of the documents are run, under valgrind and with the
+# compiler's sanitizers too. What needs a tool that is not there is skipped, and that is said.
+#
+#     tests/library.sh [FOLDER]    (FOLDER has the libcola.a and libcola.so to be tested; else they are built in a folder of its own)
+#
+# The last line is 'N passed, M failed', and the status is 0 only where none failed.
+set -u
+root=$(cd "$(dirname "$0")/.." && pwd -P) || exit 1
+room=$(mktemp -d) || exit 1
+trap 'rm -rf "$room"' EXIT
+passed=0 failed=0
+
+# check WHAT COMMAND..: counts whether the command ends with 0.
+check() {
+    local what=$1
+    shift
+    if "$@"; then
+        passed=$((passed + 1))
+    else
+        failed=$((failed + 1))
+        printf 'FAILED: %s\n' "$what"
+    fi
+}
+
+# finish: the last line, and the end.
+finish() {
+    echo "$passed passed, $failed failed"
+    [ "$failed" -eq 0 ]
+    exit
+}
+
+# is_there TOOL WHAT: whether there is such a command; says that WHAT is skipped where there is none.
+is_there() {
+    command -v "$1" >/dev/null || { printf 'skipped: %s (there is no %s)\n' "$2" "$1"; return 1; }
+}
+
+is_there cc 'the library' || finish
+is_there make 'the library' || finish
+
+cd "$root" || exit 1
+library=${1:-$room/library}
+if [ $# -eq 0 ]; then
+    make -s -f bindings/c/library.mk library LIBRARY="$library" >"$room/made" 2>&1
+    made=$?
+    [ "$made" -eq 0 ] || cat "$room/made"
+    check 'the library is built' [ "$made" -eq 0 ]
+    [ "$made" -eq 0 ] || finish
+fi
+library=$(cd "$library" && pwd -P) || exit 1
+"$root/cola" mem 4 </dev/null >/dev/null || exit 1 # (says what it does where it still has to build)
+program=$root/crates/cola/out/cola
+strict="-std=gnu11 -Wall -Wextra -Werror"
+folders="-Iinclude -Ibindings/c -Itests/library"
+fails="-Wl,--wrap=malloc,--wrap=realloc" # (the test of errors counts allocations)
+
+# compiles OUT FLAGS FILE..: whether the C compiler takes the files without a warning.
+compiles() {
+    local out=$1 flags=$2
+    shift 2
+    cc $strict $flags $folders "$@" "$library/libcola.a" -o "$room/$out"
+}
+
+# quietly COMMAND..: shows what the command writes only where it fails.
+quietly() { "$@" >"$room/out" 2>&1 || { cat "$room/out"; false; }; }
+
+# is_index COMMAND..: whether an example, with a new file and the text, writes the index of its words.
+is_index() {
+    rm -f "$room/index"
+    "$@" "$room/index" <examples/sonnet.txt >"$room/words.out" && cmp "$room/words.out" examples/words.out
+}
+
+# The header alone, as each language takes it.
+printf '#include "cola_file.h"\nint main(void) { cola_file it = COLA_FILE_INIT; return it.bytes != 0; }\n' >"$room/alone.c"
+for standard in c99 c11 c17; do
+    check "the headers are $standard" cc -std=$standard -pedantic -Wall -Wextra -Werror $folders -fsyntax-only "$room/alone.c"
+done
+if is_there c++ 'the header as C++'; then
+    check 'the headers are C++' c++ -x c++ -std=c++11 -pedantic -Wall -Wextra -Werror $folders -fsyntax-only "$room/alone.c"
+fi
+
+# The calls.
+check 'the test of answers compiles' compiles errors "-O2 -g $fails" tests/library/errors.c
+check 'the test of random calls compiles' compiles random '-O2 -g' tests/library/random.c
+check 'the test of killed processes compiles' compiles killed '-O2 -g' tests/library/killed.c
+check 'the example in C compiles' compiles words '-O2 -g' examples/words.c
+check 'each answer is met' "$room/errors" "$room"
+check 'a hundred thousand random calls, and a copy for the program after each hundred' "$room/random" "$room" 100000 100 "$program"
+check 'killed processes leave a file that is refused, and their last copy' "$room/killed" "$room" 20
+check 'an index of words in C' is_index "$room/words"
+"$program" check "$room/index" >"$room/out"
+check 'its file is sound' grep -qx 'sound 85' "$room/out"
+
+if is_there valgrind 'the calls under valgrind'; then
+    valgrind="valgrind -q --error-exitcode=99 --leak-check=full --show-leak-kinds=all"
+    check 'each answer, under valgrind' $valgrind "$room/errors" "$room"
+    check 'random calls, under valgrind' $valgrind "$room/random" "$room" 3000 500
+    check 'an index of words in C, under valgrind' is_index $valgrind "$room/words"
+fi
+sanitizers="-O1 -g -fsanitize=address,undefined -fno-sanitize-recover=all"
+echo 'int main(void) { return 0; }' >"$room/empty.c"
+if cc $sanitizers "$room/empty.c" -o "$room/empty" 2>/dev/null && "$room/empty"; then
+    check 'the tests compile with sanitizers' compiles errors_sane "$sanitizers $fails" tests/library/errors.c bindings/c/*.c
+    check 'random calls compile with sanitizers' compiles random_sane "$sanitizers" tests/library/random.c bindings/c/*.c
+    check 'the example compiles with sanitizers' compiles words_sane "$sanitizers" examples/words.c bindings/c/*.c
+    check 'each answer, with sanitizers' "$room/errors_sane" "$room"
+    check 'random calls, with sanitizers' "$room/random_sane" "$room" 10000 500
+    check 'an index of words in C, with sanitizers' is_index "$room/words_sane"
+else
+    echo 'skipped: the calls with sanitizers (the compiler has none)'
+fi
+
+# Installed, and taken off again.
+prefix="$room/prefix"
+with_make() { quietly make -s -f bindings/c/library.mk "$1-library" LIBRARY="$library" PREFIX="$prefix" DESTDIR=; }
+check 'it is installed' with_make install
+check 'nothing else is written' [ "$(cd "$prefix" && find . -type f | LC_ALL=C sort | tr '\n' ' ')" = \
+    './include/cola.h ./include/cola_file.h ./lib/libcola.a ./lib/libcola.so ./lib/pkgconfig/cola.pc ' ]
+# first PAGE WORD: the first block of a page that has the word.
+first() {
+    awk -v word="$2" '/^    / || (/^$/ && block != "") { block = block substr($0, 5) "\n"; next }
+        { if (index(block, word)) exit; block = "" } END { printf "%s", block }' "$1"
+}
+writes_ada() { (cd "$room/first" && "$@" >out && printf 'Ada\n' | cmp out -); }
+mkdir "$room/first"
+first docs/C.md '#include' >"$room/first/notes.c"
+if is_there pkg-config 'the first program of docs/C.md'; then
+    export PKG_CONFIG_PATH=$prefix/lib/pkgconfig
+    check 'the first program in C compiles' cc -Wall -Wextra -Werror "$room/first/notes.c" $(pkg-config --cflags --libs cola) -o "$room/first/notes.program"
+    check 'the first program in C writes what it should' writes_ada ./notes.program
+fi
+if is_there cargo 'the crate for Rust'; then
+    export COLA_LIB_DIR=$library CARGO_TARGET_DIR=$room/target
+    manifest="--offline --locked --manifest-path bindings/rust/Cargo.toml"
+    mkdir -p "$room/crate/src"
+    first docs/RUST.md 'use cola' >"$room/crate/src/main.rs"
+    printf '[package]\nname = "notes"\nversion = "0.1.0"\nedition = "2021"\n[dependencies]\ncola = { path = "%s" }\n' "$root/bindings/rust" >"$room/crate/Cargo.toml"
+    check 'the tests of the crate for Rust' quietly cargo test $manifest
+    check 'its example compiles' quietly cargo build --example words $manifest
+    check 'an index of words in Rust' is_index "$room/target/debug/examples/words"
+    check 'the first program in Rust compiles' quietly cargo build --offline --manifest-path "$room/crate/Cargo.toml"
+    rm -f "$room/first/notes"
+    check 'the first program in Rust writes what it should' writes_ada "$room/target/debug/notes"
+fi
+if is_there python3 'the module for Python'; then
+    export COLA_LIBRARY=$library/libcola.so PYTHONPATH=$root/bindings/python PYTHONDONTWRITEBYTECODE=1
+    in_python() { (cd bindings/python && "$@" >"$room/out" 2>&1) || { cat "$room/out"; false; }; }
+    pytest=
+    for it in 'python3 -m pytest' pytest-3; do
+        if $it --version >/dev/null 2>&1; then pytest=$it && break; fi
+    done
+    if [ -n "$pytest" ]; then
+        check 'the tests of the module for Python, by pytest' in_python $pytest -q -p no:cacheprovider test_cola.py
+    else
+        echo 'skipped: pytest (there is none); the same tests are run by unittest'
+        check 'the tests of the module for Python' in_python python3 -m unittest test_cola
+    fi
+    check 'an index of words in Python' is_index python3 examples/words.py
+    first docs/PYTHON.md 'import cola' >"$room/first/notes.py"
+    rm -f "$room/first/notes"
+    check 'the first program in Python writes what it should' writes_ada python3 notes.py
+fi
+check 'it is taken off' with_make uninstall
+check 'no file of it is left' [ -z "$(find "$prefix" -type f)" ]
+for page in docs/C.md docs/RUST.md docs/PYTHON.md; do
+    check "$page has at most 300 words" [ "$(wc -w <"$page")" -le 300 ]
+done
+finish

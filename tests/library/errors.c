@@ -1,0 +1,500 @@
+/* Every answer of cola.h and cola_file.h that is no COLA_OK, where a caller meets it, and that nothing changed then.
+ *
+ *     errors FOLDER
+ *
+ * COLA_WORN is met in a store whose last number is written to 2^63; COLA_BAD_CELL and COLA_OVERFULL in damaged ones. For
+ * COLA_MEMORY each allocation fails in turn: link with -Wl,--wrap=malloc,--wrap=realloc. The last line names each answer
+ * that was met; all have to be. */
+#include <errno.h>
+#include <fcntl.h>
+#include <signal.h>
+#include <stdio.h>
+#include <sys/resource.h>
+#include <sys/stat.h>
+#include <sys/wait.h>
+#include <unistd.h>
+
+#include "cola_file.h"
+#include "plain.h"
+
+static int failed, met[COLA_SYSTEM + 1];
+
+#define ANSWERS(wanted, call) answers(wanted, call, #call, __LINE__)
+static void answers(int32_t wanted, int32_t is, const char *call, int line) {
+    if (wanted >= 0 && wanted <= COLA_SYSTEM) met[wanted] = 1;
+    if (is == wanted) return;
+    failed = 1;
+    fprintf(stderr, "errors: line %d: %s: %s, and not: %s\n", line, call, cola_strerror(is), cola_strerror(wanted));
+}
+
+#define HOLDS(what) holds(what, #what, __LINE__)
+static void holds(bool is, const char *what, int line) {
+    if (is) return;
+    failed = 1;
+    fprintf(stderr, "errors: line %d: not so: %s\n", line, what);
+}
+
+static long allocations = -1; /* how many are left to be made, -1: any number */
+
+void *__real_malloc(size_t length);
+void *__real_realloc(void *old, size_t length);
+
+void *__wrap_malloc(size_t length) {
+    if (allocations == 0) return NULL;
+    if (allocations > 0) allocations--;
+    return __real_malloc(length);
+}
+
+void *__wrap_realloc(void *old, size_t length) {
+    if (allocations == 0) return NULL;
+    if (allocations > 0) allocations--;
+    return __real_realloc(old, length);
+}
+
+static void *zeros(uint64_t length) {
+    void *bytes = calloc(1, (size_t)length);
+    if (bytes == NULL) abort();
+    return bytes;
+}
+
+/* A closed store for so many keys, with keys k0, k1, .. */
+static void *store_of(uint64_t keys, uint8_t block, uint8_t version, int pairs, uint64_t *length) {
+    cola store = COLA_INIT;
+    ANSWERS(COLA_OK, cola_size(keys, block, version, length));
+    void *bytes = zeros(*length);
+    ANSWERS(COLA_OK, cola_create(bytes, *length, keys, block, version));
+    ANSWERS(COLA_OK, cola_open(&store, bytes, *length));
+    for (int at = 0; at < pairs; at++) {
+        char key[16];
+        int key_len = snprintf(key, sizeof key, "k%d", at);
+        ANSWERS(COLA_OK, cola_put(&store, key, (size_t)key_len, "value", 5, NULL));
+    }
+    ANSWERS(COLA_OK, cola_close(&store));
+    return bytes;
+}
+
+static void of_sizes(void) {
+    uint64_t length = 7;
+    ANSWERS(COLA_OK, cola_size(1, 3, 1, &length));
+    HOLDS(length == 8192);
+    ANSWERS(COLA_OK, cola_size(COLA_KEYS_MAX, 9, 2, &length));
+    ANSWERS(COLA_OK, cola_size(1000000, 5, 1, &length));
+    HOLDS(length == 268435456);
+    length = 7;
+    ANSWERS(COLA_OPTIONS, cola_size(0, 5, 1, &length));
+    ANSWERS(COLA_OPTIONS, cola_size((uint64_t)COLA_KEYS_MAX + 1, 5, 1, &length));
+    ANSWERS(COLA_OPTIONS, cola_size(1000, 2, 1, &length));
+    ANSWERS(COLA_OPTIONS, cola_size(1000, 10, 1, &length));
+    ANSWERS(COLA_OPTIONS, cola_size(1, 6, 1, &length)); /* a block is no larger than the lowest level */
+    ANSWERS(COLA_OPTIONS, cola_size(1000, 5, 0, &length));
+    ANSWERS(COLA_OPTIONS, cola_size(1000, 5, 3, &length));
+    ANSWERS(COLA_NULL, cola_size(1000, 5, 1, NULL));
+    HOLDS(length == 7);
+}
+
+static void of_new_stores(void) {
+    uint64_t length;
+    ANSWERS(COLA_OK, cola_size(30, 3, 1, &length));
+    uint8_t *bytes = zeros(length);
+    ANSWERS(COLA_NULL, cola_create(NULL, length, 30, 3, 1));
+    ANSWERS(COLA_OPTIONS, cola_create(bytes, length, 0, 3, 1));
+    ANSWERS(COLA_SMALL, cola_create(bytes, length - 1, 30, 3, 1));
+    bytes[length - 1] = 1;
+    ANSWERS(COLA_NOT_EMPTY, cola_create(bytes, length, 30, 3, 1));
+    bytes[length - 1] = 0;
+    bool zero = true;
+    for (uint64_t at = 0; at < length; at++) zero = zero && bytes[at] == 0;
+    HOLDS(zero);
+    ANSWERS(COLA_OK, cola_create(bytes, length, 30, 3, 1));
+    ANSWERS(COLA_NOT_EMPTY, cola_create(bytes, length, 30, 3, 1));
+    free(bytes);
+}
+
+static void of_openings(void) {
+    uint64_t length;
+    uint8_t *bytes = store_of(30, 3, 1, 20, &length), *before = zeros(length);
+    cola store = COLA_INIT, other = COLA_INIT;
+    memcpy(before, bytes, length);
+    ANSWERS(COLA_NULL, cola_open(NULL, bytes, length));
+    ANSWERS(COLA_NULL, cola_open(&store, NULL, length));
+    ANSWERS(COLA_SMALL, cola_open(&store, bytes, 511));
+    ANSWERS(COLA_SMALL, cola_open(&store, bytes, length - 1));
+    bytes[0] ^= 1;
+    ANSWERS(COLA_NOT_STORE, cola_open(&store, bytes, length));
+    bytes[0] ^= 1;
+    HOLDS(memcmp(bytes, before, length) == 0);
+    ANSWERS(COLA_OK, cola_open(&store, bytes, length));
+    ANSWERS(COLA_IN_USE, cola_open(&store, bytes, length));
+    ANSWERS(COLA_NOT_CLOSED, cola_open(&other, bytes, length));
+    ANSWERS(COLA_CLOSED, cola_close(&other));
+    ANSWERS(COLA_OK, cola_close(&store));
+    ANSWERS(COLA_CLOSED, cola_close(&store));
+    ANSWERS(COLA_NULL, cola_close(NULL));
+    ANSWERS(COLA_OK, cola_open(&other, bytes, length));
+    ANSWERS(COLA_OK, cola_close(&other));
+    free(before);
+    free(bytes);
+}
+
+/* Stores for 32 keys in blocks of 32 cells of 64 bytes, with bytes that were changed. */
+static void of_damaged_stores(void) {
+    uint64_t length;
+    cola store = COLA_INIT;
+    char value[COLA_VALUE_MAX];
+    size_t value_len;
+    uint8_t *bytes = store_of(32, 5, 1, 0, &length), *before = zeros(length);
+    /* Two keys, two cells in level 0, and no cell there: the store is refused, and its bytes stay. */
+    bytes[24] = bytes[32] = bytes[48] = 2;
+    memcpy(before, bytes, length);
+    ANSWERS(COLA_BAD_CELL, cola_open(&store, bytes, length));
+    HOLDS(memcmp(bytes, before, length) == 0);
+    free(bytes);
+    /* Four cells in level 0 at clock 0: there is no room for a fifth. */
+    bytes = store_of(32, 5, 1, 0, &length);
+    bytes[24] = bytes[48] = 4;
+    for (int at = 0; at < 4; at++) {
+        uint8_t *cell = bytes + (8 + at) * 64;
+        cell[2] = cell[3] = 1, cell[8] = (uint8_t)('a' + at), cell[32] = (uint8_t)('1' + at);
+    }
+    ANSWERS(COLA_OK, cola_open(&store, bytes, length));
+    ANSWERS(COLA_OVERFULL, cola_put(&store, "e", 1, "5", 1, NULL));
+    ANSWERS(COLA_OK, cola_close(&store));
+    free(bytes);
+    /* A cell of the bottom that is none is met where it is read: cell 87, whose key does not end with zero bytes. */
+    bytes = zeros(length);
+    ANSWERS(COLA_OK, cola_create(bytes, length, 32, 5, 1));
+    ANSWERS(COLA_OK, cola_open(&store, bytes, length));
+    for (int at = 0; at < 55; at++) {
+        char key[16];
+        snprintf(key, sizeof key, "k%02d", at % 32 + 1);
+        ANSWERS(COLA_OK, cola_put(&store, key, 3, "value", 5, NULL));
+    }
+    ANSWERS(COLA_OK, cola_close(&store));
+    bytes[5599] = 1;
+    ANSWERS(COLA_OK, cola_open(&store, bytes, length));
+    ANSWERS(COLA_BAD_CELL, cola_get(&store, "k24", 3, value, &value_len));
+    ANSWERS(COLA_OK, cola_get(&store, "k17", 3, value, &value_len));
+    ANSWERS(COLA_OK, cola_close(&store));
+    free(before);
+    free(bytes);
+}
+
+/* Each allocation of an opening fails in turn: the handle stays closed, the bytes stay, nothing is kept. */
+static void of_memory(void) {
+    uint64_t length, count;
+    cola store = COLA_INIT;
+    uint8_t *bytes = store_of(1000, 5, 1, 200, &length), *before = zeros(length);
+    memcpy(before, bytes, length);
+    int32_t answer = COLA_MEMORY;
+    long made = 0;
+    for (; answer == COLA_MEMORY && made < 1000; made++) {
+        allocations = made;
+        answer = cola_open(&store, bytes, length);
+        allocations = -1;
+        if (answer == COLA_MEMORY) {
+            ANSWERS(COLA_MEMORY, answer);
+            HOLDS(memcmp(bytes, before, length) == 0);
+            ANSWERS(COLA_CLOSED, cola_close(&store));
+        }
+    }
+    HOLDS(made > 1);
+    ANSWERS(COLA_OK, answer);
+    ANSWERS(COLA_OK, cola_put(&store, "more", 4, "1", 1, NULL));
+    allocations = 0; /* no call but an opening takes memory */
+    ANSWERS(COLA_OK, cola_put(&store, "more", 4, "2", 1, NULL));
+    ANSWERS(COLA_OK, cola_delete(&store, "k7", 2));
+    ANSWERS(COLA_MEMORY, cola_checkpoint(&store));
+    allocations = -1;
+    ANSWERS(COLA_CLOSED, cola_close(&store));
+    ANSWERS(COLA_OK, cola_open(&store, bytes, length));
+    ANSWERS(COLA_OK, cola_count(&store, &count));
+    HOLDS(count == 200);
+    ANSWERS(COLA_OK, cola_close(&store));
+    free(before);
+    free(bytes);
+}
+
+static void of_closed_handles(void) {
+    cola store = COLA_INIT;
+    cola_cursor cursor;
+    cola_row row;
+    char value[COLA_VALUE_MAX];
+    size_t length = 7;
+    uint64_t number = 7;
+    bool was = true;
+    ANSWERS(COLA_OK, cola_seek(&cursor, NULL, 0, NULL, 0));
+    ANSWERS(COLA_CLOSED, cola_put(&store, "a", 1, "b", 1, &was));
+    ANSWERS(COLA_CLOSED, cola_put_if(&store, "a", 1, 0, "b", 1, &number));
+    ANSWERS(COLA_CLOSED, cola_get(&store, "a", 1, value, &length));
+    ANSWERS(COLA_CLOSED, cola_stamp(&store, "a", 1, &number));
+    ANSWERS(COLA_CLOSED, cola_delete(&store, "a", 1));
+    ANSWERS(COLA_CLOSED, cola_count(&store, &number));
+    ANSWERS(COLA_CLOSED, cola_next(&store, &cursor, &row, 1, &length));
+    ANSWERS(COLA_CLOSED, cola_checkpoint(&store));
+    ANSWERS(COLA_CLOSED, cola_close(&store));
+}
+
+static void of_nulls(cola *store) {
+    cola_cursor cursor;
+    cola_row row;
+    char value[COLA_VALUE_MAX];
+    size_t length;
+    uint64_t number;
+    ANSWERS(COLA_NULL, cola_put(NULL, "a", 1, "b", 1, NULL));
+    ANSWERS(COLA_NULL, cola_put(store, NULL, 1, "b", 1, NULL));
+    ANSWERS(COLA_NULL, cola_put(store, "a", 1, NULL, 1, NULL));
+    ANSWERS(COLA_NULL, cola_put_if(NULL, "a", 1, 0, "b", 1, &number));
+    ANSWERS(COLA_NULL, cola_put_if(store, NULL, 1, 0, "b", 1, &number));
+    ANSWERS(COLA_NULL, cola_put_if(store, "a", 1, 0, NULL, 1, &number));
+    ANSWERS(COLA_NULL, cola_get(NULL, "a", 1, value, &length));
+    ANSWERS(COLA_NULL, cola_get(store, NULL, 1, value, &length));
+    ANSWERS(COLA_NULL, cola_get(store, "a", 1, NULL, &length));
+    ANSWERS(COLA_NULL, cola_get(store, "a", 1, value, NULL));
+    ANSWERS(COLA_NULL, cola_stamp(NULL, "a", 1, &number));
+    ANSWERS(COLA_NULL, cola_stamp(store, NULL, 1, &number));
+    ANSWERS(COLA_NULL, cola_stamp(store, "a", 1, NULL));
+    ANSWERS(COLA_NULL, cola_delete(NULL, "a", 1));
+    ANSWERS(COLA_NULL, cola_delete(store, NULL, 1));
+    ANSWERS(COLA_NULL, cola_count(NULL, &number));
+    ANSWERS(COLA_NULL, cola_count(store, NULL));
+    ANSWERS(COLA_NULL, cola_seek(NULL, "a", 1, NULL, 0));
+    ANSWERS(COLA_NULL, cola_seek(&cursor, NULL, 1, NULL, 0));
+    ANSWERS(COLA_NULL, cola_seek(&cursor, "a", 1, NULL, 1));
+    ANSWERS(COLA_OK, cola_seek(&cursor, "a", 1, NULL, 0));
+    ANSWERS(COLA_NULL, cola_next(NULL, &cursor, &row, 1, &length));
+    ANSWERS(COLA_NULL, cola_next(store, NULL, &row, 1, &length));
+    ANSWERS(COLA_NULL, cola_next(store, &cursor, NULL, 1, &length));
+    ANSWERS(COLA_NULL, cola_next(store, &cursor, &row, 1, NULL));
+    ANSWERS(COLA_NULL, cola_checkpoint(NULL));
+}
+
+/* Lengths at and above the limits of a version. */
+static void of_lengths(cola *store, size_t key_max, size_t value_max) {
+    static const char bytes[256];
+    cola_cursor cursor;
+    char value[COLA_VALUE_MAX];
+    size_t length;
+    uint64_t number;
+    ANSWERS(COLA_LENGTH, cola_put(store, bytes, 0, "b", 1, NULL));
+    ANSWERS(COLA_LENGTH, cola_put(store, bytes, key_max + 1, "b", 1, NULL));
+    ANSWERS(COLA_LENGTH, cola_put(store, bytes, (size_t)-1, "b", 1, NULL));
+    ANSWERS(COLA_LENGTH, cola_put(store, "a", 1, bytes, value_max + 1, NULL));
+    ANSWERS(COLA_LENGTH, cola_put(store, "a", 1, bytes, (size_t)-1, NULL));
+    ANSWERS(COLA_LENGTH, cola_put_if(store, bytes, key_max + 1, 0, "b", 1, &number));
+    ANSWERS(COLA_LENGTH, cola_put_if(store, "a", 1, 0, bytes, value_max + 1, &number));
+    ANSWERS(COLA_LENGTH, cola_get(store, bytes, key_max + 1, value, &length));
+    ANSWERS(COLA_LENGTH, cola_stamp(store, bytes, key_max + 1, &number));
+    ANSWERS(COLA_LENGTH, cola_delete(store, bytes, key_max + 1));
+    ANSWERS(COLA_LENGTH, cola_seek(&cursor, bytes, COLA_KEY_MAX + 1, NULL, 0));
+    ANSWERS(COLA_LENGTH, cola_seek(&cursor, "a", 1, bytes, COLA_KEY_MAX + 1));
+    ANSWERS(COLA_OK, cola_put(store, bytes, key_max, bytes, value_max, NULL));
+    ANSWERS(COLA_OK, cola_get(store, bytes, key_max, value, &length));
+    HOLDS(length == value_max);
+    ANSWERS(COLA_OK, cola_put(store, bytes, key_max, NULL, 0, NULL));
+    ANSWERS(COLA_OK, cola_get(store, bytes, key_max, value, &length));
+    HOLDS(length == 0);
+    ANSWERS(COLA_OK, cola_delete(store, bytes, key_max));
+}
+
+static void of_calls(int version) {
+    uint64_t length, number = 7;
+    void *bytes = store_of(2, 3, (uint8_t)version, 0, &length);
+    cola store = COLA_INIT;
+    cola_cursor cursor;
+    cola_row row;
+    char value[COLA_VALUE_MAX];
+    size_t given = 7;
+    bool was = true;
+    ANSWERS(COLA_OK, cola_open(&store, bytes, length));
+    of_nulls(&store);
+    if (version == 1) of_lengths(&store, COLA_KEY_MAX_1, COLA_VALUE_MAX_1);
+    else of_lengths(&store, COLA_KEY_MAX, COLA_VALUE_MAX);
+    ANSWERS(COLA_OK, cola_count(&store, &number));
+    HOLDS(number == 0);
+    ANSWERS(COLA_NONE, cola_get(&store, "a", 1, value, &given));
+    ANSWERS(COLA_NONE, cola_stamp(&store, "a", 1, &number));
+    ANSWERS(COLA_NONE, cola_delete(&store, "a", 1));
+    ANSWERS(COLA_OK, cola_seek(&cursor, "", 0, NULL, 0));
+    ANSWERS(COLA_NONE, cola_next(&store, &cursor, &row, 1, &given));
+    HOLDS(given == 0);
+    ANSWERS(COLA_OK, cola_put(&store, "a", 1, "1", 1, &was));
+    HOLDS(!was);
+    ANSWERS(COLA_OK, cola_put(&store, "a", 1, "2", 1, &was));
+    HOLDS(was);
+    ANSWERS(COLA_OTHER, cola_put_if(&store, "a", 1, 999, "3", 1, &number));
+    HOLDS(version == 1 ? number == 0 : number > 0);
+    ANSWERS(COLA_OTHER, cola_put_if(&store, "b", 1, 999, "3", 1, &number));
+    HOLDS(number == 0);
+    ANSWERS(COLA_OK, cola_put_if(&store, "b", 1, 0, "3", 1, &number));
+    ANSWERS(COLA_FULL, cola_put(&store, "c", 1, "4", 1, &was));
+    ANSWERS(COLA_FULL, cola_put_if(&store, "c", 1, 0, "4", 1, &number));
+    ANSWERS(COLA_NONE, cola_get(&store, "c", 1, value, &given));
+    ANSWERS(COLA_OK, cola_get(&store, "a", 1, value, &given));
+    HOLDS(given == 1 && value[0] == '2');
+    ANSWERS(COLA_OK, cola_count(&store, &number));
+    HOLDS(number == 2);
+    ANSWERS(COLA_OK, cola_checkpoint(&store));
+    ANSWERS(COLA_OK, cola_close(&store));
+    if (version == 2) { /* the last number, bytes 40 to 47 of the header, at 2^63 */
+        memcpy((char *)bytes + 40, "\0\0\0\0\0\0\0\200", 8);
+        ANSWERS(COLA_OK, cola_open(&store, bytes, length));
+        ANSWERS(COLA_WORN, cola_put(&store, "a", 1, "5", 1, NULL));
+        ANSWERS(COLA_OK, cola_get(&store, "a", 1, value, &given));
+        HOLDS(given == 1 && value[0] == '2');
+        ANSWERS(COLA_OK, cola_close(&store));
+    }
+    free(bytes);
+}
+
+static char path[4096], other_path[4096];
+
+static void write_file(const char *where, const void *bytes, size_t length) {
+    FILE *it = fopen(where, "wb");
+    if (it == NULL || fwrite(bytes, 1, length, it) != length || fclose(it) != 0) perror(where), exit(1);
+}
+
+static long long length_of(const char *where) {
+    struct stat about;
+    return stat(where, &about) == 0 ? (long long)about.st_size : -1;
+}
+
+/* Another process that has the file open: what an opening of it answers here. */
+static void of_two_processes(void) {
+    int ready[2], done[2];
+    char it = 0;
+    if (pipe(ready) != 0 || pipe(done) != 0) perror("pipe"), exit(1);
+    pid_t child = fork();
+    if (child == 0) {
+        cola_file file = COLA_FILE_INIT;
+        int32_t opened = cola_file_open(&file, path);
+        it = (char)opened;
+        if (write(ready[1], &it, 1) != 1 || read(done[0], &it, 1) != 1) _exit(9);
+        _exit(opened == COLA_OK && cola_file_close(&file) == COLA_OK ? 0 : 9);
+    }
+    cola_file file = COLA_FILE_INIT;
+    HOLDS(read(ready[0], &it, 1) == 1 && it == COLA_OK);
+    errno = 0;
+    ANSWERS(COLA_SYSTEM, cola_file_open(&file, path));
+    HOLDS(errno == EWOULDBLOCK);
+    HOLDS(write(done[1], &it, 1) == 1);
+    int status = -1;
+    waitpid(child, &status, 0);
+    HOLDS(status == 0);
+    ANSWERS(COLA_OK, cola_file_open(&file, path));
+    child = fork(); /* a child that closes what its parent has open leaves it to the parent */
+    if (child == 0) {
+        if (cola_file_checkpoint(&file, other_path) == COLA_CLOSED && cola_file_close(&file) == COLA_OK)
+            execlp("true", "true", (char *)NULL);
+        _exit(9);
+    }
+    waitpid(child, &status, 0);
+    HOLDS(status == 0);
+    ANSWERS(COLA_OK, cola_put(&file.store, "parent", 6, "goes on", 7, NULL));
+    ANSWERS(COLA_OK, cola_file_close(&file));
+    close(ready[0]), close(ready[1]), close(done[0]), close(done[1]);
+}
+
+static void of_files(void) {
+    cola_file file = COLA_FILE_INIT;
+    ANSWERS(COLA_NULL, cola_file_create(NULL, 30, 3, 1));
+    ANSWERS(COLA_OPTIONS, cola_file_create(path, 0, 3, 1));
+    HOLDS(length_of(path) == -1);
+    ANSWERS(COLA_SYSTEM, cola_file_create("/no such folder/store", 30, 3, 1));
+    HOLDS(errno == ENOENT);
+    write_file(path, "x", 1);
+    ANSWERS(COLA_NOT_EMPTY, cola_file_create(path, 30, 3, 1));
+    HOLDS(length_of(path) == 1);
+    write_file(path, "", 0);
+    ANSWERS(COLA_SMALL, cola_file_open(&file, path));
+    struct rlimit before, less = {4096, 4096};
+    getrlimit(RLIMIT_FSIZE, &before);
+    less.rlim_max = before.rlim_max;
+    setrlimit(RLIMIT_FSIZE, &less); /* (a file of 8,192 bytes has no room: as a full disk) */
+    ANSWERS(COLA_SYSTEM, cola_file_create(path, 30, 3, 1));
+    HOLDS(length_of(path) == 0);
+    unlink(path);
+    ANSWERS(COLA_SYSTEM, cola_file_create(path, 30, 3, 1));
+    HOLDS(length_of(path) == -1);
+    setrlimit(RLIMIT_FSIZE, &before);
+    write_file(path, "", 0);
+    ANSWERS(COLA_OK, cola_file_create(path, 30, 3, 1));
+    HOLDS(length_of(path) == 8192);
+    ANSWERS(COLA_NOT_EMPTY, cola_file_create(path, 30, 3, 1));
+
+    ANSWERS(COLA_NULL, cola_file_open(NULL, path));
+    ANSWERS(COLA_NULL, cola_file_open(&file, NULL));
+    ANSWERS(COLA_SYSTEM, cola_file_open(&file, "/no such folder/store"));
+    HOLDS(errno == ENOENT);
+    ANSWERS(COLA_SYSTEM, cola_file_open(&file, "/tmp"));
+    ANSWERS(COLA_CLOSED, cola_file_checkpoint(&file, other_path));
+    ANSWERS(COLA_CLOSED, cola_file_close(&file));
+    ANSWERS(COLA_NULL, cola_file_close(NULL));
+    of_two_processes();
+
+    ANSWERS(COLA_OK, cola_file_open(&file, path));
+    ANSWERS(COLA_IN_USE, cola_file_open(&file, path));
+    ANSWERS(COLA_NULL, cola_file_checkpoint(NULL, other_path));
+    ANSWERS(COLA_NULL, cola_file_checkpoint(&file, NULL));
+    ANSWERS(COLA_SYSTEM, cola_file_checkpoint(&file, "/no such folder/copy"));
+    HOLDS(errno == ENOENT);
+    ANSWERS(COLA_SYSTEM, cola_file_checkpoint(&file, path)); /* a file is no copy of itself */
+    HOLDS(errno == EINVAL);
+    ANSWERS(COLA_OK, cola_put(&file.store, "a", 1, "1", 1, NULL));
+    ANSWERS(COLA_OK, cola_file_checkpoint(&file, other_path));
+    ANSWERS(COLA_OK, cola_file_close(&file));
+    HOLDS(length_of(other_path) == 8192);
+    ANSWERS(COLA_OK, cola_file_open(&file, other_path));
+    ANSWERS(COLA_OK, cola_file_close(&file));
+
+    /* A checkpoint that has no memory to open the store again leaves it closed, with its map. */
+    ANSWERS(COLA_OK, cola_file_open(&file, path));
+    ANSWERS(COLA_OK, cola_put(&file.store, "a", 1, "2", 1, NULL));
+    allocations = 0;
+    ANSWERS(COLA_MEMORY, cola_file_checkpoint(&file, other_path));
+    allocations = -1;
+    ANSWERS(COLA_CLOSED, cola_put(&file.store, "a", 1, "3", 1, NULL));
+    ANSWERS(COLA_IN_USE, cola_file_open(&file, path));
+    ANSWERS(COLA_OK, cola_file_close(&file));
+    ANSWERS(COLA_OK, cola_file_open(&file, path));
+    char value[COLA_VALUE_MAX];
+    size_t value_len = 0;
+    ANSWERS(COLA_OK, cola_get(&file.store, "a", 1, value, &value_len));
+    HOLDS(value_len == 1 && value[0] == '2');
+    ANSWERS(COLA_OK, cola_file_close(&file));
+
+    /* Fewer bytes than the store has, and none of a store. */
+    HOLDS(truncate(other_path, 8191) == 0);
+    ANSWERS(COLA_SMALL, cola_file_open(&file, other_path));
+    write_file(other_path, "no store", 8);
+    ANSWERS(COLA_SMALL, cola_file_open(&file, other_path));
+    HOLDS(length_of(other_path) == 8);
+}
+
+int main(int count, char **words) {
+    if (count < 2) return fprintf(stderr, "errors FOLDER\n"), 2;
+    snprintf(path, sizeof path, "%s/errors.store", words[1]);
+    snprintf(other_path, sizeof other_path, "%s/errors.copy", words[1]);
+    unlink(path);
+    signal(SIGXFSZ, SIG_IGN);
+    of_sizes();
+    of_new_stores();
+    of_openings();
+    of_damaged_stores();
+    of_memory();
+    of_closed_handles();
+    of_calls(1);
+    of_calls(2);
+    of_files();
+    for (int answer = 0; answer <= COLA_SYSTEM; answer++) {
+        HOLDS(cola_strerror(answer) != NULL);
+        for (int other = 0; other < answer; other++) HOLDS(strcmp(cola_strerror(answer), cola_strerror(other)) != 0);
+    }
+    HOLDS(strcmp(cola_strerror(-1), cola_strerror(COLA_SYSTEM + 1)) == 0);
+    printf("met");
+    for (int answer = 0; answer <= COLA_SYSTEM; answer++) {
+        if (met[answer]) printf(" %d", answer);
+        else failed = 1;
+    }
+    printf("\n");
+    return failed;
+}

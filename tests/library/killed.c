@@ -1,0 +1,109 @@
+/* A process that is killed in mid-session, at each of many moments: its file is refused from then on, and the copy of its
+ * last checkpoint has the map of that moment.
+ *
+ *     killed FOLDER TIMES
+ */
+#include <signal.h>
+#include <stdio.h>
+#include <sys/wait.h>
+#include <unistd.h>
+
+#include "cola_file.h"
+#include "plain.h"
+
+enum { KEYS = 5000, EVERY = 500 };
+
+static char path[4096], copy[4096], saved[5000];
+
+#define HOLDS(is) ((is) ? (void)0 : (fprintf(stderr, "killed: line %d: not so: %s\n", __LINE__, #is), exit(1)))
+
+/* The keys and values of a session: what the n-th put puts. */
+static void nth(long n, char key[32], char value[32]) {
+    snprintf(key, 32, "k%05ld", n * 7919 % KEYS);
+    snprintf(value, 32, "%010ld", n);
+}
+
+/* Puts without end, with a checkpoint after so many, of which the parent is told. It is killed. */
+static void session(int told) {
+    cola_file file = COLA_FILE_INIT;
+    char key[32], value[32];
+    if (cola_file_open(&file, path) != COLA_OK) _exit(9);
+    for (long done = 1;; done++) {
+        nth(done, key, value);
+        if (cola_put(&file.store, key, 6, value, 10, NULL) != COLA_OK) _exit(9);
+        if (done % EVERY == 0 && cola_file_checkpoint(&file, copy) != COLA_OK) _exit(9);
+        if (done % EVERY == 0 && write(told, &done, sizeof done) != sizeof done) _exit(9);
+    }
+}
+
+/* The number of puts that the copy has, by its values, all of them and no others. */
+static long puts_of(const char *where) {
+    cola_file file = COLA_FILE_INIT;
+    cola_cursor cursor;
+    static cola_row rows[KEYS + 1];
+    static long last[KEYS];
+    char key[32], value[32];
+    size_t given = 0;
+    long most = 0, keys = 0;
+    HOLDS(cola_file_open(&file, where) == COLA_OK);
+    HOLDS(cola_seek(&cursor, NULL, 0, NULL, 0) == COLA_OK);
+    cola_next(&file.store, &cursor, rows, KEYS + 1, &given);
+    for (size_t row = 0; row < given; row++) {
+        rows[row].value[rows[row].value_len] = 0;
+        long number = atol((const char *)rows[row].value);
+        if (number > most) most = number;
+    }
+    memset(last, 0, sizeof last);
+    for (long n = 1; n <= most; n++) last[n * 7919 % KEYS] = n;
+    for (int at = 0; at < KEYS; at++) {
+        if (last[at] == 0) continue;
+        nth(last[at], key, value);
+        HOLDS(keys < (long)given);
+        HOLDS(plain_order(rows[keys].key, rows[keys].key_len, key, 6) == 0);
+        HOLDS(plain_order(rows[keys].value, rows[keys].value_len, value, 10) == 0);
+        keys++;
+    }
+    HOLDS(keys == (long)given);
+    HOLDS(cola_file_close(&file) == COLA_OK);
+    return most;
+}
+
+static void one_time(int time) {
+    int told[2], status;
+    long done = 0, last = 0;
+    cola_file file = COLA_FILE_INIT;
+    unlink(path), unlink(copy);
+    HOLDS(cola_file_create(path, KEYS, 5, 1) == COLA_OK);
+    HOLDS(pipe(told) == 0);
+    pid_t child = fork();
+    if (child == 0) session(told[1]);
+    close(told[1]);
+    for (int at = 0; at <= time % 4 && read(told[0], &done, sizeof done) == sizeof done; at++) last = done;
+    usleep((useconds_t)(time * 977 % 9000));
+    kill(child, SIGKILL);
+    waitpid(child, &status, 0);
+    HOLDS(WIFSIGNALED(status) && WTERMSIG(status) == SIGKILL);
+    while (read(told[0], &done, sizeof done) == sizeof done) last = done;
+    close(told[0]);
+    /* Killed between a checkpoint's closing and its opening, the file is in use all the same. */
+    HOLDS(cola_file_open(&file, path) == COLA_NOT_CLOSED);
+    long puts = puts_of(copy);
+    HOLDS(puts % EVERY == 0 && (puts == last || puts == last + EVERY));
+    /* The copy takes the file's place, and the session goes on. */
+    HOLDS(rename(copy, path) == 0);
+    HOLDS(cola_file_open(&file, path) == COLA_OK);
+    HOLDS(cola_put(&file.store, "zz", 2, "on", 2, NULL) == COLA_OK);
+    HOLDS(cola_file_close(&file) == COLA_OK);
+    snprintf(saved, sizeof saved, "%s.new", copy);
+    unlink(saved);
+}
+
+int main(int count, char **words) {
+    if (count < 3) return fprintf(stderr, "killed FOLDER TIMES\n"), 2;
+    snprintf(path, sizeof path, "%.4000s/killed.store", words[1]);
+    snprintf(copy, sizeof copy, "%.4000s/killed.copy", words[1]);
+    int times = atoi(words[2]);
+    for (int time = 0; time < times; time++) one_time(time);
+    printf("killed %d times\n", times);
+    return 0;
+}

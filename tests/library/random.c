@@ -1,0 +1,237 @@
+/* Random calls on a store, each answer compared with that of a sorted array; after every so many calls a checkpoint, whose
+ * copy the program opens and prints, and the rows are compared too.
+ *
+ *     random FOLDER CALLS EVERY [PROGRAM]
+ *
+ * Half of the calls go to a store of version 1, half to one of version 2. The seed is fixed. Without PROGRAM the copies are
+ * opened by the library alone. It ends with 0 where all was equal, and writes the number of calls. */
+#include <fcntl.h>
+#include <spawn.h>
+#include <stdio.h>
+#include <sys/wait.h>
+#include <unistd.h>
+
+#include "cola_file.h"
+#include "plain.h"
+
+extern char **environ;
+
+enum { KEYS = 300, MOST = 40 };
+
+static uint64_t state = 20261128;
+static char store_path[4096], copy_path[4096], lines_path[4096], wanted_path[4096], written_path[4096];
+static const char *program;
+static bool any_bytes; /* keys and values of any bytes, which the program's lines can't have */
+static long call;
+
+static uint64_t next(uint64_t below) {
+    state ^= state << 13, state ^= state >> 7, state ^= state << 17;
+    return (state >> 11) % below;
+}
+
+#define SAME(what, is) ((is) ? (void)0 : differ(what, __LINE__))
+static void differ(const char *what, int line) {
+    fprintf(stderr, "random: call %ld: %s differs (line %d)\n", call, what, line);
+    exit(1);
+}
+
+/* A key of a few hundred, many of them beginnings of others; now and then one that is too long, or empty. */
+static size_t some_key(const plain *it, uint8_t *key) {
+    uint64_t which = next(400), number = which;
+    size_t length = 1 + (size_t)(which % 7) * (it->key_max - 1) / 6;
+    if (next(200) == 0) length = next(2) == 0 ? 0 : it->key_max + 1 + next(30);
+    for (size_t at = 0; at < length; at++) {
+        key[at] = (uint8_t)(any_bytes ? number * 97 % 256 : 'a' + number % 5);
+        number /= 5;
+    }
+    return length;
+}
+
+static size_t some_value(const plain *it, uint8_t *value) {
+    size_t length = next(300) == 0 ? it->value_max + 1 + next(100) : next(it->value_max + 1);
+    for (size_t at = 0; at < length; at++) value[at] = (uint8_t)(any_bytes ? next(256) : '!' + next(94));
+    return length;
+}
+
+static void puts_one(plain *it, cola *store) {
+    uint8_t key[128], value[256];
+    size_t key_len = some_key(it, key), value_len = some_value(it, value);
+    bool was = false, plain_was = false;
+    int32_t answer = cola_put(store, key, key_len, value, value_len, next(10) == 0 ? NULL : &was);
+    SAME("the answer of a put", answer == plain_put(it, key, key_len, value, value_len, &plain_was));
+    SAME("whether a put found the key", answer != COLA_OK || !was || plain_was);
+}
+
+static void puts_if(plain *it, cola *store) {
+    uint8_t key[128], value[256];
+    size_t key_len = some_key(it, key), value_len = some_value(it, value);
+    const plain_pair *pair = NULL;
+    uint64_t seen = plain_get(it, key, key_len, &pair) == COLA_OK ? pair->stamp : 0, stamp = 77, plain_stamp = 77;
+    bool was;
+    if (next(3) == 0) seen = next(it->last + 2);
+    int32_t answer = cola_put_if(store, key, key_len, seen, value, value_len, &stamp);
+    SAME("the answer of a put_if", answer == plain_put_if(it, false, key, key_len, seen, value, value_len, &was, &plain_stamp));
+    SAME("the stamp of a put_if", answer != COLA_OTHER || stamp == plain_stamp);
+}
+
+static void gets(plain *it, cola *store) {
+    uint8_t key[128], value[COLA_VALUE_MAX];
+    size_t key_len = some_key(it, key), value_len = 999;
+    const plain_pair *pair = NULL;
+    uint64_t stamp = 999;
+    int32_t answer = cola_get(store, key, key_len, value, &value_len);
+    SAME("the answer of a get", answer == plain_get(it, key, key_len, &pair));
+    SAME("a value", answer != COLA_OK || (value_len == pair->row.value_len && memcmp(value, pair->row.value, value_len) == 0));
+    SAME("the answer of a stamp", cola_stamp(store, key, key_len, &stamp) == answer);
+    SAME("a stamp", answer != COLA_OK || stamp == pair->stamp);
+}
+
+/* A range, with bounds of any lengths that a cursor takes, a few rows at a time, and now and then a put in between. */
+static void ranges(plain *it, cola *store) {
+    uint8_t low[128], high[128];
+    size_t low_len = some_key(it, low) % (COLA_KEY_MAX + 1), high_len = some_key(it, high) % (COLA_KEY_MAX + 1), given;
+    bool bounded = next(4) != 0, there;
+    cola_cursor cursor;
+    cola_row rows[MOST];
+    SAME("the answer of a seek", cola_seek(&cursor, low, low_len, bounded ? high : NULL, bounded ? high_len : 0) == COLA_OK);
+    size_t at = plain_below(it, low, low_len, &there), most = 1 + next(MOST);
+    for (int steps = 0; steps < 30; steps++) {
+        size_t end = bounded ? plain_below(it, high, high_len, &there) : it->count;
+        size_t wanted = at >= end ? 0 : end - at < most ? end - at : most;
+        int32_t answer = cola_next(store, &cursor, rows, most, &given);
+        SAME("the answer of a next", answer == (wanted == 0 ? COLA_NONE : COLA_OK));
+        SAME("how many rows", given == wanted);
+        for (size_t row = 0; row < given; row++) {
+            const cola_row *mine = &it->pairs[at + row].row;
+            SAME("a key of a row", plain_order(mine->key, mine->key_len, rows[row].key, rows[row].key_len) == 0);
+            SAME("a value of a row", plain_order(mine->value, mine->value_len, rows[row].value, rows[row].value_len) == 0);
+        }
+        if (given == 0) break;
+        if (next(8) == 0) puts_one(it, store);
+        at = plain_below(it, rows[given - 1].key, rows[given - 1].key_len, &there);
+        at += there;
+    }
+}
+
+static void counts(plain *it, cola *store) {
+    uint64_t count;
+    SAME("the answer of a count", cola_count(store, &count) == COLA_OK);
+    SAME("a count", count == it->count);
+}
+
+/* Whether two files have the same bytes. */
+static bool same_files(const char *a, const char *b) {
+    FILE *one = fopen(a, "rb"), *two = fopen(b, "rb");
+    int x = EOF, y = one != NULL && two != NULL ? EOF : 0;
+    if (one != NULL && two != NULL) do x = getc(one), y = getc(two); while (x == y && x != EOF);
+    if (one != NULL) fclose(one);
+    if (two != NULL) fclose(two);
+    return x == y;
+}
+
+/* Runs the program with these words and the lines as its input. */
+static void run_program(char *words[]) {
+    posix_spawn_file_actions_t files;
+    pid_t child;
+    int status;
+    posix_spawn_file_actions_init(&files);
+    posix_spawn_file_actions_addopen(&files, 0, lines_path, O_RDONLY, 0);
+    posix_spawn_file_actions_addopen(&files, 1, written_path, O_WRONLY | O_CREAT | O_TRUNC, 0666);
+    SAME("the start of the program", posix_spawn(&child, program, &files, NULL, words, environ) == 0);
+    posix_spawn_file_actions_destroy(&files);
+    waitpid(child, &status, 0);
+    SAME("the status of the program", status == 0);
+}
+
+/* The copy, as the program prints it (where its keys are of any bytes, as it counts and tests it). */
+static void program_opens(const plain *it) {
+    FILE *wanted = fopen(wanted_path, "w");
+    if (wanted == NULL) perror(wanted_path), exit(1);
+    if (any_bytes) {
+        fprintf(wanted, "sound %zu\n", it->count);
+    } else {
+        for (size_t at = 0; at < it->count; at++) {
+            const cola_row *row = &it->pairs[at].row;
+            fprintf(wanted, "row %.*s %.*s\n", row->key_len, (const char *)row->key, row->value_len, (const char *)row->value);
+        }
+        fprintf(wanted, "end %zu\n", it->count);
+    }
+    fclose(wanted);
+    run_program(any_bytes ? (char *[]){"cola", "check", copy_path, NULL} : (char *[]){"cola", "run", copy_path, NULL});
+    SAME("what the program writes of a copy", same_files(wanted_path, written_path));
+}
+
+static void library_opens(const plain *it) {
+    cola_file copy = COLA_FILE_INIT;
+    cola_cursor cursor;
+    cola_row rows[MOST];
+    size_t given, at = 0;
+    SAME("the opening of a copy", cola_file_open(&copy, copy_path) == COLA_OK);
+    SAME("a seek in a copy", cola_seek(&cursor, NULL, 0, NULL, 0) == COLA_OK);
+    while (cola_next(&copy.store, &cursor, rows, MOST, &given) == COLA_OK)
+        for (size_t row = 0; row < given; row++, at++) {
+            const plain_pair *mine = &it->pairs[at];
+            uint64_t stamp;
+            SAME("a row more in a copy", at < it->count);
+            SAME("a key of a copy", plain_order(mine->row.key, mine->row.key_len, rows[row].key, rows[row].key_len) == 0);
+            SAME("a value of a copy", plain_order(mine->row.value, mine->row.value_len, rows[row].value, rows[row].value_len) == 0);
+            SAME("a stamp of a copy", cola_stamp(&copy.store, rows[row].key, rows[row].key_len, &stamp) == COLA_OK && stamp == mine->stamp);
+        }
+    SAME("the rows of a copy", at == it->count);
+    SAME("the closing of a copy", cola_file_close(&copy) == COLA_OK);
+}
+
+static void calls_on(int version, uint8_t block, long calls, long every) {
+    plain it = plain_new(KEYS, version);
+    cola_file file = COLA_FILE_INIT;
+    unlink(store_path);
+    SAME("a new file", cola_file_create(store_path, KEYS, block, (uint8_t)version) == COLA_OK);
+    SAME("its opening", cola_file_open(&file, store_path) == COLA_OK);
+    for (long done = 0; done < calls; done++, call++) {
+        uint64_t which = next(100);
+        if (which < 40) puts_one(&it, &file.store);
+        else if (which < 50) puts_if(&it, &file.store);
+        else if (which < 70) gets(&it, &file.store);
+        else if (which < 78) counts(&it, &file.store);
+        else if (which < 82) ranges(&it, &file.store);
+        else {
+            uint8_t key[128];
+            size_t length = some_key(&it, key);
+            SAME("the answer of a delete", cola_delete(&file.store, key, length) == plain_delete(&it, key, length));
+        }
+        if (next(2000) == 0) {
+            SAME("a closing", cola_file_close(&file) == COLA_OK);
+            SAME("an opening", cola_file_open(&file, store_path) == COLA_OK);
+        }
+        if (next(500) == 0) SAME("a checkpoint in memory", cola_checkpoint(&file.store) == COLA_OK);
+        if ((done + 1) % every == 0) {
+            SAME("a checkpoint", cola_file_checkpoint(&file, copy_path) == COLA_OK);
+            if (program != NULL) program_opens(&it);
+            if (program == NULL || done % (10 * every) < every) library_opens(&it);
+        }
+    }
+    SAME("the last closing", cola_file_close(&file) == COLA_OK);
+    free(it.pairs);
+}
+
+int main(int count, char **words) {
+    if (count < 4) return fprintf(stderr, "random FOLDER CALLS EVERY [PROGRAM]\n"), 2;
+    long calls = atol(words[2]), every = atol(words[3]);
+    program = count > 4 ? words[4] : NULL;
+    snprintf(store_path, sizeof store_path, "%s/store", words[1]);
+    snprintf(copy_path, sizeof copy_path, "%s/copy", words[1]);
+    snprintf(lines_path, sizeof lines_path, "%s/lines", words[1]);
+    snprintf(wanted_path, sizeof wanted_path, "%s/wanted", words[1]);
+    snprintf(written_path, sizeof written_path, "%s/written", words[1]);
+    FILE *lines = fopen(lines_path, "w");
+    if (lines == NULL) return perror(lines_path), 1;
+    fputs("scan ! 16777216\n", lines);
+    fclose(lines);
+    for (int version = 1; version <= 2; version++)
+        for (int any = 0; any < 2; any++) {
+            any_bytes = any;
+            calls_on(version, (uint8_t)(3 + 2 * any), calls / 4, every);
+        }
+    printf("%ld calls\n", call);
+    return 0;
+}
