@@ -1,0 +1,62 @@
+#!/usr/bin/env bash
+# Times puts and gets by calls of the library beside LMDB, LevelDB, SQLite and Tkrzw by theirs, in one run:
+#
+#     bench/library.sh [COUNT [ROUNDS]]        (1000000 keys, 3 rounds)
+#
+# Each store is one process for each text: COUNT keys in random order, and in rising order (bench/library.cpp). It prints a table
+# with the seconds, the ratio to LevelDB's, the median, the 99.9th percentile and the worst call, and the peak memory, and then
+# what became of the aims. It wants a C++ compiler and the library (make library builds it; LIBRARY names another folder that has
+# libcola.a). A peer whose headers are not there is skipped and named (Debian: libleveldb-dev liblmdb-dev libsqlite3-dev
+# libtkrzw-dev). It takes minutes and a gigabyte below TMPDIR, and means something on an idle machine alone.
+set -euo pipefail
+root=$(cd "$(dirname "$0")/.." && pwd -P)
+count=${1:-1000000} rounds=${2:-3}
+room=$(mktemp -d)
+trap 'rm -rf "$room"' EXIT
+cd "$root"
+library=${LIBRARY:-out/lib}
+[ -n "${LIBRARY:-}" ] || make -s -f bindings/c/library.mk library
+
+stores=()
+# add NAME DEFINE HEADER LIBRARIES BATCH TITLE: compiles the driver for a store, where its header is there.
+add() {
+    if ! printf '#include <%s>\n' "$3" | c++ -std=c++17 -Iinclude -Ibindings/c -E -x c++ - >/dev/null 2>&1; then
+        echo "skipped: $6 ($3 is not installed)"
+        return
+    fi
+    [ -e "$room/$2" ] || c++ -O2 -std=c++17 -Iinclude -Ibindings/c -D"$2" -o "$room/$2" bench/library.cpp $4 -lpthread
+    stores+=("$1|$2|$5|$6")
+}
+add cola-5 COLA cola_file.h "$library/libcola.a" 5 'cola, block 5'
+add cola-9 COLA cola_file.h "$library/libcola.a" 9 'cola, block 9'
+add leveldb LEVELDB leveldb/db.h -lleveldb 1 'LevelDB'
+add lmdb LMDB lmdb.h -llmdb 1 'LMDB'
+add lmdb-1000 LMDB lmdb.h -llmdb 1000 'LMDB, 1,000 puts a transaction'
+add sqlite SQLITE sqlite3.h -lsqlite3 1 'SQLite'
+add sqlite-1000 SQLITE sqlite3.h -lsqlite3 1000 'SQLite, 1,000 puts a transaction'
+add tkrzw TKRZW tkrzw_dbm_tree.h -ltkrzw 1 'Tkrzw'
+
+for order in random rising; do
+    for it in "${stores[@]}"; do
+        IFS='|' read -r name define batch title <<<"$it"
+        "$room/$define" "$room/$name.store" "$count" "$rounds" "$order" "$batch" >"$room/$order.$name"
+        rm -rf "$room/$name.store"*
+        echo "$title|$(cat "$room/$order.$name")" >>"$room/$order"
+    done
+    [ "$(awk '{ print $NF }' "$room/$order" | sort -u | wc -l)" -eq 1 ] || { echo 'library: two stores have other values' >&2; exit 1; }
+    printf '\n| %s keys in %s order | puts and gets, seconds | beside LevelDB | put: median, 99.9th, worst, us | get: median, 99.9th, worst, us | memory, MiB |\n' "$count" "$order"
+    printf '|---|---:|---:|---:|---:|---:|\n'
+    awk -F '[|]' '
+        { split($2, n, " "); title[NR] = $1; both[NR] = n[1] + n[5]; if ($1 == "LevelDB") level = both[NR]
+          text[NR] = sprintf("%.2f + %.2f | %%s | %.2f, %.1f, %.0f | %.2f, %.1f, %.0f | %.1f", n[1], n[5], n[2] / 1e3, n[3] / 1e3, n[4] / 1e3, n[6] / 1e3, n[7] / 1e3, n[8] / 1e3, n[9] / 1024) }
+        END { for (at = 1; at <= NR; at++) printf("| %s | " text[at] " |\n", title[at], level ? sprintf("%.2f", both[at] / level) : "") }' "$room/$order"
+done
+echo
+for order in random rising; do
+    awk -F '[|]' -v order="$order" '
+        { split($2, n, " "); both[$1] = n[1] + n[5]; worst[$1] = n[4] }
+        END {
+            if ("LevelDB" in both) printf "The text of keys in %s order takes %.2f of the time of LevelDB (the aim: 1).\n", order, both["cola, block 5"] / both["LevelDB"]
+            if ("LMDB" in both) printf "The worst put in %s order takes %.2f of that of LMDB (the aim: 0.1).\n", order, worst["cola, block 5"] / worst["LMDB"]
+        }' "$room/$order"
+done

@@ -1,0 +1,107 @@
+/* The calls of cola.h: they test pointers for NULL, and leave all else to the proved calls of crates/cola_c, which take none.
+ *
+ * A length above every limit goes on as one above the limit, so that no more bytes are looked at than a key or a value has. */
+#include "cola.h"
+
+/* The bytes of a store, lent from an opening to a closing. */
+typedef struct cola_region {
+    void *at;
+    size_t len;
+} cola_region;
+
+/* What crates/cola_c exports: as in cola.h, but no pointer is NULL. */
+int32_t cola_core_size(uint64_t keys, uint8_t block, uint8_t version, uint64_t *bytes);
+int32_t cola_core_create(void *bytes, size_t len, uint64_t keys, uint8_t block, uint8_t version);
+int32_t cola_core_open(cola *store, cola_region *region);
+int32_t cola_core_put(cola *store, const void *key, size_t key_len, const void *value, size_t value_len, bool *was);
+int32_t cola_core_put_if(cola *store, const void *key, size_t key_len, uint64_t seen, const void *value, size_t value_len, uint64_t *stamp);
+int32_t cola_core_get(cola *store, const void *key, size_t key_len, void *value, size_t room, size_t *value_len);
+int32_t cola_core_stamp(cola *store, const void *key, size_t key_len, uint64_t *stamp);
+int32_t cola_core_delete(cola *store, const void *key, size_t key_len);
+int32_t cola_core_count(cola *store, uint64_t *count);
+int32_t cola_core_seek(cola_cursor *cursor, const void *low, size_t low_len, const void *high, size_t high_len, bool bounded);
+int32_t cola_core_next(cola *store, cola_cursor *cursor, cola_row *rows, size_t most, size_t *given);
+int32_t cola_core_checkpoint(cola *store, cola_region *region);
+int32_t cola_core_close(cola *store, cola_region *region);
+
+/* Whether bytes are said to be where there can be none. */
+static bool is_null(const void *bytes, size_t len) { return bytes == NULL && len > 0; }
+
+/* A pointer that is not NULL. */
+static const void *some(const void *bytes) { return bytes == NULL ? "" : bytes; }
+
+/* The length, or one above the limit. */
+static size_t at_most(size_t len, size_t limit) { return len > limit ? limit + 1 : len; }
+static size_t of_key(size_t len) { return at_most(len, COLA_KEY_MAX); }
+static size_t of_value(size_t len) { return at_most(len, COLA_VALUE_MAX); }
+
+int32_t cola_size(uint64_t keys, uint8_t block, uint8_t version, uint64_t *bytes) {
+    if (bytes == NULL) return COLA_NULL;
+    return cola_core_size(keys, block, version, bytes);
+}
+
+int32_t cola_create(void *bytes, size_t len, uint64_t keys, uint8_t block, uint8_t version) {
+    if (bytes == NULL) return COLA_NULL;
+    return cola_core_create(bytes, len, keys, block, version);
+}
+
+int32_t cola_open(cola *store, void *bytes, size_t len) {
+    if (store == NULL || bytes == NULL) return COLA_NULL;
+    cola_region region = {bytes, len};
+    return cola_core_open(store, &region);
+}
+
+int32_t cola_put(cola *store, const void *key, size_t key_len, const void *value, size_t value_len, bool *was) {
+    bool unasked;
+    if (store == NULL || is_null(key, key_len) || is_null(value, value_len)) return COLA_NULL;
+    return cola_core_put(store, some(key), of_key(key_len), some(value), of_value(value_len), was == NULL ? &unasked : was);
+}
+
+int32_t cola_put_if(cola *store, const void *key, size_t key_len, uint64_t seen, const void *value, size_t value_len, uint64_t *stamp) {
+    uint64_t unasked;
+    if (store == NULL || is_null(key, key_len) || is_null(value, value_len)) return COLA_NULL;
+    return cola_core_put_if(store, some(key), of_key(key_len), seen, some(value), of_value(value_len), stamp == NULL ? &unasked : stamp);
+}
+
+int32_t cola_get(cola *store, const void *key, size_t key_len, void *value, size_t *value_len) {
+    if (store == NULL || is_null(key, key_len) || value == NULL || value_len == NULL) return COLA_NULL;
+    return cola_core_get(store, some(key), of_key(key_len), value, COLA_VALUE_MAX, value_len);
+}
+
+int32_t cola_stamp(cola *store, const void *key, size_t key_len, uint64_t *stamp) {
+    if (store == NULL || is_null(key, key_len) || stamp == NULL) return COLA_NULL;
+    return cola_core_stamp(store, some(key), of_key(key_len), stamp);
+}
+
+int32_t cola_delete(cola *store, const void *key, size_t key_len) {
+    if (store == NULL || is_null(key, key_len)) return COLA_NULL;
+    return cola_core_delete(store, some(key), of_key(key_len));
+}
+
+int32_t cola_count(cola *store, uint64_t *count) {
+    if (store == NULL || count == NULL) return COLA_NULL;
+    return cola_core_count(store, count);
+}
+
+int32_t cola_seek(cola_cursor *cursor, const void *low, size_t low_len, const void *high, size_t high_len) {
+    if (cursor == NULL || is_null(low, low_len) || is_null(high, high_len)) return COLA_NULL;
+    return cola_core_seek(cursor, some(low), of_key(low_len), some(high), of_key(high_len), high != NULL);
+}
+
+int32_t cola_next(cola *store, cola_cursor *cursor, cola_row *rows, size_t most, size_t *given) {
+    cola_row none;
+    if (store == NULL || cursor == NULL || (rows == NULL && most > 0) || given == NULL) return COLA_NULL;
+    return cola_core_next(store, cursor, rows == NULL ? &none : rows, most, given);
+}
+
+int32_t cola_checkpoint(cola *store) {
+    cola_region region = {NULL, 0};
+    if (store == NULL) return COLA_NULL;
+    return cola_core_checkpoint(store, &region);
+}
+
+int32_t cola_close(cola *store) {
+    cola_region region = {NULL, 0};
+    if (store == NULL) return COLA_NULL;
+    return cola_core_close(store, &region);
+}
