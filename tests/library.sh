@@ -81,6 +81,15 @@ if is_there c++ 'the header as C++'; then
     check 'the headers are C++' c++ -x c++ -std=c++11 -pedantic -Wall -Wextra -Werror $folders -fsyntax-only "$room/alone.c"
 fi
 
+# The answers of the header are those of the crate, Answer::Done and Answer::Absent as COLA_OK and COLA_NONE; the C files give two more.
+has_answers() {
+    sed -n 's/^ *COLA_\([A-Z_]*\) = \([0-9]*\),* .*/\2 \1/p' include/cola.h | grep -vE ' (NULL|SYSTEM)$' >"$room/header"
+    sed -n 's/^ *Answer::\([A-Za-z]*\) => \([0-9]*\),$/\2 \1/p' crates/*/src/answer.rt |
+        sed 's/Done/Ok/; s/Absent/None/; s/\([a-z]\)\([A-Z]\)/\1_\2/g' | tr 'a-z' 'A-Z' >"$room/crate"
+    [ "$(wc -l <"$room/header")" -eq 16 ] && diff "$room/header" "$room/crate"
+}
+check 'the answers of the header are those of the crate' has_answers
+
 # The calls.
 check 'the test of answers compiles' compiles errors "-O2 -g $fails" tests/library/errors.c
 check 'the test of random calls compiles' compiles random '-O2 -g' tests/library/random.c
