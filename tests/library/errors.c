@@ -319,6 +319,9 @@ static void of_calls(int version) {
     ANSWERS(COLA_OK, cola_seek(&cursor, "", 0, NULL, 0));
     ANSWERS(COLA_NONE, cola_next(&store, &cursor, &row, 1, &given));
     HOLDS(given == 0);
+    given = 7;
+    ANSWERS(COLA_OK, cola_next(&store, &cursor, NULL, 0, &given)); /* no row was wanted */
+    HOLDS(given == 0);
     ANSWERS(COLA_OK, cola_put(&store, "a", 1, "1", 1, &was));
     HOLDS(!was);
     ANSWERS(COLA_OK, cola_put(&store, "a", 1, "2", 1, &was));
