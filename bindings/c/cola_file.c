@@ -139,13 +139,16 @@ static bool write_copy(const cola_file *file, const char *copy) {
     if (snprintf(unfinished, sizeof unfinished, "%s.new", copy) >= PATH_MAX) return errno = ENAMETOOLONG, false;
     if (fstat(file->descriptor, &own) != 0) return false;
     if (stat(copy, &other) == 0 && other.st_dev == own.st_dev && other.st_ino == own.st_ino) return errno = EINVAL, false;
-    int descriptor = open(unfinished, O_WRONLY | O_CREAT | O_TRUNC | O_CLOEXEC, 0666);
+    int descriptor = open(unfinished, O_WRONLY | O_CREAT | O_TRUNC | O_CLOEXEC, own.st_mode & 0777);
     if (descriptor < 0) return false;
     bool wrote = write_all(descriptor, file->bytes, file->length, 0);
     int error = errno;
     close(descriptor);
+    if (wrote && rename(unfinished, copy) == 0) return sync_name(copy);
+    if (wrote) error = errno;
+    unlink(unfinished);
     errno = error;
-    return wrote && rename(unfinished, copy) == 0 && sync_name(copy);
+    return false;
 }
 
 int32_t cola_file_checkpoint(cola_file *file, const char *copy) {

@@ -45,9 +45,9 @@ int32_t cola_file_create(const char *path, uint64_t keys, uint8_t block, uint8_t
 int32_t cola_file_open(cola_file *file, const char *path);
 
 /* Makes a copy of the store as it is now, in the file named copy, which is replaced as a whole and is on the disk when this
- * answers COLA_OK; before that, what was there stays. A copy that is cut off stays behind as copy.new. It writes as many bytes
- * as the file has. Where the answer is COLA_SYSTEM, the store is open as before. COLA_MEMORY: the store is closed, the file
- * has its map, and cola_file_close is all that is left to call. */
+ * answers COLA_OK; before that, what was there stays. It writes as many bytes as the file has, first to a file copy.new, which
+ * a process that dies meanwhile leaves behind. Where the answer is COLA_SYSTEM, the store is open as before. COLA_MEMORY: the
+ * store is closed, the file has its map, and cola_file_close is all that is left to call. */
 int32_t cola_file_checkpoint(cola_file *file, const char *copy);
 
 /* Closes the store and the file; when it answers COLA_OK all is on the disk. Whatever it answers, *file is closed then:

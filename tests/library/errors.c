@@ -351,7 +351,7 @@ static void of_calls(int version) {
     free(bytes);
 }
 
-static char path[4096], other_path[4096];
+static char path[4096], other_path[4096], unfinished_path[4096];
 
 static void write_file(const char *where, const void *bytes, size_t length) {
     FILE *it = fopen(where, "wb");
@@ -445,6 +445,10 @@ static void of_files(void) {
     ANSWERS(COLA_SYSTEM, cola_file_checkpoint(&file, path)); /* a file is no copy of itself */
     HOLDS(errno == EINVAL);
     ANSWERS(COLA_OK, cola_put(&file.store, "a", 1, "1", 1, NULL));
+    setrlimit(RLIMIT_FSIZE, &less);
+    ANSWERS(COLA_SYSTEM, cola_file_checkpoint(&file, other_path));
+    setrlimit(RLIMIT_FSIZE, &before);
+    HOLDS(length_of(other_path) == -1 && length_of(unfinished_path) == -1);
     ANSWERS(COLA_OK, cola_file_checkpoint(&file, other_path));
     ANSWERS(COLA_OK, cola_file_close(&file));
     HOLDS(length_of(other_path) == 8192);
@@ -479,7 +483,9 @@ int main(int count, char **words) {
     if (count < 2) return fprintf(stderr, "errors FOLDER\n"), 2;
     snprintf(path, sizeof path, "%s/errors.store", words[1]);
     snprintf(other_path, sizeof other_path, "%s/errors.copy", words[1]);
+    snprintf(unfinished_path, sizeof unfinished_path, "%s/errors.copy.new", words[1]);
     unlink(path);
+    unlink(other_path);
     signal(SIGXFSZ, SIG_IGN);
     of_sizes();
     of_new_stores();
