@@ -90,6 +90,13 @@ has_answers() {
 }
 check 'the answers of the header are those of the crate' has_answers
 
+has_calls() {
+    cat include/cola.h bindings/c/cola_file.h | sed -n 's/^[a-z].*[ *]\(cola_[a-z_]*\)(.*/\1/p' | sort >"$room/header"
+    nm -D --defined-only "$library/libcola.so" | awk '{ print $3 }' | sort >"$room/calls"
+    [ "$(wc -l <"$room/header")" -ge 18 ] && diff "$room/header" "$room/calls"
+}
+check 'libcola.so has the calls of the headers, and nothing else' has_calls
+
 # The calls.
 check 'the test of answers compiles' compiles errors "-O2 -g $fails" tests/library/errors.c
 check 'the test of random calls compiles' compiles random '-O2 -g' tests/library/random.c
