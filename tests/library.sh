@@ -85,8 +85,8 @@ fi
 has_answers() {
     sed -n 's/^ *COLA_\([A-Z_]*\) = \([0-9]*\)[^0-9]*.*/\2 \1/p' include/cola.h | grep -vE ' (NULL|SYSTEM)$' >"$room/header"
     sed -n 's/^ *Answer::\([A-Za-z]*\) => \([0-9]*\),$/\2 \1/p' crates/*/src/answer.rt |
-        sed 's/Done/Ok/; s/Absent/None/; s/\([a-z]\)\([A-Z]\)/\1_\2/g' | tr 'a-z' 'A-Z' >"$room/crate"
-    [ "$(wc -l <"$room/header")" -eq 16 ] && diff "$room/header" "$room/crate"
+        sed 's/Done/Ok/; s/Absent/None/; s/\([a-z]\)\([A-Z]\)/\1_\2/g' | tr 'a-z' 'A-Z' >"$room/answers"
+    [ "$(wc -l <"$room/header")" -eq 16 ] && diff "$room/header" "$room/answers"
 }
 check 'the answers of the header are those of the crate' has_answers
 
