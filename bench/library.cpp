@@ -5,9 +5,10 @@
 //
 // ROUNDS times: it makes the store anew, puts COUNT keys of 11 bytes in the order (random or rising) with values of up to 12
 // bytes, closes it, opens it, gets each key in another order, and closes it. A call's time is the least over the rounds, and
-// so are the seconds of a round's puts with their closing and of its gets with their opening and closing. BATCH is a number of
+// so are the seconds of a round's puts with their closing and of its gets with their opening and closing, and the seconds of
+// processor, of all threads. BATCH is a number of
 // puts in one transaction, where the store has any, or the block of COLA.
-// It prints: seconds, median, 99.9th percentile and worst in nanoseconds, of puts and then of gets; the most memory in KiB above
+// It prints: seconds, of processor, median, 99.9th percentile and worst in nanoseconds, of puts and then of gets; the most memory in KiB above
 // that before the first store; and a sum over the values that were got.
 #ifdef COLA
 #include <cstdio>
@@ -75,15 +76,22 @@ static vector<uint32_t> shuffled(size_t count, uint64_t seed) {
     return order;
 }
 
+// The processor's seconds that this process took, all threads.
+static double processor() {
+    struct rusage used;
+    getrusage(RUSAGE_SELF, &used);
+    return double(used.ru_utime.tv_sec + used.ru_stime.tv_sec) + double(used.ru_utime.tv_usec + used.ru_stime.tv_usec) / 1e6;
+}
+
 struct Times {
     vector<uint32_t> least;
-    double seconds = 1e9;
+    double seconds = 1e9, processor_seconds = 1e9;
 
     explicit Times(size_t count) : least(count, ~0u) {}
     void show() {
         std::sort(least.begin(), least.end());
         size_t count = least.size();
-        printf("%.3f %u %u %u ", seconds, least[count / 2], least[size_t(double(count - 1) * 0.999)], least[count - 1]);
+        printf("%.3f %.3f %u %u %u ", seconds, processor_seconds, least[count / 2], least[size_t(double(count - 1) * 0.999)], least[count - 1]);
     }
 };
 
@@ -114,6 +122,7 @@ int main(int count, char **words) {
         std::filesystem::remove(string(file) + "-shm");
         std::filesystem::remove(string(file) + "-lock");
         uint64_t begun = now();
+        double used = processor();
         {
             Store store(file, batch);
             for (size_t at = 0; at < calls; at++) {
@@ -126,7 +135,9 @@ int main(int count, char **words) {
             }
         }
         puts.seconds = std::min(puts.seconds, double(now() - begun) / 1e9);
+        puts.processor_seconds = std::min(puts.processor_seconds, processor() - used);
         begun = now();
+        used = processor();
         {
             Store store(file, batch);
             for (size_t at = 0; at < calls; at++) {
@@ -139,6 +150,7 @@ int main(int count, char **words) {
             }
         }
         gets.seconds = std::min(gets.seconds, double(now() - begun) / 1e9);
+        gets.processor_seconds = std::min(gets.processor_seconds, processor() - used);
     }
     long most = memory() - before;
     puts.show();

@@ -4,10 +4,11 @@
 #     bench/library.sh [COUNT [ROUNDS]]        (1000000 keys, 3 rounds)
 #
 # Each store is one process for each text: COUNT keys in random order, and in rising order (bench/library.cpp). It prints a table
-# with the seconds, the ratio to LevelDB's, the median, the 99.9th percentile and the worst call, and the peak memory, and then
-# what became of the aims. It wants a C++ compiler and the library (make library builds it; LIBRARY names another folder that has
-# libcola.a). A peer whose headers are not there is skipped and named (Debian: libleveldb-dev liblmdb-dev libsqlite3-dev
-# libtkrzw-dev). It takes minutes and a gigabyte below TMPDIR, and means something on an idle machine alone.
+# with the seconds, passed and of processor, their ratios to LevelDB's, the median, the 99.9th percentile and the worst call, and
+# the peak memory, and then what became of the aims. It wants a C++ compiler and the library (make library builds it; LIBRARY
+# names another folder that has libcola.a). A peer whose headers are not there is skipped and named (Debian: libleveldb-dev
+# liblmdb-dev libsqlite3-dev libtkrzw-dev). It takes minutes and a gigabyte below TMPDIR, and means something on an idle machine
+# alone.
 set -euo pipefail
 root=$(cd "$(dirname "$0")/.." && pwd -P)
 count=${1:-1000000} rounds=${2:-3}
@@ -44,17 +45,18 @@ for order in random rising; do
         echo "$title|$(cat "$room/$order.$name")" >>"$room/$order"
     done
     [ "$(awk '{ print $NF }' "$room/$order" | sort -u | wc -l)" -eq 1 ] || { echo 'library: two stores have other values' >&2; exit 1; }
-    printf '\n| %s keys in %s order | puts and gets, seconds | beside LevelDB | put: median, 99.9th, worst, us | get: median, 99.9th, worst, us | memory, MiB |\n' "$count" "$order"
-    printf '|---|---:|---:|---:|---:|---:|\n'
+    printf '\n| %s keys in %s order | puts and gets, seconds | beside LevelDB | of processor | beside LevelDB | put: median, 99.9th, worst, us | get: median, 99.9th, worst, us | memory, MiB |\n' "$count" "$order"
+    printf '|---|---:|---:|---:|---:|---:|---:|---:|\n'
     awk -F '[|]' '
-        { split($2, n, " "); title[NR] = $1; both[NR] = n[1] + n[5]; if ($1 == "LevelDB") level = both[NR]
-          text[NR] = sprintf("%.2f + %.2f | %%s | %.2f, %.1f, %.0f | %.2f, %.1f, %.0f | %.1f", n[1], n[5], n[2] / 1e3, n[3] / 1e3, n[4] / 1e3, n[6] / 1e3, n[7] / 1e3, n[8] / 1e3, n[9] / 1024) }
-        END { for (at = 1; at <= NR; at++) printf("| %s | " text[at] " |\n", title[at], level ? sprintf("%.2f", both[at] / level) : "") }' "$room/$order"
+        { split($2, n, " "); title[NR] = $1; both[NR] = n[1] + n[6]; used[NR] = n[2] + n[7]; if ($1 == "LevelDB") level = NR
+          text[NR] = sprintf("%.2f + %.2f | %%s | %.2f + %.2f | %%s | %.2f, %.1f, %.0f | %.2f, %.1f, %.0f | %.1f", n[1], n[6], n[2], n[7], n[3] / 1e3, n[4] / 1e3, n[5] / 1e3, n[8] / 1e3, n[9] / 1e3, n[10] / 1e3, n[11] / 1024) }
+        function beside(it) { return level ? sprintf("%.2f", it) : "" }
+        END { for (at = 1; at <= NR; at++) printf("| %s | " text[at] " |\n", title[at], beside(both[at] / both[level]), beside(used[at] / used[level])) }' "$room/$order"
 done
 echo
 for order in random rising; do
     awk -F '[|]' -v order="$order" '
-        { split($2, n, " "); both[$1] = n[1] + n[5]; worst[$1] = n[4] }
+        { split($2, n, " "); both[$1] = n[1] + n[6]; worst[$1] = n[5] }
         END {
             if ("LevelDB" in both) printf "The text of keys in %s order takes %.2f of the time of LevelDB (the aim: 1).\n", order, both["cola, block 5"] / both["LevelDB"]
             if ("LMDB" in both) printf "The worst put in %s order takes %.2f of that of LMDB (the aim: 0.1).\n", order, worst["cola, block 5"] / worst["LMDB"]
