@@ -84,7 +84,7 @@ fi
 # The answers of the header are those of the crate, Answer::Done and Answer::Absent as COLA_OK and COLA_NONE; the C files give two more.
 has_answers() {
     sed -n 's/^ *COLA_\([A-Z_]*\) = \([0-9]*\)[^0-9]*.*/\2 \1/p' include/cola.h | grep -vE ' (NULL|SYSTEM)$' >"$room/header"
-    sed -n 's/^ *Answer::\([A-Za-z]*\) => \([0-9]*\),$/\2 \1/p' crates/*/src/answer.rt |
+    sed -n 's/^ *Answer::\([A-Za-z]*\) => \([0-9]*\),$/\2 \1/p' crates/cola_handle/src/answer.rt |
         sed 's/Done/Ok/; s/Absent/None/; s/\([a-z]\)\([A-Z]\)/\1_\2/g' | tr 'a-z' 'A-Z' >"$room/answers"
     [ "$(wc -l <"$room/header")" -eq 16 ] && diff "$room/header" "$room/answers"
 }
