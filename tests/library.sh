@@ -103,7 +103,8 @@ check 'the test of random calls compiles' compiles random '-O2 -g' tests/library
 check 'the test of killed processes compiles' compiles killed '-O2 -g' tests/library/killed.c
 check 'the example in C compiles' compiles words '-O2 -g' examples/words.c
 check 'each answer is met' "$room/errors" "$room"
-check 'a hundred thousand random calls, and a copy for the program after each hundred' "$room/random" "$room" 100000 100 "$program"
+# (a hundred thousand of these calls are on small stores)
+check 'random calls, and a copy for the program after each hundred' "$room/random" "$room" 125000 100 "$program"
 check 'killed processes leave a file that is refused, and their last copy' "$room/killed" "$room" 20
 check 'an index of words in C' is_index "$room/words"
 "$program" check "$room/index" >"$room/out"

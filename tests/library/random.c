@@ -3,8 +3,9 @@
  *
  *     random FOLDER CALLS EVERY [PROGRAM]
  *
- * Half of the calls go to a store of version 1, half to one of version 2. The seed is fixed. Without PROGRAM the copies are
- * opened by the library alone. It ends with 0 where all was equal, and writes the number of calls. */
+ * Two fifths of the calls go to small stores of version 1, two to small ones of version 2, and one to a store of thousands of
+ * keys, which has two checkpoints. The seed is fixed. Without PROGRAM the copies are opened by the library alone. It ends with
+ * 0 where all was equal, and writes the number of calls. */
 #include <fcntl.h>
 #include <spawn.h>
 #include <stdio.h>
@@ -16,13 +17,14 @@
 
 extern char **environ;
 
-enum { KEYS = 300, MOST = 40 };
+enum { MOST = 40 };
 
 static uint64_t state = 20261128;
 static char store_path[4096], copy_path[4096], lines_path[4096], wanted_path[4096], written_path[4096];
 static const char *program;
 static bool any_bytes; /* keys and values of any bytes, which the program's lines can't have */
 static long call;
+static uint64_t limit, names; /* the keys that a store is for, and how many keys there are */
 
 static uint64_t next(uint64_t below) {
     state ^= state << 13, state ^= state >> 7, state ^= state << 17;
@@ -35,9 +37,9 @@ static void differ(const char *what, int line) {
     exit(1);
 }
 
-/* A key of a few hundred, many of them beginnings of others; now and then one that is too long, or empty. */
+/* One of so many keys, many of them beginnings of others; now and then one that is too long, or empty. */
 static size_t some_key(const plain *it, uint8_t *key) {
-    uint64_t which = next(400), number = which;
+    uint64_t which = next(names), number = which;
     size_t length = 1 + (size_t)(which % 7) * (it->key_max - 1) / 6;
     if (next(200) == 0) length = next(2) == 0 ? 0 : it->key_max + 1 + next(30);
     for (size_t at = 0; at < length; at++) {
@@ -182,10 +184,10 @@ static void library_opens(const plain *it) {
 }
 
 static void calls_on(int version, uint8_t block, long calls, long every) {
-    plain it = plain_new(KEYS, version);
+    plain it = plain_new(limit, version);
     cola_file file = COLA_FILE_INIT;
     unlink(store_path);
-    SAME("a new file", cola_file_create(store_path, KEYS, block, (uint8_t)version) == COLA_OK);
+    SAME("a new file", cola_file_create(store_path, limit, block, (uint8_t)version) == COLA_OK);
     SAME("its opening", cola_file_open(&file, store_path) == COLA_OK);
     for (long done = 0; done < calls; done++, call++) {
         uint64_t which = next(100);
@@ -229,9 +231,11 @@ int main(int count, char **words) {
     fclose(lines);
     for (int version = 1; version <= 2; version++)
         for (int any = 0; any < 2; any++) {
-            any_bytes = any;
-            calls_on(version, (uint8_t)(3 + 2 * any), calls / 4, every);
+            any_bytes = any, limit = 300, names = 400;
+            calls_on(version, (uint8_t)(3 + 2 * any), calls / 5, every);
         }
+    any_bytes = false, limit = 20000, names = 60000;
+    calls_on(1, 5, calls / 5, calls / 10);
     printf("%ld calls\n", call);
     return 0;
 }
