@@ -102,18 +102,18 @@ check 'the test of answers compiles' compiles errors "-O2 -g $fails" tests/libra
 check 'the test of random calls compiles' compiles random '-O2 -g' tests/library/random.c
 check 'the test of killed processes compiles' compiles killed '-O2 -g' tests/library/killed.c
 check 'the example in C compiles' compiles words '-O2 -g' examples/words.c
-check 'each answer is met' "$room/errors" "$room"
+check 'each answer is met' quietly "$room/errors" "$room"
 # (a hundred thousand of these calls are on small stores)
-check 'random calls, and a copy for the program after each hundred' "$room/random" "$room" 125000 100 "$program"
-check 'killed processes leave a file that is refused, and their last copy' "$room/killed" "$room" 20
+check 'random calls, and a copy for the program after each hundred' quietly "$room/random" "$room" 125000 100 "$program"
+check 'killed processes leave a file that is refused, and their last copy' quietly "$room/killed" "$room" 20
 check 'an index of words in C' is_index "$room/words"
 "$program" check "$room/index" >"$room/out"
 check 'its file is sound' grep -qx 'sound 85' "$room/out"
 
 if is_there valgrind 'the calls under valgrind'; then
     valgrind="valgrind -q --error-exitcode=99 --leak-check=full --show-leak-kinds=all"
-    check 'each answer, under valgrind' $valgrind "$room/errors" "$room"
-    check 'random calls, under valgrind' $valgrind "$room/random" "$room" 3000 500
+    check 'each answer, under valgrind' quietly $valgrind "$room/errors" "$room"
+    check 'random calls, under valgrind' quietly $valgrind "$room/random" "$room" 3000 500
     check 'an index of words in C, under valgrind' is_index $valgrind "$room/words"
 fi
 sanitizers="-O1 -g -fsanitize=address,undefined -fno-sanitize-recover=all"
@@ -122,8 +122,8 @@ if cc $sanitizers "$room/empty.c" -o "$room/empty" 2>/dev/null && "$room/empty";
     check 'the tests compile with sanitizers' compiles errors_sane "$sanitizers $fails" tests/library/errors.c bindings/c/*.c
     check 'random calls compile with sanitizers' compiles random_sane "$sanitizers" tests/library/random.c bindings/c/*.c
     check 'the example compiles with sanitizers' compiles words_sane "$sanitizers" examples/words.c bindings/c/*.c
-    check 'each answer, with sanitizers' "$room/errors_sane" "$room"
-    check 'random calls, with sanitizers' "$room/random_sane" "$room" 10000 500
+    check 'each answer, with sanitizers' quietly "$room/errors_sane" "$room"
+    check 'random calls, with sanitizers' quietly "$room/random_sane" "$room" 10000 500
     check 'an index of words in C, with sanitizers' is_index "$room/words_sane"
 else
     echo 'skipped: the calls with sanitizers (the compiler has none)'
@@ -149,7 +149,7 @@ if is_there pkg-config 'the first program of docs/C.md'; then
     check 'the first program in C writes what it should' writes_ada ./notes.program
 fi
 if is_there cargo 'the crate for Rust'; then
-    export COLA_LIB_DIR=$library CARGO_TARGET_DIR=$room/target
+    export COLA_LIB_DIR=$library CARGO_TARGET_DIR=$room/target CARGO_HOME=$room/cargo TMPDIR=$room
     manifest="--offline --locked --manifest-path bindings/rust/Cargo.toml"
     mkdir -p "$room/crate/src"
     first docs/RUST.md 'use cola' >"$room/crate/src/main.rs"
@@ -162,7 +162,7 @@ if is_there cargo 'the crate for Rust'; then
     check 'the first program in Rust writes what it should' writes_ada "$room/target/debug/notes"
 fi
 if is_there python3 'the module for Python'; then
-    export COLA_LIBRARY=$library/libcola.so PYTHONPATH=$root/bindings/python PYTHONDONTWRITEBYTECODE=1
+    export COLA_LIBRARY=$library/libcola.so PYTHONPATH=$root/bindings/python PYTHONDONTWRITEBYTECODE=1 TMPDIR=$room
     in_python() { (cd bindings/python && "$@" >"$room/out" 2>&1) || { cat "$room/out"; false; }; }
     pytest=
     for it in 'python3 -m pytest' pytest-3; do
