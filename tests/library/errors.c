@@ -181,7 +181,8 @@ static void of_damaged_stores(void) {
     free(bytes);
 }
 
-/* Each allocation of an opening fails in turn: the handle stays closed, the bytes stay, nothing is kept. */
+/* Each allocation of an opening fails in turn: the handle stays closed, nothing is kept, and the bytes stay, as cola_file_open
+ * wants it of those behind the first page. */
 static void of_memory(void) {
     uint64_t length, count;
     cola store = COLA_INIT;
