@@ -1,0 +1,6 @@
+pub mod Moved
+pub mod Answered
+pub mod Listing
+pub mod Carried
+pub mod Ranging
+pub mod Openings

@@ -1,0 +1,136 @@
+-- What making, opening and closing a file say, in the words of an open store.
+use Rattle.std.proofs.Common.{◌≡◌, ◌⊎◌, inl, inr, ℕ, ◌<◌, min, List, length, Option, Some, None, Result, Ok, Err, refl, sym, ap, subst}
+use Rattle.std.specs.Prelude.{IfSome, IfErr}
+use Rattle.cola_outside.specs.Told.{Both}
+use Rattle.cola_cell.specs.declared.format.Format.{Format}
+use Rattle.cola_device.specs.declared.device.Device as device
+use Rattle.cola_device.specs.Settling.{IsSettled}
+use Rattle.cola_spec.specs.Map.{Map, empty_map}
+use Rattle.cola_image.specs.Standing.{FileStandsFor, with_state}
+use Rattle.cola_store.specs.declared.account.Account.{Account}
+use Rattle.cola_store.specs.declared.fault.CreateFault.{CreateFault}
+use Rattle.cola_store.specs.declared.fault.CreateFault.TheVariants as create
+use Rattle.cola_store.specs.declared.fault.OpenFault.{OpenFault}
+use Rattle.cola_store.specs.declared.fault.OpenFault.TheVariants as opening
+use Rattle.cola_store.specs.Create.{Created, IsNewFile, PartlyMade, new_header}
+use Rattle.cola_store.specs.Open.{Opens, FailedAtHeader, FailedAtCells, FailedAtMark}
+use Rattle.cola_store.specs.declared.closing.Closing.{Closing}
+use Rattle.cola_store.specs.Sessions.{IsStoreOpened, OpensStore, ClosesStore, OpensTo, MetFault, Owes}
+use Rattle.cola_store.specs.Store.{Stored}
+use Rattle.cola_store.proofs.OpenLaws.{opens-to}
+use Rattle.cola_kv.specs.declared.error.Error.{Error}
+use Rattle.cola_kv.specs.declared.error.Error.TheVariants as error
+use Rattle.cola_kv.specs.declared.kv.Kv.{Kv}
+use Rattle.cola_kv.specs.declared.options.Options.{Options}
+use Rattle.cola_kv.specs.Errors.{of_create, of_open}
+use Rattle.cola_kv.specs.Kv.{Holds, device_of}
+use Rattle.cola_kv.specs.Opened.{IsButState, StandsFor, IsMade, CreateCause, IsOpen, OpenCause, IsOpenRefusal, IsSaved}
+
+-- what is told of both stands in a weaker relation too
+both-so : {A B : Type 0} (old : Option A) (new : Option B) (P Q : A → B → Type 0) → ((a : A) (b : B) → P a b → Q a b) → Both old new P → Both old new Q
+both-so None None P Q so both = tt
+both-so None (Some b) P Q so both = absurd both
+both-so (Some a) None P Q so both = absurd both
+both-so (Some a) (Some b) P Q so both = so a b both
+
+unchanged : (told : Option (List ℕ)) → Both told told IsButState
+unchanged None = tt
+unchanged (Some bytes) = inl refl
+
+same-bytes : (old new : Option (List ℕ)) → new ≡ old → Both old new IsButState
+same-bytes old new same = subst (λ (t : Option (List ℕ)). Both old t IsButState) (sym same) (unchanged old)
+
+module _ {D : Type 0} (d : device.Ghosts D) where
+  new-file : (format : Format) (keys block_exp bottom : ℕ) (told : Option (List ℕ)) → IfSome told (IsNewFile format keys block_exp bottom) → IfSome told (λ bytes. FileStandsFor bytes empty_map)
+  new-file format keys block_exp bottom None file = tt
+  new-file format keys block_exp bottom (Some bytes) file = (new_header format keys block_exp bottom, file.stands)
+
+  pub is-made : (format : Format) (keys block_exp : ℕ) (before now : D) → Created d format keys block_exp before now (Ok tt) → IsMade d before now
+  is-made format keys block_exp before now is = record {
+    was_empty = is.was_empty;
+    stands = new-file format keys block_exp is.bottom (d.bytes now) is.file;
+    settled = is.settled;
+    no_fault = is.no_fault;
+  }
+
+  pub create-cause : (options : Options) (before now : D) (fault : CreateFault) → Created d options.format options.keys options.block_exp before now (Err fault) → CreateCause d options before now (of_create fault)
+  create-cause options before now create.Keys is = (is.why, is.untouched)
+  create-cause options before now create.Block is = (is.why, is.untouched)
+  create-cause options before now create.NotEmpty is = (is.some, is.bytes_stay)
+  create-cause options before now create.Device is =
+      (is.cause, both-so (d.bytes before) (d.bytes now) (PartlyMade _) (λ old new. 0 < length old → new ≡ old) (λ old new made. made.others_stay) is.left)
+
+  -- Opening
+
+  pub is-open : (before : D) (cache : ℕ) (kv : Kv D d) → kv.cache ≡ min cache 4096 → IsStoreOpened d before kv.cache kv.store → IsOpen d before cache kv
+  is-open before cache kv size is = record {
+    holds = is.holds;
+    marked = is.opened.marked;
+    settled = is.opened.settled;
+    no_steps = is.numbers.0;
+    opened_is = ap (λ (a : Account). a.opened) is.account_is;
+    cache_is = size;
+  }
+
+  pub open-cause : (before now : D) (cache : ℕ) (fault : OpenFault) → Opens d before cache (Err (now, fault)) → OpenCause d before now (of_open fault)
+  open-cause before now cache opening.NotStore is = is
+  open-cause before now cache opening.NotClosed is = is
+  open-cause before now cache opening.Small is = is
+  open-cause before now cache opening.OutOfMemory is = is
+  open-cause before now cache (opening.BadCell number) is = is
+  open-cause before now cache opening.Device is = (is.cause, at is.at)
+    where
+      at : FailedAtHeader d before now ⊎ (FailedAtCells d before now ⊎ FailedAtMark d before now) → Both (d.bytes before) (d.bytes now) IsButState
+      at (inl header) = same-bytes (d.bytes before) (d.bytes now) header.bytes_stay
+      at (inr (inl cells)) = same-bytes (d.bytes before) (d.bytes now) cells.bytes_stay
+      at (inr (inr mark)) = both-so (d.bytes before) (d.bytes now) (λ old new. (state : ℕ) × (new ≡ with_state state old)) IsButState (λ old new is. inr is) mark.left
+
+  -- what an opening leaves that was refused
+  pub cause-left : (before now : D) (e : Error) → OpenCause d before now e → Both (d.bytes before) (d.bytes now) IsButState
+  cause-left before now error.NotStore is = same-bytes (d.bytes before) (d.bytes now) is.bytes_stay
+  cause-left before now error.Small is = same-bytes (d.bytes before) (d.bytes now) is.bytes_stay
+  cause-left before now error.NotClosed is = same-bytes (d.bytes before) (d.bytes now) is.bytes_stay
+  cause-left before now error.OutOfMemory is = same-bytes (d.bytes before) (d.bytes now) is.bytes_stay
+  cause-left before now (error.BadCell number) is = same-bytes (d.bytes before) (d.bytes now) is.1.bytes_stay
+  cause-left before now error.Device is = is.1
+  cause-left before now error.KeyLength is = absurd is
+  cause-left before now error.ValueLength is = absurd is
+  cause-left before now error.Keys is = absurd is
+  cause-left before now error.Block is = absurd is
+  cause-left before now error.NotEmpty is = absurd is
+  cause-left before now error.Full is = absurd is
+  cause-left before now error.Worn is = absurd is
+  cause-left before now (error.Overfull level) is = absurd is
+
+  refusal-so : (before now : D) (fault : OpenFault) → (fault ≡ opening.OutOfMemory) ⊎ MetFault d before (now, fault) → IsOpenRefusal d before now (of_open fault)
+  refusal-so before now fault (inl is) = inl (ap of_open is)
+  refusal-so before now fault (inr is) = inr (ap of_open is.0, is.1)
+
+  pub opens-sound : (before : D) (cache : ℕ) (m : Map) (store : Stored D) → StandsFor d before m → OpensStore d before cache (Ok store) → OpensTo d before m (Ok store)
+  opens-sound before cache m store file is = opens-to d cache before m (Ok store) file is
+
+  pub refuses-sound : (before now : D) (cache : ℕ) (m : Map) (fault : OpenFault) → StandsFor d before m → OpensStore d before cache (Err (now, fault)) → IsOpenRefusal d before now (of_open fault)
+  refuses-sound before now cache m fault file is = refusal-so before now fault (opens-to d cache before m (Err (now, fault)) file is)
+
+  -- Closing
+
+  pub owes-so : (kv : Kv D d) (m : Map) (result : Result D (Closing D d)) → Holds d kv m → ClosesStore d kv.store result → IfErr result (λ closing. Owes d closing m)
+  owes-so kv m (Ok now) holds is = tt
+  owes-so kv m (Err closing) holds is = is.owes m holds
+
+  -- Keeping safe
+
+  pub saved-open : (m : Map) (saved : D) (cache : ℕ) (kv : Kv D d) → IsSettled d saved → StandsFor d saved m → IsOpen d saved cache kv → IsSaved d m (device_of kv)
+  saved-open m saved cache kv settled stands is = record {
+    saved = saved;
+    settled = settled;
+    stands = stands;
+    left = both-so (d.bytes saved) (d.bytes (device_of kv)) (λ old new. new ≡ with_state 1 old) IsButState (λ old new is. inr (1, is)) is.marked;
+  }
+
+  pub saved-shut : (m : Map) (saved now : D) (e : Error) → IsSettled d saved → StandsFor d saved m → OpenCause d saved now e → IsSaved d m now
+  saved-shut m saved now e settled stands is = record { saved = saved; settled = settled; stands = stands; left = cause-left saved now e is }
+
+  pub shut-reason : (before now : D) (e : Error) → IsOpenRefusal d before now e → (e ≡ error.OutOfMemory) ⊎ (e ≡ error.Device)
+  shut-reason before now e (inl is) = inl is
+  shut-reason before now e (inr is) = inr is.0
