@@ -61,6 +61,7 @@ module _ {D : Type 0} (d : device.Ghosts D) where
 
   pub none-yet : (kv : Kv D d) → Stays d kv kv → CarriesAll d kv kv [] []
   none-yet kv stays = record {
+    many = refl;
     answers = λ m holds. tt;
     map = λ m holds. holds;
     faults = λ k x h. absurd (omega (arith, h));
@@ -77,7 +78,10 @@ module _ {D : Type 0} (d : device.Ghosts D) where
         let n = all.steps in
         let k = one.one_step in
         let many = length-append calls (call ∷ []) in
+        let results_many = length-append results (result ∷ []) in
+        let was = all.many in
         record {
+          many = omega (arith, many, results_many, was);
           answers = λ m holds.
               answered-more (shape_of old) m calls results call result (all.answers m holds)
               (subst (λ (s : Shape). IsAnswered s (last_map (shape_of old) m calls results) call result) shape (one.answer (last_map (shape_of old) m calls results) (all.map m holds)));

@@ -5,3 +5,4 @@ pub mod Causes
 pub mod Calls
 pub mod Listed
 pub mod Ranged
+pub mod Iterated

@@ -92,6 +92,7 @@ module _ {D : Type 0} (d : device.Ghosts D) (old new : Kv D d) where
 
   -- calls were made one after another, and were answered so
   pub record CarriesAll (calls : List Call) (results : List (Result Answer Error)) : Type 0 where
+    pub many : length results ≡ length calls
     pub answers : (m : Map) → Holds d old m → AreAnswered (shape_of old) m calls results
     pub map : (m : Map) → Holds d old m → Holds d new (last_map (shape_of old) m calls results)
     pub faults : All (λ result. result ≡ Err Device → Rose (faults_of d old) (faults_of d new)) results

@@ -5,6 +5,7 @@
 mod calls;
 mod counted;
 mod error;
+mod iterator;
 mod kv;
 mod list;
 mod listed;

@@ -1,5 +1,5 @@
 //! A range of an open store, as an iterator that borrows it.
-ghost use Rattle.std.specs.Prelude.{◌≡◌, ◌<◌, ◌≤◌, IfOk, option_copied};
+ghost use Rattle.std.specs.Prelude.{◌≡◌, ◌<◌, false, IfOk, option_copied};
 ghost use Rattle.std.specs.Borrow.{sem, RestsIfErr};
 ghost use Rattle.cola_kv.specs.contracts.kv.Kv.{the_row};
 ghost use Rattle.cola_kv.specs.Ranged.{Begins, Nexts, Stands, walked};
@@ -14,11 +14,13 @@ use cola_table::Table;
 use std::marker::Brand;
 use std::sync::ledger::{Blank, Ledger};
 
-/// A range of an open store, by rising keys. The store can be asked again when the range is dropped.
+/// A range of an open store, by rising keys, which borrows it. As an iterator it ends behind the last pair and behind the first
+/// refusal; [`Range::try_next`] asks again what was refused.
 #[derive(Drop)]
 pub struct Range<'a, D: Device> {
     kv: &'a mut Kv<D>,
     walk: Cursor,
+    pub(crate) ended: bool,
 }
 
 /// Begins a range on a ledger that the blank opens.
@@ -65,6 +67,7 @@ impl<'a, D: Device> Range<'a, D> {
         requires standing { Stands D.Device self.old.kv.now self.old.walk }
         ensures same_reference { self.new.kv.ghost_name ≡ self.old.kv.ghost_name }
         ensures nexts { Nexts D.Device self.old.kv.now self.new.kv.now self.old.walk self.new.walk result }
+        ensures same_end { self.new.ended ≡ self.old.ended }
     {
         next_on::<D, Brand>(Blank::new(1), self.kv, &mut self.walk)
     }
@@ -75,9 +78,14 @@ impl<D: Device> Kv<D> {
     pub fn range<'a>(&'a mut self, low: &[u8], high: Option<&[u8]>) -> Result<Range<'a, D>, Error>
         ensures* refused { sem 𝓛 (RestsIfErr (the_row D.row D.Device) self.entry (λ range. range.kv.ghost_name) result (λ last. Begins D.Device self.old last low.now (option_copied high.entry) (walked (λ range. range.walk) result))) }
         ensures same_reference { IfOk result (λ range. range.kv.ghost_name ≡ self.entry.ghost_name) }
+        ensures goes_on { IfOk result (λ range. range.ended ≡ false) }
         ensures begins { IfOk result (λ range. Begins D.Device self.old range.kv.now low.now (option_copied high.entry) (walked (λ range. range.walk) result)) }
     {
         let walk = range_on::<D, Brand>(Blank::new(1), self, low, high)?;
-        Ok(Range { kv: self, walk })
+        Ok(Range {
+            kv: self,
+            walk,
+            ended: false,
+        })
     }
 }
