@@ -1,0 +1,3 @@
+pub mod Lending
+pub mod Mapped
+pub mod Region
