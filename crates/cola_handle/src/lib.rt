@@ -1,0 +1,23 @@
+//! What the library for C calls: an open store behind a handle, in bytes that the caller lends.
+#![tactic(auto)]
+
+mod answer;
+mod asking;
+mod creating;
+mod cursor;
+mod handle;
+mod loose;
+mod opening;
+mod session;
+#[cfg(test)]
+mod tests;
+mod walking;
+
+pub use answer::Answer;
+pub use asking::{count, delete, get, put, put_if, stamp};
+pub use creating::{create, size};
+pub use cursor::{Cursor, Row};
+pub use handle::Cola;
+pub use opening::{close, open};
+pub use session::Session;
+pub use walking::next;
