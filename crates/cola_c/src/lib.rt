@@ -1,15 +1,28 @@
-//! The store for C: what `include/cola.h` calls, without the tests for NULL.
+//! The store for C: what `include/cola.h` promises, but for the tests for NULL. C starts a handle with zeros, a region is a
+//! pointer and a length, a slice crosses as its pointer and its length, and nothing of the allocator crosses.
 #![tactic(auto)]
 
-ghost use Rattle.std.specs.Prelude.{◌≤◌, length, IsSome};
+ghost use Rattle.std.specs.Prelude.{◌≡◌, ◌≤◌, ℕ, pos, List, Bool, length, take, Result, Ok, Some, None, IsSome, IfOk};
+ghost use Rattle.cola_image.specs.Standing.{with_state};
+ghost use Rattle.cola_spec.specs.Map.{Map, count};
+ghost use Rattle.cola_mapped.specs.Region.{bytes_in};
+ghost use Rattle.cola_handle.specs.declared.answer.Answer.{Answer as Why};
+ghost use Rattle.cola_handle.specs.declared.answer.Answer.TheVariants as answer;
+ghost use Rattle.cola_handle.specs.declared.session.Session.{Session};
+ghost use Rattle.cola_handle.specs.Lent.{StandsFor, OpenCause};
+ghost use Rattle.cola_handle.specs.Numbers.{number, found, made, made_if, replaced};
+ghost use Rattle.cola_handle.specs.Open.{HoldsMap, place_of, device_of};
+ghost use Rattle.cola_c.specs.Exports.{Answered, Gets, Stamps, Deletes, Puts, PutsIf};
 
-use cola_handle::{Answer, Cola, Cursor, Row};
+use cola_handle::{
+    Answer, Cola, Cursor, Row, tell_delete, tell_put, tell_put_if, tell_stamp, tell_value,
+};
 use cola_mapped::Region;
-use cola_table::{Put, PutIf};
 use std::alloc::Global;
 use std::marker::Brand;
 use std::sync::ledger::Blank;
 
+/// How many bytes a store takes.
 #[unsafe(no_mangle)]
 pub extern "C" fn cola_core_size(keys: u64, block: u8, version: u8, bytes: &mut u64) -> i32 {
     match cola_handle::size(keys, block, version) {
@@ -21,14 +34,20 @@ pub extern "C" fn cola_core_size(keys: u64, block: u8, version: u8, bytes: &mut 
     }
 }
 
+/// Makes the store of a new file in zero bytes.
 #[unsafe(no_mangle)]
 pub extern "C" fn cola_core_create(bytes: &mut [u8], keys: u64, block: u8, version: u8) -> i32 {
     cola_handle::create(bytes, keys, block, version).code()
 }
 
+/// Opens the store in the region, which becomes the store's: then an empty one is left. An error leaves its bytes, or bytes
+/// of the same store.
 #[unsafe(no_mangle)]
 pub extern "C" fn cola_core_open(alloc: Global, cola: &mut Cola, region: &mut Region) -> i32
     requires { IsSome region.old.bytes }
+    ensures in_use { (session : Session) → cola.old.owned.session ≡ Some session → (result ≡ pos (number answer.InUse)) × (cola.new ≡ cola.old) × (region.new ≡ region.old) }
+    ensures opened { cola.old.owned.session ≡ None → (session : Session) → cola.new.owned.session ≡ Some session → (result ≡ pos (number answer.Done)) × ((device_of session).bytes ≡ with_state 1 (bytes_in region.old.bytes)) × (place_of session ≡ (region.old.at, region.old.len)) × ((m : Map) → StandsFor region.old.bytes m → HoldsMap session m) }
+    ensures refused { cola.old.owned.session ≡ None → cola.new.owned.session ≡ None → (why : Why) × OpenCause (bytes_in region.old.bytes) why × (result ≡ pos (number why)) × (region.new.at ≡ region.old.at) × (region.new.len ≡ region.old.len) × IsSome region.new.bytes × ((m : Map) → StandsFor region.old.bytes m → StandsFor region.new.bytes m) }
 {
     if cola.is_open() {
         return Answer::InUse.code();
@@ -46,6 +65,7 @@ pub extern "C" fn cola_core_open(alloc: Global, cola: &mut Cola, region: &mut Re
     }
 }
 
+/// Gives a key a value.
 #[unsafe(no_mangle)]
 pub extern "C" fn cola_core_put(
     alloc: Global,
@@ -53,21 +73,19 @@ pub extern "C" fn cola_core_put(
     key: &[u8],
     value: &[u8],
     was: &mut bool,
-) -> i32 {
+) -> i32
+    ensures closed { cola.old.owned.session ≡ None → (result ≡ pos (number answer.Closed)) × (cola.new.owned.session ≡ None) }
+    ensures answered { (session : Session) → cola.old.owned.session ≡ Some session → Answered cola.new.owned.session result made (λ new put. Puts session key.now value.now new put × IfOk put (λ done. was.new ≡ replaced done)) }
+{
     let Some(mut session) = cola.take(alloc) else {
         return Answer::Closed.code();
     };
-    let put = cola_handle::put::<Brand>(Blank::new(1), &mut session, key, value);
+    let answer = cola_handle::put::<Brand>(Blank::new(1), &mut session, key, value);
     cola.put(alloc, session);
-    match put {
-        Ok(put) => {
-            *was = put != Put::New;
-            Answer::Done.code()
-        }
-        Err(answer) => answer.code(),
-    }
+    tell_put(answer, was)
 }
 
+/// Gives a key a value where it has the stamp that was seen.
 #[unsafe(no_mangle)]
 pub extern "C" fn cola_core_put_if(
     alloc: Global,
@@ -76,22 +94,19 @@ pub extern "C" fn cola_core_put_if(
     seen: u64,
     value: &[u8],
     stamp: &mut u64,
-) -> i32 {
+) -> i32
+    ensures closed { cola.old.owned.session ≡ None → (result ≡ pos (number answer.Closed)) × (cola.new.owned.session ≡ None) }
+    ensures answered { (session : Session) → cola.old.owned.session ≡ Some session → Answered cola.new.owned.session result made_if (λ new put. PutsIf session key.now seen value.now new put) }
+{
     let Some(mut session) = cola.take(alloc) else {
         return Answer::Closed.code();
     };
-    let put = cola_handle::put_if::<Brand>(Blank::new(1), &mut session, key, seen, value);
+    let answer = cola_handle::put_if::<Brand>(Blank::new(1), &mut session, key, seen, value);
     cola.put(alloc, session);
-    match put {
-        Ok(PutIf::Other(other)) => {
-            *stamp = other;
-            Answer::Other.code()
-        }
-        Ok(_) => Answer::Done.code(),
-        Err(answer) => answer.code(),
-    }
+    tell_put_if(answer, stamp)
 }
 
+/// The value of a key.
 #[unsafe(no_mangle)]
 pub extern "C" fn cola_core_get(
     alloc: Global,
@@ -101,70 +116,66 @@ pub extern "C" fn cola_core_get(
     len: &mut usize,
 ) -> i32
     requires { 72 ≤ length into.old }
+    ensures closed { cola.old.owned.session ≡ None → (result ≡ pos (number answer.Closed)) × (cola.new.owned.session ≡ None) }
+    ensures answered { (session : Session) → cola.old.owned.session ≡ Some session → Answered cola.new.owned.session result found (λ new got. Gets session key.now new got × ((value : List ℕ) → got ≡ Ok (Some value) → (take (length value) into.new ≡ value) × (len.new ≡ length value))) }
 {
     let Some(mut session) = cola.take(alloc) else {
         return Answer::Closed.code();
     };
-    let found = cola_handle::get::<Brand>(Blank::new(1), &mut session, key);
+    let answer = cola_handle::get::<Brand>(Blank::new(1), &mut session, key);
     cola.put(alloc, session);
-    match found {
-        Ok(Some(value)) => {
-            let bytes = value.bytes();
-            into[..bytes.len()].copy_from_slice(bytes);
-            *len = bytes.len();
-            Answer::Done.code()
-        }
-        Ok(None) => Answer::Absent.code(),
-        Err(answer) => answer.code(),
-    }
+    tell_value(answer, into, len)
 }
 
+/// The stamp of a key.
 #[unsafe(no_mangle)]
 pub extern "C" fn cola_core_stamp(
     alloc: Global,
     cola: &mut Cola,
     key: &[u8],
     stamp: &mut u64,
-) -> i32 {
+) -> i32
+    ensures closed { cola.old.owned.session ≡ None → (result ≡ pos (number answer.Closed)) × (cola.new.owned.session ≡ None) }
+    ensures answered { (session : Session) → cola.old.owned.session ≡ Some session → Answered cola.new.owned.session result found (λ new got. Stamps session key.now new got × ((given : ℕ) → got ≡ Ok (Some given) → stamp.new ≡ given)) }
+{
     let Some(mut session) = cola.take(alloc) else {
         return Answer::Closed.code();
     };
-    let found = cola_handle::stamp::<Brand>(Blank::new(1), &mut session, key);
+    let answer = cola_handle::stamp::<Brand>(Blank::new(1), &mut session, key);
     cola.put(alloc, session);
-    match found {
-        Ok(Some(number)) => {
-            *stamp = number;
-            Answer::Done.code()
-        }
-        Ok(None) => Answer::Absent.code(),
-        Err(answer) => answer.code(),
-    }
+    tell_stamp(answer, stamp)
 }
 
+/// Takes a key out.
 #[unsafe(no_mangle)]
-pub extern "C" fn cola_core_delete(alloc: Global, cola: &mut Cola, key: &[u8]) -> i32 {
+pub extern "C" fn cola_core_delete(alloc: Global, cola: &mut Cola, key: &[u8]) -> i32
+    ensures closed { cola.old.owned.session ≡ None → (result ≡ pos (number answer.Closed)) × (cola.new.owned.session ≡ None) }
+    ensures answered { (session : Session) → cola.old.owned.session ≡ Some session → Answered cola.new.owned.session result found (λ new old. Deletes session key.now new old) }
+{
     let Some(mut session) = cola.take(alloc) else {
         return Answer::Closed.code();
     };
-    let old = cola_handle::delete::<Brand>(Blank::new(1), &mut session, key);
+    let answer = cola_handle::delete::<Brand>(Blank::new(1), &mut session, key);
     cola.put(alloc, session);
-    match old {
-        Ok(Some(_)) => Answer::Done.code(),
-        Ok(None) => Answer::Absent.code(),
-        Err(answer) => answer.code(),
-    }
+    tell_delete(answer)
 }
 
+/// The number of keys.
 #[unsafe(no_mangle)]
-pub extern "C" fn cola_core_count(alloc: Global, cola: &mut Cola, count: &mut u64) -> i32 {
+pub extern "C" fn cola_core_count(alloc: Global, cola: &mut Cola, keys: &mut u64) -> i32
+    ensures closed { cola.old.owned.session ≡ None → (result ≡ pos (number answer.Closed)) × (cola.new.owned.session ≡ None) }
+    ensures stays { cola.new.owned.session ≡ cola.old.owned.session }
+    ensures answered { (session : Session) (m : Map) → cola.old.owned.session ≡ Some session → HoldsMap session m → (result ≡ pos (number answer.Done)) × (keys.new ≡ count m) }
+{
     let Some(session) = cola.take(alloc) else {
         return Answer::Closed.code();
     };
-    *count = cola_handle::count(&session);
+    *keys = cola_handle::count(&session);
     cola.put(alloc, session);
     Answer::Done.code()
 }
 
+/// Sets a cursor before the first key from a low end on.
 #[unsafe(no_mangle)]
 pub extern "C" fn cola_core_seek(
     cursor: &mut Cursor,
@@ -177,10 +188,11 @@ pub extern "C" fn cola_core_seek(
             *cursor = place;
             Answer::Done.code()
         }
-        Err(answer) => answer.code(),
+        Err(refusal) => refusal.answer().code(),
     }
 }
 
+/// The next rows of a cursor.
 #[unsafe(no_mangle)]
 pub extern "C" fn cola_core_next(
     alloc: Global,
@@ -202,12 +214,15 @@ pub extern "C" fn cola_core_next(
             }
             Answer::Done.code()
         }
-        Err(answer) => answer.code(),
+        Err(refusal) => refusal.answer().code(),
     }
 }
 
+/// Closes the store and opens it again. An error gives the bytes back: then the handle is closed.
 #[unsafe(no_mangle)]
-pub extern "C" fn cola_core_checkpoint(alloc: Global, cola: &mut Cola, region: &mut Region) -> i32 {
+pub extern "C" fn cola_core_checkpoint(alloc: Global, cola: &mut Cola, region: &mut Region) -> i32
+    ensures closed { cola.old.owned.session ≡ None → (result ≡ pos (number answer.Closed)) × (cola.new.owned.session ≡ None) }
+{
     let Some(session) = cola.take(alloc) else {
         return Answer::Closed.code();
     };
@@ -224,8 +239,16 @@ pub extern "C" fn cola_core_checkpoint(alloc: Global, cola: &mut Cola, region: &
     }
 }
 
+/// Closes the store, and gives its bytes back in the region, where they were.
 #[unsafe(no_mangle)]
-pub extern "C" fn cola_core_close(alloc: Global, cola: &mut Cola, region: &mut Region) -> i32 {
+pub extern "C" fn cola_core_close(alloc: Global, cola: &mut Cola, region: &mut Region) -> i32
+    ensures closed { cola.old.owned.session ≡ None → result ≡ pos (number answer.Closed) }
+    ensures left { cola.new.owned.session ≡ None }
+    ensures done { (session : Session) → cola.old.owned.session ≡ Some session → result ≡ pos (number answer.Done) }
+    ensures stands { (session : Session) (m : Map) → cola.old.owned.session ≡ Some session → HoldsMap session m → StandsFor region.new.bytes m }
+    ensures place { (session : Session) → cola.old.owned.session ≡ Some session → (region.new.at, region.new.len) ≡ place_of session }
+    ensures lent { (session : Session) → cola.old.owned.session ≡ Some session → IsSome region.new.bytes }
+{
     let Some(session) = cola.take(alloc) else {
         return Answer::Closed.code();
     };

@@ -1,1 +1,5 @@
 pub mod Handle
+pub mod Numbers
+pub mod Open
+pub mod Calls
+pub mod Lent

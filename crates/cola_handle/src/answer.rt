@@ -38,8 +38,13 @@ pub enum Answer {
 }
 
 impl Answer {
-    /// Its number in C. The numbers 8 and 17 are of answers that the C side gives by itself.
-    pub fn code(self) -> i32 {
+    ghost use Rattle.std.specs.Prelude.{◌≡◌, pos};
+    ghost use Rattle.cola_handle.specs.Numbers.{number};
+
+    /// Its number in C. The numbers 8 and 17 are those of answers that the C side gives by itself.
+    pub fn code(self) -> i32
+        ensures { result ≡ pos (number self) }
+    {
         match self {
             Answer::Done => 0,
             Answer::Absent => 1,
@@ -57,6 +62,39 @@ impl Answer {
             Answer::BadCell => 14,
             Answer::Overfull => 15,
             Answer::Memory => 16,
+        }
+    }
+}
+
+/// Why a call of an open store was refused.
+#[derive(Clone, Copy, Debug, PartialEq, Eq, Drop)]
+pub enum Refusal {
+    /// A key has no bytes, or a key or a value has more than the version allows.
+    Length,
+    /// The key is new, and the store has as many keys as it is for.
+    Full,
+    /// No stamp is left to give.
+    Worn,
+    /// A cell is damaged.
+    BadCell,
+    /// The levels are damaged: a run has no room.
+    Overfull,
+}
+
+impl Refusal {
+    ghost use Rattle.std.specs.Prelude.{◌≡◌};
+    ghost use Rattle.cola_handle.specs.Numbers.{refused};
+
+    /// The answer that says so.
+    pub fn answer(self) -> Answer
+        ensures { result ≡ refused self }
+    {
+        match self {
+            Refusal::Length => Answer::Length,
+            Refusal::Full => Answer::Full,
+            Refusal::Worn => Answer::Worn,
+            Refusal::BadCell => Answer::BadCell,
+            Refusal::Overfull => Answer::Overfull,
         }
     }
 }

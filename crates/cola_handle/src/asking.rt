@@ -1,175 +1,202 @@
-//! The calls on a store, each with steps on a ledger of its own.
-ghost use Rattle.std.specs.Prelude.{◌≡◌, ◌<◌, ◌≤◌, IfOk};
+//! The calls of an open store, each on a ledger of its own.
+ghost use Rattle.std.specs.Prelude.{◌≡◌, ◌<◌, ◌≤◌, true, false, IfOk, OnOk, MatchResult};
 ghost use Rattle.cola_cell.specs.Format.{KeyFits, ValueFits};
+ghost use Rattle.cola_spec.specs.Bounds.{get_bound, put_bound};
+ghost use Rattle.cola_spec.specs.Map.{Map, is_key, count};
+ghost use Rattle.cola_store.specs.Calls.{TransfersWithin};
+ghost use Rattle.cola_store.specs.Store.{terms_of};
+ghost use Rattle.cola_table.specs.Terms.{shape};
+ghost use Rattle.cola_mapped.specs.Mapped.{counts_of};
+ghost use Rattle.cola_handle.specs.declared.answer.Refusal.TheVariants.{Length};
+ghost use Rattle.cola_handle.specs.Open.{bytes_of, HoldsMap, shape_of, levels_of, place_of};
+ghost use Rattle.cola_handle.specs.Calls.{both_fit, ByLength, GetSays, StampSays, DeleteSays, PutSays, PutIfSays};
 
-use crate::answer::Answer;
+use crate::answer::Refusal;
 use crate::session::Session;
 use cola_cell::{Key, ReadFault, StepFault, Value};
+use cola_mapped::MappedDevice;
 use cola_outside::Steps;
+use cola_store::Store;
 use cola_table::{Put, PutFault, PutIf, Table};
 use std::sync::ledger::{Blank, Ledger};
 
-/// The key of these bytes, where the store can have it.
-fn key_of<T: Table>(store: &T, bytes: &[u8]) -> Result<Key, Answer>
-    ensures { IfOk result (KeyFits (T.terms store.now).format) }
+/// The key of these bytes, where one of the store's may have them.
+fn key_of(store: &Store<MappedDevice>, bytes: &[u8]) -> Result<Key, Refusal>
+    ensures value { IfOk result (λ key. key ≡ bytes.now) }
+    ensures fits { IfOk result (KeyFits (terms_of store.now).format) }
+    ensures exact { MatchResult result (λ _. is_key (shape (terms_of store.now)) bytes.now ≡ true) (λ why. (why ≡ Length) × (is_key (shape (terms_of store.now)) bytes.now ≡ false)) }
 {
     match Key::of(bytes) {
         Some(key) if key.fits(store.format()) => Ok(key),
-        _ => Err(Answer::Length),
+        _ => Err(Refusal::Length),
     }
 }
 
-/// The value of these bytes, where the store can have it.
-fn value_of<T: Table>(store: &T, bytes: &[u8]) -> Result<Value, Answer>
-    ensures { IfOk result (ValueFits (T.terms store.now).format) }
+/// The key and the value of these bytes, where a key of the store's may have the value.
+fn pair_of(store: &Store<MappedDevice>, key: &[u8], value: &[u8]) -> Result<(Key, Value), Refusal>
+    ensures key { IfOk result (λ pair. pair.0 ≡ key.now) }
+    ensures value { IfOk result (λ pair. pair.1 ≡ value.now) }
+    ensures fits { IfOk result (λ pair. KeyFits (terms_of store.now).format pair.0 × ValueFits (terms_of store.now).format pair.1) }
+    ensures exact { MatchResult result (λ _. both_fit (shape (terms_of store.now)) key.now value.now ≡ true) (λ why. (why ≡ Length) × (both_fit (shape (terms_of store.now)) key.now value.now ≡ false)) }
 {
-    match Value::of(bytes) {
-        Some(value) if value.fits(store.format()) => Ok(value),
-        _ => Err(Answer::Length),
+    let key = key_of(store, key)?;
+    match Value::of(value) {
+        Some(value) if value.fits(store.format()) => Ok((key, value)),
+        _ => Err(Refusal::Length),
     }
 }
 
-fn why_put(fault: &PutFault) -> Answer {
-    match fault {
-        PutFault::Full => Answer::Full,
-        PutFault::Worn => Answer::Worn,
-        PutFault::Device => Answer::Small,
-        PutFault::BadCell(_) => Answer::BadCell,
-        PutFault::Overfull(_) => Answer::Overfull,
+/// The value of a key. It makes at most 8 ticks for each level.
+pub fn get<L: Ledger>(
+    blank: Blank,
+    session: &mut Session,
+    key: &[u8],
+) -> Result<Option<Value>, Refusal>
+    requires name { blank.name ≡ L.name }
+    requires parts { blank.parts ≡ L.parts }
+    requires some { 0 < L.parts }
+    ensures answer { (m : Map) → HoldsMap session.old m → GetSays m key.now (HoldsMap session.new) result }
+    ensures length { ByLength (is_key (shape_of session.old) key.now) (session.new ≡ session.old) result }
+    ensures ticks { OnOk result (session.new.ticks ≤ get_bound (levels_of session.old)) }
+    ensures terms { terms_of session.new.store ≡ terms_of session.old.store }
+    ensures place { place_of session.new ≡ place_of session.old }
+{
+    let key = key_of(&session.store, key)?;
+    let mut steps = Steps::<L>::begin(blank);
+    match session.store.get(&key, &mut steps) {
+        Ok((answer, ticks)) => {
+            session.ticks = ticks;
+            Ok(answer)
+        }
+        Err(ReadFault::BadCell(_)) => Err(Refusal::BadCell),
+        Err(ReadFault::Device) => unreachable!(),
     }
 }
 
-fn why_step(fault: &StepFault) -> Answer {
-    match fault {
-        StepFault::Device => Answer::Small,
-        StepFault::BadCell(_) => Answer::BadCell,
-        StepFault::Overfull(_) => Answer::Overfull,
+/// The stamp of a key: the number of the put that gave its value, and 0 in version 1. It costs as much as a get.
+pub fn stamp<L: Ledger>(
+    blank: Blank,
+    session: &mut Session,
+    key: &[u8],
+) -> Result<Option<u64>, Refusal>
+    requires name { blank.name ≡ L.name }
+    requires parts { blank.parts ≡ L.parts }
+    requires some { 0 < L.parts }
+    ensures answer { (m : Map) → HoldsMap session.old m → StampSays m key.now (HoldsMap session.new) result }
+    ensures length { ByLength (is_key (shape_of session.old) key.now) (session.new ≡ session.old) result }
+    ensures ticks { OnOk result (session.new.ticks ≤ get_bound (levels_of session.old)) }
+    ensures terms { terms_of session.new.store ≡ terms_of session.old.store }
+    ensures place { place_of session.new ≡ place_of session.old }
+{
+    let key = key_of(&session.store, key)?;
+    let mut steps = Steps::<L>::begin(blank);
+    match session.store.stamp(&key, &mut steps) {
+        Ok((answer, ticks)) => {
+            session.ticks = ticks;
+            Ok(answer)
+        }
+        Err(ReadFault::BadCell(_)) => Err(Refusal::BadCell),
+        Err(ReadFault::Device) => unreachable!(),
     }
 }
 
-pub(crate) fn why_read(fault: &ReadFault) -> Answer {
-    match fault {
-        ReadFault::Device => Answer::Small,
-        ReadFault::BadCell(_) => Answer::BadCell,
+/// Takes a key out, and answers the value that it had. It makes at most 40 ticks for each level.
+pub fn delete<L: Ledger>(
+    blank: Blank,
+    session: &mut Session,
+    key: &[u8],
+) -> Result<Option<Value>, Refusal>
+    requires name { blank.name ≡ L.name }
+    requires parts { blank.parts ≡ L.parts }
+    requires some { 0 < L.parts }
+    ensures answer { (m : Map) → HoldsMap session.old m → DeleteSays m key.now (HoldsMap session.new) result }
+    ensures length { ByLength (is_key (shape_of session.old) key.now) (session.new ≡ session.old) result }
+    ensures ticks { OnOk result (session.new.ticks ≤ put_bound (levels_of session.old)) }
+    ensures transfers { TransfersWithin bytes_of counts_of session.old.store session.new.store }
+    ensures terms { terms_of session.new.store ≡ terms_of session.old.store }
+    ensures place { place_of session.new ≡ place_of session.old }
+{
+    let key = key_of(&session.store, key)?;
+    let mut steps = Steps::<L>::begin(blank);
+    match session.store.delete(&key, &mut steps) {
+        Ok((answer, ticks)) => {
+            session.ticks = ticks;
+            Ok(answer)
+        }
+        Err(StepFault::BadCell(_)) => Err(Refusal::BadCell),
+        Err(StepFault::Overfull(_)) => Err(Refusal::Overfull),
+        Err(StepFault::Device) => unreachable!(),
     }
 }
 
-/// Gives a key a value.
+/// Gives a key a value. It makes at most 40 ticks for each level.
 pub fn put<L: Ledger>(
     blank: Blank,
     session: &mut Session,
     key: &[u8],
     value: &[u8],
-) -> Result<Put, Answer>
+) -> Result<Put, Refusal>
     requires name { blank.name ≡ L.name }
     requires parts { blank.parts ≡ L.parts }
     requires some { 0 < L.parts }
+    ensures answer { (m : Map) → HoldsMap session.old m → PutSays (shape_of session.old) m key.now value.now (HoldsMap session.new) result }
+    ensures length { ByLength (both_fit (shape_of session.old) key.now value.now) (session.new ≡ session.old) result }
+    ensures ticks { OnOk result (session.new.ticks ≤ put_bound (levels_of session.old)) }
+    ensures transfers { TransfersWithin bytes_of counts_of session.old.store session.new.store }
+    ensures terms { terms_of session.new.store ≡ terms_of session.old.store }
+    ensures place { place_of session.new ≡ place_of session.old }
 {
-    let store = &mut session.store;
+    let (key, value) = pair_of(&session.store, key, value)?;
     let mut steps = Steps::<L>::begin(blank);
-    let key = key_of(store, key)?;
-    let value = value_of(store, value)?;
-    match store.put(&key, &value, &mut steps) {
-        Ok((put, ticks)) => {
+    match session.store.put(&key, &value, &mut steps) {
+        Ok((answer, ticks)) => {
             session.ticks = ticks;
-            Ok(put)
+            Ok(answer)
         }
-        Err(fault) => Err(why_put(&fault)),
+        Err(PutFault::Full) => Err(Refusal::Full),
+        Err(PutFault::Worn) => Err(Refusal::Worn),
+        Err(PutFault::BadCell(_)) => Err(Refusal::BadCell),
+        Err(PutFault::Overfull(_)) => Err(Refusal::Overfull),
+        Err(PutFault::Device) => unreachable!(),
     }
 }
 
-/// Gives a key a value where it has this stamp.
+/// Gives a key a value where it has the stamp that was seen, 0 where it is absent.
 pub fn put_if<L: Ledger>(
     blank: Blank,
     session: &mut Session,
     key: &[u8],
     seen: u64,
     value: &[u8],
-) -> Result<PutIf, Answer>
+) -> Result<PutIf, Refusal>
     requires name { blank.name ≡ L.name }
     requires parts { blank.parts ≡ L.parts }
     requires some { 0 < L.parts }
+    ensures answer { (m : Map) → HoldsMap session.old m → PutIfSays (shape_of session.old) m key.now seen value.now (HoldsMap session.new) result }
+    ensures length { ByLength (both_fit (shape_of session.old) key.now value.now) (session.new ≡ session.old) result }
+    ensures ticks { OnOk result (session.new.ticks ≤ put_bound (levels_of session.old)) }
+    ensures transfers { TransfersWithin bytes_of counts_of session.old.store session.new.store }
+    ensures terms { terms_of session.new.store ≡ terms_of session.old.store }
+    ensures place { place_of session.new ≡ place_of session.old }
 {
-    let store = &mut session.store;
+    let (key, value) = pair_of(&session.store, key, value)?;
     let mut steps = Steps::<L>::begin(blank);
-    let key = key_of(store, key)?;
-    let value = value_of(store, value)?;
-    match store.put_if(&key, seen, &value, &mut steps) {
-        Ok((put, ticks)) => {
+    match session.store.put_if(&key, seen, &value, &mut steps) {
+        Ok((answer, ticks)) => {
             session.ticks = ticks;
-            Ok(put)
+            Ok(answer)
         }
-        Err(fault) => Err(why_put(&fault)),
-    }
-}
-
-/// The value of a key.
-pub fn get<L: Ledger>(
-    blank: Blank,
-    session: &mut Session,
-    key: &[u8],
-) -> Result<Option<Value>, Answer>
-    requires name { blank.name ≡ L.name }
-    requires parts { blank.parts ≡ L.parts }
-    requires some { 0 < L.parts }
-{
-    let store = &mut session.store;
-    let mut steps = Steps::<L>::begin(blank);
-    let key = key_of(store, key)?;
-    match store.get(&key, &mut steps) {
-        Ok((found, ticks)) => {
-            session.ticks = ticks;
-            Ok(found)
-        }
-        Err(fault) => Err(why_read(&fault)),
-    }
-}
-
-/// The stamp of a key.
-pub fn stamp<L: Ledger>(
-    blank: Blank,
-    session: &mut Session,
-    key: &[u8],
-) -> Result<Option<u64>, Answer>
-    requires name { blank.name ≡ L.name }
-    requires parts { blank.parts ≡ L.parts }
-    requires some { 0 < L.parts }
-{
-    let store = &mut session.store;
-    let mut steps = Steps::<L>::begin(blank);
-    let key = key_of(store, key)?;
-    match store.stamp(&key, &mut steps) {
-        Ok((found, ticks)) => {
-            session.ticks = ticks;
-            Ok(found)
-        }
-        Err(fault) => Err(why_read(&fault)),
-    }
-}
-
-/// Takes a key out.
-pub fn delete<L: Ledger>(
-    blank: Blank,
-    session: &mut Session,
-    key: &[u8],
-) -> Result<Option<Value>, Answer>
-    requires name { blank.name ≡ L.name }
-    requires parts { blank.parts ≡ L.parts }
-    requires some { 0 < L.parts }
-{
-    let store = &mut session.store;
-    let mut steps = Steps::<L>::begin(blank);
-    let key = key_of(store, key)?;
-    match store.delete(&key, &mut steps) {
-        Ok((old, ticks)) => {
-            session.ticks = ticks;
-            Ok(old)
-        }
-        Err(fault) => Err(why_step(&fault)),
+        Err(PutFault::Full) => Err(Refusal::Full),
+        Err(PutFault::Worn) => Err(Refusal::Worn),
+        Err(PutFault::BadCell(_)) => Err(Refusal::BadCell),
+        Err(PutFault::Overfull(_)) => Err(Refusal::Overfull),
+        Err(PutFault::Device) => unreachable!(),
     }
 }
 
 /// The number of keys.
-pub fn count(session: &Session) -> u64 {
+pub fn count(session: &Session) -> u64
+    ensures { (m : Map) → HoldsMap session.now m → result ≡ count m }
+{
     session.store.count()
 }

@@ -1,7 +1,7 @@
 //! A place in the order of the keys, and rows, as C holds them.
 ghost use Rattle.std.specs.Prelude.{◌≡◌, ◌≤◌, ◌↔◌, IsTrue};
 
-use crate::answer::Answer;
+use crate::answer::Refusal;
 use cola_cell::{Key, Value};
 
 /// A key with its value, as C has it: the first bytes of each list, as many as its length says.
@@ -40,9 +40,9 @@ pub struct Cursor {
 
 impl Cursor {
     /// The place before the first key from `low` on, with the upper end `high`, if `bounded`.
-    pub fn seek(low: &[u8], high: &[u8], bounded: bool) -> Result<Cursor, Answer> {
+    pub fn seek(low: &[u8], high: &[u8], bounded: bool) -> Result<Cursor, Refusal> {
         if low.len() > 40 || high.len() > 40 {
-            return Err(Answer::Length);
+            return Err(Refusal::Length);
         }
         let mut cursor = Cursor {
             from_len: low.len() as u8,

@@ -9,15 +9,17 @@ mod handle;
 mod loose;
 mod opening;
 mod session;
+mod telling;
 #[cfg(test)]
 mod tests;
 mod walking;
 
-pub use answer::Answer;
+pub use answer::{Answer, Refusal};
 pub use asking::{count, delete, get, put, put_if, stamp};
 pub use creating::{create, size};
 pub use cursor::{Cursor, Row};
 pub use handle::Cola;
 pub use opening::{close, open};
 pub use session::Session;
+pub use telling::{tell_delete, tell_put, tell_put_if, tell_stamp, tell_value};
 pub use walking::next;

@@ -1,7 +1,12 @@
 //! How the store in a region is opened and closed.
-ghost use Rattle.std.specs.Prelude.{◌≡◌, ◌<◌, IsSome, IfErr, true};
-ghost use Rattle.std.specs.Option.{IsSomeAnd};
-ghost use Rattle.std.specs.Prelude.{length};
+ghost use Rattle.std.specs.Prelude.{◌≡◌, ◌<◌, Some, IsSome, IfOk, IfErr};
+ghost use Rattle.cola_image.specs.Standing.{FileStandsFor, with_state};
+ghost use Rattle.cola_spec.specs.Map.{Map};
+ghost use Rattle.cola_store.specs.Store.{Holds};
+ghost use Rattle.cola_mapped.specs.Mapped.{IsLent};
+ghost use Rattle.cola_mapped.specs.Region.{bytes_in};
+ghost use Rattle.cola_handle.specs.Lent.{StandsFor, IsClosedStore, OpenCause, open_answer};
+ghost use Rattle.cola_handle.specs.Open.{bytes_of, HoldsMap, place_of, device_of};
 
 use crate::answer::Answer;
 use crate::session::Session;
@@ -14,7 +19,9 @@ use std::sync::ledger::{Blank, Ledger};
 /// So many blocks are kept in memory.
 pub const CACHE: u32 = 64;
 
-fn why(fault: &OpenFault) -> Answer {
+fn why(fault: &OpenFault) -> Answer
+    ensures { result ≡ open_answer fault.now }
+{
     match fault {
         OpenFault::NotStore => Answer::NotStore,
         OpenFault::NotClosed => Answer::NotClosed,
@@ -25,7 +32,65 @@ fn why(fault: &OpenFault) -> Answer {
     }
 }
 
-/// Opens the store in a region.
+/// Opens the store on a device over lent bytes, which gives these back where it was refused.
+fn open_device<L: Ledger>(
+    blank: Blank,
+    alloc: Global,
+    device: MappedDevice,
+) -> Result<Store<MappedDevice>, (Region, Answer)>
+    requires name { blank.name ≡ L.name }
+    requires parts { blank.parts ≡ L.parts }
+    requires some { 0 < L.parts }
+    ensures holds { (m : Map) → FileStandsFor device.bytes m → IfOk result (λ store. Holds bytes_of store m) }
+    ensures was { IfOk result (λ _. IsClosedStore device.bytes) }
+    ensures marked { IfOk result (λ store. store.chain.store.buffers.cache.device.bytes ≡ with_state 1 device.bytes) }
+    ensures at { IfOk result (λ store. store.chain.store.buffers.cache.device.at ≡ device.at) }
+    ensures len { IfOk result (λ store. store.chain.store.buffers.cache.device.len ≡ device.len) }
+    ensures cause { IfErr result (λ refusal. OpenCause device.bytes refusal.1) }
+    ensures back { IfErr result (λ refusal. refusal.0.bytes ≡ Some device.bytes) }
+    ensures back_at { IfErr result (λ refusal. refusal.0.at ≡ device.at) }
+    ensures back_len { IfErr result (λ refusal. refusal.0.len ≡ device.len) }
+{
+    let mut steps = Steps::<L>::begin(blank);
+    match Store::open_on(alloc, device, CACHE, &mut steps) {
+        Ok(store) => Ok(store),
+        Err((device, fault)) => Err((device.into_region(), why(&fault))),
+    }
+}
+
+/// Opens the store in a region that has bytes.
+fn open_lent<L: Ledger>(
+    blank: Blank,
+    alloc: Global,
+    region: Region,
+) -> Result<Box<Session>, (Region, Answer)>
+    requires name { blank.name ≡ L.name }
+    requires parts { blank.parts ≡ L.parts }
+    requires some { 0 < L.parts }
+    requires lent { IsLent region.bytes }
+    ensures holds { (m : Map) → StandsFor region.bytes m → IfOk result (λ session. HoldsMap session.value m) }
+    ensures marked { IfOk result (λ session. (device_of session.value).bytes ≡ with_state 1 (bytes_in region.bytes)) }
+    ensures place { IfOk result (λ session. place_of session.value ≡ (region.at, region.len)) }
+    ensures cause { IfErr result (λ refusal. OpenCause (bytes_in region.bytes) refusal.1) }
+    ensures stands { (m : Map) → StandsFor region.bytes m → IfErr result (λ refusal. StandsFor refusal.0.bytes m) }
+    ensures back { IfErr result (λ refusal. IsSome refusal.0.bytes) }
+    ensures back_at { IfErr result (λ refusal. refusal.0.at ≡ region.at) }
+    ensures back_len { IfErr result (λ refusal. refusal.0.len ≡ region.len) }
+{
+    let store = match open_device::<L>(blank, alloc, MappedDevice::over(region)) {
+        Ok(store) => store,
+        Err(refusal) => return Err(refusal),
+    };
+    match Box::new(alloc, Session { store, ticks: 0 }) {
+        Ok(session) => Ok(session),
+        Err(refused) => Err((close(refused.value), Answer::Memory)),
+    }
+}
+
+/// Opens the store in a region, which becomes the store's. An error gives it back.
+///
+/// `Small`, `NotStore`, `NotClosed`: the bytes are none of a store that was closed. `BadCell`: one of the cells that are read
+/// here is damaged. `Memory`: there was none, and the bytes stand for the same map.
 pub fn open<L: Ledger>(
     blank: Blank,
     alloc: Global,
@@ -35,25 +100,27 @@ pub fn open<L: Ledger>(
     requires parts { blank.parts ≡ L.parts }
     requires some { 0 < L.parts }
     requires bytes { IsSome region.bytes }
+    ensures holds { (m : Map) → StandsFor region.bytes m → IfOk result (λ session. HoldsMap session.value m) }
+    ensures marked { IfOk result (λ session. (device_of session.value).bytes ≡ with_state 1 (bytes_in region.bytes)) }
+    ensures place { IfOk result (λ session. place_of session.value ≡ (region.at, region.len)) }
+    ensures cause { IfErr result (λ refusal. OpenCause (bytes_in region.bytes) refusal.1) }
+    ensures stands { (m : Map) → StandsFor region.bytes m → IfErr result (λ refusal. StandsFor refusal.0.bytes m) }
+    ensures back { IfErr result (λ refusal. IsSome refusal.0.bytes) }
+    ensures back_at { IfErr result (λ refusal. refusal.0.at ≡ region.at) }
+    ensures back_len { IfErr result (λ refusal. refusal.0.len ≡ region.len) }
 {
     let mut region = region;
     if region.size() == 0 {
         return Err((region, Answer::Small));
     }
-    let mut steps = Steps::<L>::begin(blank);
-    let store = match Store::open_on(alloc, MappedDevice::over(region), CACHE, &mut steps) {
-        Ok(store) => store,
-        Err((device, fault)) => return Err((device.into_region(), why(&fault))),
-    };
-    match Box::new(alloc, Session { store, ticks: 0 }) {
-        Ok(session) => Ok(session),
-        Err(refused) => Err((close(refused.value), Answer::Memory)),
-    }
+    open_lent::<L>(blank, alloc, region)
 }
 
-/// Closes the store: the region has its file.
+/// Closes the store: the region has its file, and is where it was.
 pub fn close(session: Session) -> Region
-    ensures { IsSome result.bytes }
+    ensures stands { (m : Map) → HoldsMap session m → StandsFor result.bytes m }
+    ensures place { (result.at, result.len) ≡ place_of session }
+    ensures lent { IsSome result.bytes }
 {
     let Session { store, ticks: _ } = session;
     match store.close() {

@@ -1,0 +1,26 @@
+use Rattle.std.proofs.Common.{rules, ◌≡◌, ◌∙◌, ℕ, List, length, take, Ok, Some, subst}
+use Rattle.std.specs.Prelude.{Result, Option, IfOk}
+use Rattle.cola_handle.specs.declared.session.Session.{Session}
+use Rattle.cola_handle.specs.Numbers.{replaced}
+use Rattle.cola_c.specs.Exports.{Answered, Gets}
+use Rattle.cola_c.proofs.Inside.{inside}
+use Rattle.cola_c.proofs.cola_core_get.Goals as goal
+
+pub returns-clause-answered : goal.returns-clause-answered
+returns-clause-answered c = λ session is.
+    let old : c.deref_mut.result.now ≡ session = c.deref_mut.ensures.value ∙ inside _ session _ is c.in-Some.ensures.taken in
+    record {
+      new = c.get-answer.new.session;
+      answer = c.get-answer.result;
+      is_open = c.put.ensures;
+      number_is = search (rules, c.tell_value.ensures.number);
+      says = (
+        subst (λ (o : Session). Gets o c.args.key.now c.get-answer.new.session c.get-answer.result) old (record {
+          answer = c.get-answer.ensures.answer;
+          length = c.get-answer.ensures.length;
+          ticks = c.get-answer.ensures.ticks;
+          stays = record { terms_are = c.get-answer.ensures.terms; place_is = c.get-answer.ensures.place };
+        }),
+        λ value given. (c.tell_value.ensures.value value given, c.tell_value.ensures.len value given),
+      );
+    }

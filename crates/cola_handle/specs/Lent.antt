@@ -1,0 +1,38 @@
+-- How the store in lent bytes is opened and closed.
+use Rattle.std.specs.Prelude.{ℕ, List, Option}
+use Rattle.cola_layout.specs.declared.header.Header.{Header}
+use Rattle.cola_opening.specs.Judged.{IsSmall, IsNoStore, IsInUse}
+use Rattle.cola_spec.specs.Map.{Map}
+use Rattle.cola_image.specs.Standing.{FileStandsFor}
+use Rattle.cola_mapped.specs.Region.{bytes_in}
+use Rattle.cola_store.specs.declared.fault.OpenFault.{OpenFault}
+use Rattle.cola_store.specs.declared.fault.OpenFault.TheVariants as fault
+use Rattle.cola_store.specs.Open.{WasClosed, HasBadCell}
+use Rattle.cola_handle.specs.declared.answer.Answer.{Answer}
+use Rattle.cola_handle.specs.declared.answer.Answer.TheVariants.{NotStore, Small, NotClosed, BadCell, Memory}
+
+-- the bytes of a region stand for this map
+abbrev pub StandsFor : Option (List ℕ) → Map → Type 0
+StandsFor bytes m = FileStandsFor (bytes_in bytes) m
+
+-- these are the bytes of a store that was closed
+abbrev pub IsClosedStore : List ℕ → Type 0
+IsClosedStore bytes = (header : Header) × WasClosed header bytes
+
+-- why the store in these bytes was not opened
+abbrev pub OpenCause : List ℕ → Answer → Type 0
+OpenCause bytes NotStore = IsNoStore bytes
+OpenCause bytes Small = IsSmall bytes
+OpenCause bytes NotClosed = IsInUse bytes
+OpenCause bytes BadCell = (header : Header) × ((number : ℕ) × HasBadCell header number bytes)
+OpenCause bytes Memory = IsClosedStore bytes
+OpenCause bytes _ = ⊥
+
+-- the answer of each refusal of an opening, on a device that does not fail
+abbrev pub open_answer : OpenFault → Answer
+open_answer fault.NotStore = NotStore
+open_answer fault.NotClosed = NotClosed
+open_answer fault.Small = Small
+open_answer fault.Device = Small
+open_answer fault.OutOfMemory = Memory
+open_answer (fault.BadCell cell) = BadCell

@@ -1,0 +1,60 @@
+-- The numbers of the answers in C, which are those of include/cola.h, and the answer of each call.
+use Rattle.std.specs.Prelude.{ℕ, Bool, true, false, Option, Some, None, Result, Ok, Err}
+use Rattle.cola_handle.specs.declared.answer.Answer.{Answer}
+use Rattle.cola_handle.specs.declared.answer.Answer.TheVariants.{Done, Absent, Other, Full, Worn, Closed, InUse, Length, Options, NotEmpty, NotStore, Small, NotClosed, BadCell, Overfull, Memory}
+use Rattle.cola_handle.specs.declared.answer.Refusal.{Refusal}
+use Rattle.cola_handle.specs.declared.answer.Refusal.TheVariants as refusal
+use Rattle.cola_table.specs.declared.Put.{Put}
+use Rattle.cola_table.specs.declared.Put.TheVariants as put
+use Rattle.cola_table.specs.declared.PutIf.{PutIf}
+use Rattle.cola_table.specs.declared.PutIf.TheVariants as put_if
+
+-- the number of an answer; 8 and 17 are those of answers that the C side gives by itself
+abbrev pub number : Answer → ℕ
+number Done = 0
+number Absent = 1
+number Other = 2
+number Full = 3
+number Worn = 4
+number Closed = 5
+number InUse = 6
+number Length = 7
+number Options = 9
+number NotEmpty = 10
+number NotStore = 11
+number Small = 12
+number NotClosed = 13
+number BadCell = 14
+number Overfull = 15
+number Memory = 16
+
+-- the answer of a refused call
+abbrev pub refused : Refusal → Answer
+refused refusal.Length = Length
+refused refusal.Full = Full
+refused refusal.Worn = Worn
+refused refusal.BadCell = BadCell
+refused refusal.Overfull = Overfull
+
+-- of a call that finds something or nothing
+abbrev pub found : {A : Type 0} → Result (Option A) Refusal → Answer
+found (Ok (Some a)) = Done
+found (Ok None) = Absent
+found (Err why) = refused why
+
+-- of a put
+abbrev pub made : {A : Type 0} → Result A Refusal → Answer
+made (Ok a) = Done
+made (Err why) = refused why
+
+-- of a put that depends on the stamp seen
+abbrev pub made_if : Result PutIf Refusal → Answer
+made_if (Ok put_if.New) = Done
+made_if (Ok (put_if.Old value)) = Done
+made_if (Ok (put_if.Other stamp)) = Other
+made_if (Err why) = refused why
+
+-- whether an accepted put replaced a value
+abbrev pub replaced : Put → Bool
+replaced put.New = false
+replaced (put.Old value) = true

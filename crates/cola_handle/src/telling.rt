@@ -1,0 +1,87 @@
+//! What a call answers to C: its number, and what it writes behind the pointers.
+ghost use Rattle.std.specs.Prelude.{◌≡◌, ◌≤◌, ℕ, pos, List, length, take, Ok, Some, IfOk};
+ghost use Rattle.cola_table.specs.declared.PutIf.TheVariants.{Other};
+ghost use Rattle.cola_handle.specs.Numbers.{number, found, made, made_if, replaced};
+
+use crate::answer::{Answer, Refusal};
+use cola_cell::Value;
+use cola_table::{Put, PutIf};
+
+/// Of a put: whether a value was replaced.
+pub fn tell_put(put: Result<Put, Refusal>, was: &mut bool) -> i32
+    ensures number { result ≡ pos (number (made put)) }
+    ensures was { IfOk put (λ done. was.new ≡ replaced done) }
+{
+    match put {
+        Ok(Put::New) => {
+            *was = false;
+            Answer::Done.code()
+        }
+        Ok(Put::Old(_)) => {
+            *was = true;
+            Answer::Done.code()
+        }
+        Err(refusal) => refusal.answer().code(),
+    }
+}
+
+/// Of a put that depends on the stamp seen: the stamp that the key has, where it is another.
+pub fn tell_put_if(put: Result<PutIf, Refusal>, stamp: &mut u64) -> i32
+    ensures number { result ≡ pos (number (made_if put)) }
+    ensures stamp { (other : ℕ) → put ≡ Ok (Other other) → stamp.new ≡ other }
+{
+    match put {
+        Ok(PutIf::Other(other)) => {
+            *stamp = other;
+            Answer::Other.code()
+        }
+        Ok(PutIf::New) => Answer::Done.code(),
+        Ok(PutIf::Old(_)) => Answer::Done.code(),
+        Err(refusal) => refusal.answer().code(),
+    }
+}
+
+/// Of a get: the value and its length.
+pub fn tell_value(value: Result<Option<Value>, Refusal>, into: &mut [u8], len: &mut usize) -> i32
+    requires { 72 ≤ length into.old }
+    ensures number { result ≡ pos (number (found value)) }
+    ensures value { (bytes : List ℕ) → value ≡ Ok (Some bytes) → take (length bytes) into.new ≡ bytes }
+    ensures len { (bytes : List ℕ) → value ≡ Ok (Some bytes) → len.new ≡ length bytes }
+{
+    match value {
+        Ok(Some(value)) => {
+            let bytes = value.bytes();
+            into[..bytes.len()].copy_from_slice(bytes);
+            *len = bytes.len();
+            Answer::Done.code()
+        }
+        Ok(None) => Answer::Absent.code(),
+        Err(refusal) => refusal.answer().code(),
+    }
+}
+
+/// Of a stamp: the stamp.
+pub fn tell_stamp(got: Result<Option<u64>, Refusal>, stamp: &mut u64) -> i32
+    ensures number { result ≡ pos (number (found got)) }
+    ensures stamp { (given : ℕ) → got ≡ Ok (Some given) → stamp.new ≡ given }
+{
+    match got {
+        Ok(Some(given)) => {
+            *stamp = given;
+            Answer::Done.code()
+        }
+        Ok(None) => Answer::Absent.code(),
+        Err(refusal) => refusal.answer().code(),
+    }
+}
+
+/// Of a delete.
+pub fn tell_delete(old: Result<Option<Value>, Refusal>) -> i32
+    ensures { result ≡ pos (number (found old)) }
+{
+    match old {
+        Ok(Some(_)) => Answer::Done.code(),
+        Ok(None) => Answer::Absent.code(),
+        Err(refusal) => refusal.answer().code(),
+    }
+}
