@@ -10,8 +10,8 @@
  *     cola_put(&store, "k", 1, "v", 1, NULL);
  *     cola_close(&store);
  *
- * Keys and values are bytes of any kind, of these lengths at most, by the version of the file; both may be empty.
- * Keys are ordered byte by byte, a key before those that it begins.
+ * Keys and values are bytes of any kind, of these lengths at most, by the version of the file. A key has at least one byte;
+ * a value may be empty. Keys are ordered byte by byte, a key before those that it begins.
  *
  * One thread at a time may call with one store; stores in other bytes are independent. There is no global state, no output.
  *
@@ -45,7 +45,7 @@ enum {
     COLA_WORN = 4,          /* no stamp is left to give: load the pairs into a new store */
     COLA_CLOSED = 5,        /* the handle is not open */
     COLA_IN_USE = 6,        /* the handle is open already */
-    COLA_LENGTH = 7,        /* a key or a value is longer than the store's version allows */
+    COLA_LENGTH = 7,        /* a key is empty, or a key or a value is longer than the store's version allows */
     COLA_NULL = 8,          /* a pointer is NULL where there has to be one */
     COLA_OPTIONS = 9,       /* keys, block or version is none that a store can have */
     COLA_NOT_EMPTY = 10,    /* cola_create: the bytes are not all zero */
@@ -54,7 +54,7 @@ enum {
     COLA_NOT_CLOSED = 13,   /* the store was not closed: a process died, or has it open */
     COLA_BAD_CELL = 14,     /* a cell is damaged */
     COLA_OVERFULL = 15,     /* the levels are damaged: a run has no room */
-    COLA_MEMORY = 16,       /* there was no memory; nothing changed */
+    COLA_MEMORY = 16,       /* there was no memory; no key and no value changed */
     COLA_SYSTEM = 17        /* cola_file: a call of the system failed; errno says which way */
 };
 
@@ -87,14 +87,15 @@ int32_t cola_size(uint64_t keys, uint8_t block, uint8_t version, uint64_t *bytes
 int32_t cola_create(void *bytes, size_t len, uint64_t keys, uint8_t block, uint8_t version);
 
 /* Opens the store in the bytes, marks it as in use in its header, and takes all memory that it will ever use.
- * COLA_SMALL, COLA_NOT_STORE, COLA_NOT_CLOSED, COLA_MEMORY, COLA_BAD_CELL: the handle stays closed and the bytes as they were. */
+ * COLA_SMALL, COLA_NOT_STORE, COLA_NOT_CLOSED, COLA_BAD_CELL: the handle stays closed and the bytes as they were. COLA_MEMORY:
+ * the handle stays closed, and the bytes have the same store. */
 int32_t cola_open(cola *store, void *bytes, size_t len);
 
 /* Gives the key a value. *was, where was is not NULL, says whether the key was there before. COLA_FULL, COLA_WORN: nothing changed. */
 int32_t cola_put(cola *store, const void *key, size_t key_len, const void *value, size_t value_len, bool *was);
 
 /* A put that is made only where the key has the stamp that was seen, 0 where it is absent (version 2; in version 1 each stamp
- * is 0). COLA_OTHER: *stamp is the stamp that it has, and nothing changed. */
+ * is 0). COLA_OTHER: *stamp, where stamp is not NULL, is the stamp that it has, and nothing changed. */
 int32_t cola_put_if(cola *store, const void *key, size_t key_len, uint64_t seen, const void *value, size_t value_len, uint64_t *stamp);
 
 /* The value of the key, into value of at least COLA_VALUE_MAX bytes, and its length. COLA_NONE where it is absent. */
@@ -109,11 +110,12 @@ int32_t cola_delete(cola *store, const void *key, size_t key_len);
 /* The number of keys. */
 int32_t cola_count(cola *store, uint64_t *count);
 
-/* Sets a cursor before the first key from low on; it gives keys below high, or all, where high is NULL. */
+/* Sets a cursor before the first key from low on, or before all, where low is empty; it gives keys below high, or all, where
+ * high is NULL. Both have at most COLA_KEY_MAX bytes, in either version. */
 int32_t cola_seek(cola_cursor *cursor, const void *low, size_t low_len, const void *high, size_t high_len);
 
 /* The next rows of the cursor, at most so many, by rising keys, and how many they are. COLA_NONE where none was left.
- * A larger number of rows is cheaper for each: every call seeks once. */
+ * A larger number of rows is cheaper for each: every call seeks once. Where most is 0 none is given, and the answer is COLA_OK. */
 int32_t cola_next(cola *store, cola_cursor *cursor, cola_row *rows, size_t most, size_t *given);
 
 /* Closes the store and opens it again: what lies in the bytes between the two is a closed store, so that a copy of them, or

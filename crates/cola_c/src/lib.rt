@@ -3,6 +3,7 @@
 #![tactic(auto)]
 
 ghost use Rattle.std.specs.Prelude.{◌≡◌, ◌≤◌, ℕ, pos, List, Bool, length, take, Result, Ok, Some, None, IsSome, IfOk};
+ghost use Rattle.std.specs.Option.{IsSomeAnd};
 ghost use Rattle.cola_image.specs.Standing.{with_state};
 ghost use Rattle.cola_spec.specs.Map.{Map, count};
 ghost use Rattle.cola_mapped.specs.Region.{bytes_in};
@@ -200,7 +201,10 @@ pub extern "C" fn cola_core_next(
     cursor: &mut Cursor,
     rows: &mut [Row],
     given: &mut usize,
-) -> i32 {
+) -> i32
+    ensures closed { cola.old.owned.session ≡ None → (result ≡ pos (number answer.Closed)) × (cola.new.owned.session ≡ None) }
+    ensures map_stays { (session : Session) (m : Map) → cola.old.owned.session ≡ Some session → HoldsMap session m → IsSomeAnd cola.new.owned.session (λ new. HoldsMap new m) }
+{
     let Some(mut session) = cola.take(alloc) else {
         return Answer::Closed.code();
     };
