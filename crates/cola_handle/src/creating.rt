@@ -1,11 +1,22 @@
 //! How a new store is made in zero bytes.
+ghost use Rattle.std.specs.Prelude.{◌≡◌, ◌≢◌, ◌+◌, ◌≤◌, ℕ, List, length, IfSome};
+ghost use Rattle.cola_cell.specs.declared.format.Format.{Format as AnyFormat};
+ghost use Rattle.cola_device.specs.Bytes.{splice};
+ghost use Rattle.cola_layout.specs.Header.{IsSpelling};
+ghost use Rattle.cola_opening.specs.Judged.{file_size};
+ghost use Rattle.cola_store.specs.Create.{new_header};
+ghost use Rattle.cola_handle.specs.declared.answer.Answer.TheVariants.{Done};
+
 use crate::answer::Answer;
 use cola_cell::Format;
 use cola_layout::{Geometry, Header};
 use cola_opening::size_of;
 
 /// The sizes of a store for so many keys, with blocks of `2^block_exp` cells, in a version.
-fn geometry_of(keys: u64, block_exp: u8, version: u8) -> Option<Geometry> {
+fn geometry_of(keys: u64, block_exp: u8, version: u8) -> Option<Geometry>
+    ensures keys { IfSome result (λ geometry. geometry.keys ≡ keys) }
+    ensures block { IfSome result (λ geometry. geometry.block_exp ≡ block_exp) }
+{
     let format = match version {
         1 => Format::One,
         2 => Format::Two,
@@ -15,15 +26,40 @@ fn geometry_of(keys: u64, block_exp: u8, version: u8) -> Option<Geometry> {
 }
 
 /// How many bytes a store takes, or none where there is no such store.
-pub fn size(keys: u64, block_exp: u8, version: u8) -> Option<u64> {
+pub fn size(keys: u64, block_exp: u8, version: u8) -> Option<u64>
+    ensures { IfSome result (λ size. (format : AnyFormat) × (bottom : ℕ) × (size ≡ file_size format bottom)) }
+{
     match geometry_of(keys, block_exp, version) {
         Some(geometry) => Some(size_of(&geometry)),
         None => None,
     }
 }
 
-/// Makes the file of a new store in zero bytes.
-pub fn create(bytes: &mut [u8], keys: u64, block_exp: u8, version: u8) -> Answer {
+/// The spelling of the header of a closed store with no keys.
+fn first_bytes(geometry: Geometry) -> [u8; 512]
+    ensures spelled { IsSpelling (new_header geometry.format geometry.keys geometry.block_exp geometry.bottom) result }
+    ensures size { length result ≡ 512 }
+{
+    let mut bytes = [0u8; 512];
+    Header::empty(geometry).encode(&mut bytes);
+    bytes
+}
+
+/// Puts bytes in the place of those from a place on. All others stay.
+fn put_at(bytes: &mut [u8], at: usize, from: &[u8])
+    requires { at + length from.now ≤ length bytes.old }
+    ensures { bytes.new ≡ splice bytes.old at from.now }
+{
+    bytes[at..at + from.len()].copy_from_slice(from);
+}
+
+/// Makes the file of a new store in zero bytes, of which there are at least as many as the store has: the header of a closed
+/// store with no keys, and zeros behind it. `Options` where there is no store of these numbers; `Small`; `NotEmpty` where a
+/// byte is not zero. A refusal leaves the bytes.
+pub fn create(bytes: &mut [u8], keys: u64, block_exp: u8, version: u8) -> Answer
+    ensures refused { result ≢ Done → bytes.new ≡ bytes.old }
+    ensures made { result ≡ Done → (format : AnyFormat) × (bottom : ℕ) × (head : List ℕ) × IsSpelling (new_header format keys block_exp bottom) head × (bytes.new ≡ splice bytes.old 0 head) }
+{
     let Some(geometry) = geometry_of(keys, block_exp, version) else {
         return Answer::Options;
     };
@@ -33,11 +69,7 @@ pub fn create(bytes: &mut [u8], keys: u64, block_exp: u8, version: u8) -> Answer
     if bytes.iter().any(|byte| *byte != 0) {
         return Answer::NotEmpty;
     }
-    let mut head = [0u8; 512];
-    Header::empty(geometry).encode(&mut head);
-    let Some(front) = bytes.get_mut(..512) else {
-        return Answer::Small;
-    };
-    front.copy_from_slice(&head);
+    let head = first_bytes(geometry);
+    put_at(bytes, 0, &head);
     Answer::Done
 }
