@@ -4,7 +4,7 @@
 # are killed in mid-session. The examples and the first programs of the documents are run, under valgrind and with the
 # compiler's sanitizers too. What needs a tool that is not there is skipped, and that is said.
 #
-#     tests/library.sh [FOLDER]    (FOLDER has the libcola.a and libcola.so to be tested; else they are built in a folder of its own)
+#     tests/library.sh [FOLDER]    (FOLDER has the libcola.a and libcola.so to be tested; else they are made of what rt lib built here)
 #
 # The last line is 'N passed, M failed', and the status is 0 only where none failed.
 set -u
