@@ -10,6 +10,9 @@ passed=0 failed=0
 # What may stand where: a file, the text, and why.
 allowed='
 crates/cola_rows/src/shown.rt allocator() a program of the tests, which prints
+crates/cola_handle/src/loose.rt into_raw the box behind the pointer that C holds, until it is made of it again
+crates/cola_handle/src/loose.rt from_raw the same
+crates/cola_mapped/src/region.rt from_raw a slice of bytes that a caller lends, which are none of the heap
 '
 
 # What takes memory out of sight.
