@@ -4,7 +4,7 @@
 # are killed in mid-session. The examples and the first programs of the documents are run, under valgrind and with the
 # compiler's sanitizers too. What needs a tool that is not there is skipped, and that is said.
 #
-#     tests/library.sh [FOLDER]    (FOLDER has the libcola.a and libcola.so to be tested; else they are made of what rt lib built here)
+#     tests/library.sh [FOLDER]    (FOLDER has the libcola.a and libcola.so to be tested; else they are made of what make library or the gate built here)
 #
 # The last line is 'N passed, M failed', and the status is 0 only where none failed.
 set -u
@@ -41,17 +41,32 @@ is_there cc 'the library' || finish
 is_there make 'the library' || finish
 
 cd "$root" || exit 1
-# Whether rt lib built the proved part here, of the texts as they are. (The gate's proofs leave no library that rt lib takes, so that building it there
-# would prove all that it stands on once more: make library builds it, and then the gate tests it.)
-is_built() {
-    core=crates/cola_c/out/libcola_c.a
-    [ -e "$core" ] && [ -z "$(find crates.txt crates -path '*/out' -prune -o -type f \( -name '*.rt' -o -name '*.antt' -o -name crates.txt \) -newer "$core" -print | head -n 1)" ]
+# is_newer FILE: whether the file is there, and no text of a crate is newer.
+is_newer() {
+    [ -e "$1" ] && [ -z "$(find crates.txt crates -path '*/out' -prune -o -type f \( -name '*.rt' -o -name '*.antt' -o -name crates.txt \) -newer "$1" -print | head -n 1)" ]
+}
+
+# compile CORE: the proved part, by the toolchain's compiler over the proved libraries that the gate leaves here, so that cola_c alone is proved once more.
+# (rt lib takes none of these, and would prove all that cola_c stands on.)
+compile() {
+    local kit words=() it
+    kit=$(dirname "$(dirname "$(readlink -f "$(command -v rt)")")")
+    for it in $(sed -n 's/^cola_c staticlib: *//p' crates.txt); do words+=(--extern "$it=$root/crates/$it/out/rlib/$it.rlib"); done
+    for it in "$root"/crates/*/out/rlib; do words+=(-L "dependency=$it"); done
+    (cd crates/cola_c && "$kit/bin/rattle" build --crate-name cola_c src/lib.rt --extern "std=$kit/rlibs/std.rlib" -L "dependency=$kit/rlibs" "${words[@]}" \
+        --antt-project "$kit/rattle/logic/antt-project.json" --logic-built "$kit/logic_built" --links cola_c= --crate-type staticlib --jobs 2 \
+        --toolchain "$kit/toolchain" --backend llvm -o "$1")
 }
 
 library=${1:-$room/library}
 if [ $# -eq 0 ]; then
-    is_built || { echo 'skipped: the library, which is not built here (make library builds it)'; finish; }
-    make -s -f bindings/c/library.mk library LIBRARY="$library" >"$room/made" 2>&1
+    core=$root/crates/cola_c/out/libcola_c.a
+    if ! is_newer "$core"; then
+        is_newer crates/cola_handle/out/rlib/cola_handle.rlib || { echo 'skipped: the library, of which nothing is built here (make library builds it)'; finish; }
+        core=$room/libcola_c.a
+        compile "$core" >"$room/compiled" 2>&1 || cat "$room/compiled"
+    fi
+    make -s -f bindings/c/library.mk library CORE="$core" LIBRARY="$library" >"$room/made" 2>&1
     made=$?
     [ "$made" -eq 0 ] || cat "$room/made"
     check 'the library is built' [ "$made" -eq 0 ]

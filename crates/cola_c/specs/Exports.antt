@@ -1,17 +1,27 @@
 -- What a call by C says of the session behind its handle.
-use Rattle.std.specs.Prelude.{◌≡◌, ◌≤◌, ℕ, ℤ, pos, Option, Some, List, Result, OnOk}
+use Rattle.std.specs.Prelude.{◌≡◌, ◌≤◌, ℕ, ℤ, pos, true, Option, Some, List, Result, IfOk, OnOk, OnErr, None, IsSome}
 use Rattle.cola_spec.specs.Bounds.{put_bound, get_bound}
 use Rattle.cola_spec.specs.Map.{Map, is_key}
+use Rattle.cola_image.specs.Standing.{FileStandsFor, with_state}
 use Rattle.cola_store.specs.Calls.{TransfersWithin}
+use Rattle.cola_store.specs.Store.{terms_of}
 use Rattle.cola_table.specs.declared.Put.{Put}
 use Rattle.cola_table.specs.declared.PutIf.{PutIf}
+use Rattle.cola_mapped.specs.declared.region.Region.{Region}
 use Rattle.cola_mapped.specs.Mapped.{counts_of}
+use Rattle.cola_mapped.specs.Region.{bytes_in}
 use Rattle.cola_handle.specs.declared.answer.Answer.{Answer}
+use Rattle.cola_handle.specs.declared.answer.Answer.TheVariants.{Done, Options, Memory}
 use Rattle.cola_handle.specs.declared.answer.Refusal.{Refusal}
+use Rattle.cola_handle.specs.declared.cursor.Cursor.{Cursor}
+use Rattle.cola_handle.specs.declared.cursor.Row.{Row}
 use Rattle.cola_handle.specs.declared.session.Session.{Session}
 use Rattle.cola_handle.specs.Calls.{both_fit, ByLength, GetSays, StampSays, DeleteSays, PutSays, PutIfSays}
-use Rattle.cola_handle.specs.Numbers.{number, found, made, made_if}
-use Rattle.cola_handle.specs.Open.{bytes_of, HoldsMap, shape_of, levels_of, Stays}
+use Rattle.cola_handle.specs.Cursors.{NextSays, Writes, Moves, is_good}
+use Rattle.cola_handle.specs.Numbers.{number}
+use Rattle.cola_handle.specs.Open.{bytes_of, HoldsMap, shape_of, levels_of, Stays, place_of, device_of}
+use Rattle.cola_handle.specs.Created.{HasSize}
+use Rattle.cola_handle.specs.Lent.{StandsFor, HasTerms, OpenCause, AreLeft}
 
 -- the handle is still open; the call was answered so, with the number of that answer, and says this of the session afterwards
 pub record Answered {A : Type 0} (after : Option Session) (code : ℤ) (answer_of : Result A Refusal → Answer) (Says : Session → Result A Refusal → Type 0) : Type 0 where
@@ -59,3 +69,73 @@ module _ (old : Session) (key : List ℕ) where
     pub ticks : OnOk result (new.ticks ≤ put_bound (levels_of old))
     pub transfers : TransfersWithin bytes_of counts_of old.store new.store
     pub stays : Stays old new
+
+module _ (old : Session) (before : Cursor) (rows : List Row) where
+  -- the next rows of a cursor
+  pub record Nexts (new : Session) (after : Cursor) (filled : List Row) (result : Result ℕ Refusal) : Type 0 where
+    pub answer : (m : Map) → HoldsMap old m → NextSays m before after filled (HoldsMap new) result
+    pub length : ByLength (is_good before) (new ≡ old) result
+    pub writes : IfOk result (Writes rows filled)
+    pub moves : IfOk result (Moves before after filled)
+    pub refused : OnErr result (after ≡ before)
+    pub good : is_good before ≡ true → is_good after ≡ true
+    pub stays : Stays old new
+
+-- the number of an answer, and what this answer says
+pub record Tells (code : ℤ) (Says : Answer → Type 0) : Type 0 where
+  pub answer : Answer
+  pub number_is : code ≡ pos (number answer)
+  pub says : Says answer
+
+-- how many bytes a store takes, or that there is no such store
+abbrev pub Sizes : (keys block_exp version bytes : ℕ) → Answer → Type 0
+Sizes keys block_exp version bytes Done = HasSize keys block_exp version (Some bytes)
+Sizes keys block_exp version bytes Options = HasSize keys block_exp version None
+Sizes keys block_exp version bytes _ = ⊥
+
+module _ (before : Region) where
+  -- an opening: the session has the bytes of the region, with the mark that the store is in use
+  pub record Opens (new : Session) : Type 0 where
+    pub terms : HasTerms (terms_of new.store) (bytes_in before.bytes)
+    pub marked : (device_of new).bytes ≡ with_state 1 (bytes_in before.bytes)
+    pub place : place_of new ≡ (before.at, before.len)
+    pub holds : (m : Map) → StandsFor before.bytes m → HoldsMap new m
+
+  -- a refused opening: the bytes are given back
+  pub record IsRefused (now : Region) (why : Answer) : Type 0 where
+    pub cause : OpenCause (bytes_in before.bytes) why
+    pub only : (m : Map) → StandsFor before.bytes m → why ≡ Memory
+    pub left : AreLeft (bytes_in before.bytes) (bytes_in now.bytes) why
+    pub stands : (m : Map) → StandsFor before.bytes m → StandsFor now.bytes m
+    pub lent : IsSome now.bytes
+    pub at_stays : now.at ≡ before.at
+    pub len_stays : now.len ≡ before.len
+
+module _ (old : Session) where
+  -- a closing: the region has the bytes of a closed store
+  pub record Closes (region : Region) : Type 0 where
+    pub terms : HasTerms (terms_of old.store) (bytes_in region.bytes)
+    pub stands : (m : Map) → HoldsMap old m → StandsFor region.bytes m
+    pub lent : IsSome region.bytes
+    pub place : (region.at, region.len) ≡ place_of old
+
+  -- a checkpoint: the session holds each map that it held, and its bytes are those of the store that was closed in between,
+  -- which stand for each such map, with the mark that it is in use
+  pub record Checkpoints (new : Session) : Type 0 where
+    pub closed : List ℕ
+    pub stood : (m : Map) → HoldsMap old m → FileStandsFor closed m
+    pub marked : (device_of new).bytes ≡ with_state 1 closed
+    pub holds : (m : Map) → HoldsMap old m → HoldsMap new m
+    pub stays : Stays old new
+
+  -- a checkpoint that did not open the store again: the bytes are given back, and stand for each map that the session held,
+  -- where want of memory is the only reason
+  pub record Unfinished (region : Region) (why : Answer) : Type 0 where
+    pub closed : List ℕ
+    pub cause : OpenCause closed why
+    pub only : (m : Map) → HoldsMap old m → why ≡ Memory
+    pub left : AreLeft closed (bytes_in region.bytes) why
+    pub terms : HasTerms (terms_of old.store) (bytes_in region.bytes)
+    pub stands : (m : Map) → HoldsMap old m → StandsFor region.bytes m
+    pub lent : IsSome region.bytes
+    pub place : (region.at, region.len) ≡ place_of old

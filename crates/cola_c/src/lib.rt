@@ -2,30 +2,31 @@
 //! pointer and a length, a slice crosses as its pointer and its length, and nothing of the allocator crosses.
 #![tactic(auto)]
 
-ghost use Rattle.std.specs.Prelude.{◌≡◌, ◌≤◌, ℕ, pos, List, Bool, length, take, Result, Ok, Some, None, IsSome, IfOk};
-ghost use Rattle.std.specs.Option.{IsSomeAnd};
-ghost use Rattle.cola_image.specs.Standing.{with_state};
-ghost use Rattle.cola_spec.specs.Map.{Map, count};
-ghost use Rattle.cola_mapped.specs.Region.{bytes_in};
-ghost use Rattle.cola_handle.specs.declared.answer.Answer.{Answer as Why};
+ghost use Rattle.std.specs.Prelude.{◌≡◌, ◌<◌, ◌≤◌, ◌↔◌, ℕ, pos, true, false, List, [], length, take, Result, Ok, Some, None, IsSome, IfOk};
+ghost use Rattle.cola_spec.specs.Map.{Map, count, pairs_between};
 ghost use Rattle.cola_handle.specs.declared.answer.Answer.TheVariants as answer;
 ghost use Rattle.cola_handle.specs.declared.session.Session.{Session};
-ghost use Rattle.cola_handle.specs.Lent.{StandsFor, OpenCause};
+ghost use Rattle.cola_handle.specs.Cursors.{are_short, IsSet, ahead, end_at, gave, is_good};
 ghost use Rattle.cola_handle.specs.Numbers.{number, found, made, made_if, replaced};
-ghost use Rattle.cola_handle.specs.Open.{HoldsMap, place_of, device_of};
-ghost use Rattle.cola_c.specs.Exports.{Answered, Gets, Stamps, Deletes, Puts, PutsIf};
+ghost use Rattle.cola_handle.specs.Open.{HoldsMap};
+ghost use Rattle.cola_c.specs.Exports.{Answered, Gets, Stamps, Deletes, Puts, PutsIf, Nexts, Tells, Opens, IsRefused, Closes, Checkpoints, Unfinished, Sizes};
+ghost use Rattle.cola_handle.specs.Created.{Creates};
 
 use cola_handle::{
-    Answer, Cola, Cursor, Row, tell_delete, tell_put, tell_put_if, tell_stamp, tell_value,
+    Answer, Cola, Cursor, Refusal, Row, Session, tell_delete, tell_put, tell_put_if, tell_stamp,
+    tell_value,
 };
 use cola_mapped::Region;
+use cola_outside::Steps;
 use std::alloc::Global;
 use std::marker::Brand;
-use std::sync::ledger::Blank;
+use std::sync::ledger::{Blank, Ledger};
 
 /// How many bytes a store takes.
 #[unsafe(no_mangle)]
-pub extern "C" fn cola_core_size(keys: u64, block: u8, version: u8, bytes: &mut u64) -> i32 {
+pub extern "C" fn cola_core_size(keys: u64, block: u8, version: u8, bytes: &mut u64) -> i32
+    ensures { Tells result (Sizes keys block version bytes.new) }
+{
     match cola_handle::size(keys, block, version) {
         Some(size) => {
             *bytes = size;
@@ -37,18 +38,20 @@ pub extern "C" fn cola_core_size(keys: u64, block: u8, version: u8, bytes: &mut 
 
 /// Makes the store of a new file in zero bytes.
 #[unsafe(no_mangle)]
-pub extern "C" fn cola_core_create(bytes: &mut [u8], keys: u64, block: u8, version: u8) -> i32 {
+pub extern "C" fn cola_core_create(bytes: &mut [u8], keys: u64, block: u8, version: u8) -> i32
+    ensures { Tells result (Creates keys block version bytes.old bytes.new) }
+{
     cola_handle::create(bytes, keys, block, version).code()
 }
 
-/// Opens the store in the region, which becomes the store's: then an empty one is left. An error leaves its bytes, or bytes
-/// of the same store.
+/// Opens the store in the region, which becomes the store's: then an empty one is left. An error leaves its bytes, but where
+/// there was no memory; then they are those of the same store.
 #[unsafe(no_mangle)]
 pub extern "C" fn cola_core_open(alloc: Global, cola: &mut Cola, region: &mut Region) -> i32
     requires { IsSome region.old.bytes }
     ensures in_use { (session : Session) → cola.old.owned.session ≡ Some session → (result ≡ pos (number answer.InUse)) × (cola.new ≡ cola.old) × (region.new ≡ region.old) }
-    ensures opened { cola.old.owned.session ≡ None → (session : Session) → cola.new.owned.session ≡ Some session → (result ≡ pos (number answer.Done)) × ((device_of session).bytes ≡ with_state 1 (bytes_in region.old.bytes)) × (place_of session ≡ (region.old.at, region.old.len)) × ((m : Map) → StandsFor region.old.bytes m → HoldsMap session m) }
-    ensures refused { cola.old.owned.session ≡ None → cola.new.owned.session ≡ None → (why : Why) × OpenCause (bytes_in region.old.bytes) why × (result ≡ pos (number why)) × (region.new.at ≡ region.old.at) × (region.new.len ≡ region.old.len) × IsSome region.new.bytes × ((m : Map) → StandsFor region.old.bytes m → StandsFor region.new.bytes m) }
+    ensures opened { cola.old.owned.session ≡ None → (session : Session) → cola.new.owned.session ≡ Some session → (result ≡ pos (number answer.Done)) × (region.new.bytes ≡ None) × Opens region.old session }
+    ensures refused { cola.old.owned.session ≡ None → cola.new.owned.session ≡ None → Tells result (IsRefused region.old region.new) }
 {
     if cola.is_open() {
         return Answer::InUse.code();
@@ -166,7 +169,8 @@ pub extern "C" fn cola_core_delete(alloc: Global, cola: &mut Cola, key: &[u8]) -
 pub extern "C" fn cola_core_count(alloc: Global, cola: &mut Cola, keys: &mut u64) -> i32
     ensures closed { cola.old.owned.session ≡ None → (result ≡ pos (number answer.Closed)) × (cola.new.owned.session ≡ None) }
     ensures stays { cola.new.owned.session ≡ cola.old.owned.session }
-    ensures answered { (session : Session) (m : Map) → cola.old.owned.session ≡ Some session → HoldsMap session m → (result ≡ pos (number answer.Done)) × (keys.new ≡ count m) }
+    ensures done { (session : Session) → cola.old.owned.session ≡ Some session → result ≡ pos (number answer.Done) }
+    ensures answered { (session : Session) (m : Map) → cola.old.owned.session ≡ Some session → HoldsMap session m → keys.new ≡ count m }
 {
     let Some(session) = cola.take(alloc) else {
         return Answer::Closed.code();
@@ -178,15 +182,47 @@ pub extern "C" fn cola_core_count(alloc: Global, cola: &mut Cola, keys: &mut u64
 
 /// Sets a cursor before the first key from a low end on.
 #[unsafe(no_mangle)]
-pub extern "C" fn cola_core_seek(
-    cursor: &mut Cursor,
-    low: &[u8],
-    high: &[u8],
-    bounded: bool,
-) -> i32 {
+pub extern "C" fn cola_core_seek(cursor: &mut Cursor, low: &[u8], high: &[u8], bounded: bool) -> i32
+    ensures set { are_short low.now high.now ≡ true → (result ≡ pos (number answer.Done)) × IsSet low.now high.now bounded cursor.new }
+    ensures ahead { (m : Map) → are_short low.now high.now ≡ true → ahead m cursor.new ≡ pairs_between m low.now (end_at bounded high.now) }
+    ensures long { are_short low.now high.now ≡ false → (result ≡ pos (number answer.Length)) × (cursor.new ≡ cursor.old) }
+{
     match Cursor::seek(low, high, bounded) {
         Ok(place) => {
             *cursor = place;
+            Answer::Done.code()
+        }
+        Err(refusal) => refusal.answer().code(),
+    }
+}
+
+/// The next rows of a cursor, on a ledger that the blank opens.
+fn next_on<L: Ledger>(
+    blank: Blank,
+    session: &mut Session,
+    cursor: &mut Cursor,
+    rows: &mut [Row],
+) -> Result<usize, Refusal>
+    requires name { blank.name ≡ L.name }
+    requires parts { blank.parts ≡ L.parts }
+    requires some { 0 < L.parts }
+    ensures { Nexts session.old cursor.old rows.old session.new cursor.new rows.new result }
+{
+    let mut steps = Steps::<L>::begin(blank);
+    cola_handle::next(session, cursor, rows, &mut steps)
+}
+
+/// Of the next rows: how many they are.
+fn tell_next(next: Result<usize, Refusal>, wanted: usize, given: &mut usize) -> i32
+    ensures number { result ≡ pos (number (gave wanted next)) }
+    ensures given { IfOk next (λ count. given.new ≡ count) }
+{
+    match next {
+        Ok(count) => {
+            *given = count;
+            if wanted > 0 && count == 0 {
+                return Answer::Absent.code();
+            }
             Answer::Done.code()
         }
         Err(refusal) => refusal.answer().code(),
@@ -202,30 +238,24 @@ pub extern "C" fn cola_core_next(
     rows: &mut [Row],
     given: &mut usize,
 ) -> i32
-    ensures closed { cola.old.owned.session ≡ None → (result ≡ pos (number answer.Closed)) × (cola.new.owned.session ≡ None) }
-    ensures map_stays { (session : Session) (m : Map) → cola.old.owned.session ≡ Some session → HoldsMap session m → IsSomeAnd cola.new.owned.session (λ new. HoldsMap new m) }
+    ensures closed { cola.old.owned.session ≡ None → (result ≡ pos (number answer.Closed)) × (cola.new.owned.session ≡ None) × (cursor.new ≡ cursor.old) }
+    ensures answered { (session : Session) → cola.old.owned.session ≡ Some session → Answered cola.new.owned.session result (gave (length rows.old)) (λ new next. Nexts session cursor.old rows.old new cursor.new rows.new next × IfOk next (λ count. given.new ≡ count)) }
+    ensures ended { (session : Session) (m : Map) → cola.old.owned.session ≡ Some session → HoldsMap session m → is_good cursor.old ≡ true → (result ≡ pos (number answer.Absent)) ↔ ((0 < length rows.old) × (ahead m cursor.old ≡ [])) }
 {
     let Some(mut session) = cola.take(alloc) else {
         return Answer::Closed.code();
     };
-    let count = cola_handle::next::<Brand>(Blank::new(1), &mut session, cursor, rows);
+    let next = next_on::<Brand>(Blank::new(1), &mut session, cursor, rows);
     cola.put(alloc, session);
-    match count {
-        Ok(count) => {
-            *given = count;
-            if count == 0 && rows.len() != 0 {
-                return Answer::Absent.code();
-            }
-            Answer::Done.code()
-        }
-        Err(refusal) => refusal.answer().code(),
-    }
+    tell_next(next, rows.len(), given)
 }
 
 /// Closes the store and opens it again. An error gives the bytes back: then the handle is closed.
 #[unsafe(no_mangle)]
 pub extern "C" fn cola_core_checkpoint(alloc: Global, cola: &mut Cola, region: &mut Region) -> i32
-    ensures closed { cola.old.owned.session ≡ None → (result ≡ pos (number answer.Closed)) × (cola.new.owned.session ≡ None) }
+    ensures closed { cola.old.owned.session ≡ None → (result ≡ pos (number answer.Closed)) × (cola.new.owned.session ≡ None) × (region.new ≡ region.old) }
+    ensures done { (old new : Session) → cola.old.owned.session ≡ Some old → cola.new.owned.session ≡ Some new → (result ≡ pos (number answer.Done)) × (region.new ≡ region.old) × Checkpoints old new }
+    ensures refused { (old : Session) → cola.old.owned.session ≡ Some old → cola.new.owned.session ≡ None → Tells result (Unfinished old region.new) }
 {
     let Some(session) = cola.take(alloc) else {
         return Answer::Closed.code();
@@ -236,8 +266,8 @@ pub extern "C" fn cola_core_checkpoint(alloc: Global, cola: &mut Cola, region: &
             cola.put(alloc, session);
             Answer::Done.code()
         }
-        Err((bytes, answer)) => {
-            *region = bytes;
+        Err((left, answer)) => {
+            *region = left;
             answer.code()
         }
     }
@@ -246,12 +276,9 @@ pub extern "C" fn cola_core_checkpoint(alloc: Global, cola: &mut Cola, region: &
 /// Closes the store, and gives its bytes back in the region, where they were.
 #[unsafe(no_mangle)]
 pub extern "C" fn cola_core_close(alloc: Global, cola: &mut Cola, region: &mut Region) -> i32
-    ensures closed { cola.old.owned.session ≡ None → result ≡ pos (number answer.Closed) }
+    ensures closed { cola.old.owned.session ≡ None → (result ≡ pos (number answer.Closed)) × (region.new ≡ region.old) }
     ensures left { cola.new.owned.session ≡ None }
-    ensures done { (session : Session) → cola.old.owned.session ≡ Some session → result ≡ pos (number answer.Done) }
-    ensures stands { (session : Session) (m : Map) → cola.old.owned.session ≡ Some session → HoldsMap session m → StandsFor region.new.bytes m }
-    ensures place { (session : Session) → cola.old.owned.session ≡ Some session → (region.new.at, region.new.len) ≡ place_of session }
-    ensures lent { (session : Session) → cola.old.owned.session ≡ Some session → IsSome region.new.bytes }
+    ensures done { (session : Session) → cola.old.owned.session ≡ Some session → (result ≡ pos (number answer.Done)) × Closes session region.new }
 {
     let Some(session) = cola.take(alloc) else {
         return Answer::Closed.code();

@@ -46,12 +46,12 @@ list-there room n list bytes long is =
     ap (λ (k : ℕ). take k bytes) long ∙ ap (λ (xs : List ℕ). take (length list) xs) is ∙ padded-front room list
 
 -- the stamp of the cell that the bytes spell
-stamp-there : (format : Format) (cell : Cell) (bytes : List ℕ) → IsSpelling format cell bytes → standing_stamp format bytes ≡ stamp_of cell
+pub stamp-there : (format : Format) (cell : Cell) (bytes : List ℕ) → IsSpelling format cell bytes → standing_stamp format bytes ≡ stamp_of cell
 stamp-there One cell bytes s = let limit = small-stamp One cell s.fits in omega arith
 stamp-there Two cell bytes s = let limit = small-stamp Two cell s.fits in number-there 8 (stamp_of cell) (part 8 16 bytes) (omega arith) s.stamp
 
 -- the cell that the bytes spell stands in them
-standing-is : (format : Format) (cell : Cell) (bytes : List ℕ) → IsSpelling format cell bytes → standing format bytes ≡ cell
+pub standing-is : (format : Format) (cell : Cell) (bytes : List ℕ) → IsSpelling format cell bytes → standing format bytes ≡ cell
 standing-is format cell bytes s =
     of-parts (slice_index bytes 0) (slice_index bytes 1) (take (slice_index bytes 2) (part (key_at format) (value_at format) bytes))
     (take (slice_index bytes 3) (part (value_at format) (width format) bytes)) (standing_stamp format bytes) (little_number 4 (part 4 8 bytes)) cell
@@ -229,3 +229,8 @@ worked-long-key = refl
 -- worked: bytes of another number are none
 worked-short : decoded One ((1 ∷ 0 ∷ 1 ∷ 0 ∷ 0 ∷ 0 ∷ 0 ∷ 0 ∷ 97 ∷ []) ++ replicate 54 0) ≡ None
 worked-short = refl
+
+-- bytes that spell a cell are its spelling
+pub spelling_back : (format : Format) (cell : Cell) (bytes : List ℕ) → IsSpelling format cell bytes → spelling format cell ≡ bytes
+spelling_back format cell bytes s =
+    unique.one-spelling format cell (spelling format cell) bytes (spelled-so format cell s.fits s.some_key s.small_link) s

@@ -14,3 +14,4 @@ pub mod CostsLemmas
 pub mod RunLemmas
 pub mod DecodedLemmas
 pub mod KeyWords
+pub mod Packs

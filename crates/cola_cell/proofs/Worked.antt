@@ -1,5 +1,5 @@
 -- Worked cells: the definition computes as the format's tables say.
-use Rattle.std.proofs.Common.{◌≡◌, ℕ, false, true, List, [], ◌∷◌, ◌++◌, replicate, refl, arith}
+use Rattle.std.proofs.Common.{false, true, [], ◌∷◌, ◌++◌, replicate, refl, arith}
 use Rattle.cola_cell.specs.declared.format.Format.TheVariants.{One, Two}
 use Rattle.cola_cell.specs.declared.cell.Item.TheVariants.{Value, Tombstone}
 use Rattle.cola_cell.specs.declared.cell.Cell.TheVariants as cell

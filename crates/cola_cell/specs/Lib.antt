@@ -12,3 +12,4 @@ pub mod Listed
 pub mod Costs
 pub mod Flat
 pub mod Decoded
+pub mod Packed

@@ -135,7 +135,7 @@ impl Ord for Key {
 
 /// The order of two lists of as many bytes, which are whole words of 8.
 #[inline(always)]
-fn words_cmp(left: &[u8], right: &[u8]) -> Ordering
+pub(crate) fn words_cmp(left: &[u8], right: &[u8]) -> Ordering
     requires words { length left.now % 8 ≡ 0 }
     requires same { length left.now ≡ length right.now }
     ensures { result ≡ slice_cmp nat_cmp left.now right.now }

@@ -1,11 +1,13 @@
 //! Objects of cells that runs are built in.
 ghost use Rattle.std.specs.Prelude.{◌≡◌, ◌+◌, ◌≤◌, ◌<◌};
 ghost use Rattle.cola_cell.specs.Format.{CellFits};
+ghost use Rattle.cola_cell.specs.Packed.{passed, MayPass};
 ghost use Rattle.cola_cell.specs.Places.{slot_size};
 ghost use Rattle.cola_cell.specs.Shadows.{Restarts, Pushes, PushSpends, push_ticks, Finishes, FinishSpends};
 
 use crate::cell::Cell;
 use crate::fault::PushFault;
+use crate::packed::{Packed, Pass};
 use crate::source::CellSource;
 use cola_outside::Steps;
 use std::sync::ledger::Ledger;
@@ -47,6 +49,24 @@ pub trait CellSink: CellSource {
         ensures kept { Self.kept self.new ≡ Self.kept self.old }
         ensures ticks { steps.new ≡ steps.old + push_ticks result }
         ensures pushes { Pushes (Self.held self.old) (Self.held self.new) (Self.spent self.old) (Self.spent self.new) level cell.now result }
+        ensures spends { PushSpends (Self.held self.old) (Self.spent self.old) (Self.spent self.new) level result };
+
+    /// As `push`, of what becomes of a packed cell.
+    fn push_as<L: Ledger>(
+        &mut self,
+        level: u8,
+        slot: u8,
+        cell: &Packed,
+        pass: Pass,
+        steps: &mut Steps<L>,
+    ) -> Result<(), PushFault>
+        requires level_in { level < (Self.held self.old).fixed.levels }
+        requires in_slot { slot ≡ ((Self.held self.old).shadows level).slot }
+        requires may { MayPass pass cell.now }
+        requires fits { CellFits (Self.held self.old).fixed.format cell.now }
+        ensures kept { Self.kept self.new ≡ Self.kept self.old }
+        ensures ticks { steps.new ≡ steps.old + push_ticks result }
+        ensures pushes { Pushes (Self.held self.old) (Self.held self.new) (Self.spent self.old) (Self.spent self.new) level (passed pass cell.now) result }
         ensures spends { PushSpends (Self.held self.old) (Self.spent self.old) (Self.spent self.new) level result };
 
     /// Writes to the device what is not yet there of the level's shadow. It is refused only where the device

@@ -1,10 +1,12 @@
 //! Objects of cells that are read.
 ghost use Rattle.std.specs.Prelude.{◌≡◌, ◌+◌, ◌%◌, ◌^◌, ◌≤◌};
 ghost use Rattle.cola_cell.specs.Held.{Held, HasPlace};
+ghost use Rattle.cola_cell.specs.Packed.{given};
 ghost use Rattle.cola_cell.specs.Spent.{Spent, Search, By, Reads};
 
 use crate::cell::{Cell, Reader};
 use crate::fault::ReadFault;
+use crate::packed::Packed;
 use cola_outside::Steps;
 use std::sync::ledger::Ledger;
 
@@ -58,6 +60,37 @@ pub trait CellSource {
         ensures kept { kept self.new ≡ kept self.old }
         ensures one_tick { steps.new ≡ steps.old + 1 }
         ensures reads { Reads (held self.old) (spent self.old) (spent self.new) (By reader level) level slot index result };
+
+    /// As `read`, into a packed cell. Where it is refused, that has any cell.
+    fn read_into<L: Ledger>(
+        &mut self,
+        level: u8,
+        slot: u8,
+        index: u32,
+        into: &mut Packed,
+        steps: &mut Steps<L>,
+    ) -> Result<(), ReadFault>
+        requires { HasPlace (held self.old) level slot index }
+        ensures cells_stay { held self.new ≡ held self.old }
+        ensures kept { kept self.new ≡ kept self.old }
+        ensures one_tick { steps.new ≡ steps.old + 1 }
+        ensures reads { Reads (held self.old) (spent self.old) (spent self.new) Search level slot index (given into.new result) };
+
+    /// As `read_for`, into a packed cell. Where it is refused, that has any cell.
+    fn read_for_into<L: Ledger>(
+        &mut self,
+        reader: Reader,
+        level: u8,
+        slot: u8,
+        index: u32,
+        into: &mut Packed,
+        steps: &mut Steps<L>,
+    ) -> Result<(), ReadFault>
+        requires { HasPlace (held self.old) level slot index }
+        ensures cells_stay { held self.new ≡ held self.old }
+        ensures kept { kept self.new ≡ kept self.old }
+        ensures one_tick { steps.new ≡ steps.old + 1 }
+        ensures reads { Reads (held self.old) (spent self.old) (spent self.new) (By reader level) level slot index (given into.new result) };
 
     /// How many ticks it has made, modulo `2^64`.
     fn ticked(&self) -> u64

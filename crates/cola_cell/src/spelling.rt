@@ -51,7 +51,7 @@ pub fn decode_wide(bytes: &[u8; 128]) -> Option<Cell>
 }
 
 #[inline(always)]
-fn encode_in(format: Format, cell: &Cell, into: &mut [u8])
+pub(crate) fn encode_in(format: Format, cell: &Cell, into: &mut [u8])
     requires size { length into.old ≡ width format }
     requires fits { CellFits format cell.now }
     ensures { IsSpelling format cell.now into.new }
@@ -95,7 +95,7 @@ pub(crate) fn put(into: &mut [u8], place: usize, part: &[u8])
 
 // Writes the stamp of a cell, where the format has one.
 #[inline(always)]
-fn put_stamp(format: Format, stamp: u64, into: &mut [u8])
+pub(crate) fn put_stamp(format: Format, stamp: u64, into: &mut [u8])
     requires { length into.old ≡ width format }
     ensures front { take (key_at format) into.new ≡ take 8 into.old ++ stamp_bytes format stamp }
     ensures size { length into.new ≡ length into.old }
@@ -158,7 +158,7 @@ fn value_room(cell: &Cell, n: usize) -> &[u8]
 
 // A room of `n` zeros.
 #[inline(always)]
-fn zeros(n: usize) -> &'static [u8]
+pub(crate) fn zeros(n: usize) -> &'static [u8]
     requires { n ≤ 72 }
     ensures { result.now ≡ replicate n 0 }
 {
@@ -206,7 +206,7 @@ fn decode_in(format: Format, bytes: &[u8]) -> Option<Cell>
 
 // Whether a cell has this kind and youth, with a value of this length and this stamp.
 #[inline(always)]
-fn is_kind(kind: u8, young: u8, value_len: u8, stamp: u64) -> bool
+pub(crate) fn is_kind(kind: u8, young: u8, value_len: u8, stamp: u64) -> bool
     ensures { IsTrue result ↔ KindIs kind young value_len stamp }
 {
     if kind == 0 {
@@ -224,7 +224,7 @@ fn is_kind(kind: u8, young: u8, value_len: u8, stamp: u64) -> bool
 
 // The stamp in the bytes, or none where it is too large. Format One has no stamp but 0.
 #[inline(always)]
-fn stamp_in(format: Format, bytes: &[u8]) -> Option<u64>
+pub(crate) fn stamp_in(format: Format, bytes: &[u8]) -> Option<u64>
     requires { length bytes.now ≡ width format }
     ensures { MatchOption result ((stamp : ℕ) → ¬ StampIs format stamp bytes.now) (λ stamp. StampIs format stamp bytes.now) }
 {

@@ -26,8 +26,10 @@ use Rattle.cola_mutation.specs.Work.{State, transfers}
 use Rattle.cola_mutation.specs.Standing.{AllTrade}
 use Rattle.cola_run.specs.Cells.{block_cells}
 use Rattle.cola_run.proofs.Reading.{span-is}
+use Rattle.cola_run.specs.Store as run
+use Rattle.cola_run.specs.Store.{Store}
 use Rattle.cola_chain.specs.Contents.{Contents, Kept, held_of, spent_of, kept_of}
-use Rattle.cola_chain.specs.Account.{ArePaid, sums_of, IsPaid, AreBounded, added}
+use Rattle.cola_chain.specs.Account.{ArePaid, sums_of, IsPaid, IsContents, AreBounded, added}
 use Rattle.cola_chain.proofs.LevelLists.{marks-length}
 
 -- ---- transfers that are counted from other numbers on
@@ -242,6 +244,18 @@ paid-stays {D} {K} bytes counts kept old new held_is kept_is lasts p =
           subst (λ (x : Held). ArePaid x.fixed.doublings new.accepted new.clock new.levels (sums_of (held_of bytes new) (spent_of counts new) new.reads new.writes)) (sym held_is)
           (subst (λ (k : Kept K). ArePaid (held_of bytes old).fixed.doublings k.accepted k.clock k.levels (sums_of (held_of bytes new) (spent_of counts new) new.reads new.writes)) (sym kept_is)
           (subst (λ (x : Transfers). ArePaid (held_of bytes old).fixed.doublings old.accepted old.clock old.levels x) (sym same) p.paid));
+    }
+
+-- a chain of whose store a cell was read by way of that block
+pub read-sound : {D K : Type 0} (bytes : D → Option (List ℕ)) (counts : D → Counts) (kept : D → K) (old : Contents D) (store : Store D) → run.held_of bytes store ≡ held_of bytes old → run.kept_of bytes counts kept store ≡ run.kept_of bytes counts kept old.store →
+    ((buffer : Buffer) → buffer ≢ Search → (run.spent_of counts store).lasts buffer ≡ (spent_of counts old).lasts buffer) → IsContents bytes counts old → IsContents bytes counts (record old { store = store })
+read-sound {D} {K} bytes counts kept old store held_is kept_is lasts sound =
+    let new : Contents D = record old { store = store } in
+    let same : kept_of bytes counts kept new ≡ kept_of bytes counts kept old =
+    ap (λ (k : run.Kept K). record { store = k; levels = old.levels; clock = old.clock; accepted = old.accepted; reads = old.reads; writes = old.writes }) kept_is in
+    record {
+      stands = subst (λ (h : Held). IsChain h old.clock old.levels) (sym held_is) sound.stands;
+      paid = λ counted. paid-stays bytes counts kept old new held_is same lasts (sound.paid counted);
     }
 
 -- ---- a chain after a step

@@ -40,10 +40,10 @@ runs-append t j (n ∷ ls) l =
 pub pushed-length : {X : Type 0} (xs now : List X) (x : X) (n : ℕ) → now ≡ xs ++ x ∷ [] → length xs ≡ n → length now ≡ n + 1
 pushed-length xs now x n e h = let f = ap length e in let g = length-append xs (x ∷ []) in omega (arith, f, g, h)
 
-pub levels-push : (ms : List Marks) (xs now : List Level) (x : Level) (i : ℕ) (m : Marks) → i < length ms → m ≡ get_or ms i m → now ≡ xs ++ x ∷ [] → x ≡ level_with (numbers_of m) → xs ≡ levels_with (all_numbers (take i ms)) →
+pub levels-push : (ms : List Marks) (xs now : List Level) (x : Level) (i : ℕ) (d : Marks) → i < length ms → now ≡ xs ++ x ∷ [] → x ≡ level_with (numbers_of (get_or ms i d)) → xs ≡ levels_with (all_numbers (take i ms)) →
     now ≡ levels_with (all_numbers (take (i + 1) ms))
-levels-push ms xs now x i m h at e f built =
-    e ∙ ap (λ (ys : List Level). ys ++ x ∷ []) built ∙ ap (λ (y : Level). levels_with (all_numbers (take i ms)) ++ y ∷ []) (f ∙ ap (λ (k : Marks). level_with (numbers_of k)) at) ∙ sym (levels-more ms i m h)
+levels-push ms xs now x i d h e f built =
+    e ∙ ap (λ (ys : List Level). ys ++ x ∷ []) built ∙ ap (λ (y : Level). levels_with (all_numbers (take i ms)) ++ y ∷ []) f ∙ sym (levels-more ms i d h)
 
 pub marks-push : (ls : List Level) (xs now : List Marks) (x : Marks) (i : ℕ) (l : Level) → i < length ls → l ≡ get_or ls i l → now ≡ xs ++ x ∷ [] → numbers_of x ≡ marks_of l → all_numbers xs ≡ all_marks_of (take i ls) →
     all_numbers now ≡ all_marks_of (take (i + 1) ls)

@@ -1,7 +1,6 @@
 //! The chain of a store.
 ghost use Rattle.std.specs.Prelude.{◌≡◌, ℕ, ◌+◌, ◌-◌, ◌*◌, ◌/◌, ◌^◌, ◌≤◌, ◌<◌, List, length, All, Option, true, false, IfSome, IfOk, IfErr, OnOk, OnErr, MatchResult};
 ghost use Rattle.cola_spec.specs.Map.{Map};
-ghost use Rattle.cola_clock.specs.Clock.{visible_slot};
 ghost use Rattle.cola_laws.specs.Plain.{next_clock};
 ghost use Rattle.cola_cell.specs.Format.{KeyFits, ItemFits};
 ghost use Rattle.cola_cell.specs.Held.{Held, Stamped, IsTelling};
@@ -11,7 +10,7 @@ ghost use Rattle.cola_look.specs.Runs.{HasRun};
 ghost use Rattle.cola_level.specs.Marks.{all_marks_of};
 ghost use Rattle.cola_level.specs.Work.{IsCalm, IsDevice};
 ghost use Rattle.cola_mutation.specs.Work.{state_of, Costs};
-ghost use Rattle.cola_mutation.specs.Standing.{StandsFor, KeepsProgress, HasRefusal};
+ghost use Rattle.cola_mutation.specs.Standing.{StandsFor, KeepsProgress, KeepsVisible, HasRefusal};
 ghost use Rattle.cola_mutation.specs.Steps.{IsMapOf, ChangesMap, KeepsMap, step_ticks};
 ghost use Rattle.cola_image.specs.Cells.{file_spots};
 ghost use Rattle.cola_run.specs.Store as run;
@@ -139,8 +138,7 @@ impl<D: Device> Chain<D> {
         ensures many { length self.new.levels ≡ length self.old.levels }
         ensures clock { MatchResult result (λ _. self.new.clock ≡ next_clock (length self.old.levels) self.old.clock) (λ _. self.new.clock ≡ self.old.clock) }
         ensures progress { OnErr result (KeepsProgress self.old.clock self.old.levels self.new.levels) }
-        ensures visible { OnErr result ((level index : ℕ) → level < length self.old.levels →
-            (held_of D.bytes self.new).spots level (visible_slot self.old.clock level) index ≡ (held_of D.bytes self.old).spots level (visible_slot self.old.clock level) index) }
+        ensures visible { OnErr result (KeepsVisible self.old.clock (length self.old.levels) (held_of D.bytes self.old) (held_of D.bytes self.new)) }
         // what it means
         ensures changes { OnOk result (ChangesMap (held_of D.bytes self.old) (held_of D.bytes self.new) self.old.clock self.new.clock key.now item.now self.old.levels self.new.levels) }
         ensures keeps { OnErr result (KeepsMap (held_of D.bytes self.old) (held_of D.bytes self.new) self.old.clock self.old.levels self.new.levels) }

@@ -25,29 +25,15 @@ fn run_of(level: &Level, number: u8, clock: u64) -> Run
     }
 }
 
-/// Makes these levels those with these marks.
-fn set_levels(levels: &mut [Level], marks: &[Marks])
-    requires { length levels.old ≡ length marks.now }
-    ensures { levels.new ≡ levels_with (all_numbers marks.now) }
-{
-    let Some((level, below)) = levels.split_first_mut() else {
-        return;
-    };
-    let Some((first, rest)) = marks.split_first() else {
-        return;
-    };
-    *level = Level::of(first);
-    set_levels(below, rest);
-}
-
 /// The levels with these marks.
 pub(crate) fn levels_of(marks: &[Marks]) -> ArrayVec<Level, 23>
     requires { length marks.now ≤ 23 }
     ensures { result.items ≡ levels_with (all_numbers marks.now) }
 {
-    let mut levels = ArrayVec::from([Level::default(); 23]);
-    levels.truncate(marks.len());
-    set_levels(levels.as_mut_slice(), marks);
+    let mut levels = ArrayVec::new();
+    for level_marks in marks {
+        levels.push(Level::of(level_marks));
+    }
     levels
 }
 

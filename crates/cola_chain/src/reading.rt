@@ -1,11 +1,12 @@
 //! Reads of a chain's cells.
 ghost use Rattle.std.specs.Prelude.{◌≡◌, ◌+◌, ◌%◌, ◌^◌, ◌≤◌, false};
 ghost use Rattle.cola_cell.specs.Held.{HasPlace};
+ghost use Rattle.cola_cell.specs.Packed.{given};
 ghost use Rattle.cola_cell.specs.Spent.{Search, By, Reads};
 ghost use Rattle.cola_chain.specs.Contents.{held_of, spent_of, Kept, kept_of};
 
 use crate::chains::Chain;
-use cola_cell::{Cell, CellSource, ReadFault, Reader};
+use cola_cell::{Cell, CellSource, Packed, ReadFault, Reader};
 use cola_device::Device;
 use cola_outside::Steps;
 use std::sync::ledger::Ledger;
@@ -56,6 +57,47 @@ impl<D: Device> CellSource for Chain<D> {
     {
         self.counted = false;
         self.runs.read_for(reader, level, slot, index, steps)
+    }
+
+    /// As `read`, into a packed cell.
+    fn read_into<L: Ledger>(
+        &mut self,
+        level: u8,
+        slot: u8,
+        index: u32,
+        into: &mut Packed,
+        steps: &mut Steps<L>,
+    ) -> Result<(), ReadFault>
+        requires { HasPlace (held_of D.bytes self.old) level slot index }
+        ensures cells_stay { held_of D.bytes self.new ≡ held_of D.bytes self.old }
+        ensures kept { kept_of D.bytes D.counts D.kept self.new ≡ kept_of D.bytes D.counts D.kept self.old }
+        ensures one_tick { steps.new ≡ steps.old + 1 }
+        ensures reads { Reads (held_of D.bytes self.old) (spent_of D.counts self.old) (spent_of D.counts self.new) Search level slot index (given into.new result) }
+        ensures counted { self.new.counted ≡ self.old.counted }
+    {
+        self.runs.read_into(level, slot, index, into, steps)
+    }
+
+    /// As `read_for`, into a packed cell.
+    fn read_for_into<L: Ledger>(
+        &mut self,
+        reader: Reader,
+        level: u8,
+        slot: u8,
+        index: u32,
+        into: &mut Packed,
+        steps: &mut Steps<L>,
+    ) -> Result<(), ReadFault>
+        requires { HasPlace (held_of D.bytes self.old) level slot index }
+        ensures cells_stay { held_of D.bytes self.new ≡ held_of D.bytes self.old }
+        ensures kept { kept_of D.bytes D.counts D.kept self.new ≡ kept_of D.bytes D.counts D.kept self.old }
+        ensures one_tick { steps.new ≡ steps.old + 1 }
+        ensures reads { Reads (held_of D.bytes self.old) (spent_of D.counts self.old) (spent_of D.counts self.new) (By reader level) level slot index (given into.new result) }
+        ensures counted { self.new.counted ≡ false }
+    {
+        self.counted = false;
+        self.runs
+            .read_for_into(reader, level, slot, index, into, steps)
     }
 
     fn ticked(&self) -> u64 {

@@ -84,7 +84,7 @@ fn test_file<D: Device, L: Ledger>(
 /// state byte is 1; all memory is taken, or `OutOfMemory`; the cells of the runs are read and tested. `Device` where the
 /// device refused a call. Nothing is written, and the file is not marked as in use, whatever is answered. Each cell of a
 /// run is read a fixed number of times, with at most five ticks for each cell of the file. Where no read is refused, the
-/// device is read at most ten times for each block of cells that the runs fill, and 41 times for each level.
+/// device is read at most ten times for each block of cells that the runs fill, 41 times for each level, and three times more.
 ///
 /// The device comes back whatever is answered. What is said of the verdict holds where it tells its bytes.
 pub fn check<D: Device, L: Ledger>(

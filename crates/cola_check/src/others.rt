@@ -3,7 +3,7 @@ ghost use Rattle.std.specs.Prelude.{◌≡◌};
 ghost use Rattle.std.specs.Borrow.{GName};
 ghost use Rattle.cola_check.specs.Others.{other_reader, by_others};
 
-use cola_cell::{Cell, CellSource, ReadFault, Reader};
+use cola_cell::{Cell, CellSource, Packed, ReadFault, Reader};
 use cola_outside::Steps;
 use std::sync::ledger::Ledger;
 
@@ -55,6 +55,30 @@ impl<'a, W: CellSource> CellSource for ByOthers<'a, W> {
     ) -> Result<Cell, ReadFault> {
         self.object
             .read_for(other_reader(reader), level, slot, index, steps)
+    }
+
+    fn read_into<L: Ledger>(
+        &mut self,
+        level: u8,
+        slot: u8,
+        index: u32,
+        into: &mut Packed,
+        steps: &mut Steps<L>,
+    ) -> Result<(), ReadFault> {
+        self.object.read_into(level, slot, index, into, steps)
+    }
+
+    fn read_for_into<L: Ledger>(
+        &mut self,
+        reader: Reader,
+        level: u8,
+        slot: u8,
+        index: u32,
+        into: &mut Packed,
+        steps: &mut Steps<L>,
+    ) -> Result<(), ReadFault> {
+        self.object
+            .read_for_into(other_reader(reader), level, slot, index, into, steps)
     }
 
     fn ticked(&self) -> u64 {

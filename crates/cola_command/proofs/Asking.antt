@@ -1,5 +1,5 @@
 -- A turn of the session: what follows of its cause, for each kind of command.
-use Rattle.std.proofs.Common.{◌≡◌, ℕ, ◌+◌, ◌≤◌, Bool, List, [], Option, Some, None, Result, refl, sym, ◌∙◌, ap, subst, arith}
+use Rattle.std.proofs.Common.{◌≡◌, ℕ, ◌+◌, ◌≤◌, List, [], Option, Some, None, Result, refl, sym, ◌∙◌, ap, subst, arith}
 use Rattle.std.specs.Prelude.{IsSome, option_map}
 use Rattle.std.proofs.Math.Bridge.{le_prop}
 use Rattle.cola_outside.specs.Told.{Both}
@@ -7,7 +7,6 @@ use Rattle.cola_cell.specs.declared.format.Format.{Format}
 use Rattle.cola_device.specs.declared.device.Device as device
 use Rattle.cola_io.specs.declared.sink.Sink as sink
 use Rattle.cola_layout.specs.declared.geometry.Geometry.{Geometry}
-use Rattle.cola_spec.specs.Map.{Shape, Map}
 use Rattle.cola_spec.specs.Command.{Put, PutIf, Del, Get, Stamp, Range, Scan, Count, Close, Reopen}
 use Rattle.cola_spec.specs.Command as spec
 use Rattle.cola_spec.specs.Reply as reply
@@ -17,7 +16,6 @@ use Rattle.cola_spec.specs.Machine.{State, Turn, Step, kind_of, by_command, turn
 use Rattle.cola_spec.specs.Bounds.{command_bound, request_bound}
 use Rattle.cola_table.specs.Replies.{turn_of}
 use Rattle.cola_line.specs.declared.command.Command.{Command}
-use Rattle.cola_line.specs.declared.command.Command.TheVariants as code
 use Rattle.cola_line.specs.Spoken.{spoken, IsOfTable}
 use Rattle.cola_line.specs.Replied.{Wrote, KindFaults, StepsFrom}
 use Rattle.cola_line.specs.Answered.{Answered}

@@ -1,5 +1,5 @@
 -- What the test of a file says of it, where its bytes are told.
-use Rattle.std.proofs.Common.{◌≡◌, ◌∙◌, ◌⊎◌, inl, inr, ℕ, ◌≤◌, Bool, true, false, List, ◌++◌, length, take, Option, Some, None, Result, Ok, Err, refl, sym, ap, subst, arith}
+use Rattle.std.proofs.Common.{◌≡◌, ◌∙◌, ◌⊎◌, inl, inr, ℕ, ◌≤◌, List, ◌++◌, length, take, Option, Some, Result, Ok, Err, sym, ap, subst, arith}
 use Rattle.std.proofs.lemmas.Bool.{false≢true}
 use Rattle.std.specs.Prelude.{IfSome, codes, decimal}
 use Rattle.cola_outside.specs.Faults.{Rose}
@@ -13,9 +13,8 @@ use Rattle.cola_io.specs.Streams.{Appended}
 use Rattle.cola_io.specs.declared.sink.Sink as sink
 use Rattle.cola_layout.specs.Header.{Fields}
 use Rattle.cola_layout.proofs.Refusing.{spelling-one}
-use Rattle.cola_opening.specs.Judged.{file_size, HasHeader, IsSmall, IsNoStore, IsClosedWith, IsInUse}
+use Rattle.cola_opening.specs.Judged.{file_size, HasHeader, IsSmall, IsNoStore, IsInUse}
 use Rattle.cola_opening.proofs.Sizes.{header_fits}
-use Rattle.cola_report.specs.Line.{LineEnds}
 use Rattle.cola_report.specs.Line.LineEnds.{WroteLine, WroteFront}
 use Rattle.cola_spec.specs.Map.{Map, count}
 use Rattle.cola_spec.specs.Reply.{line}
@@ -24,7 +23,7 @@ use Rattle.cola_verdict.specs.declared.verdict.Verdict.{Verdict}
 use Rattle.cola_verdict.specs.declared.verdict.Verdict.TheVariants.{Sound, Broken}
 use Rattle.cola_verdict.proofs.Broken.{broken-stands_not}
 use Rattle.cola_verdict.proofs.Standing.{passing-stands}
-use Rattle.cola_command.specs.Checked.{verdict_line, verdict_status, check_status, Tells, CheckEnds}
+use Rattle.cola_command.specs.Checked.{Tells, CheckEnds}
 use Rattle.cola_command.specs.Checked.CheckEnds.{Judged, NotJudged}
 
 -- what is said of bytes that are told

@@ -22,10 +22,9 @@ use Rattle.cola_session.specs.Ends.{Ending, SessionEnds, NotBegun, Status0, Stat
 use Rattle.cola_check.specs.declared.fault.CheckFault.{CheckFault}
 use Rattle.cola_check.specs.declared.fault.CheckFault.TheVariants as check
 use Rattle.cola_report.specs.Line.LineEnds.{WroteLine, WroteFront}
-use Rattle.cola_report.specs.Line.{LineEnds}
 use Rattle.cola_verdict.specs.declared.verdict.Verdict.{Verdict}
 use Rattle.cola_verdict.specs.declared.verdict.Verdict.TheVariants.{Sound, Broken}
-use Rattle.cola_command.specs.Checked.{verdict_line, verdict_status, check_status, CheckEnds}
+use Rattle.cola_command.specs.Checked.{verdict_status, check_status, CheckEnds}
 use Rattle.cola_command.specs.Checked.CheckEnds.{Judged, NotJudged}
 use Rattle.cola_command.specs.Mirrored.{mirrored_status, rebuild_status, MirrorEnds, NotCompared, Differ, Mirrored}
 use Rattle.cola_command.specs.Serves as made

@@ -2,17 +2,17 @@
 ghost use Rattle.std.specs.Prelude.{◌≡◌, ◌+◌, ◌<◌, ◌≤◌, IfOk, IfErr, option_map, IsTrue};
 ghost use Rattle.cola_cell.specs.Spent.{ReadCalm};
 
-use cola_cell::{Cell, CellSource, Item, Key, ReadFault, Run};
+use cola_cell::{CellSource, Item, Key, Packed, ReadFault, Run};
 use cola_outside::Steps;
 use std::sync::ledger::Ledger;
 
 /// Where a cursor stands in a run: the index of the next cell, or the run's length, in cells; and that cell, once
 /// it is read.
-#[derive(Clone, Copy, Debug, Drop)]
+#[derive(Drop)]
 pub struct Line {
     pub run: Run,
     pub place: u32,
-    pub head: Option<Cell>,
+    pub head: Option<Packed>,
 }
 
 /// A line behind the cells of a key, and the first item among them.
@@ -34,6 +34,16 @@ impl Default for Line {
             place: 0,
             head: None,
         }
+    }
+}
+
+/// A copy of a head.
+fn copy_head(head: &Option<Packed>) -> Option<Packed>
+    ensures { result ≡ head.now }
+{
+    match head {
+        Some(cell) => Some(cell.copy()),
+        None => None,
     }
 }
 
@@ -60,9 +70,10 @@ impl Line {
         ensures calm { ReadCalm (W.spent work.old).faults (W.spent work.new).faults result }
     {
         if self.head.is_some() || self.place == self.run.len {
-            return Ok(*self);
+            return Ok(self.copy());
         }
-        let cell = work.read(self.run.level, self.run.slot, self.place, steps)?;
+        let mut cell = Packed::blank();
+        work.read_into(self.run.level, self.run.slot, self.place, &mut cell, steps)?;
         Ok(Line {
             run: self.run,
             place: self.place,
@@ -70,12 +81,23 @@ impl Line {
         })
     }
 
+    /// A copy.
+    fn copy(&self) -> Line
+        ensures { result ≡ self.now }
+    {
+        Line {
+            run: self.run,
+            place: self.place,
+            head: copy_head(&self.head),
+        }
+    }
+
     /// Whether the next cell has this key.
     fn has_key(&self, key: &Key) -> bool
         ensures { result ≡ has_key key.now self.now.head }
     {
         match &self.head {
-            Some(cell) => key.cmp(cell.key()).is_eq(),
+            Some(cell) => cell.key_cmp(key).is_eq(),
             None => false,
         }
     }
@@ -85,10 +107,7 @@ impl Line {
         ensures { result ≡ item_of self.now.head }
     {
         match &self.head {
-            Some(cell) => match cell {
-                Cell::Item { item, .. } => Some(*item),
-                Cell::Look { .. } => None,
-            },
+            Some(cell) => cell.item(),
             None => None,
         }
     }
@@ -128,7 +147,7 @@ impl Line {
         ensures kept { W.kept work.new ≡ W.kept work.old }
         ensures calm { ReadCalm (W.spent work.old).faults (W.spent work.new).faults result }
     {
-        let mut line = *self;
+        let mut line = self.copy();
         let mut item: Option<Item> = None;
         while line.has_key(key) {
             item = item.or(line.item());

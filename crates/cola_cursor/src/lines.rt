@@ -1,6 +1,7 @@
 //! The lines of a cursor: their next cells, the least key among those, and a step over it.
 ghost use Rattle.std.specs.Prelude.{◌≡◌, ◌+◌, ◌≤◌, length, None, IfOk, IfErr};
 ghost use Rattle.std.specs.List.{AllByRecursion};
+ghost use Rattle.cola_cell.specs.Cell.{key_of};
 ghost use Rattle.cola_cell.specs.Spent.{ReadCalm};
 ghost use Rattle.cola_cell.specs.Order.{key_cmp};
 ghost use Rattle.cola_pairs.specs.Live.{below_end};
@@ -10,7 +11,7 @@ ghost use Rattle.cola_cursor.specs.Results.{FetchAll, left_fetched, left_stepped
 
 use crate::line::Line;
 use arrayvec::ArrayVec;
-use cola_cell::{CellSource, Item, Key, ReadFault};
+use cola_cell::{CellSource, Item, Key, Packed, ReadFault};
 use cola_outside::Steps;
 use std::sync::ledger::Ledger;
 
@@ -45,29 +46,29 @@ pub(crate) fn with_heads<W: CellSource, L: Ledger>(
     Ok(read)
 }
 
-/// Whether a key is below the upper end, where there is one.
-fn is_below(key: &Key, end: &Option<Key>) -> bool
-    ensures { result ≡ below_end key_cmp end.now key.now }
+/// Whether the key of a cell is below the upper end, where there is one.
+fn is_below(cell: &Packed, end: &Option<Key>) -> bool
+    ensures { result ≡ below_end key_cmp end.now (key_of cell.now) }
 {
     match end {
-        Some(end) => key.cmp(end).is_lt(),
+        Some(end) => cell.key_cmp(end).is_lt(),
         None => true,
     }
 }
 
-/// The lesser of two keys, where there is a first.
-fn lesser(least: Option<Key>, key: &Key) -> Option<Key>
-    ensures { result ≡ lesser least key.now }
+/// The lesser of a key, where there is one, and the key of a cell.
+fn lesser(least: Option<Key>, cell: &Packed) -> Option<Key>
+    ensures { result ≡ lesser least (key_of cell.now) }
 {
     match least {
         Some(least) => {
-            if key.cmp(&least).is_lt() {
-                Some(*key)
+            if cell.key_cmp(&least).is_lt() {
+                Some(cell.key())
             } else {
                 Some(least)
             }
         }
-        None => Some(*key),
+        None => Some(cell.key()),
     }
 }
 
@@ -77,8 +78,8 @@ fn lowered(least: Option<Key>, line: &Line, end: &Option<Key>) -> Option<Key>
 {
     match &line.head {
         Some(cell) => {
-            if is_below(cell.key(), end) {
-                lesser(least, cell.key())
+            if is_below(cell, end) {
+                lesser(least, cell)
             } else {
                 least
             }

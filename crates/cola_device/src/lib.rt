@@ -5,8 +5,6 @@ mod counts;
 mod device;
 pub mod laws;
 mod memory;
-#[cfg(test)]
-mod tests;
 
 pub use counts::Counts;
 pub use device::{Device, DeviceFault, MAX_TRANSFER};

@@ -9,8 +9,6 @@ ghost use Rattle.cola_kv.specs.Opened.{StandsFor};
 ghost use Rattle.cola_example.specs.Example.{first_of, Reads, Writes, IsNewWithPut};
 
 mod callers;
-#[cfg(test)]
-mod tests;
 
 pub use callers::found_in_store;
 use cola_device::Device;

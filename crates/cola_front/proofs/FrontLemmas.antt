@@ -1,15 +1,17 @@
 -- The bytes of places: how many they are, and how a block is filled with them.
-use Rattle.std.proofs.Common.{◌≡◌, ℕ, suc, ◌+◌, ◌-◌, ◌*◌, ◌<◌, ◌≤◌, List, [], ◌∷◌, ◌++◌, length, take, drop, get_or, set, Option, None, Some, refl, sym, ap, subst, ◌∙◌, inl, inr, arith, append-nil, append_assoc, length-append}
+use Rattle.std.proofs.Common.{◌≡◌, ℕ, suc, ◌+◌, ◌-◌, ◌*◌, ◌<◌, ◌≤◌, List, [], ◌∷◌, ◌++◌, length, take, drop, get_or, set, Option, None, Some, Bool, true, false, refl, sym, ap, subst, ◌∙◌, inl, inr, arith, append-nil, append_assoc, length-append}
 use Rattle.std.proofs.lemmas.List.{length-replicate, take_at, drop_at, drop-drop, take_more, drop_all, get_or-take, get_or-drop, get_or_past, length-take-le, length-take, length-drop, length-set, get_or-set_same, get_or-set_other}
 use Rattle.std.proofs.lemmas.Bool.{cases_lt, cases_eq}
 use Rattle.cola_cell.specs.declared.format.Format.{Format}
 use Rattle.cola_cell.specs.declared.format.Format.TheVariants.{One, Two}
 use Rattle.cola_cell.specs.declared.cell.Cell.{Cell}
 use Rattle.cola_cell.specs.Format.{width}
-use Rattle.cola_cell.specs.Spelling.{IsSpelling}
+use Rattle.std.specs.Prelude.{if◌then◌else◌}
+use Rattle.std.specs.Bool.{MatchBool}
+use Rattle.cola_cell.specs.Spelling.{IsSpelling, IsNoSpelling}
 use Rattle.cola_cell.specs.Decoded.{decoded, spelling}
 use Rattle.cola_cell.proofs.Unique as unique
-use Rattle.cola_cell.proofs.DecodedLemmas.{spelled-so, decoded_spells, decoded_is}
+use Rattle.cola_cell.proofs.DecodedLemmas.{spelled-so, decoded_spells, decoded_is, decoding_is}
 use Rattle.cola_device.specs.Bytes.{splice}
 use Rattle.cola_front.specs.Front.{cell_bytes, stored, stored_all, ComesBack}
 use borrow.Rule.Slice.PartMut.{put_mid}
@@ -162,3 +164,18 @@ taken_more format block first from to before now cell t begin within is =
       above = λ n a b. get_or-set_other now to n cell None (λ e. absurd (omega (arith, e, b))) ∙ t.above n a (omega (arith, b));
       many = length-set now to cell ∙ t.many;
     }
+
+-- the bytes of a place, where code found them
+pub narrow-place : (format : Format) (block : List ℕ) (place : ℕ) → format ≡ One → take (64 * place + 64 - 64 * place) (drop (64 * place) block) ≡ cell_bytes format block place
+narrow-place One block place is = let e : 64 * place + 64 - 64 * place ≡ 64 = omega arith in ap (λ (n : ℕ). take n (drop (64 * place) block)) e
+narrow-place Two block place is = absurd cc
+
+pub wide-place : (format : Format) (block : List ℕ) (place : ℕ) → format ≡ Two → take (128 * place + 128 - 128 * place) (drop (128 * place) block) ≡ cell_bytes format block place
+wide-place One block place is = absurd cc
+wide-place Two block place is = let e : 128 * place + 128 - 128 * place ≡ 128 = omega arith in ap (λ (n : ℕ). take n (drop (128 * place) block)) e
+
+-- what a packed cell has that bytes were taken into
+pub refilled : (format : Format) (bytes : List ℕ) (took : Bool) (cell : Cell) → MatchBool took (IsSpelling format cell bytes) (IsNoSpelling format bytes)
+    → (if took then Some cell else None) ≡ decoded format bytes
+refilled format bytes true cell h = decoding_is format bytes (Some cell) h
+refilled format bytes false cell h = decoding_is format bytes None h

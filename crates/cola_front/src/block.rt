@@ -1,13 +1,13 @@
 //! The cells of one block as its bytes.
-ghost use Rattle.std.specs.Prelude.{◌≡◌, ℕ, ◌+◌, ◌-◌, ◌*◌, ◌≤◌, ◌<◌, ◌++◌, Option, None, length, take, drop, slice_index_or};
-ghost use Rattle.cola_cell.specs.declared.format.Format.TheVariants.{One, Two};
+ghost use Rattle.std.specs.Prelude.{◌≡◌, ℕ, ◌+◌, ◌-◌, ◌*◌, ◌≤◌, ◌<◌, ◌++◌, Option, None, Some, if◌then◌else◌, length, take, drop, slice_index_or};
 ghost use Rattle.cola_cell.specs.Format.{width, CellFits};
 ghost use Rattle.cola_cell.specs.Spelling.{IsSpelling};
 ghost use Rattle.cola_cell.specs.Decoded.{decoded, spelling};
+ghost use Rattle.cola_cell.specs.Packed.{passed, MayPass};
 ghost use Rattle.cola_device.specs.Bytes.{splice};
 ghost use Rattle.cola_front.specs.Front.{cell_bytes, stored, stored_all, ComesBack};
 
-use cola_cell::{Cell, Format, Item, decode, decode_wide, encode, encode_wide};
+use cola_cell::{Cell, Format, Packed, Pass, decode, decode_wide};
 
 /// The cell at a place of a block, which is counted in cells, or none where its bytes spell none.
 #[inline]
@@ -21,57 +21,97 @@ pub fn cell_in(format: Format, block: &[u8], place: usize) -> Option<Cell>
     }
 }
 
-/// The bytes of a place in format One: zeros where no cell stands.
-fn spelled(cell: &Option<Cell>) -> [u8; 64]
-    requires { ComesBack One cell.now }
-    ensures { result ≡ stored One cell.now }
+/// The same, packed.
+#[inline]
+pub(crate) fn packed_in(format: Format, block: &[u8], place: usize) -> Option<Packed>
+    requires { width format * place + width format ≤ length block.now }
+    ensures { result ≡ decoded format (cell_bytes format block.now place) }
 {
-    let mut bytes = [0u8; 64];
-    match cell {
-        Some(cell) => {
-            encode(cell, &mut bytes);
-            bytes
-        }
-        None => bytes,
+    match format {
+        Format::One => Packed::of(format, &block[64 * place..64 * place + 64]),
+        Format::Two => Packed::of(format, &block[128 * place..128 * place + 128]),
     }
 }
 
-/// The same in format Two.
-fn spelled_wide(cell: &Option<Cell>) -> [u8; 128]
-    requires { ComesBack Two cell.now }
-    ensures { result ≡ stored Two cell.now }
+/// Takes the cell at a place of a block, which is counted in cells, into a packed cell. False exactly where its bytes
+/// spell none.
+#[inline]
+pub fn refill_from(format: Format, block: &[u8], place: usize, into: &mut Packed) -> bool
+    requires { width format * place + width format ≤ length block.now }
+    ensures { (if result then Some into.new else None) ≡ decoded format (cell_bytes format block.now place) }
 {
-    let mut bytes = [0u8; 128];
+    match format {
+        Format::One => into.refill(format, &block[64 * place..64 * place + 64]),
+        Format::Two => into.refill(format, &block[128 * place..128 * place + 128]),
+    }
+}
+
+/// Fills the room of a cell with the bytes of a place: zeros where no cell stands.
+fn fill(format: Format, cell: &Option<Packed>, into: &mut [u8])
+    requires size { length into.old ≡ width format }
+    requires comes_back { ComesBack format cell.now }
+    ensures { into.new ≡ stored format cell.now }
+{
     match cell {
-        Some(cell) => {
-            encode_wide(cell, &mut bytes);
-            bytes
-        }
-        None => bytes,
+        Some(cell) => cell.write(format, into),
+        None => into.fill(0),
     }
 }
 
 /// Puts the bytes of a place into a block, which is counted in cells: zeros where no cell stands.
 #[inline]
-pub fn put_cell(format: Format, block: &mut [u8], place: usize, cell: &Option<Cell>)
+pub(crate) fn put_place(format: Format, block: &mut [u8], place: usize, cell: &Option<Packed>)
     requires inside { width format * place + width format ≤ length block.old }
     requires comes_back { ComesBack format cell.now }
     ensures { block.new ≡ splice block.old (width format * place) (stored format cell.now) }
 {
     match format {
-        Format::One => block[64 * place..64 * place + 64].copy_from_slice(&spelled(cell)),
-        Format::Two => block[128 * place..128 * place + 128].copy_from_slice(&spelled_wide(cell)),
+        Format::One => fill(format, cell, &mut block[64 * place..64 * place + 64]),
+        Format::Two => fill(format, cell, &mut block[128 * place..128 * place + 128]),
     }
 }
 
-/// Does nothing: it says that a cell that fits has a spelling.
+/// Fills the room of a cell with what becomes of another.
 #[inline(always)]
-pub fn know_spelling(format: Format, cell: &Cell)
-    requires { CellFits format cell.now }
-    ensures { IsSpelling format cell.now (spelling format cell.now) }
+fn fill_as(format: Format, cell: &Packed, pass: Pass, into: &mut [u8])
+    requires size { length into.old ≡ width format }
+    requires may { MayPass pass cell.now }
+    requires fits { CellFits format cell.now }
+    ensures put { into.new ≡ stored format (Some (passed pass cell.now)) }
+    ensures spelled { IsSpelling format (passed pass cell.now) (spelling format (passed pass cell.now)) }
 {
-    let _ = cell.key().bytes();
-    let _ = cell.link();
+    cell.write_as(format, pass, into);
+}
+
+/// Puts what becomes of a cell at a place of a block, which is counted in cells.
+#[inline]
+pub fn put_as(format: Format, block: &mut [u8], place: usize, cell: &Packed, pass: Pass)
+    requires inside { width format * place + width format ≤ length block.old }
+    requires may { MayPass pass cell.now }
+    requires fits { CellFits format cell.now }
+    ensures put { block.new ≡ splice block.old (width format * place) (stored format (Some (passed pass cell.now))) }
+    ensures spelled { IsSpelling format (passed pass cell.now) (spelling format (passed pass cell.now)) }
+{
+    match format {
+        Format::One => fill_as(format, cell, pass, &mut block[64 * place..64 * place + 64]),
+        Format::Two => fill_as(
+            format,
+            cell,
+            pass,
+            &mut block[128 * place..128 * place + 128],
+        ),
+    }
+}
+
+/// Puts the bytes of a cell at a place of a block, which is counted in cells.
+pub fn put_cell(format: Format, block: &mut [u8], place: usize, cell: &Cell)
+    requires inside { width format * place + width format ≤ length block.old }
+    requires fits { CellFits format cell.now }
+    ensures put { block.new ≡ splice block.old (width format * place) (stored format (Some cell.now)) }
+    ensures spelled { IsSpelling format cell.now (spelling format cell.now) }
+{
+    let packed = Packed::of_cell(format, cell);
+    put_as(format, block, place, &packed, Pass::keeping(cell));
 }
 
 /// Puts the header at the start of a block.
@@ -85,7 +125,7 @@ pub(crate) fn put_header(block: &mut [u8], header: &[u8; 512])
 /// Gives the places from `from` up to `to` what a block's bytes spell, where the block begins at the place `first`.
 pub(crate) fn take_cells(
     format: Format,
-    cells: &mut [Option<Cell>],
+    cells: &mut [Option<Packed>],
     block: &[u8],
     first: usize,
     from: usize,
@@ -101,9 +141,8 @@ pub(crate) fn take_cells(
     ensures many { length cells.new ≡ length cells.old }
     ensures whole { width format * (to - first) ≤ length block.now }
 {
-    let _item: Option<Item> = None;
     for place in from..to {
-        cells[place] = cell_in(format, block, place - first);
+        cells[place] = packed_in(format, block, place - first);
     }
 }
 
@@ -111,7 +150,7 @@ pub(crate) fn take_cells(
 pub(crate) fn put_cells(
     format: Format,
     block: &mut [u8],
-    cells: &[Option<Cell>],
+    cells: &[Option<Packed>],
     first: usize,
     count: usize,
 )
@@ -121,8 +160,7 @@ pub(crate) fn put_cells(
     ensures put { block.new ≡ stored_all format (take count (drop first cells.now)) }
     ensures many { length block.new ≡ length block.old }
 {
-    let _item: Option<Item> = None;
     for place in 0..count {
-        put_cell(format, block, place, &cells[first + place]);
+        put_place(format, block, place, &cells[first + place]);
     }
 }

@@ -1,15 +1,16 @@
 //! The front of a store: its blocks 0 and 1 in memory.
-ghost use Rattle.std.specs.Prelude.{◌≡◌, ◌⊎◌, ℕ, ◌+◌, ◌-◌, ◌*◌, ◌^◌, ◌≤◌, ◌<◌, Option, None, Some, IfOk, IfSome, OnOk, OnErr, slice_set, length, take, drop, replicate, ◌++◌};
+ghost use Rattle.std.specs.Prelude.{◌≡◌, ◌⊎◌, ℕ, ◌+◌, ◌-◌, ◌*◌, ◌^◌, ◌≤◌, ◌<◌, Option, None, Some, is_some, if◌then◌else◌, IfOk, IfSome, OnOk, OnErr, slice_set, length, take, drop, replicate, ◌++◌};
 ghost use Rattle.std.specs.Box.{boxed_slice_items};
 ghost use Rattle.cola_outside.specs.Told.{Both};
 ghost use Rattle.cola_cell.specs.Format.{CellFits};
 ghost use Rattle.cola_cell.specs.Decoded.{decoded};
+ghost use Rattle.cola_cell.specs.Packed.{passed, MayPass};
 ghost use Rattle.cola_device.specs.Bytes.{HasRange, Wrote};
 ghost use Rattle.cola_device.specs.Counts.{Called};
 ghost use Rattle.cola_front.specs.Front.{FrontCells, IsFront, SameShape, IsLoaded, cell_at, cell_bytes, block_size, image, InOrder, new_front, stored_all, second_block};
 
-use crate::block::{know_spelling, put_cells, put_header, take_cells};
-use cola_cell::{Cell, Format, Item};
+use crate::block::{put_cells, put_header, take_cells};
+use cola_cell::{Cell, Format, Packed, Pass};
 use cola_device::{Device, DeviceFault, MAX_TRANSFER};
 use std::alloc::{AllocError, Global};
 use std::boxed::BoxedSlice;
@@ -21,7 +22,7 @@ use std::marker::Model;
 pub struct Front {
     format: Format,
     block: usize,
-    cells: BoxedSlice<Option<Cell>>,
+    cells: BoxedSlice<Option<Packed>>,
 }
 
 impl Model for Front {
@@ -55,12 +56,13 @@ fn cells_of_block(block_exp: u8) -> usize
 }
 
 /// So many places without a cell.
-fn no_cells(alloc: Global, many: usize) -> Result<BoxedSlice<Option<Cell>>, AllocError>
+fn no_cells(alloc: Global, many: usize) -> Result<BoxedSlice<Option<Packed>>, AllocError>
     ensures { IfOk result (λ cells. boxed_slice_items cells ≡ replicate many None) }
 {
-    let _item: Option<Item> = None;
-    let none: Option<Cell> = None;
-    let cells = vec![in alloc; none; many]?;
+    let mut cells = Vec::with_capacity(alloc, many)?;
+    for _ in 0..many {
+        cells.push(None)?;
+    }
     Ok(cells.into_boxed_slice())
 }
 
@@ -194,8 +196,52 @@ impl Front {
         ensures value { result ≡ cell_at self.now place }
         ensures sound { IsFront self.now }
     {
-        let _item: Option<Item> = None;
-        self.cells[place as usize]
+        match &self.cells[place as usize] {
+            Some(cell) => Some(cell.cell()),
+            None => None,
+        }
+    }
+
+    /// Whether a cell stands at a place, which is the number of a cell behind the header.
+    pub fn is_there(&self, place: u64) -> bool
+        requires behind_header { 8 ≤ place }
+        requires within { place < 2 * self.now.block }
+        ensures { result ≡ is_some (cell_at self.now place) }
+    {
+        self.cells[place as usize].is_some()
+    }
+
+    /// Takes what stands at a place, which is the number of a cell behind the header, into a packed cell: false exactly
+    /// where its bytes spell no cell.
+    #[inline]
+    pub fn read_into(&self, place: u64, into: &mut Packed) -> bool
+        requires behind_header { 8 ≤ place }
+        requires within { place < 2 * self.now.block }
+        ensures value { (if result then Some into.new else None) ≡ cell_at self.now place }
+        ensures sound { IsFront self.now }
+    {
+        match &self.cells[place as usize] {
+            Some(cell) => {
+                *into = cell.copy();
+                true
+            }
+            None => false,
+        }
+    }
+
+    /// Puts what becomes of a cell at a place behind the header. The device has it after the next `store`.
+    #[inline]
+    pub fn write_as(&mut self, place: u64, cell: &Packed, pass: Pass)
+        requires behind_header { 8 ≤ place }
+        requires within { place < 2 * self.old.block }
+        requires may { MayPass pass cell.now }
+        requires fits { CellFits self.old.format cell.now }
+        ensures after { self.new ≡ record self.old { cells = slice_set self.old.cells place (Some (passed pass cell.now)) } }
+        ensures sound { IsFront self.old }
+    {
+        let cell = cell.copy_as(pass);
+        cell.know(self.format);
+        self.cells[place as usize] = Some(cell);
     }
 
     /// Puts a cell at a place behind the header. The device has it after the next `store`.
@@ -206,8 +252,8 @@ impl Front {
         ensures after { self.new ≡ record self.old { cells = slice_set self.old.cells place (Some cell.now) } }
         ensures sound { IsFront self.old }
     {
-        know_spelling(self.format, cell);
-        self.cells[place as usize] = Some(*cell);
+        let packed = Packed::of_cell(self.format, cell);
+        self.write_as(place, &packed, Pass::keeping(cell));
     }
 
     /// Fills a block with the bytes of block 1. Places without a cell are zeros.

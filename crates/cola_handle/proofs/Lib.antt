@@ -1,2 +1,5 @@
 pub mod Values
 pub mod Openings
+pub mod Rows
+pub mod Filling
+pub mod Making

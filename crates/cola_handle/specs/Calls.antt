@@ -3,11 +3,10 @@ use Rattle.std.specs.Prelude.{◌≡◌, ℕ, true, false, ◌&&◌, Bool, List,
 use Rattle.cola_spec.specs.Map as map
 use Rattle.cola_spec.specs.Map.{Shape, Map, PutOutcome, is_key, is_value, put_outcome, put_if_outcome, after_put, after_put_if, after_delete, value_of, stamp_of}
 use Rattle.cola_table.specs.declared.Put.{Put}
-use Rattle.cola_table.specs.declared.Put.TheVariants as put
 use Rattle.cola_table.specs.declared.PutIf.{PutIf}
 use Rattle.cola_table.specs.Answers.{put_answer, put_if_answer}
 use Rattle.cola_handle.specs.declared.answer.Refusal.{Refusal}
-use Rattle.cola_handle.specs.declared.answer.Refusal.TheVariants.{Length, Full, Worn, BadCell, Overfull}
+use Rattle.cola_handle.specs.declared.answer.Refusal.TheVariants.{Length, Full, Worn}
 
 -- a key and a value that maps of this shape may have
 abbrev pub both_fit : Shape → List ℕ → List ℕ → Bool

@@ -1,7 +1,6 @@
 -- An open store in lent bytes: the map that it holds, its sizes, where its bytes lie, and what no call changes.
 use Rattle.std.specs.Prelude.{◌≡◌, ℕ, List, Option, Some}
 use denote.RawPtr.{Ptr}
-use Rattle.cola_cell.specs.declared.format.Format.{Format}
 use Rattle.cola_spec.specs.Map.{Shape, Map}
 use Rattle.cola_store.specs.Store as store
 use Rattle.cola_store.specs.Store.{Holds, terms_of}

@@ -1,11 +1,9 @@
 //! How a new store is made in zero bytes.
-ghost use Rattle.std.specs.Prelude.{◌≡◌, ◌≢◌, ◌+◌, ◌≤◌, ℕ, List, length, IfSome};
-ghost use Rattle.cola_cell.specs.declared.format.Format.{Format as AnyFormat};
+ghost use Rattle.std.specs.Prelude.{◌≡◌, ◌+◌, ◌≤◌, ◌↔◌, length, slice_index, EachIndex, IsTrue, IfSome, IfNone};
 ghost use Rattle.cola_device.specs.Bytes.{splice};
 ghost use Rattle.cola_layout.specs.Header.{IsSpelling};
-ghost use Rattle.cola_opening.specs.Judged.{file_size};
 ghost use Rattle.cola_store.specs.Create.{new_header};
-ghost use Rattle.cola_handle.specs.declared.answer.Answer.TheVariants.{Done};
+ghost use Rattle.cola_handle.specs.Created.{HasSizes, LacksSizes, HasSize, Creates};
 
 use crate::answer::Answer;
 use cola_cell::Format;
@@ -14,8 +12,10 @@ use cola_opening::size_of;
 
 /// The sizes of a store for so many keys, with blocks of `2^block_exp` cells, in a version.
 fn geometry_of(keys: u64, block_exp: u8, version: u8) -> Option<Geometry>
+    ensures sizes { IfSome result (λ geometry. HasSizes keys block_exp version geometry.format geometry.bottom) }
     ensures keys { IfSome result (λ geometry. geometry.keys ≡ keys) }
     ensures block { IfSome result (λ geometry. geometry.block_exp ≡ block_exp) }
+    ensures refused { IfNone result (LacksSizes keys block_exp version) }
 {
     let format = match version {
         1 => Format::One,
@@ -27,12 +27,19 @@ fn geometry_of(keys: u64, block_exp: u8, version: u8) -> Option<Geometry>
 
 /// How many bytes a store takes, or none where there is no such store.
 pub fn size(keys: u64, block_exp: u8, version: u8) -> Option<u64>
-    ensures { IfSome result (λ size. (format : AnyFormat) × (bottom : ℕ) × (size ≡ file_size format bottom)) }
+    ensures { HasSize keys block_exp version result }
 {
     match geometry_of(keys, block_exp, version) {
         Some(geometry) => Some(size_of(&geometry)),
         None => None,
     }
+}
+
+/// Whether every byte is zero.
+fn is_zero(bytes: &[u8]) -> bool
+    ensures { IsTrue result ↔ EachIndex bytes.now (λ k. slice_index bytes.now k ≡ 0) }
+{
+    bytes.iter().all(|byte| *byte == 0)
 }
 
 /// The spelling of the header of a closed store with no keys.
@@ -57,8 +64,7 @@ fn put_at(bytes: &mut [u8], at: usize, from: &[u8])
 /// store with no keys, and zeros behind it. `Options` where there is no store of these numbers; `Small`; `NotEmpty` where a
 /// byte is not zero. A refusal leaves the bytes.
 pub fn create(bytes: &mut [u8], keys: u64, block_exp: u8, version: u8) -> Answer
-    ensures refused { result ≢ Done → bytes.new ≡ bytes.old }
-    ensures made { result ≡ Done → (format : AnyFormat) × (bottom : ℕ) × (head : List ℕ) × IsSpelling (new_header format keys block_exp bottom) head × (bytes.new ≡ splice bytes.old 0 head) }
+    ensures { Creates keys block_exp version bytes.old bytes.new result }
 {
     let Some(geometry) = geometry_of(keys, block_exp, version) else {
         return Answer::Options;
@@ -66,7 +72,7 @@ pub fn create(bytes: &mut [u8], keys: u64, block_exp: u8, version: u8) -> Answer
     if (bytes.len() as u64) < size_of(&geometry) {
         return Answer::Small;
     }
-    if bytes.iter().any(|byte| *byte != 0) {
+    if !is_zero(bytes) {
         return Answer::NotEmpty;
     }
     let head = first_bytes(geometry);

@@ -1,5 +1,7 @@
 //! A place in the order of the keys, and rows, as C holds them.
-ghost use Rattle.std.specs.Prelude.{◌≡◌, ◌≤◌, ◌↔◌, IsTrue};
+ghost use Rattle.std.specs.Prelude.{◌≡◌, ◌≤◌, true, false, IfOk, length, take};
+ghost use Rattle.cola_spec.specs.Map.{Map, pairs_between};
+ghost use Rattle.cola_handle.specs.Cursors.{row_pair, IsGoodRow, from_of, end_at, end_of, is_good, is_void, was_given, first_key, ahead, SeekSays, IsBehind};
 
 use crate::answer::Refusal;
 use cola_cell::{Key, Value};
@@ -16,7 +18,10 @@ pub struct Row {
 
 impl Row {
     /// The row of a pair.
-    pub fn set(&mut self, key: &Key, value: &Value) {
+    pub fn set(&mut self, key: &Key, value: &Value)
+        ensures pair { row_pair self.new ≡ (key.now, value.now) }
+        ensures good { IsGoodRow self.new }
+    {
         let key = key.bytes();
         let value = value.bytes();
         self.key_len = key.len() as u8;
@@ -24,6 +29,16 @@ impl Row {
         self.value_len = value.len() as u8;
         self.value[..value.len()].copy_from_slice(value);
     }
+}
+
+/// These bytes, then zeros.
+fn padded(bytes: &[u8]) -> [u8; 40]
+    requires { length bytes.now ≤ 40 }
+    ensures { take (length bytes.now) result ≡ bytes.now }
+{
+    let mut room = [0; 40];
+    room[..bytes.len()].copy_from_slice(bytes);
+    room
 }
 
 /// A place in the order of the keys, and an upper end.
@@ -39,44 +54,60 @@ pub struct Cursor {
 }
 
 impl Cursor {
-    /// The place before the first key from `low` on, with the upper end `high`, if `bounded`.
-    pub fn seek(low: &[u8], high: &[u8], bounded: bool) -> Result<Cursor, Refusal> {
+    /// The place before the first key from `low` on, with the upper end `high`, if `bounded`. `Length` where an end has more
+    /// than 40 bytes.
+    pub fn seek(low: &[u8], high: &[u8], bounded: bool) -> Result<Cursor, Refusal>
+        ensures says { SeekSays low.now high.now bounded result }
+        ensures ahead { (m : Map) → IfOk result (λ cursor. ahead m cursor ≡ pairs_between m low.now (end_at bounded high.now)) }
+    {
         if low.len() > 40 || high.len() > 40 {
             return Err(Refusal::Length);
         }
-        let mut cursor = Cursor {
+        Ok(Cursor {
             from_len: low.len() as u8,
             until_len: high.len() as u8,
             behind: false,
             bounded,
-            from: [0; 40],
-            until: [0; 40],
-        };
-        cursor.from[..low.len()].copy_from_slice(low);
-        cursor.until[..high.len()].copy_from_slice(high);
-        Ok(cursor)
+            from: padded(low),
+            until: padded(high),
+        })
     }
 
     /// Whether its lengths are within its lists.
     pub fn is_good(&self) -> bool
-        ensures { IsTrue result ↔ ((self.now.from_len ≤ 40) × (self.now.until_len ≤ 40)) }
+        ensures { result ≡ is_good self.now }
     {
         self.from_len <= 40 && self.until_len <= 40
     }
 
-    /// The key from which it goes on: the least one where it begins before all keys.
-    pub fn low(&self) -> Option<Key>
-        requires { self.now.from_len ≤ 40 }
+    /// The least key that may be ahead: the one at which it stands, and the least of all where it stands before all keys.
+    pub fn low(&self) -> Key
+        requires { is_good self.now ≡ true }
+        ensures { result ≡ first_key (from_of self.now) }
     {
-        if self.from_len == 0 {
-            return Key::of(&[0]);
+        let from: &[u8] = if self.from_len == 0 {
+            &[0]
+        } else {
+            &self.from[..self.from_len as usize]
+        };
+        match Key::of(from) {
+            Some(key) => key,
+            None => unreachable!(),
         }
-        Key::of(&self.from[..self.from_len as usize])
     }
 
-    /// The upper end, if it has one. An empty one is none.
+    /// Whether no key is below its upper end.
+    pub fn is_void(&self) -> bool
+        ensures { result ≡ is_void self.now }
+    {
+        self.bounded && self.until_len == 0
+    }
+
+    /// The upper end, if it has one.
     pub fn high(&self) -> Option<Key>
-        requires { self.now.until_len ≤ 40 }
+        requires good { is_good self.now ≡ true }
+        requires some { is_void self.now ≡ false }
+        ensures { result ≡ end_of self.now }
     {
         if !self.bounded {
             return None;
@@ -84,26 +115,23 @@ impl Cursor {
         Key::of(&self.until[..self.until_len as usize])
     }
 
-    /// Whether no key is below its upper end.
-    pub fn is_void(&self) -> bool {
-        self.bounded && self.until_len == 0
-    }
-
     /// Whether the key was given already.
     pub fn has_given(&self, key: &Key) -> bool
-        requires { self.now.from_len ≤ 40 }
+        requires { is_good self.now ≡ true }
+        ensures { result ≡ was_given self.now key.now }
     {
         self.behind && key.bytes() == &self.from[..self.from_len as usize]
     }
 
-    /// Goes behind a key.
-    pub fn pass(&mut self, key: &Key)
-        ensures from { self.new.from_len ≤ 40 }
-        ensures until { self.new.until_len ≡ self.old.until_len }
+    /// Goes behind the key of a row.
+    pub fn pass(&mut self, row: &Row)
+        requires { IsGoodRow row.now }
+        ensures good { is_good self.old ≡ true → is_good self.new ≡ true }
+        ensures is_behind { IsBehind self.old self.new row.now }
     {
-        let bytes = key.bytes();
-        self.from_len = bytes.len() as u8;
+        let key = &row.key[..row.key_len as usize];
+        self.from_len = row.key_len;
         self.behind = true;
-        self.from[..bytes.len()].copy_from_slice(bytes);
+        self.from[..key.len()].copy_from_slice(key);
     }
 }

@@ -10,8 +10,6 @@ mod loose;
 mod opening;
 mod session;
 mod telling;
-#[cfg(test)]
-mod tests;
 mod walking;
 
 pub use answer::{Answer, Refusal};

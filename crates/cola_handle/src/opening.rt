@@ -2,10 +2,11 @@
 ghost use Rattle.std.specs.Prelude.{◌≡◌, ◌<◌, Some, IsSome, IfOk, IfErr};
 ghost use Rattle.cola_image.specs.Standing.{FileStandsFor, with_state};
 ghost use Rattle.cola_spec.specs.Map.{Map};
-ghost use Rattle.cola_store.specs.Store.{Holds};
+ghost use Rattle.cola_store.specs.Store.{Holds, terms_of};
 ghost use Rattle.cola_mapped.specs.Mapped.{IsLent};
 ghost use Rattle.cola_mapped.specs.Region.{bytes_in};
-ghost use Rattle.cola_handle.specs.Lent.{StandsFor, IsClosedStore, OpenCause, open_answer};
+ghost use Rattle.cola_handle.specs.declared.answer.Answer.TheVariants.{Memory};
+ghost use Rattle.cola_handle.specs.Lent.{StandsFor, HasTerms, OpenCause, AreLeft, open_answer};
 ghost use Rattle.cola_handle.specs.Open.{bytes_of, HoldsMap, place_of, device_of};
 
 use crate::answer::Answer;
@@ -42,11 +43,12 @@ fn open_device<L: Ledger>(
     requires parts { blank.parts ≡ L.parts }
     requires some { 0 < L.parts }
     ensures holds { (m : Map) → FileStandsFor device.bytes m → IfOk result (λ store. Holds bytes_of store m) }
-    ensures was { IfOk result (λ _. IsClosedStore device.bytes) }
+    ensures terms { IfOk result (λ store. HasTerms (terms_of store) device.bytes) }
     ensures marked { IfOk result (λ store. store.chain.store.buffers.cache.device.bytes ≡ with_state 1 device.bytes) }
     ensures at { IfOk result (λ store. store.chain.store.buffers.cache.device.at ≡ device.at) }
     ensures len { IfOk result (λ store. store.chain.store.buffers.cache.device.len ≡ device.len) }
     ensures cause { IfErr result (λ refusal. OpenCause device.bytes refusal.1) }
+    ensures only { (m : Map) → FileStandsFor device.bytes m → IfErr result (λ refusal. refusal.1 ≡ Memory) }
     ensures back { IfErr result (λ refusal. refusal.0.bytes ≡ Some device.bytes) }
     ensures back_at { IfErr result (λ refusal. refusal.0.at ≡ device.at) }
     ensures back_len { IfErr result (λ refusal. refusal.0.len ≡ device.len) }
@@ -71,7 +73,10 @@ fn open_lent<L: Ledger>(
     ensures holds { (m : Map) → StandsFor region.bytes m → IfOk result (λ session. HoldsMap session.value m) }
     ensures marked { IfOk result (λ session. (device_of session.value).bytes ≡ with_state 1 (bytes_in region.bytes)) }
     ensures place { IfOk result (λ session. place_of session.value ≡ (region.at, region.len)) }
+    ensures terms { IfOk result (λ session. HasTerms (terms_of session.value.store) (bytes_in region.bytes)) }
     ensures cause { IfErr result (λ refusal. OpenCause (bytes_in region.bytes) refusal.1) }
+    ensures only { (m : Map) → StandsFor region.bytes m → IfErr result (λ refusal. refusal.1 ≡ Memory) }
+    ensures left { IfErr result (λ refusal. AreLeft (bytes_in region.bytes) (bytes_in refusal.0.bytes) refusal.1) }
     ensures stands { (m : Map) → StandsFor region.bytes m → IfErr result (λ refusal. StandsFor refusal.0.bytes m) }
     ensures back { IfErr result (λ refusal. IsSome refusal.0.bytes) }
     ensures back_at { IfErr result (λ refusal. refusal.0.at ≡ region.at) }
@@ -90,7 +95,8 @@ fn open_lent<L: Ledger>(
 /// Opens the store in a region, which becomes the store's. An error gives it back.
 ///
 /// `Small`, `NotStore`, `NotClosed`: the bytes are none of a store that was closed. `BadCell`: one of the cells that are read
-/// here is damaged. `Memory`: there was none, and the bytes stand for the same map.
+/// here is damaged. These leave the bytes. `Memory`: there was none, and the bytes are those of the same store; where they
+/// stand for a map, this is the only refusal.
 pub fn open<L: Ledger>(
     blank: Blank,
     alloc: Global,
@@ -103,7 +109,10 @@ pub fn open<L: Ledger>(
     ensures holds { (m : Map) → StandsFor region.bytes m → IfOk result (λ session. HoldsMap session.value m) }
     ensures marked { IfOk result (λ session. (device_of session.value).bytes ≡ with_state 1 (bytes_in region.bytes)) }
     ensures place { IfOk result (λ session. place_of session.value ≡ (region.at, region.len)) }
+    ensures terms { IfOk result (λ session. HasTerms (terms_of session.value.store) (bytes_in region.bytes)) }
     ensures cause { IfErr result (λ refusal. OpenCause (bytes_in region.bytes) refusal.1) }
+    ensures only { (m : Map) → StandsFor region.bytes m → IfErr result (λ refusal. refusal.1 ≡ Memory) }
+    ensures left { IfErr result (λ refusal. AreLeft (bytes_in region.bytes) (bytes_in refusal.0.bytes) refusal.1) }
     ensures stands { (m : Map) → StandsFor region.bytes m → IfErr result (λ refusal. StandsFor refusal.0.bytes m) }
     ensures back { IfErr result (λ refusal. IsSome refusal.0.bytes) }
     ensures back_at { IfErr result (λ refusal. refusal.0.at ≡ region.at) }
@@ -119,6 +128,7 @@ pub fn open<L: Ledger>(
 /// Closes the store: the region has its file, and is where it was.
 pub fn close(session: Session) -> Region
     ensures stands { (m : Map) → HoldsMap session m → StandsFor result.bytes m }
+    ensures terms { HasTerms (terms_of session.store) (bytes_in result.bytes) }
     ensures place { (result.at, result.len) ≡ place_of session }
     ensures lent { IsSome result.bytes }
 {

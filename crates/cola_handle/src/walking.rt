@@ -1,72 +1,93 @@
 //! Rows of an open store, by rising keys.
-ghost use Rattle.std.specs.Prelude.{◌≡◌, ◌<◌, ◌≤◌, length, IfOk};
-ghost use Rattle.cola_spec.specs.Map.{Map};
-ghost use Rattle.cola_store.specs.Store.{Holds, terms_of};
-ghost use Rattle.cola_mapped.specs.Mapped.{counts_of};
-ghost use Rattle.cola_handle.specs.Open.{bytes_of, HoldsMap, place_of};
+ghost use Rattle.std.specs.Prelude.{◌≡◌, ◌<◌, ◌≤◌, ◌+◌, ◌++◌, true, [], ◌∷◌, length, take, drop, map, All, IfOk, OnErr, MatchResult, option_copied};
+ghost use Rattle.cola_spec.specs.Bounds.{range_bound};
+ghost use Rattle.cola_spec.specs.Map.{Map, pairs_between};
+ghost use Rattle.cola_store.specs.Store.{terms_of};
+ghost use Rattle.cola_table.specs.Answers.{OnlyDeviceRead, ReadFaults};
+ghost use Rattle.cola_table.specs.Terms.{Call};
+ghost use Rattle.cola_handle.specs.Calls.{ByLength};
+ghost use Rattle.cola_handle.specs.Cursors.{row_pair, IsGoodRow, is_good, not_given, HaveFirst, Writes, Moves, NextSays};
+ghost use Rattle.cola_handle.specs.Open.{HoldsMap, levels_of, place_of};
 
 use crate::answer::Refusal;
 use crate::cursor::{Cursor, Row};
 use crate::session::Session;
-use cola_cell::ReadFault;
-use cola_mapped::MappedDevice;
+use cola_cell::{Key, ReadFault, Value};
 use cola_outside::Steps;
-use cola_store::Store;
 use cola_table::Table;
-use std::sync::ledger::{Blank, Ledger};
+use std::sync::ledger::Ledger;
 
-/// Fills rows from the cursor on, as many as there are and are wanted, and answers how many.
-fn fill<L: Ledger>(
-    store: &mut Store<MappedDevice>,
-    cursor: &mut Cursor,
+/// Gives a pair in the next row, unless the cursor has given its key already, and answers how many rows are given then.
+fn give(cursor: &Cursor, pair: &(Key, Value), rows: &mut [Row], given: usize) -> usize
+    requires good { is_good cursor.now ≡ true }
+    requires room { given < length rows.old }
+    ensures few { result ≤ length rows.old }
+    ensures grows { given ≤ result }
+    ensures pairs { map row_pair (take result rows.new) ≡ map row_pair (take given rows.old) ++ not_given cursor.now (pair.now ∷ []) }
+    ensures good_rows { All IsGoodRow (take given rows.old) → All IsGoodRow (take result rows.new) }
+    ensures others { drop result rows.new ≡ drop result rows.old }
+{
+    let (key, value) = pair;
+    if cursor.has_given(key) {
+        return given;
+    }
+    rows[given].set(key, value);
+    given + 1
+}
+
+/// Fills rows with the pairs from `low` on and below `high` that the cursor has not given, as many as there are and are wanted, and
+/// answers how many.
+fn fill<T: Table, L: Ledger>(
+    table: &mut T,
+    cursor: &Cursor,
+    low: &Key,
+    high: Option<&Key>,
     rows: &mut [Row],
     steps: &mut Steps<L>,
-) -> Result<usize, Refusal>
-    requires from { cursor.old.from_len ≤ 40 }
-    requires until { cursor.old.until_len ≤ 40 }
-    ensures map_stays { (m : Map) → Holds bytes_of store.old m → Holds bytes_of store.new m }
-    ensures few { IfOk result (λ given. given ≤ length rows.old) }
+) -> Result<usize, ReadFault>
+    requires { is_good cursor.now ≡ true }
+    ensures rows { (m : Map) → T.holds table.old m → MatchResult result (λ given. HaveFirst (not_given cursor.now (pairs_between m low.now (option_copied high.entry))) rows.new given × T.holds table.new m) OnlyDeviceRead }
+    ensures writes { IfOk result (λ given. Writes rows.old rows.new given) }
+    ensures call { Call (T.terms table.old) (T.terms table.new) (T.faults table.old) (T.faults table.new) steps.old steps.new (range_bound (T.terms table.old).depth) }
+    ensures faults { ReadFaults result (T.faults table.old) (T.faults table.new) }
+    ensures kept { T.kept table.new ≡ T.kept table.old }
 {
-    let Some(low) = cursor.low() else {
-        return Ok(0);
-    };
-    let high = cursor.high();
-    let mut walk = match store.range(&low, high.as_ref(), steps) {
+    let mut walk = match table.range(low, high, steps) {
         Ok(walk) => walk,
-        Err(ReadFault::BadCell(_)) => return Err(Refusal::BadCell),
-        Err(ReadFault::Device) => unreachable!(),
+        Err(fault) => return Err(fault),
     };
     let mut given = 0;
-    while given < rows.len() {
-        match store.next(&mut walk, steps) {
-            Ok(Some((key, value))) => {
-                if !cursor.has_given(&key) {
-                    rows[given].set(&key, &value);
-                    cursor.pass(&key);
-                    given += 1;
-                }
-            }
-            Ok(None) => return Ok(given),
-            Err(ReadFault::BadCell(_)) => return Err(Refusal::BadCell),
-            Err(ReadFault::Device) => unreachable!(),
-        }
+    'rows: while given < rows.len() {
+        let next = match table.next(&mut walk, steps) {
+            Ok(next) => next,
+            Err(fault) => return Err(fault),
+        };
+        let Some(pair) = next else {
+            return Ok(given);
+        };
+        given = give(cursor, &pair, rows, given);
     }
     Ok(given)
 }
 
-/// The next rows of the cursor, and how many they are. A refusal leaves the cursor. `Length` where a length of the cursor is
-/// more than its list has; then nothing is read.
+/// The next rows of the cursor, and how many they are: it stands behind the last of them then. A refusal leaves the cursor. `Length`
+/// where a length of the cursor is more than its list has; then nothing is read.
 pub fn next<L: Ledger>(
-    blank: Blank,
     session: &mut Session,
     cursor: &mut Cursor,
     rows: &mut [Row],
+    steps: &mut Steps<L>,
 ) -> Result<usize, Refusal>
-    requires name { blank.name ≡ L.name }
-    requires parts { blank.parts ≡ L.parts }
-    requires some { 0 < L.parts }
-    ensures map_stays { (m : Map) → HoldsMap session.old m → HoldsMap session.new m }
-    ensures few { IfOk result (λ given. given ≤ length rows.old) }
+    ensures answer { (m : Map) → HoldsMap session.old m → NextSays m cursor.old cursor.new rows.new (HoldsMap session.new) result }
+    ensures length { ByLength (is_good cursor.old) (session.new ≡ session.old) result }
+    ensures writes { IfOk result (Writes rows.old rows.new) }
+    ensures moves { IfOk result (Moves cursor.old cursor.new rows.new) }
+    ensures refused { OnErr result (cursor.new ≡ cursor.old) }
+    ensures good { is_good cursor.old ≡ true → is_good cursor.new ≡ true }
+    ensures ticks { steps.new ≤ steps.old + range_bound (levels_of session.old) }
+    ensures last_ticks { session.new.ticks ≡ session.old.ticks }
+    ensures terms { terms_of session.new.store ≡ terms_of session.old.store }
+    ensures place { place_of session.new ≡ place_of session.old }
 {
     if !cursor.is_good() {
         return Err(Refusal::Length);
@@ -74,13 +95,16 @@ pub fn next<L: Ledger>(
     if rows.len() == 0 || cursor.is_void() {
         return Ok(0);
     }
-    let mut steps = Steps::<L>::begin(blank);
-    let mut place = *cursor;
-    match fill(&mut session.store, &mut place, rows, &mut steps) {
+    let low = cursor.low();
+    let high = cursor.high();
+    match fill(&mut session.store, cursor, &low, high.as_ref(), rows, steps) {
         Ok(given) => {
-            *cursor = place;
+            if given > 0 {
+                cursor.pass(&rows[given - 1]);
+            }
             Ok(given)
         }
-        Err(refusal) => Err(refusal),
+        Err(ReadFault::BadCell(_)) => Err(Refusal::BadCell),
+        Err(ReadFault::Device) => unreachable!(),
     }
 }

@@ -12,8 +12,6 @@ mod listed;
 mod opened;
 mod options;
 mod range;
-#[cfg(test)]
-mod tests;
 
 pub use cola_cell::{Format, Key, Value};
 pub use cola_store::Closing;

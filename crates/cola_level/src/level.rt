@@ -9,7 +9,7 @@ use cola_outside::Steps;
 use std::sync::ledger::Ledger;
 
 /// A level: the lengths of its two runs, in cells, and the merge that builds the shadow.
-#[derive(Clone, Copy, Debug)]
+#[derive(Drop)]
 pub struct Level {
     /// The length of the visible run.
     pub visible: u32,

@@ -9,9 +9,9 @@ ghost use Rattle.cola_device.specs.Counts.{Called};
 ghost use Rattle.cola_run.specs.Cells.{IsOnDevice, block_cells, block_bytes, block_number, device_levels, file_bytes, tail_number};
 ghost use Rattle.cola_run.specs.Parts.{TailPushed, WroteTail, fills};
 
-use cola_cell::{Cell, Item};
+use cola_cell::Cell;
 use cola_device::{Device, DeviceFault};
-use cola_front::block::{know_spelling, put_cell};
+use cola_front::block::put_cell;
 use cola_layout::Geometry;
 
 /// The cells of a block.
@@ -115,10 +115,8 @@ pub(crate) fn put_on_device<D: Device>(
     ensures kept { D.kept device.new ≡ D.kept device.old }
     ensures counts { Called (D.counts device.old) (D.counts device.new) 0 ((index + 1) / block_cells geometry.now - index / block_cells geometry.now) 0 result }
 {
-    let _item: Option<Item> = None;
-    know_spelling(geometry.format, cell);
     let place = place_in_tails(geometry, level, index);
-    put_cell(geometry.format, tails, place, &Some(*cell));
+    put_cell(geometry.format, tails, place, cell);
     if !is_last_of_block(geometry, index) {
         return Ok(());
     }

@@ -1,3 +1,4 @@
 pub mod RunLists
 pub mod TurnLemmas
 pub mod SeekLemmas
+pub mod Seats

@@ -2,6 +2,7 @@
 ghost use Rattle.std.specs.Prelude.{◌≡◌, ◌≢◌, ℕ, ◌+◌, ◌≤◌, List, IfOk, IfErr};
 ghost use Rattle.cola_runs.specs.Cells.{IsWellFormed};
 ghost use Rattle.cola_runs.specs.Search as laws;
+ghost use Rattle.cola_cell.specs.Cell.{key_of};
 ghost use Rattle.cola_cell.specs.Held.{LawCell, as_cell};
 ghost use Rattle.cola_cell.specs.Listed.{IsRun};
 ghost use Rattle.cola_cell.specs.Spent.{Buffer, Search, ReadCalm};
@@ -12,8 +13,9 @@ ghost use Rattle.cola_look.specs.Runs.{HasRun};
 ghost use Rattle.cola_look.specs.Seek.{found_in, seat_at, seat_of_key, as_seat, SeekCause, turns_from};
 
 use crate::windowing::window;
-use cola_cell::{Cell, CellSource, Item, Key, ReadFault, Run};
+use cola_cell::{CellSource, Item, Key, Packed, ReadFault, Run};
 use cola_outside::Steps;
+use std::cmp::Ordering;
 use std::sync::ledger::Ledger;
 
 /// Where the search of a run stopped: an index of the run, or its length; the item of the key there, if the
@@ -59,10 +61,12 @@ pub fn seek<W: CellSource, L: Ledger>(
     ensures others_stay { (buffer : Buffer) → buffer ≢ Search → (W.spent work.new).lasts buffer ≡ (W.spent work.old).lasts buffer }
 {
     let (first, last) = window(start, run.len);
+    let mut cell = Packed::blank();
     for index in first..last {
-        let cell = work.read(run.level, run.slot, index, steps)?;
-        if !cell.key().cmp(key).is_lt() {
-            return Ok(seat_at(&cell, index, key));
+        work.read_into(run.level, run.slot, index, &mut cell, steps)?;
+        let order = cell.key_cmp(key);
+        if !order.is_lt() {
+            return Ok(seat_at(&cell, index, key, order));
         }
     }
     Ok(Seat {
@@ -72,19 +76,13 @@ pub fn seek<W: CellSource, L: Ledger>(
     })
 }
 
-/// What a search finds that stops at this cell.
+/// What a search finds that stops at this cell, whose key has this order to the key sought.
 #[inline]
-fn seat_at(cell: &Cell, index: u32, key: &Key) -> Seat
+fn seat_at(cell: &Packed, index: u32, key: &Key, order: Ordering) -> Seat
+    requires { order ≡ key_cmp (key_of cell.now) key.now }
     ensures { as_seat result ≡ seat_at key.now index (as_cell cell.now) }
 {
-    let hit = match cell {
-        Cell::Item {
-            key: found,
-            item,
-            ..
-        } if key.cmp(found).is_eq() => Some(*item),
-        _ => None,
-    };
+    let hit = if order.is_eq() { cell.item() } else { None };
     Seat {
         pos: index,
         hit,

@@ -10,7 +10,7 @@ use Rattle.cola_cell.specs.Shadows.{Forgets}
 use Rattle.cola_merge.specs.declared.aims.Feed.{Feed}
 use Rattle.cola_merge.specs.declared.aims.Feed.TheVariants as feed
 use Rattle.cola_merge.specs.declared.aims.Aim.{Aim}
-use Rattle.cola_merge.specs.declared.heads.Head.{Head}
+use Rattle.cola_merge.specs.Fetched.{Head}
 use Rattle.cola_merge.specs.declared.merging.Merger.{Merger}
 use Rattle.cola_told.specs.Cells.{cell_at}
 use Rattle.cola_merge.specs.Feeds.{feed_len, feed_spots, feed_cells, IsFeedTold, IsFeed, IsApart}

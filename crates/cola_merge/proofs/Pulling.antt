@@ -10,18 +10,19 @@ use Rattle.cola_cell.specs.declared.fault.ReadFault.TheVariants.{Device, BadCell
 use Rattle.cola_cell.specs.Fault.{step_of_read}
 use Rattle.cola_cell.specs.Held.{Held, LawCell, as_cell}
 use Rattle.cola_cell.specs.Spent.{Buffer, Spent, ReadCalm}
+use Rattle.cola_merge.specs.Fetched.{Head}
 use Rattle.cola_merge.specs.declared.aims.Aim.{Aim}
 use Rattle.cola_merge.specs.declared.rules.Choice.{Choice}
 use Rattle.cola_merge.specs.declared.merging.Merger.{Merger}
 use Rattle.cola_merge.specs.Feeds.{feed_of, feed_len}
 use Rattle.cola_merge.specs.Heads.{head_at, head_of, with_head, consumed, HasHeads, fetched}
-use Rattle.cola_merge.specs.Rules.{HeadFits}
+use Rattle.cola_merge.specs.Rules.{HeadFits, Suits, emitted_of, choice_cell}
 use Rattle.cola_merge.specs.Blocks.{blocks_left}
 use Rattle.cola_merge.specs.States.{Spends, IsBeside, state, StepCalm}
 use Rattle.cola_merge.specs.Pulls.{AreInOrder, Gives, IsEndedBy, FitsGiven, given_cells, HasPullCause, IsFrugal, Looked, Unread, Chosen, Gave, Drawn}
 use Rattle.cola_merge.proofs.Sums.{spends_none, spends_then, cause_then}
 use Rattle.cola_merge.proofs.Reading.{head_in, consumed-with, rises-with, fetched-with, left-with}
-use Rattle.cola_merge.proofs.Stepping.{head_there, held_below, fetched_some, feed_left-next, passed_heads}
+use Rattle.cola_merge.proofs.Stepping.{held_fits, head_there, held_below, fetched_some, feed_left-next, passed_heads}
 use Rattle.cola_merge.proofs.Ruling.{ended_is_used_up}
 use Rattle.cola_merge.proofs.Ahead.{ahead-next, ahead-none, ahead-same}
 
@@ -86,7 +87,7 @@ given_small (Some c) = omega arith
 
 module _ {held : Held} {aim : Aim} {a b : Spent} {m n : Merger} {i j : ℕ} (choice : Choice) (h : Chosen held aim a b m n i j (Some choice)) where
   below : (head_of n choice.head).at < feed_len (feed_of aim choice.head)
-  below = held_below held (feed_of aim choice.head) (head_of n choice.head).at (head_of n choice.head).cell (head_in choice.head h.looked.looks.heads).cell (head_there aim n choice.head choice.cell h.asked)
+  below = held_below held (feed_of aim choice.head) (head_of n choice.head).at (head_of n choice.head).cell (head_in choice.head h.looked.looks.heads).cell (head_there aim n choice.head (choice_cell n choice) h.asked)
 
   abbrev next : Merger
   next = with_head n choice.head (head_at ((head_of n choice.head).at + 1))
@@ -95,16 +96,16 @@ module _ {held : Held} {aim : Aim} {a b : Spent} {m n : Merger} {i j : ℕ} (cho
   one_more = consumed-with n choice.head (head_at ((head_of n choice.head).at + 1)) 1 refl
 
   -- the head that was chosen is consumed
-  gave_consumed : Gave held aim b b n next j j (option_to_list (option_map as_cell choice.cell))
+  gave_consumed : Gave held aim b b n next j j (option_to_list (option_map as_cell (choice_cell n choice)))
   gave_consumed = record {
     heads = passed_heads choice.head h.looked.looks.heads below;
     rises = λ other. rises-with n choice.head (head_at ((head_of n choice.head).at + 1)) (omega arith) other;
-    consumes = (let l = given_small choice.cell in let e = one_more in omega (arith, l, e));
-    gives = λ t. ahead-next held aim n choice.head choice.cell h.looked.looks.heads h.fetched t h.asked;
+    consumes = (let l = given_small (choice_cell n choice) in let e = one_more in omega (arith, l, e));
+    gives = λ t. ahead-next held aim n choice.head (choice_cell n choice) h.looked.looks.heads h.fetched t h.asked;
     spends = spends_none b j;
     written_is = refl;
     others_stay = λ buffer d. refl;
-    reads = same j (fetched aim next) (fetched aim n) _ _ (fetched-with aim n choice.head (head_at ((head_of n choice.head).at + 1))) (fetched_some (feed_of aim choice.head) (head_of n choice.head) (head_there aim n choice.head choice.cell h.asked));
+    reads = same j (fetched aim next) (fetched aim n) _ _ (fetched-with aim n choice.head (head_at ((head_of n choice.head).at + 1))) (fetched_some (feed_of aim choice.head) (head_of n choice.head) (head_there aim n choice.head (choice_cell n choice) h.asked));
     turned = up b.turned _ _
         (left-with aim n held.fixed.doublings b.lasts b.lasts 0 0 choice.head (head_at ((head_of n choice.head).at + 1))
         (let l = feed_left-next held.fixed.doublings b.lasts choice.head (feed_of aim choice.head) (head_of n choice.head).at below in omega (arith, l)) (λ buffer d. refl));
@@ -118,13 +119,31 @@ module _ {held : Held} {aim : Aim} {a b : Spent} {m n : Merger} {i j : ℕ} (cho
       up k x y l = omega (arith, l)
 
   -- the head is read and consumed
-  pub gave_chosen : (o : Merger) → o ≡ next → Gave held aim a b m o i j (option_to_list (option_map as_cell choice.cell))
-  gave_chosen o e = subst (λ (x : Merger). Gave held aim a b m x i j (option_to_list (option_map as_cell choice.cell))) (sym e) (gave_then (gave_look h.looked) gave_consumed)
+  pub gave_chosen : (o : Merger) → o ≡ next → Gave held aim a b m o i j (option_to_list (option_map as_cell (choice_cell n choice)))
+  gave_chosen o e = subst (λ (x : Merger). Gave held aim a b m x i j (option_to_list (option_map as_cell (choice_cell n choice)))) (sym e) (gave_then (gave_look h.looked) gave_consumed)
 
   pub consumed_chosen : (o : Merger) → o ≡ next → consumed m < consumed o
   consumed_chosen o e =
       let x = h.looked.looks.at_is Own in let y = h.looked.looks.at_is Incoming in let z = h.looked.looks.at_is Sample in
       let k : consumed o ≡ consumed n + 1 = ap consumed e ∙ one_more in omega (arith, k, x, y, z)
+
+-- ---- the head of a choice, as it was asked for
+
+pub given_by : {head : Head} (n : Merger) (choice : Choice) → head ≡ head_of n choice.head → emitted_of choice.pass head.cell ≡ choice_cell n choice
+given_by n choice e = ap (λ (h : Head). emitted_of choice.pass h.cell) e
+
+pub suits_by : {held : Held} {aim : Aim} {a b : Spent} {m n : Merger} {i j : ℕ} {head : Head} (choice : Choice) → Chosen held aim a b m n i j (Some choice) → head ≡ head_of n choice.head → Suits choice.pass head.cell
+suits_by choice h e = subst (λ (x : Head). Suits choice.pass x.cell) (sym e) h.suits
+
+pub given_fits : {held : Held} {aim : Aim} {a b : Spent} {m n : Merger} {i j : ℕ} {head : Head} (cell : Option Cell) (choice : Choice) → Chosen held aim a b m n i j (Some choice)
+    → (HeadFits held.fixed.format head.cell → HeadFits held.fixed.format cell) → head ≡ head_of n choice.head → HeadFits held.fixed.format cell
+given_fits {held} {aim} {a} {b} {m} {n} cell choice h fits e =
+    fits (subst (λ (x : Head). HeadFits held.fixed.format x.cell) (sym e)
+    (held_fits held (feed_of aim choice.head) (head_of n choice.head).at (head_of n choice.head).cell (head_in choice.head h.looked.looks.heads).cell))
+
+pub given_gave : {held : Held} {aim : Aim} {a b : Spent} {m o : Merger} {i j : ℕ} (n : Merger) (choice : Choice) (cell : Option Cell) → cell ≡ choice_cell n choice
+    → Gave held aim a b m o i j (option_to_list (option_map as_cell (choice_cell n choice))) → Gave held aim a b m o i j (option_to_list (option_map as_cell cell))
+given_gave {held} {aim} {a} {b} {m} {o} {i} {j} n choice cell e g = subst (λ (x : Option Cell). Gave held aim a b m o i j (option_to_list (option_map as_cell x))) (sym e) g
 
 -- ---- the calls of a loop, where the object keeps its cells
 

@@ -17,7 +17,7 @@ use Rattle.cola_cell.specs.Spent.{Buffer, By, Spent, Reads, ReadAnswers, ReadCal
 use Rattle.cola_merge.specs.declared.aims.Feed.{Feed}
 use Rattle.cola_merge.specs.declared.aims.Feed.TheVariants as feed
 use Rattle.cola_merge.specs.declared.aims.Aim.{Aim}
-use Rattle.cola_merge.specs.declared.heads.Head.{Head}
+use Rattle.cola_merge.specs.Fetched.{Head}
 use Rattle.cola_merge.specs.declared.merging.Merger.{Merger}
 use Rattle.cola_merge.specs.Feeds.{feed_of, feed_len, read_len, IsFeed, IsBadAt}
 use Rattle.cola_merge.specs.Heads.{head_of, with_head, consumed, IsHeldCell, IsHead, HasHeads, IsReady, IsFetched, missing_head, missing, held_head, fetched_of, fetched}

@@ -17,7 +17,7 @@ use Rattle.cola_cell.specs.Spent.{Buffer, Spent}
 use Rattle.cola_merge.specs.declared.aims.Feed.{Feed}
 use Rattle.cola_merge.specs.declared.aims.Feed.TheVariants as feed
 use Rattle.cola_merge.specs.declared.aims.Aim.{Aim}
-use Rattle.cola_merge.specs.declared.heads.Head.{Head}
+use Rattle.cola_merge.specs.Fetched.{Head}
 use Rattle.cola_merge.specs.declared.merging.Merger.{Merger}
 use Rattle.cola_told.specs.Cells.{shadow_cells}
 use Rattle.cola_cell.specs.Order.{key_cmp}

@@ -13,12 +13,12 @@ use Rattle.cola_cell.specs.Spent.{Spent}
 use Rattle.cola_told.specs.Cells.{shadow_cells}
 use Rattle.cola_merge.specs.declared.aims.Aim.{Aim}
 use Rattle.cola_merge.specs.declared.aims.Progress.{Progress}
-use Rattle.cola_merge.specs.declared.heads.Head.{Head}
+use Rattle.cola_merge.specs.Fetched.{Head}
 use Rattle.cola_merge.specs.declared.rules.Choice.{Choice}
 use Rattle.cola_merge.specs.declared.merging.Merger.{Merger}
 use Rattle.cola_merge.specs.Feeds.{feed_len}
 use Rattle.cola_merge.specs.Heads.{head_of, consumed, HasHeads, IsReady, IsUsedUp, missing, fetched, build_of}
-use Rattle.cola_merge.specs.Rules.{as_action, next_action, HeadFits, ChoiceFits}
+use Rattle.cola_merge.specs.Rules.{as_action, next_action, HeadFits, ChoiceSuits}
 use Rattle.cola_merge.specs.Blocks.{is_last}
 use Rattle.cola_merge.specs.States.{Fetch, State, state, len_of, Goes, Took, Refused, failed_push, Taken, HasRun}
 use Rattle.cola_merge.specs.Advance.{cells_read}
@@ -113,17 +113,15 @@ module _ {A : Type 0} {held : Held} {aim : Aim} {p0 : Spent} (m : Merger) (n0 : 
             (subst (λ (h : Held). Fetch h p2 p3 Sample aim.sample m.sample sample n2 n3 (Ok a)) (e2 ∙ e1) f3))
 
         -- with what the rules ask for then
-        pub chosen : (choice : Option Choice) → as_action choice ≡ next_action aim (record { own = own; incoming = incoming; sample = sample }) →
-            ((format : Format) → HeadFits format own.cell → HeadFits format incoming.cell → HeadFits format sample.cell → ChoiceFits format choice) →
+        pub chosen : (choice : Option Choice) → as_action (record { own = own; incoming = incoming; sample = sample }) choice ≡ next_action aim (record { own = own; incoming = incoming; sample = sample }) →
+            ChoiceSuits (record { own = own; incoming = incoming; sample = sample }) choice →
             Chosen held aim p0 p3 m (record { own = own; incoming = incoming; sample = sample }) n0 n3 choice
-        chosen choice asked fits =
-            let h = three.looks.heads in
+        chosen choice asked suits =
             record {
               looked = three;
               fetched = record { own = f1.fetches.0; incoming = f2.fetches.0; sample = f3.fetches.0 };
               asked = asked;
-              fits = fits held.fixed.format (held_fits held aim.own own.at own.cell h.own.cell) (held_fits held aim.incoming incoming.at incoming.cell h.incoming.cell)
-                  (held_fits held aim.sample sample.at sample.cell h.sample.cell);
+              suits = suits;
             }
 
 -- where no source cell is left now, none was before
@@ -141,7 +139,7 @@ chosen_is {held} {aim} {a} {b} {m} {n} {i} {j} choice c e h = subst (λ (x : Opt
 -- no choice is left where no source cell is
 pub none_chosen : {held : Held} {aim : Aim} {a b : Spent} {m n : Merger} {i j : ℕ} (choice : Option Choice) → choice ≡ None → Chosen held aim a b m n i j choice → IsUsedUp aim m
 none_chosen {held} {aim} {a} {b} {m} {n} {i} {j} choice e h =
-    used_up_before h.looked.looks (ended_is_used_up aim n h.fetched (subst (λ (x : Option Choice). as_action x ≡ next_action aim n) e h.asked))
+    used_up_before h.looked.looks (ended_is_used_up aim n h.fetched (subst (λ (x : Option Choice). as_action n x ≡ next_action aim n) e h.asked))
 
 -- ---- heads that were read, as a part of a step
 

@@ -1,3 +1,4 @@
+pub mod Fetched
 pub mod Feeds
 pub mod Heads
 pub mod Blocks

@@ -17,7 +17,7 @@ use Rattle.cola_merge.specs.declared.rules.Choice.{Choice}
 use Rattle.cola_merge.specs.declared.merging.Merger.{Merger}
 use Rattle.cola_merge.specs.Feeds.{part_of, feed_cells, feed_keys}
 use Rattle.cola_merge.specs.Heads.{head_of, consumed, HasHeads, IsUsedUp, AreFetched, missing, fetched, AreFeedsTold}
-use Rattle.cola_merge.specs.Rules.{as_action, next_action, ChoiceFits}
+use Rattle.cola_merge.specs.Rules.{as_action, next_action, ChoiceSuits}
 use Rattle.cola_merge.specs.Blocks.{blocks_left}
 use Rattle.cola_merge.specs.States.{Spends, IsBeside, state, StepCause, StepCalm}
 use Rattle.cola_merge.specs.Advance.{cells_read}
@@ -106,8 +106,8 @@ pub record Unread (held : Held) (aim : Aim) (old new : Spent) (m n : Merger) (fr
 pub record Chosen (held : Held) (aim : Aim) (old new : Spent) (m n : Merger) (from to : ℕ) (choice : Option Choice) : Type 0 where
   pub looked : Looked held aim old new m n from to
   pub fetched : AreFetched aim n
-  pub asked : as_action choice ≡ next_action aim n
-  pub fits : ChoiceFits held.fixed.format choice
+  pub asked : as_action n choice ≡ next_action aim n
+  pub suits : ChoiceSuits n choice
 
 -- what the next step is to do, or why a head was not read
 abbrev pub Next : Held → Aim → Spent → Spent → Merger → Merger → ℕ → ℕ → Result (Option Choice) ReadFault → Type 0

@@ -1,17 +1,28 @@
 //! Cursors and the heads that are held.
-ghost use Rattle.std.specs.Prelude.{◌≡◌, ◌+◌, ◌<◌, ◌^◌};
+ghost use Rattle.std.specs.Prelude.{◌≡◌, ◌+◌, ◌<◌, ◌^◌, option_copied};
 ghost use Rattle.cola_cell.specs.Held.{Held};
 
 use crate::aims::Feed;
-use cola_cell::{Cell, CellSource, Item, ReadFault, Reader};
+use cola_cell::{CellSource, Format, Packed, ReadFault, Reader};
 use cola_outside::Steps;
+use std::marker::Model;
 use std::sync::ledger::Ledger;
 
-/// How many cells of a feed were consumed, and the next one, where it was read already.
-#[derive(Clone, Copy, Debug)]
+/// How many cells of a feed were consumed, and the next one, where it was read already. A contract sees these two.
+#[derive(Drop)]
 pub(crate) struct Head {
-    pub(crate) at: u32,
-    pub(crate) cell: Option<Cell>,
+    at: u32,
+    is_held: bool,
+    packed: Packed,
+}
+
+impl Model for Head {
+    ghost use Rattle.std.specs.Prelude.{if◌then◌else◌, Some, None};
+    ghost use Rattle.cola_merge.specs.Fetched.{Head};
+
+    ghost Value = { Head };
+
+    ghost view = { λ h. record { at = h.at; cell = if h.is_held then Some h.packed else None } };
 }
 
 impl Head {
@@ -23,8 +34,31 @@ impl Head {
     pub(crate) fn behind(at: u32) -> Head
         ensures { result ≡ head_at at }
     {
-        let _item: Option<Item> = None;
-        Head { at, cell: None }
+        Head {
+            at,
+            is_held: false,
+            packed: Packed::blank(),
+        }
+    }
+
+    /// How many cells were consumed.
+    #[inline]
+    pub(crate) fn at(&self) -> u32
+        ensures { result ≡ self.now.at }
+    {
+        self.at
+    }
+
+    /// The cell that is held.
+    #[inline]
+    pub(crate) fn cell(&self) -> Option<&Packed>
+        ensures { option_copied result ≡ self.now.cell }
+    {
+        if self.is_held {
+            Some(&self.packed)
+        } else {
+            None
+        }
     }
 
     /// Goes on behind the cell, where it stands.
@@ -33,9 +67,8 @@ impl Head {
         requires { self.old.at + 1 < 2 ^ 32 }
         ensures { self.new ≡ head_at (self.old.at + 1) }
     {
-        let _item: Option<Item> = None;
         self.at += 1;
-        self.cell = None;
+        self.is_held = false;
     }
 
     /// Reads the head where it is not held and the feed has one.
@@ -53,20 +86,26 @@ impl Head {
         ensures kept { W.kept work.new ≡ W.kept work.old }
         ensures fetch { Fetch (W.held work.old) (W.spent work.old) (W.spent work.new) reader feed.now self.old self.new steps.old steps.new result }
     {
-        if self.cell.is_some() || self.at >= feed.len() {
+        if self.is_held || self.at >= feed.len() {
             return Ok(());
         }
         match feed {
             Feed::Run(run) => {
-                self.cell = Some(work.read_for(reader, run.level, run.slot, self.at, steps)?);
+                let index = self.at;
+                work.read_for_into(reader, run.level, run.slot, index, &mut self.packed, steps)?;
+                self.is_held = true;
             }
             Feed::Sampled(run) => {
                 // it is below the length, which fits its type
                 let _len = run.len;
                 let index = 8 * self.at + 7;
-                self.cell = Some(work.read_for(reader, run.level, run.slot, index, steps)?);
+                work.read_for_into(reader, run.level, run.slot, index, &mut self.packed, steps)?;
+                self.is_held = true;
             }
-            Feed::One(cell) => self.cell = Some(*cell),
+            Feed::One(cell) => {
+                self.packed = Packed::of_cell(Format::Two, cell);
+                self.is_held = true;
+            }
             Feed::Nothing => {}
         }
         Ok(())

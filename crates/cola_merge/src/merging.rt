@@ -1,48 +1,60 @@
 //! The merger.
 ghost use Rattle.std.specs.Prelude.{◌≡◌, ◌+◌, ◌*◌, ◌/◌, ◌<◌, ◌≤◌, ◌^◌, ◌↔◌, IsTrue, OnOk, Some, length};
-ghost use Rattle.cola_merge.specs.Rules.{HeadFits};
+ghost use Rattle.cola_cell.specs.declared.format.Format.{Format};
+ghost use Rattle.cola_merge.specs.Rules.{HeadFits, Suits, emitted_of};
 ghost use Rattle.cola_merge.specs.States.{Emission};
 
 use crate::aims::{Aim, Progress};
 use crate::heads::Head;
 use crate::rules::{Choice, first_rule};
-use cola_cell::{Cell, CellSink, CellSource, PushFault, ReadFault, Reader, StepFault};
+use cola_cell::{Cell, CellSink, CellSource, Pass, PushFault, ReadFault, Reader, StepFault};
 use cola_outside::Steps;
 use std::sync::ledger::Ledger;
 
 /// A merge on its way: how many cells of each of its three sources were consumed, and the heads that were read already.
-#[derive(Clone, Copy, Debug)]
+#[derive(Drop)]
 pub struct Merger {
     own: Head,
     incoming: Head,
     sample: Head,
 }
 
-/// Puts the cell, if there is one, behind the shadow.
+/// Puts what becomes of the head's cell, if it is passed on, behind the shadow.
 fn emit<W: CellSink, L: Ledger>(
     work: &mut W,
     level: u8,
     slot: u8,
-    cell: &Option<Cell>,
+    head: &Head,
+    pass: Option<Pass>,
     steps: &mut Steps<L>,
 ) -> Result<(), PushFault>
     requires level_in { level < (W.CellSource.held work.old).fixed.levels }
     requires in_slot { slot ≡ ((W.CellSource.held work.old).shadows level).slot }
     requires slot_in { slot < 2 }
-    requires fits { HeadFits (W.CellSource.held work.old).fixed.format cell.now }
+    requires fits { HeadFits (W.CellSource.held work.old).fixed.format head.now.cell }
+    requires suits { Suits pass head.now.cell }
     ensures kept { W.CellSource.kept work.new ≡ W.CellSource.kept work.old }
-    ensures emission { Emission (W.CellSource.held work.old) (W.CellSource.held work.new) (W.CellSource.spent work.old) (W.CellSource.spent work.new) level cell.now steps.old steps.new result }
+    ensures emission { Emission (W.CellSource.held work.old) (W.CellSource.held work.new) (W.CellSource.spent work.old) (W.CellSource.spent work.new) level (emitted_of pass head.now.cell) steps.old steps.new result }
 {
-    match cell {
-        None => Ok(()),
-        Some(cell) => work.push(level, slot, cell, steps),
+    match (pass, head.cell()) {
+        (Some(pass), Some(cell)) => work.push_as(level, slot, cell, pass, steps),
+        _ => Ok(()),
     }
 }
 
+/// What becomes of the head's cell, if it is passed on.
+fn given(head: &Head, pass: Option<Pass>) -> Option<Cell>
+    requires suits { Suits pass head.now.cell }
+    ensures value { result ≡ emitted_of pass head.now.cell }
+    ensures fits { (format : Format) → HeadFits format head.now.cell → HeadFits format result }
+{
+    let pass = pass?;
+    Some(head.cell()?.cell_as(pass))
+}
+
 impl Merger {
-    ghost use Rattle.cola_cell.specs.declared.format.Format.{Format};
     ghost use Rattle.cola_merge.specs.Heads.{fresh, head_at, head_of, with_head, consumed, HasHeads, IsReady, AreFetched, IsUsedUp};
-    ghost use Rattle.cola_merge.specs.Rules.{as_action, next_action, HeadFits, ChoiceFits};
+    ghost use Rattle.cola_merge.specs.Rules.{as_action, next_action, choice_cell, ChoiceSuits};
     ghost use Rattle.cola_merge.specs.States.{state, Stepped, Taken, HasRun, Grows, IsBeside, KeepsBlocks, Spends};
     ghost use Rattle.cola_told.specs.Cells.{IsShadowTold};
     ghost use Rattle.cola_merge.specs.Blocks.{blocks_left};
@@ -75,30 +87,30 @@ impl Merger {
     pub fn own(&self) -> u32
         ensures { result ≡ self.now.own.at }
     {
-        self.own.at
+        self.own.at()
     }
 
     /// How many cells of the incoming run were consumed.
     pub fn incoming(&self) -> u32
         ensures { result ≡ self.now.incoming.at }
     {
-        self.incoming.at
+        self.incoming.at()
     }
 
     /// How many cells of the sample were consumed.
     pub fn sample(&self) -> u32
         ensures { result ≡ self.now.sample.at }
     {
-        self.sample.at
+        self.sample.at()
     }
 
     /// Whether each source cell was consumed.
     pub fn is_done(&self, aim: &Aim) -> bool
         ensures { IsTrue result ↔ IsUsedUp aim.now self.now }
     {
-        self.own.at >= aim.own.len()
-            && self.incoming.at >= aim.incoming.len()
-            && self.sample.at >= aim.sample.len()
+        self.own.at() >= aim.own.len()
+            && self.incoming.at() >= aim.incoming.len()
+            && self.sample.at() >= aim.sample.len()
     }
 
     /// Takes steps of the merge until so many are taken or no source cell is left. What is under way stays under way, in
@@ -197,17 +209,22 @@ impl Merger {
     /// What the rules ask for by the heads that are held.
     fn choice(&self, aim: &Aim) -> Option<Choice>
         requires small { 8 * self.now.sample.at < 2 ^ 32 }
-        ensures choice { as_action result ≡ next_action aim.now self.now }
-        ensures fits { (format : Format) → HeadFits format self.now.own.cell → HeadFits format self.now.incoming.cell → HeadFits format self.now.sample.cell → ChoiceFits format result }
+        ensures choice { as_action self.now result ≡ next_action aim.now self.now }
+        ensures suits { ChoiceSuits self.now result }
     {
-        let link = 8 * self.sample.at;
-        first_rule(
-            aim,
-            link,
-            &self.own.cell,
-            &self.incoming.cell,
-            &self.sample.cell,
-        )
+        let link = 8 * self.sample.at();
+        first_rule(aim, link, &self.own, &self.incoming, &self.sample)
+    }
+
+    /// The head of this reader.
+    fn head(&self, reader: Reader) -> &Head
+        ensures { result.now ≡ head_of self.now reader }
+    {
+        match reader {
+            Reader::Own => &self.own,
+            Reader::Incoming => &self.incoming,
+            Reader::Sample => &self.sample,
+        }
     }
 
     /// Consumes the head of this reader.
@@ -252,14 +269,15 @@ impl Merger {
     ) -> Result<(), PushFault>
         requires ready { IsReady (W.CellSource.held work.old) aim.now self.old }
         requires fetched { AreFetched aim.now self.old }
-        requires asked { as_action (Some choice.now) ≡ next_action aim.now self.old }
-        requires fits { HeadFits (W.CellSource.held work.old).fixed.format choice.now.cell }
+        requires asked { as_action self.old (Some choice.now) ≡ next_action aim.now self.old }
+        requires suits { ChoiceSuits self.old (Some choice.now) }
         requires levels { (W.CellSource.held work.old).fixed.levels ≤ 23 }
         requires slot_in { ((W.CellSource.held work.old).shadows aim.now.level).slot < 2 }
         ensures kept { W.CellSource.kept work.new ≡ W.CellSource.kept work.old }
         ensures stepped { Stepped aim.now (state (W.CellSource.held work.old) (W.CellSource.spent work.old) self.old steps.old) (state (W.CellSource.held work.new) (W.CellSource.spent work.new) self.new steps.new) result }
     {
-        emit(work, aim.level, aim.slot, &choice.cell, steps)?;
+        let head = self.head(choice.head);
+        emit(work, aim.level, aim.slot, head, choice.pass, steps)?;
         self.consume(choice.head);
         Ok(())
     }
@@ -324,9 +342,10 @@ impl Merger {
         ensures drawn { Drawn (W.held work.old) aim.now (W.spent work.old) (W.spent work.new) self.old self.new steps.old steps.new result }
     {
         while let Some(next) = self.next(work, aim, steps)? {
+            let cell = given(self.head(next.head), next.pass);
             self.consume(next.head);
-            if next.cell.is_some() {
-                return Ok(next.cell);
+            if cell.is_some() {
+                return Ok(cell);
             }
         }
         Ok(None)

@@ -1,72 +1,80 @@
 //! The five rules of a merge, over the heads that are held.
-ghost use Rattle.std.specs.Prelude.{◌≡◌, ◌*◌, None, Some};
+ghost use Rattle.std.specs.Prelude.{◌≡◌, ◌*◌, ◌&&◌, None, Some};
 ghost use Rattle.std.specs.Option.{option_map};
-ghost use Rattle.cola_runs.specs.Steps.{Take, emitted, item_or_look, least, rule, skips_own, skips_incoming};
-ghost use Rattle.cola_cell.specs.declared.format.Format.{Format};
-ghost use Rattle.cola_cell.specs.Format.{CellFits, KeyFits};
+ghost use Rattle.cola_runs.specs.Steps.{Take, emitted, flag_of, item_or_look, least, rule, skips_own, skips_incoming};
 ghost use Rattle.cola_cell.specs.Cell.{key_of};
 ghost use Rattle.cola_cell.specs.declared.cell.Cell.{Cell};
 ghost use Rattle.cola_cell.specs.declared.cell.Reader.{Reader};
 ghost use Rattle.cola_cell.specs.Held.{as_cell};
+ghost use Rattle.cola_cell.specs.Packed.{is_tombstone};
 ghost use Rattle.cola_cell.specs.Order.{key_cmp};
+ghost use Rattle.cola_merge.specs.declared.merging.Merger.{Merger};
 ghost use Rattle.cola_merge.specs.Feeds.{part_of};
-ghost use Rattle.cola_merge.specs.Rules.{as_head, as_action, HeadFits, ChoiceFits};
+ghost use Rattle.cola_merge.specs.Heads.{head_of};
+ghost use Rattle.cola_merge.specs.Rules.{as_head, as_action, emitted_of, Suits, ChoiceSuits};
 
 use crate::aims::Aim;
-use cola_cell::{Cell, Item, Key, Reader};
+use crate::heads::Head;
+use cola_cell::{Packed, Pass, Reader};
 use cola_clock::Part;
 use std::cmp::Ordering;
 
-/// What a step does: it consumes the head of this reader, and emits the cell, if there is one.
-#[derive(Clone, Copy)]
+/// What a step does: it consumes the head of this reader, and passes its cell on, or emits nothing.
+#[derive(Clone, Copy, Debug)]
 pub(crate) struct Choice {
     pub(crate) head: Reader,
-    pub(crate) cell: Option<Cell>,
+    pub(crate) pass: Option<Pass>,
 }
 
-/// The cell that is emitted for an item at a head: none for a tombstone that is left out.
-fn emit(aim: &Aim, link: u32, head: Reader, cell: &Cell) -> Option<Cell>
-    ensures emitted { option_map as_cell result ≡ emitted (part_of aim.now) link (as_head head) (as_cell cell.now) }
-    ensures fits { (format : Format) → CellFits format cell.now → HeadFits format result }
+/// What becomes of an item at a head: none for a tombstone that is left out.
+fn emit(aim: &Aim, link: u32, head: Reader, cell: &Packed) -> Option<Pass>
+    ensures emitted { option_map as_cell (emitted_of result (Some cell.now)) ≡ emitted (part_of aim.now) link (as_head head) (as_cell cell.now) }
+    ensures suits { Suits result (Some cell.now) }
 {
-    let young = match head {
+    if cell.is_look() || is_left_out(aim, cell) {
+        return None;
+    }
+    Some(Pass::Item {
+        young: flag(aim, head),
+        link,
+    })
+}
+
+/// The youth of an item that is emitted for a head.
+#[inline]
+fn flag(aim: &Aim, head: Reader) -> bool
+    ensures { result ≡ flag_of (part_of aim.now) (as_head head) }
+{
+    match head {
         Reader::Incoming => aim.young,
         Reader::Own | Reader::Sample => false,
-    };
-    match cell {
-        Cell::Item {
-            item: Item::Tombstone,
-            ..
-        } if aim.bottom => None,
-        Cell::Item { key, item, .. } => Some(Cell::Item {
-            key: *key,
-            item: *item,
-            young,
-            link,
-        }),
-        Cell::Look { .. } => None,
     }
+}
+
+/// Whether a cell is a tombstone that is left out.
+#[inline]
+fn is_left_out(aim: &Aim, cell: &Packed) -> bool
+    ensures { result ≡ aim.now.bottom && is_tombstone cell.now }
+{
+    aim.bottom && cell.is_tombstone()
 }
 
 /// Consumes a head and emits nothing.
 fn pass(head: Reader) -> Option<Choice>
-    ensures choice { as_action result ≡ Take (as_head head) None }
-    ensures fits { (format : Format) → ChoiceFits format result }
+    ensures choice { (m : Merger) → as_action m result ≡ Take (as_head head) None }
+    ensures suits { (m : Merger) → ChoiceSuits m result }
 {
-    let _item: Option<Item> = None;
-    Some(Choice { head, cell: None })
+    Some(Choice { head, pass: None })
 }
 
 /// Emits a lookahead cell of the key of the sample's head.
-fn look(link: u32, key: &Key) -> Option<Choice>
-    ensures choice { as_action result ≡ Take (as_head Reader.Sample) (Some (as_cell (Cell.Look key.now link))) }
-    ensures fits { (format : Format) → KeyFits format key.now → ChoiceFits format result }
+fn look(link: u32) -> Option<Choice>
+    ensures choice { (m : Merger) (next : Cell) → m.sample.cell ≡ Some next → as_action m result ≡ Take (as_head Reader.Sample) (Some (as_cell (Cell.Look (key_of next) link))) }
+    ensures suits { (m : Merger) (next : Cell) → m.sample.cell ≡ Some next → ChoiceSuits m result }
 {
-    let _item: Option<Item> = None;
-    let cell = Some(Cell::Look { key: *key, link });
     Some(Choice {
         head: Reader::Sample,
-        cell,
+        pass: Some(Pass::Look { link }),
     })
 }
 
@@ -75,61 +83,57 @@ fn emit_item_or_look(
     aim: &Aim,
     link: u32,
     head: Reader,
-    cell: &Cell,
-    sample: &Option<Cell>,
+    cell: &Packed,
+    sample: &Head,
 ) -> Option<Choice>
-    ensures choice { as_action result ≡ item_or_look key_cmp (part_of aim.now) link (as_head head) (as_cell cell.now) (option_map key_of sample.now) }
-    ensures fits { (format : Format) → CellFits format cell.now → HeadFits format sample.now → ChoiceFits format result }
+    ensures choice { (m : Merger) → (head_of m head).cell ≡ Some cell.now → m.sample ≡ sample.now →
+        as_action m result ≡ item_or_look key_cmp (part_of aim.now) link (as_head head) (as_cell cell.now) (option_map key_of sample.now.cell) }
+    ensures suits { (m : Merger) → (head_of m head).cell ≡ Some cell.now → m.sample ≡ sample.now → ChoiceSuits m result }
 {
-    match sample {
-        Some(next) if cell.key().cmp(next.key()).is_gt() => look(link, next.key()),
+    match sample.cell() {
+        Some(next) if cell.cmp_keys(next).is_gt() => look(link),
         _ => Some(Choice {
             head,
-            cell: emit(aim, link, head, cell),
+            pass: emit(aim, link, head, cell),
         }),
     }
 }
 
 /// Whether the own head is passed over: it is a lookahead cell, or an item that is not wanted.
-fn passes_own(aim: &Aim, own: &Cell) -> bool
+fn passes_own(aim: &Aim, own: &Packed) -> bool
     ensures { result ≡ skips_own (part_of aim.now) (Some (as_cell own.now)) }
 {
-    match own {
-        Cell::Item { young, .. } => match aim.part {
-            Part::All => false,
-            Part::Young => !*young,
-        },
-        Cell::Look { .. } => true,
+    if own.is_look() {
+        return true;
+    }
+    match aim.part {
+        Part::All => false,
+        Part::Young => !own.is_young(),
     }
 }
 
 /// Whether the incoming head is passed over: it is a lookahead cell.
-fn passes_incoming(incoming: &Cell) -> bool
+fn passes_incoming(incoming: &Packed) -> bool
     ensures { result ≡ skips_incoming (Some (as_cell incoming.now)) }
 {
-    matches!(incoming, Cell::Look { .. })
+    incoming.is_look()
 }
 
 /// The rule that fits where no head is passed over: of two equal keys the own item is dropped, else the smaller key
 /// goes first.
-fn emit_least(
-    aim: &Aim,
-    link: u32,
-    own: &Option<Cell>,
-    incoming: &Option<Cell>,
-    sample: &Option<Cell>,
-) -> Option<Choice>
-    ensures choice { as_action result ≡ least key_cmp (part_of aim.now) link (option_map as_cell own.now) (option_map as_cell incoming.now) (option_map key_of sample.now) }
-    ensures fits { (format : Format) → HeadFits format own.now → HeadFits format incoming.now → HeadFits format sample.now → ChoiceFits format result }
+fn emit_least(aim: &Aim, link: u32, own: &Head, incoming: &Head, sample: &Head) -> Option<Choice>
+    ensures choice { as_action (record { own = own.now; incoming = incoming.now; sample = sample.now }) result
+        ≡ least key_cmp (part_of aim.now) link (option_map as_cell own.now.cell) (option_map as_cell incoming.now.cell) (option_map key_of sample.now.cell) }
+    ensures suits { ChoiceSuits (record { own = own.now; incoming = incoming.now; sample = sample.now }) result }
 {
-    match (own, incoming) {
-        (None, None) => match sample {
+    match (own.cell(), incoming.cell()) {
+        (None, None) => match sample.cell() {
             None => None,
-            Some(next) => look(link, next.key()),
+            Some(_) => look(link),
         },
         (Some(cell), None) => emit_item_or_look(aim, link, Reader::Own, cell, sample),
         (None, Some(cell)) => emit_item_or_look(aim, link, Reader::Incoming, cell, sample),
-        (Some(cell), Some(newer)) => match cell.key().cmp(newer.key()) {
+        (Some(cell), Some(newer)) => match cell.cmp_keys(newer) {
             Ordering::Less => emit_item_or_look(aim, link, Reader::Own, cell, sample),
             Ordering::Equal => pass(Reader::Own),
             Ordering::Greater => emit_item_or_look(aim, link, Reader::Incoming, newer, sample),
@@ -141,18 +145,19 @@ fn emit_least(
 pub(crate) fn first_rule(
     aim: &Aim,
     link: u32,
-    own: &Option<Cell>,
-    incoming: &Option<Cell>,
-    sample: &Option<Cell>,
+    own: &Head,
+    incoming: &Head,
+    sample: &Head,
 ) -> Option<Choice>
-    ensures choice { as_action result ≡ rule key_cmp (part_of aim.now) link (option_map as_cell own.now) (option_map as_cell incoming.now) (option_map key_of sample.now) }
-    ensures fits { (format : Format) → HeadFits format own.now → HeadFits format incoming.now → HeadFits format sample.now → ChoiceFits format result }
+    ensures choice { as_action (record { own = own.now; incoming = incoming.now; sample = sample.now }) result
+        ≡ rule key_cmp (part_of aim.now) link (option_map as_cell own.now.cell) (option_map as_cell incoming.now.cell) (option_map key_of sample.now.cell) }
+    ensures suits { ChoiceSuits (record { own = own.now; incoming = incoming.now; sample = sample.now }) result }
 {
-    match own {
+    match own.cell() {
         Some(cell) if passes_own(aim, cell) => return pass(Reader::Own),
         _ => {}
     }
-    match incoming {
+    match incoming.cell() {
         Some(cell) if passes_incoming(cell) => return pass(Reader::Incoming),
         _ => {}
     }

@@ -9,8 +9,6 @@ pub mod laws;
 mod mirror;
 mod rebuilding;
 mod sides;
-#[cfg(test)]
-mod tests;
 
 pub use comparing::compare;
 pub use fault::RebuildFault;

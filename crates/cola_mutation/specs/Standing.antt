@@ -1,6 +1,6 @@
 -- When levels on an object stand for a map, and what one mutation of them says.
 use Rattle.std.specs.Prelude.{◌≡◌, ℕ, ◌<◌, true, List, [], ◌∷◌, length, ⊤, Option, Result, Ok, Err}
-use Rattle.cola_clock.specs.Clock.{is_over}
+use Rattle.cola_clock.specs.Clock.{is_over, visible_slot}
 use Rattle.cola_clock.specs.Marks.{Marks, merge_steps, AreAllMarks, all_marks_after, no_marks}
 use Rattle.cola_laws.specs.Plain.{IsSoundChain}
 use Rattle.cola_cell.specs.declared.cell.Cell.{Cell}
@@ -51,6 +51,10 @@ KeepsProgress t [] [] = ⊤
 KeepsProgress t [] (m ∷ ms) = ⊥
 KeepsProgress t (l ∷ ls) [] = ⊥
 KeepsProgress t (l ∷ ls) (m ∷ ms) = (m ≡ l) × HaveTurned t 0 ls ms
+
+-- the cells in the slots that are visible at clock t stay, on so many levels
+abbrev pub KeepsVisible : (t levels : ℕ) → (old new : Held) → Type 0
+KeepsVisible t levels old new = (level index : ℕ) → level < levels → new.spots level (visible_slot t level) index ≡ old.spots level (visible_slot t level) index
 
 -- why a mutation was refused: the cause in the object as it stood then, of which since then the shadow of level 0 was emptied
 pub record HasRefusal (u : State) (before : ℕ) (fault : StepFault) : Type 0 where

@@ -1,14 +1,13 @@
 //! One mutation.
 ghost use Rattle.std.specs.Prelude.{◌≡◌, ℕ, ◌+◌, ◌*◌, ◌/◌, ◌≤◌, ◌<◌, ◌^◌, List, length, IfOk, IfErr, OnOk, OnErr, MatchResult};
 ghost use Rattle.std.specs.declared.option.Option.{Option};
-ghost use Rattle.cola_clock.specs.Clock.{visible_slot};
 ghost use Rattle.cola_laws.specs.Plain.{next_clock};
 ghost use Rattle.cola_cell.specs.Format.{CellFits, KeyFits, ItemFits};
 ghost use Rattle.cola_cell.specs.Held.{Stamped};
 ghost use Rattle.cola_level.specs.Work.{IsCalm, IsDevice};
 ghost use Rattle.cola_mutation.specs.Levels.{IsChain};
 ghost use Rattle.cola_mutation.specs.Work.{state_of, Costs};
-ghost use Rattle.cola_mutation.specs.Standing.{PreparesAll, KeepsProgress, HasRefusal, AllTrade};
+ghost use Rattle.cola_mutation.specs.Standing.{PreparesAll, KeepsProgress, KeepsVisible, HasRefusal, AllTrade};
 ghost use Rattle.cola_mutation.specs.Steps.{IsMapOf, ChangesMap, KeepsMap, step_ticks};
 
 use crate::ending::end_levels;
@@ -90,8 +89,7 @@ pub fn step<W: CellSink, L: Ledger>(
     ensures counted { length levels.new ≡ length levels.old }
     ensures clock { IfOk result (λ next. next ≡ next_clock (length levels.old) clock) }
     ensures progress { OnErr result (KeepsProgress clock levels.old levels.new) }
-    ensures visible { OnErr result ((level index : ℕ) → level < length levels.old →
-        (W.CellSource.held work.new).spots level (visible_slot clock level) index ≡ (W.CellSource.held work.old).spots level (visible_slot clock level) index) }
+    ensures visible { OnErr result (KeepsVisible clock (length levels.old) (W.CellSource.held work.old) (W.CellSource.held work.new)) }
     // what it means
     ensures changes { IfOk result (λ next. ChangesMap (W.CellSource.held work.old) (W.CellSource.held work.new) clock next key.now item.now levels.old levels.new) }
     ensures keeps { OnErr result (KeepsMap (W.CellSource.held work.old) (W.CellSource.held work.new) clock levels.old levels.new) }

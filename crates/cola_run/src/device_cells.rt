@@ -1,7 +1,9 @@
 //! The cells of the levels on the device: in the tail of a shadow, or in a block.
-ghost use Rattle.std.specs.Prelude.{◌≡◌, ◌+◌, ◌*◌, ◌/◌, ◌%◌, ◌^◌, ◌≤◌, ◌<◌, ◌==◌, not, true, false, ℕ, Option, Some, length, slice_set};
+ghost use Rattle.std.specs.Prelude.{◌≡◌, ◌+◌, ◌*◌, ◌/◌, ◌%◌, ◌^◌, ◌≤◌, ◌<◌, ◌==◌, not, true, false, if◌then◌else◌, ℕ, Option, Some, None, length, slice_set};
 ghost use Rattle.cola_cell.specs.Flat.{shadow_at, found};
+ghost use Rattle.cola_cell.specs.declared.cell.Cell.{Cell};
 ghost use Rattle.cola_cell.specs.Format.{width, CellFits};
+ghost use Rattle.cola_cell.specs.Packed.{given, passed, MayPass};
 ghost use Rattle.cola_cell.specs.Places.{slot_size, number_of, IsPlace};
 ghost use Rattle.cola_cache.specs.Blocks.{last_in};
 ghost use Rattle.cola_run.specs.Cells.{IsOnDevice, block_cells, block_bytes, file_blocks, device_levels, tail_number, block_number, is_in_tail};
@@ -9,10 +11,10 @@ ghost use Rattle.cola_run.specs.Parts.{Finds, OneShadow, WroteTail, MetFault, Is
 ghost use Rattle.cola_run.specs.Turns.{Turns, Writing};
 
 use cola_cache::Buffers;
-use cola_cell::{Cell, Item, PushFault, ReadFault, Shadow};
+use cola_cell::{Packed, Pass, PushFault, ReadFault, Shadow};
 use cola_device::Device;
 use cola_front::Front;
-use cola_front::block::{cell_in, know_spelling, put_cell};
+use cola_front::block::{put_as, refill_from};
 use cola_layout::Geometry;
 
 /// The number of cells of a block.
@@ -110,13 +112,16 @@ pub(crate) fn block_at(geometry: &Geometry, level: u8, slot: u8, index: u32) -> 
     geometry.place(level, slot, index) / cells_of_block(geometry) as u64
 }
 
-/// The cell, or the number of the cell whose bytes spell none.
+/// The answer of a read by whether a cell was taken: the number of the cell whose bytes spell none.
 #[inline]
-pub(crate) fn cell_or_bad(cell: Option<Cell>, number: u64) -> Result<Cell, ReadFault>
-    ensures { result ≡ found number cell }
+pub(crate) fn taken_or_bad(taken: bool, number: u64) -> Result<(), ReadFault>
+    ensures { (cell : Cell) → given cell result ≡ found number (if taken then Some cell else None) }
 {
-    let _item: Option<Item> = None;
-    cell.ok_or(ReadFault::BadCell(number))
+    if taken {
+        Ok(())
+    } else {
+        Err(ReadFault::BadCell(number))
+    }
 }
 
 /// Reads a cell of a level on the device by way of a buffer.
@@ -128,23 +133,24 @@ pub(crate) fn read_by_buffer<D: Device>(
     level: u8,
     slot: u8,
     index: u32,
-) -> Result<Cell, ReadFault>
+    into: &mut Packed,
+) -> Result<(), ReadFault>
     requires buffer { buffer < length buffers.old.lasts }
     requires place { IsPlace (geometry.now.bottom + 1) level slot index }
     requires size { buffers.old.cache.size ≡ block_bytes geometry.now }
     requires many { buffers.old.many ≡ file_blocks geometry.now }
-    ensures finds { Finds (D.bytes buffers.old.cache.device) geometry.now.format (number_of level slot index) result }
-    ensures turns { Turns D.counts buffers.old buffers.new buffer (block_number geometry.now level slot index) result }
+    ensures finds { Finds (D.bytes buffers.old.cache.device) geometry.now.format (number_of level slot index) (given into.new result) }
+    ensures turns { Turns D.counts buffers.old buffers.new buffer (block_number geometry.now level slot index) (given into.new result) }
     ensures bytes_stay { D.bytes buffers.new.cache.device ≡ D.bytes buffers.old.cache.device }
     ensures kept { D.kept buffers.new.cache.device ≡ D.kept buffers.old.cache.device }
 {
-    let _item: Option<Item> = None;
     let number = geometry.place(level, slot, index);
     match buffers.turn_to(buffer, block_at(geometry, level, slot, index)) {
         Ok(()) => {
             let place = number % cells_of_block(geometry) as u64;
-            let cell = cell_in(geometry.format, buffers.copy(buffer), place as usize);
-            cell_or_bad(cell, number)
+            let copy = buffers.copy(buffer);
+            let taken = refill_from(geometry.format, copy, place as usize, into);
+            taken_or_bad(taken, number)
         }
         Err(_) => Err(ReadFault::Device),
     }
@@ -204,27 +210,27 @@ pub(crate) fn push_on_device<D: Device>(
     shadows: &mut [Shadow],
     tails: &mut [u8],
     level: u8,
-    cell: &Cell,
+    cell: &Packed,
+    pass: Pass,
 ) -> Result<(), PushFault>
     requires level { IsOnDevice geometry.now level }
     requires shadows { level < length shadows.old }
     requires place { IsPlace (geometry.now.bottom + 1) level (shadow_at shadows.old level).slot (shadow_at shadows.old level).len }
+    requires may { MayPass pass cell.now }
     requires fits { CellFits geometry.now.format cell.now }
     requires tails { length tails.old ≡ width geometry.now.format * (block_cells geometry.now * device_levels geometry.now) }
     requires size { buffers.old.cache.size ≡ block_bytes geometry.now }
     requires many { buffers.old.many ≡ file_blocks geometry.now }
     ensures pushed { IsPushed geometry.now (record { told = D.bytes buffers.old.cache.device; shadows = shadows.old; tails = tails.old })
-        (record { told = D.bytes buffers.new.cache.device; shadows = shadows.new; tails = tails.new }) level cell.now result }
+        (record { told = D.bytes buffers.new.cache.device; shadows = shadows.new; tails = tails.new }) level (passed pass cell.now) result }
     ensures writing { Writing D.counts D.kept (fills geometry.now (shadow_at shadows.old level).len) buffers.old buffers.new
         (block_number geometry.now level (shadow_at shadows.old level).slot (shadow_at shadows.old level).len) result }
 {
-    let _item: Option<Item> = None;
-    know_spelling(geometry.format, cell);
     let shadow = shadow_of(shadows, level);
     // Until the cell is counted, not all of the tail is on the device.
     set_shadow(shadows, level, unsaved(shadow));
     let place = place_in_tails(geometry, level, shadow.len);
-    put_cell(geometry.format, tails, place, &Some(*cell));
+    put_as(geometry.format, tails, place, cell, pass);
     if !fills_block(geometry, shadow.len) {
         set_shadow(shadows, level, longer(geometry, shadow));
         return Ok(());
@@ -276,20 +282,21 @@ pub(crate) fn push_in_front(
     geometry: &Geometry,
     shadows: &mut [Shadow],
     level: u8,
-    cell: &Cell,
+    cell: &Packed,
+    pass: Pass,
 )
     requires level { level + 2 < geometry.now.block_exp }
     requires shadows { level < length shadows.old }
     requires place { IsPlace (geometry.now.bottom + 1) level (shadow_at shadows.old level).slot (shadow_at shadows.old level).len }
     requires format { front.old.format ≡ geometry.now.format }
     requires block { front.old.block ≡ block_cells geometry.now }
+    requires may { MayPass pass cell.now }
     requires fits { CellFits geometry.now.format cell.now }
-    ensures front { front.new ≡ record front.old { cells = slice_set front.old.cells (number_of level (shadow_at shadows.old level).slot (shadow_at shadows.old level).len) (Some cell.now) } }
+    ensures front { front.new ≡ record front.old { cells = slice_set front.old.cells (number_of level (shadow_at shadows.old level).slot (shadow_at shadows.old level).len) (Some (passed pass cell.now)) } }
     ensures shadow { OneShadow shadows.old shadows.new level (record { slot = (shadow_at shadows.old level).slot; len = (shadow_at shadows.old level).len + 1; saved = fills geometry.now (shadow_at shadows.old level).len }) }
     ensures within { number_of level (shadow_at shadows.old level).slot (shadow_at shadows.old level).len < length front.old.cells }
 {
-    let _item: Option<Item> = None;
     let shadow = shadow_of(shadows, level);
-    front.write(geometry.place(level, shadow.slot, shadow.len), cell);
+    front.write_as(geometry.place(level, shadow.slot, shadow.len), cell, pass);
     set_shadow(shadows, level, longer(geometry, shadow));
 }

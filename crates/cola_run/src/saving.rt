@@ -22,7 +22,7 @@ ghost use Rattle.cola_run.specs.Loading.{BadInRun, BadInLevel, BadInFront, NoneB
 use crate::device_cells::{begin_of_tail, block_at, cells_of_block, finish_on_device, set_shadow};
 use crate::run_store::RunStore;
 use cola_cache::Buffers;
-use cola_cell::{Item, ReadFault, Shadow};
+use cola_cell::{ReadFault, Shadow};
 use cola_clock::visible_slot;
 use cola_device::{Device, DeviceFault, MAX_TRANSFER};
 use cola_front::Front;
@@ -85,7 +85,7 @@ fn bad_in_run(front: &Front, geometry: &Geometry, level: u8, slot: u8, len: u32)
 {
     for index in 0..len {
         let number = geometry.place(level, slot, index);
-        if front.read(number).is_none() {
+        if !front.is_there(number) {
             return Some(number);
         }
     }

@@ -4,19 +4,20 @@ ghost use Rattle.cola_cell.specs.Flat.{shadow_at};
 ghost use Rattle.cola_cell.specs.Places.{slot_size, IsPlace};
 ghost use Rattle.cola_cell.specs.Spent.{Reads, ReadAnswers};
 ghost use Rattle.cola_cell.specs.Format.{CellFits};
+ghost use Rattle.cola_cell.specs.Packed.{given, passed, MayPass};
 ghost use Rattle.cola_cell.specs.Shadows.{Restarts, Pushes, PushSpends, push_ticks, Finishes, FinishSpends};
 ghost use Rattle.cola_run.specs.Cells.{IsOnDevice, block_cells, is_in_tail};
 ghost use Rattle.cola_run.specs.Store.{IsStore, held_of, spent_of, Kept, kept_of, buffer_number, reader_number};
 ghost use Rattle.cola_run.specs.Turns.{buffer_for, buffer_index};
 
 use crate::device_cells::{
-    cell_or_bad, cells_of_slot, finish_on_device, has_in_tail, place_in_tails, push_in_front,
-    push_on_device, read_by_buffer, saved, set_shadow, shadow_of,
+    cells_of_slot, finish_on_device, has_in_tail, place_in_tails, push_in_front, push_on_device,
+    read_by_buffer, saved, set_shadow, shadow_of, taken_or_bad,
 };
 use crate::run_store::RunStore;
-use cola_cell::{Cell, CellSink, CellSource, Item, PushFault, ReadFault, Reader, Shadow};
+use cola_cell::{Cell, CellSink, CellSource, Packed, Pass, PushFault, ReadFault, Reader, Shadow};
 use cola_device::Device;
-use cola_front::block::cell_in;
+use cola_front::block::refill_from;
 use cola_layout::Geometry;
 use cola_outside::Steps;
 use std::sync::ledger::Ledger;
@@ -50,28 +51,39 @@ fn buffer_of(geometry: &Geometry, reader: Option<Reader>, level: u8) -> usize
 impl<D: Device> RunStore<D> {
     /// The cell at a place of a level that is in memory.
     #[inline]
-    fn read_in_front(&self, level: u8, slot: u8, index: u32) -> Result<Cell, ReadFault>
+    fn read_in_front(
+        &self,
+        level: u8,
+        slot: u8,
+        index: u32,
+        into: &mut Packed,
+    ) -> Result<(), ReadFault>
         requires place { IsPlace (self.now.geometry.bottom + 1) level slot index }
         requires front { level + 2 < self.now.geometry.block_exp }
-        ensures answer { (faults : ℕ) → ReadAnswers (held_of D.bytes self.now) faults faults level slot index result }
+        ensures answer { (faults : ℕ) → ReadAnswers (held_of D.bytes self.now) faults faults level slot index (given into.new result) }
     {
-        let _item: Option<Item> = None;
         let number = self.geometry.place(level, slot, index);
-        cell_or_bad(self.front.read(number), number)
+        taken_or_bad(self.front.read_into(number, into), number)
     }
 
     /// The cell at a place that is in the tail of its level.
     #[inline]
-    fn read_in_tail(&self, level: u8, slot: u8, index: u32) -> Result<Cell, ReadFault>
+    fn read_in_tail(
+        &self,
+        level: u8,
+        slot: u8,
+        index: u32,
+        into: &mut Packed,
+    ) -> Result<(), ReadFault>
         requires place { IsPlace (self.now.geometry.bottom + 1) level slot index }
         requires device { self.now.geometry.block_exp ≤ level + 2 }
         requires tail { is_in_tail (block_cells self.now.geometry) (shadow_at self.now.shadows level) slot index ≡ true }
-        ensures answer { (faults : ℕ) → ReadAnswers (held_of D.bytes self.now) faults faults level slot index result }
+        ensures answer { (faults : ℕ) → ReadAnswers (held_of D.bytes self.now) faults faults level slot index (given into.new result) }
     {
-        let _item: Option<Item> = None;
         let number = self.geometry.place(level, slot, index);
         let place = place_in_tails(&self.geometry, level, index);
-        cell_or_bad(cell_in(self.geometry.format, &self.tails, place), number)
+        let taken = refill_from(self.geometry.format, &self.tails, place, into);
+        taken_or_bad(taken, number)
     }
 
     /// The cell at a place, by the buffer of a reader or that of searches.
@@ -82,22 +94,23 @@ impl<D: Device> RunStore<D> {
         level: u8,
         slot: u8,
         index: u32,
+        into: &mut Packed,
         steps: &mut Steps<L>,
-    ) -> Result<Cell, ReadFault>
+    ) -> Result<(), ReadFault>
         requires { IsPlace (self.old.geometry.bottom + 1) level slot index }
         ensures cells_stay { held_of D.bytes self.new ≡ held_of D.bytes self.old }
         ensures kept { kept_of D.bytes D.counts D.kept self.new ≡ kept_of D.bytes D.counts D.kept self.old }
         ensures one_tick { steps.new ≡ steps.old + 1 }
-        ensures reads { Reads (held_of D.bytes self.old) (spent_of D.counts self.old) (spent_of D.counts self.new) (buffer_for reader level) level slot index result }
+        ensures reads { Reads (held_of D.bytes self.old) (spent_of D.counts self.old) (spent_of D.counts self.new) (buffer_for reader level) level slot index (given into.new result) }
     {
         steps.tick();
         self.ticked = self.ticked.wrapping_add(1);
         if level < self.geometry.front_levels() {
-            return self.read_in_front(level, slot, index);
+            return self.read_in_front(level, slot, index, into);
         }
         let shadow = shadow_of(&self.shadows, level);
         if has_in_tail(&self.geometry, shadow, slot, index) {
-            return self.read_in_tail(level, slot, index);
+            return self.read_in_tail(level, slot, index, into);
         }
         let buffer = buffer_of(&self.geometry, reader, level);
         read_by_buffer(
@@ -107,6 +120,7 @@ impl<D: Device> RunStore<D> {
             level,
             slot,
             index,
+            into,
         )
     }
 }
@@ -127,7 +141,11 @@ impl<D: Device> CellSource for RunStore<D> {
         index: u32,
         steps: &mut Steps<L>,
     ) -> Result<Cell, ReadFault> {
-        self.read_by(None, level, slot, index, steps)
+        let mut packed = Packed::blank();
+        match self.read_by(None, level, slot, index, &mut packed, steps) {
+            Ok(()) => Ok(packed.cell()),
+            Err(fault) => Err(fault),
+        }
     }
 
     fn read_for<L: Ledger>(
@@ -138,7 +156,36 @@ impl<D: Device> CellSource for RunStore<D> {
         index: u32,
         steps: &mut Steps<L>,
     ) -> Result<Cell, ReadFault> {
-        self.read_by(Some(reader), level, slot, index, steps)
+        let mut packed = Packed::blank();
+        match self.read_by(Some(reader), level, slot, index, &mut packed, steps) {
+            Ok(()) => Ok(packed.cell()),
+            Err(fault) => Err(fault),
+        }
+    }
+
+    #[inline]
+    fn read_into<L: Ledger>(
+        &mut self,
+        level: u8,
+        slot: u8,
+        index: u32,
+        into: &mut Packed,
+        steps: &mut Steps<L>,
+    ) -> Result<(), ReadFault> {
+        self.read_by(None, level, slot, index, into, steps)
+    }
+
+    #[inline]
+    fn read_for_into<L: Ledger>(
+        &mut self,
+        reader: Reader,
+        level: u8,
+        slot: u8,
+        index: u32,
+        into: &mut Packed,
+        steps: &mut Steps<L>,
+    ) -> Result<(), ReadFault> {
+        self.read_by(Some(reader), level, slot, index, into, steps)
     }
 
     fn ticked(&self) -> u64 {
@@ -160,6 +207,19 @@ impl<D: Device> CellSink for RunStore<D> {
         cell: &Cell,
         steps: &mut Steps<L>,
     ) -> Result<(), PushFault> {
+        let packed = Packed::of_cell(self.geometry.format, cell);
+        self.push_as(level, slot, &packed, Pass::keeping(cell), steps)
+    }
+
+    #[inline]
+    fn push_as<L: Ledger>(
+        &mut self,
+        level: u8,
+        slot: u8,
+        cell: &Packed,
+        pass: Pass,
+        steps: &mut Steps<L>,
+    ) -> Result<(), PushFault> {
         if shadow_of(&self.shadows, level).len == cells_of_slot(level) {
             return Err(PushFault::Overfull(level));
         }
@@ -172,6 +232,7 @@ impl<D: Device> CellSink for RunStore<D> {
                 &mut self.shadows,
                 level,
                 cell,
+                pass,
             );
             return Ok(());
         }
@@ -182,6 +243,7 @@ impl<D: Device> CellSink for RunStore<D> {
             &mut self.tails,
             level,
             cell,
+            pass,
         )
     }
 

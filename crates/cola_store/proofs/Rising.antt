@@ -1,18 +1,12 @@
 -- What turns keep, of the account of reads and of its calm, and the bounds of a store that counts.
-use Rattle.std.proofs.Common.{◌≡◌, ℕ, suc, Bool, ◌+◌, ◌-◌, ◌*◌, ◌<◌, ◌≤◌, true, false, List, [], ◌∷◌, Option, Some, None, Result, Ok, Err, sym, ap, subst, ◌∙◌, arith}
+use Rattle.std.proofs.Common.{◌≡◌, ℕ, Bool, ◌+◌, ◌-◌, ◌*◌, ◌<◌, ◌≤◌, true, false, List, Option, Some, None, Result, Ok, Err, sym, ap, subst, ◌∙◌, arith}
 use Rattle.cola_outside.specs.Faults.{Rose}
-use Rattle.cola_runs.specs.Search.{AreSampled}
-use Rattle.cola_laws.specs.Chain.{visibles}
-use Rattle.cola_laws.specs.Plain.{IsSoundChain}
-use Rattle.cola_laws.proofs.Facts.{visible-sampled}
 use Rattle.cola_transfers.specs.Credit.{last_value}
 use Rattle.cola_cell.specs.declared.cell.Item.{Item}
 use Rattle.cola_cell.specs.declared.fault.ReadFault.{ReadFault}
 use Rattle.cola_cell.specs.declared.fault.StepFault.{StepFault}
-use Rattle.cola_cell.specs.Held.{Held, Stamped}
-use Rattle.cola_cell.specs.Order.{key_cmp}
+use Rattle.cola_cell.specs.Held.{Stamped}
 use Rattle.cola_cell.specs.declared.fault.StepFault.TheVariants as step
-use Rattle.cola_told.proofs.ToldRuns.{told_is}
 use Rattle.cola_device.specs.declared.counts.Counts.{Counts}
 use Rattle.cola_layout.specs.declared.geometry.Geometry.{Geometry}
 use Rattle.cola_spec.specs.Map.{Shape, Map, PutOutcome, put_outcome, put_if_outcome, New, Old, Full, Worn, Other, Shape}
@@ -24,14 +18,7 @@ use Rattle.cola_table.specs.declared.PutFault.{PutFault}
 use Rattle.cola_table.specs.declared.PutFault.TheVariants as fault
 use Rattle.cola_table.specs.Answers.{PutRefused, PutAnswers, PutIfAnswers, DeleteAnswers, PutFaults, StepFaults}
 use Rattle.cola_table.specs.Replies.{put_refused, put_reply, put_if_reply, delete_reply, step_failure}
-use Rattle.cola_image.specs.Standing.{AreRunsTold}
-use Rattle.cola_look.specs.Runs.{AreRuns}
-use Rattle.cola_level.specs.declared.level.Level.{Level}
-use Rattle.cola_level.specs.Aims.{visible_run}
-use Rattle.cola_level.specs.Marks.{all_marks_of}
-use Rattle.cola_level.specs.Standing.{all_stood}
 use Rattle.cola_run.proofs.News.{blocks-are}
-use Rattle.cola_chain.specs.Runs.{visible_runs, visible_lists}
 use Rattle.cola_chain.specs.Account.{AreBounded, sums_of}
 use Rattle.cola_chain.proofs.Account.{bounded}
 use Rattle.cola_store.specs.declared.account.Account.{Account}
@@ -119,16 +106,6 @@ module _ {D : Type 0} (bytes : D → Option (List ℕ)) (counts : D → Counts) 
 
 -- The account of reads
 
--- the visible runs of levels that are told are told to be the lists of their cells
-told-runs : (held : Held) (t j : ℕ) (levels : List Level) → AreRunsTold held.spots t j (all_marks_of levels) → AreRuns held (visible_runs t j levels) (visibles (all_stood held t j (all_marks_of levels)))
-told-runs held t j [] told = tt
-told-runs held t j (l ∷ ls) told = (told_is held (visible_run t j l.visible) told.0, told-runs held t (suc j) ls told.2)
-
--- and each has the sample of the next
-sampled-runs : (held : Held) (most t : ℕ) (levels : List Level) (m : List ℕ → Option Stamped) → IsSoundChain key_cmp most t m (all_stood held t 0 (all_marks_of levels)) → AreSampled key_cmp (visible_lists held t levels)
-sampled-runs held most t [] m sound = absurd sound
-sampled-runs held most t (top ∷ below) m sound = visible-sampled key_cmp most t 0 (visible_lists held t (top ∷ below)) sound.sound.visible
-
 -- a search more turns to a block more for each level
 search-more : (turned now opened opened' levels levels' reads reads' searches searches' : ℕ) → opened' ≡ opened → levels' ≡ levels → reads' ≡ reads → searches' ≡ searches + 1 →
     now ≤ turned + levels → turned ≤ opened + (levels + 3) + reads + levels * searches → now ≤ opened' + (levels' + 3) + reads' + levels' * searches'
@@ -146,9 +123,7 @@ step-more turned now opened opened' levels levels' reads reads' searches searche
 module _ {D : Type 0} (bytes : D → Option (List ℕ)) (counts : D → Counts) where
   pub search-reads : (old new : Stored D) (m : Map) (key : List ℕ) (search : Result (Option Item) ReadFault) → Holds bytes old m → Searches bytes counts old new key search → HasRead counts old → HasRead counts new
   search-reads old new m key search holds s has = λ calm few few_searches.
-      let held = held_of bytes old in
-      let lists = visible_lists held old.chain.clock old.chain.levels in
-      let within = s.standing lists (told-runs held old.chain.clock 0 old.chain.levels holds.stands.told) (sampled-runs held (geometry_of old).keys old.chain.clock old.chain.levels _ holds.stands.sound) in
+      let within = s.on_map m holds in
       let one = not-last old.account.searches 1 new.account.searches (ap (λ (a : Account). a.searches) s.counted) few_searches in
       let was = has (sym (ap (λ (a : Account). a.calm) s.counted) ∙ calm) (subst (λ (n : ℕ). n < last_value) s.same.reads_are few) one.1 in
       search-more (spent_of counts old).turned (spent_of counts new).turned old.account.opened.reads new.account.opened.reads (levels_of old) (levels_of new) old.chain.reads new.chain.reads old.account.searches new.account.searches

@@ -102,8 +102,9 @@ module _ {D K : Type 0} (bytes : D → Option (List ℕ)) (counts : D → Counts
       IfErr result (FindCause (held_of bytes store) runs (spent_of counts store).faults (chain.spent_of counts now).faults) →
       Costs (spent_of counts store) (chain.spent_of counts now) before after (8 * length runs) (2 * length runs) →
       ((lists : List (List LawCell)) → AreRuns (held_of bytes store) runs lists → AreSampled key_cmp lists → (chain.spent_of counts now).turned ≤ (spent_of counts store).turned + length runs) →
+      ((m : Map) → Holds bytes store m → (chain.spent_of counts now).turned ≤ (spent_of counts store).turned + length runs) →
       Searches bytes counts store (searched_store store now) key result
-  searched store now runs key result before after is runs_are held_is kept_is exact cause costs turns =
+  searched store now runs key result before after is runs_are held_is kept_is exact cause costs turns on_map =
       let n = many-runs store runs is runs_are in
       let rises = costs.turned_rises in
       record {
@@ -117,6 +118,11 @@ module _ {D K : Type 0} (bytes : D → Option (List ℕ)) (counts : D → Counts
         standing = λ lists told sampled. record {
           turned_stays = costs.turned_stays;
           turned_rises = subst (λ (k : ℕ). (chain.spent_of counts now).turned ≤ (spent_of counts store).turned + k) n (turns lists (subst (λ (rs : List Run). AreRuns (held_of bytes store) rs lists) (sym runs_are) told) sampled);
+          written_is = costs.written_is;
+        };
+        on_map = λ m holds. record {
+          turned_stays = costs.turned_stays;
+          turned_rises = subst (λ (k : ℕ). (chain.spent_of counts now).turned ≤ (spent_of counts store).turned + k) n (on_map m holds);
           written_is = costs.written_is;
         };
         same = same store now (with_search store.account) held_is kept_is;

@@ -1,5 +1,5 @@
 -- Walks over a store: where they begin, what they take, what they may still read, and why they are refused.
-use Rattle.std.proofs.Common.{◌≡◌, ℕ, suc, ◌+◌, ◌<◌, ◌≤◌, ◌^◌, Bool, true, false, cond, ◌&&◌, T, List, [], ◌∷◌, length, map, filter, Option, Some, None, Result, Ok, Err, All, option_map, refl, ap, sym, subst, ◌∙◌, inl, inr, arith}
+use Rattle.std.proofs.Common.{◌≡◌, ℕ, suc, ◌+◌, ◌<◌, ◌≤◌, ◌^◌, Bool, true, false, cond, ◌&&◌, T, List, [], ◌∷◌, length, map, filter, Option, Some, None, Result, Ok, Err, option_map, refl, ap, sym, subst, ◌∙◌, inl, inr, arith}
 use Rattle.std.specs.Prelude.{IfOk, IfErr, OnErr, OnSome}
 use Rattle.std.specs.List.{AllByRecursion}
 use Rattle.std.specs.Ordering.{is_lt, eq_by_cmp}
@@ -25,7 +25,7 @@ use Rattle.cola_table.specs.Stamps.{stamped_of}
 use Rattle.cola_image.specs.Standing.{found_in}
 use Rattle.cola_device.specs.declared.counts.Counts.{Counts}
 use Rattle.cola_level.specs.declared.level.Level.{Level}
-use Rattle.cola_look.specs.Runs.{HasRun, AreRuns}
+use Rattle.cola_look.specs.Runs.{AreRuns}
 use Rattle.cola_pairs.specs.Live.{live, between, below_end}
 use Rattle.cola_pairs.proofs.LivePairs.{live_entries}
 use Rattle.cola_cursor.specs.declared.line.Line.{Line}
@@ -36,7 +36,6 @@ use Rattle.cola_cursor.specs.Seeking.{LevelsRise, RunsCause, HasBadRun, range_ti
 use Rattle.cola_cursor.specs.Standing as standing
 use Rattle.cola_cursor.specs.Standing.{runs_of, TakesNext, LinesPassed, AnyHasValue, IsPassed, none_hidden, answered_key, with_stamp}
 use Rattle.cola_cursor.proofs.Keys.{keys_alike}
-use Rattle.cola_cursor.proofs.Places.{all_by_recursion}
 use Rattle.cola_chain.specs.Runs.{visible_runs, AreSearched}
 use Rattle.cola_store.specs.Store as opened
 use Rattle.cola_store.specs.Store.{Stored, Holds, held_of, spent_of, levels_of}

@@ -33,11 +33,11 @@ use Rattle.cola_look.specs.Outcome.{Answers}
 use Rattle.cola_look.specs.Runs.{AreRuns}
 use Rattle.cola_search.specs.Find.{found_in_runs, FindCause}
 use Rattle.cola_mutation.specs.Work.{state_of}
-use Rattle.cola_mutation.specs.Standing.{HasRefusal, KeepsProgress}
+use Rattle.cola_mutation.specs.Standing.{HasRefusal, KeepsProgress, KeepsVisible}
 use Rattle.cola_mutation.specs.Steps.{ChangesMap}
 use Rattle.cola_chain.specs.Account.{added, CountsStep}
 use Rattle.cola_store.specs.declared.account.Account.{Account}
-use Rattle.cola_store.specs.Store.{Stored, held_of, spent_of, geometry_of, levels_of, runs_of, terms_of}
+use Rattle.cola_store.specs.Store.{Stored, Holds, held_of, spent_of, geometry_of, levels_of, runs_of, terms_of}
 
 -- What was found
 
@@ -177,12 +177,13 @@ module _ {D : Type 0} (bytes : D → Option (List ℕ)) (counts : D → Counts) 
     pub count_is : new.count ≡ old.count
     pub last_is : new.last ≡ old.last
 
-  -- a search of the store for a key answers what the cells of its visible runs say, as far as they are told, and is refused where the device failed or a cell of these runs is bad. It turns to two blocks for each level at most, and to one where the runs are in order
+  -- a search of the store for a key answers what the cells of its visible runs say, as far as they are told, and is refused where the device failed or a cell of these runs is bad. It turns to two blocks for each level at most, and to one where the runs are in order, as those of a store that holds a map are
   pub record Searches (old new : Stored D) (key : List ℕ) (search : Result (Option Item) ReadFault) : Type 0 where
     pub exact : Answers (found_in_runs (held_of bytes old) key 0 (runs_of old)) (option_map as_item) search
     pub cause : IfErr search (FindCause (held_of bytes old) (runs_of old) (spent_of counts old).faults (spent_of counts new).faults)
     pub reads : ReadsWithin (spent_of counts old) (spent_of counts new) (2 * levels_of old)
     pub standing : (lists : List (List LawCell)) → AreRuns (held_of bytes old) (runs_of old) lists → AreSampled key_cmp lists → ReadsWithin (spent_of counts old) (spent_of counts new) (levels_of old)
+    pub on_map : (m : Map) → Holds bytes old m → ReadsWithin (spent_of counts old) (spent_of counts new) (levels_of old)
     pub same : Same old new
     pub counted : new.account ≡ with_search old.account
 
@@ -200,6 +201,7 @@ module _ {D : Type 0} (bytes : D → Option (List ℕ)) (counts : D → Counts) 
     pub cause : HasRefusal (state_of (held_of bytes new) (spent_of counts new) steps) (spent_of counts old).faults fault
     pub clock_is : new.chain.clock ≡ old.chain.clock
     pub progress : KeepsProgress old.chain.clock old.chain.levels new.chain.levels
+    pub visible : KeepsVisible old.chain.clock (levels_of old) (held_of bytes old) (held_of bytes new)
     pub count_is : new.count ≡ old.count
     pub last_is : new.last ≡ old.last
     pub account_is : new.account ≡ with_refusal old.account

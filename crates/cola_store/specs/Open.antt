@@ -1,12 +1,11 @@
 -- How the file of a store is opened: what each answer says, and what it leaves.
-use Rattle.std.specs.Prelude.{◌≡◌, ◌⊎◌, ℕ, ◌+◌, ◌≤◌, true, false, List, Result, Ok, Err, IfSome}
+use Rattle.std.specs.Prelude.{◌≡◌, ◌⊎◌, ℕ, ◌+◌, ◌≤◌, true, List, Result, Ok, Err, IfSome}
 use Rattle.cola_outside.specs.Faults.{Rose}
 use Rattle.cola_outside.specs.Told.{Both}
 use Rattle.cola_device.specs.declared.device.Device as device
 use Rattle.cola_device.specs.Settling.{IsSettled}
 use Rattle.cola_layout.specs.declared.header.Header.{Header}
 use Rattle.cola_layout.specs.Fields.{fields_of}
-use Rattle.cola_layout.specs.Header.{Fields}
 use Rattle.cola_opening.specs.Counted.{Spends}
 use Rattle.cola_opening.specs.Judged.{HasHeader, IsSmall, IsNoStore, IsSeen, IsInUse}
 use Rattle.cola_spec.specs.Map.{Map}

@@ -9,17 +9,27 @@ mod cell;
 #[cfg(test)]
 mod clock;
 #[cfg(test)]
+mod devices;
+#[cfg(test)]
+mod example;
+#[cfg(test)]
 mod files;
+#[cfg(test)]
+mod handle;
 #[cfg(test)]
 mod image;
 #[cfg(test)]
 mod io;
+#[cfg(test)]
+mod kv;
 #[cfg(test)]
 mod layout;
 #[cfg(test)]
 mod line;
 #[cfg(test)]
 mod made;
+#[cfg(test)]
+mod mirror;
 #[cfg(test)]
 mod pairs;
 #[cfg(test)]

@@ -1,4 +1,4 @@
 use Rattle.cola_c.proofs.cola_core_next.Given as goal
 
-abbrev pub ghosts-next : goal.ghosts-next
-ghosts-next a = record { name = a.blank.name; parts = a.blank.parts }
+abbrev pub ghosts-next_on : goal.ghosts-next_on
+ghosts-next_on a = record { name = a.blank.name; parts = a.blank.parts }

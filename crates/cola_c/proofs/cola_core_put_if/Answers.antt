@@ -1,8 +1,6 @@
-use Rattle.std.proofs.Common.{rules, ◌≡◌, ◌∙◌, ℕ, List, length, take, Ok, Some, subst}
-use Rattle.std.specs.Prelude.{Result, Option, IfOk}
+use Rattle.std.proofs.Common.{rules, ◌≡◌, ◌∙◌, subst}
 use Rattle.cola_handle.specs.declared.session.Session.{Session}
-use Rattle.cola_handle.specs.Numbers.{replaced}
-use Rattle.cola_c.specs.Exports.{Answered, PutsIf}
+use Rattle.cola_c.specs.Exports.{PutsIf}
 use Rattle.cola_c.proofs.Inside.{inside}
 use Rattle.cola_c.proofs.cola_core_put_if.Goals as goal
 

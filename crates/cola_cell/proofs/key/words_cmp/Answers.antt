@@ -1,5 +1,5 @@
-use Rattle.std.proofs.Common.{arith, sym, ◌∙◌}
-use Rattle.cola_cell.proofs.KeyWords.{words-same, words-differ, words-end}
+use Rattle.std.proofs.Common.{arith, ◌∙◌}
+use Rattle.cola_cell.proofs.KeyWords.{words-same, words-differ}
 use Rattle.cola_cell.proofs.key.words_cmp.Goals as goal
 
 pub loop-word-preserved : goal.loop-word-preserved

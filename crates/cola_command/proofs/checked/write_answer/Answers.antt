@@ -1,5 +1,5 @@
 -- The line that is written is that of the verdict.
-use Rattle.std.proofs.Common.{◌≡◌, ◌∙◌, ℕ, List, Result, Ok, sym, subst}
+use Rattle.std.proofs.Common.{◌∙◌, ℕ, List, Result, sym, subst}
 use Rattle.cola_check.specs.declared.fault.CheckFault.{CheckFault}
 use Rattle.cola_report.specs.Line.{LineEnds}
 use Rattle.cola_verdict.specs.declared.verdict.Verdict.{Verdict}

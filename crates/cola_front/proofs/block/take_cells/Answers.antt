@@ -9,8 +9,8 @@ pub loop-place-preserved : goal.loop-place-preserved
 loop-place-preserved c =
     let t = c.loop-place.invariant in
     let many = t.many in
-    taken_more c.args.format c.args.block.now c.args.first c.args.from c.loop-place.place c.args.cells.now c.loop-place.cells c.cell_in.result t c.loop-place.auto.place
-    (omega (arith, c.loop-place-test.true, c.requires.end, many)) c.cell_in.ensures
+    taken_more c.args.format c.args.block.now c.args.first c.args.from c.loop-place.place c.args.cells.now c.loop-place.cells c.packed_in.result t c.loop-place.auto.place
+    (omega (arith, c.loop-place-test.true, c.requires.end, many)) c.packed_in.ensures
 
 pub returns-clause-taken : goal.returns-clause-taken
 returns-clause-taken c = λ n above below. let t = c.loop-place.invariant in t.taken n above (omega (arith, below, c.loop-place-test.false))

@@ -1,14 +1,24 @@
-use Rattle.std.proofs.Common.{length, ◌≡◌, ◌≤◌}
+use Rattle.std.proofs.Common.{◌≡◌, ◌+◌, ◌≤◌, length, take, drop, All, option_copied}
 use Rattle.cola_spec.specs.Map.{Map}
-use Rattle.cola_store.specs.Store.{Holds}
-use Rattle.cola_store.specs.Walks.{Stands, cells_ahead}
-use Rattle.cola_handle.specs.Open.{bytes_of}
+use Rattle.cola_spec.specs.Bounds.{range_bound}
+use Rattle.cola_handle.specs.Cursors.{IsGoodRow}
+use Rattle.cola_handle.proofs.Filling.{SoFar}
 use Rattle.cola_handle.proofs.walking.fill.Given as goal
 
-abbrev pub invariant-loop-given : goal.invariant-loop-given
-invariant-loop-given g l =
-    Stands bytes_of l.store l.walk × (l.given ≤ length l.rows) × (length l.rows ≡ length l.fn.rows) × (l.cursor.from_len ≤ 40)
-    × ((m : Map) → Holds bytes_of l.fn.store m → Holds bytes_of l.store m)
+abbrev pub invariant-rows : goal.invariant-rows
+invariant-rows g l = record {
+  stands : g.T.Table.stands l.table l.walk;
+  few : l.given ≤ length l.rows;
+  size : length l.rows ≡ length l.fn.rows;
+  good : All IsGoodRow (take l.given l.rows);
+  others : drop l.given l.rows ≡ drop l.given l.fn.rows;
+  kept : g.T.Table.kept l.table ≡ g.T.Table.kept l.fn.table;
+  terms : g.T.Table.terms l.table ≡ g.T.Table.terms l.fn.table;
+  faults : g.T.Table.faults l.table ≡ g.T.Table.faults l.fn.table;
+  steps : l.fn.steps ≤ l.steps;
+  left : l.steps + g.T.Table.left l.walk ≤ l.fn.steps + range_bound (g.T.Table.terms l.fn.table).depth;
+  so_far : (m : Map) → g.T.Table.holds l.fn.table m → SoFar g.T.Table l.cursor l.low (option_copied l.high) m l.given l.rows l.table l.walk;
+}
 
-abbrev pub decreases-loop-given : goal.decreases-loop-given
-decreases-loop-given g l = cells_ahead l.walk
+abbrev pub decreases-rows : goal.decreases-rows
+decreases-rows g l = g.T.Table.most l.walk

@@ -6,8 +6,8 @@ use Rattle.cola_layout.proofs.Places.{front-below}
 use Rattle.cola_layout.proofs.Powers.{next_power}
 use Rattle.cola_run.proofs.device_cells.push_in_front.Goals as goal
 
-pub write-requires-clause-within : goal.write-requires-clause-within
-write-requires-clause-within c =
+pub write_as-requires-clause-within : goal.write_as-requires-clause-within
+write_as-requires-clause-within c =
     let b = c.args.geometry.now.block_exp in
     let sh = shadow_at c.args.shadows.now c.args.level in
     let slot = c.requires.place.slot_in in
@@ -25,5 +25,5 @@ returns-clause-within c =
     let below : number_of c.args.level sh.slot sh.len < 2 ^ (b + 1) = front-below b c.args.level sh.slot sh.len (omega (arith, slot)) c.requires.place.index_in c.requires.level in
     let twice : 2 ^ (b + 1) ≡ 2 ^ b + 2 ^ b = next_power b (b + 1) (omega arith) in
     let block = c.requires.block in
-    let many = c.write.ensures.sound.many in
+    let many = c.write_as.ensures.sound.many in
     omega (arith, below, twice, block, many)

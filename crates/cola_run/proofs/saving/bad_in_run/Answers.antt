@@ -4,8 +4,8 @@ use Rattle.cola_layout.proofs.Places.{front-below}
 use Rattle.cola_layout.proofs.Powers.{next_power}
 use Rattle.cola_run.proofs.saving.bad_in_run.Goals as goal
 
-pub read-requires-clause-within : goal.read-requires-clause-within
-read-requires-clause-within c =
+pub is_there-requires-clause-within : goal.is_there-requires-clause-within
+is_there-requires-clause-within c =
     let b = c.args.geometry.now.block_exp in
     let slot = c.requires.slot in
     let most = c.requires.len in

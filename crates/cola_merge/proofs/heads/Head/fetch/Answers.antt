@@ -1,21 +1,17 @@
 -- A head is fetched by one read at most.
-use Rattle.std.proofs.Common.{◌≡◌, ◌/◌, sym, ap, ◌∙◌, arith}
+use Rattle.std.proofs.Common.{◌≡◌, ◌/◌, ◌+◌, ◌*◌, Bool, Some, None, sym, ap, subst, ◌∙◌, arith}
+use Rattle.std.specs.Prelude.{if◌then◌else◌, is_some, Ok}
 use Rattle.cola_merge.specs.Feeds.{feed_len}
-use Rattle.cola_merge.proofs.Reading.{fetch_run, fetch_sampled}
+use Rattle.cola_merge.specs.Fetched.{Head}
+use Rattle.cola_merge.specs.States.{Fetch}
+use Rattle.cola_merge.proofs.Reading.{fetch_sampled}
 use Rattle.cola_merge.proofs.heads.Head.fetch.Goals as goal
 
-pub overflow_mul-index : goal.overflow_mul-index
-overflow_mul-index g c = let e : feed_len c.args.feed.now ≡ c.in-Sampled.run'.len / 8 = ap feed_len c.in-Sampled.is in omega (arith, e, c.len.ensures)
-
-pub overflow_add-index : goal.overflow_add-index
-overflow_add-index g c = let e : feed_len c.args.feed.now ≡ c.in-Sampled.run'.len / 8 = ap feed_len c.in-Sampled.is in omega (arith, e, c.len.ensures)
-
-pub returns-in_ok-read_for-in-Sampled-clause-fetch : goal.returns-in_ok-read_for-in-Sampled-clause-fetch
-returns-in_ok-read_for-in-Sampled-clause-fetch g c =
-    fetch_sampled c.args.reader c.args.feed.now c.in-Sampled.run' c.args.self.now c.args.steps.now c.read_for-in-Sampled.new.steps c.len.result c.in_ok-read_for-in-Sampled.field-0 tt
-    c.in-Sampled.is (sym c.is_some.ensures ∙ c.if-is_some.false) c.if-self-len.false c.len.ensures c.in_ok-read_for-in-Sampled.ensures.one_tick c.in_ok-read_for-in-Sampled.ensures.reads
-
-pub returns-in_ok-read_for-in-Run-clause-fetch : goal.returns-in_ok-read_for-in-Run-clause-fetch
-returns-in_ok-read_for-in-Run-clause-fetch g c =
-    fetch_run c.args.reader c.args.feed.now c.in-Run.run' c.args.self.now c.args.steps.now c.read_for.new.steps c.len.result c.in_ok-read_for-in-Run.field-0 tt
-    c.in-Run.is (sym c.is_some.ensures ∙ c.if-is_some.false) c.if-self-len.false c.len.ensures c.in_ok-read_for-in-Run.ensures.one_tick c.in_ok-read_for-in-Run.ensures.reads
+pub returns-in_ok-read_for_into-in-Sampled-clause-fetch : goal.returns-in_ok-read_for_into-in-Sampled-clause-fetch
+returns-in_ok-read_for_into-in-Sampled-clause-fetch g c =
+    let before : Head = record { at = c.self.inside.at; cell = if c.self.inside.is_held then Some c.self.inside.packed else None } in
+    subst (λ (h : Head). Fetch (g.W.CellSource.held c.args.work.now) (g.W.CellSource.spent c.args.work.now) (g.W.CellSource.spent c.read_for_into-in-Sampled.new.self) c.args.reader c.args.feed.now h
+    (record { at = c.self.inside.at; cell = Some c.read_for_into-in-Sampled.new.into }) c.args.steps.now c.read_for_into-in-Sampled.new.steps (Ok tt))
+    c.self.view_is
+    (fetch_sampled c.args.reader c.args.feed.now c.in-Sampled.run' before c.args.steps.now c.read_for_into-in-Sampled.new.steps c.len.result c.read_for_into-in-Sampled.new.into tt
+    c.in-Sampled.is (ap (λ (b : Bool). is_some (if b then Some c.self.inside.packed else None)) c.if-self.false) c.if-self-len.false c.len.ensures c.in_ok-read_for_into-in-Sampled.ensures.one_tick c.in_ok-read_for_into-in-Sampled.ensures.reads)

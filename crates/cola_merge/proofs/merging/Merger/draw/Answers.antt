@@ -2,7 +2,7 @@
 use Rattle.std.proofs.Common.{refl, sym, ◌∙◌}
 use Rattle.cola_merge.proofs.Reading.{err_is}
 use Rattle.cola_merge.proofs.Stepping.{small_after}
-use Rattle.cola_merge.proofs.Pulling.{gave_none, gave_then, gave_chosen, consumed_chosen, chosen_at, ended_at, drawn_some, none_given, stopped_at, fewer_left}
+use Rattle.cola_merge.proofs.Pulling.{gave_none, gave_then, gave_chosen, given_by, given_fits, given_gave, suits_by, consumed_chosen, chosen_at, ended_at, drawn_some, none_given, stopped_at, fewer_left}
 use Rattle.cola_merge.proofs.merging.Merger.draw.Goals as goal
 
 pub loop-next-init : goal.loop-next-init
@@ -23,7 +23,8 @@ consume-requires g c = record { small = small_after c.in-Some.next.head (chosen_
 pub returns-then-is_some-clause-drawn : goal.returns-then-is_some-clause-drawn
 returns-then-is_some-clause-drawn g c =
     let s = chosen_at (g.W.CellSource.held c.args.work.now) c.in_ok-next.field-0 c.in-Some.next c.loop-next.invariant.cells_stay c.in-Some.is c.in_ok-next.ensures.next in
-    drawn_some c.in-Some.next.cell (sym c.is_some.ensures ∙ c.if-is_some.true) s.fits (gave_then c.loop-next.invariant.gave (gave_chosen c.in-Some.next s c.consume.new.self c.consume.ensures))
+    drawn_some c.given-cell.result (sym c.is_some.ensures ∙ c.if-is_some.true) (given_fits c.given-cell.result c.in-Some.next s (c.given-cell.ensures.fits _) c.head.ensures)
+    (given_gave c.next.new.self c.in-Some.next c.given-cell.result (c.given-cell.ensures.value ∙ given_by c.next.new.self c.in-Some.next c.head.ensures) (gave_then c.loop-next.invariant.gave (gave_chosen c.in-Some.next s c.consume.new.self c.consume.ensures)))
 
 pub loop-next-smaller : goal.loop-next-smaller
 loop-next-smaller g c =
@@ -36,9 +37,15 @@ loop-next-preserved g c =
     record {
       cells_stay = c.in_ok-next.ensures.cells_stay ∙ c.loop-next.invariant.cells_stay;
       kept = c.in_ok-next.ensures.kept ∙ c.loop-next.invariant.kept;
-      gave = gave_then c.loop-next.invariant.gave (none_given c.in-Some.next.cell (sym c.is_some.ensures ∙ c.if-is_some.false) (gave_chosen c.in-Some.next s c.consume.new.self c.consume.ensures));
+      gave = gave_then c.loop-next.invariant.gave (none_given c.given-cell.result (sym c.is_some.ensures ∙ c.if-is_some.false)
+          (given_gave c.next.new.self c.in-Some.next c.given-cell.result (c.given-cell.ensures.value ∙ given_by c.next.new.self c.in-Some.next c.head.ensures) (gave_chosen c.in-Some.next s c.consume.new.self c.consume.ensures)));
     }
 
 pub returns-clause-drawn : goal.returns-clause-drawn
 returns-clause-drawn g c =
     ended_at (g.W.CellSource.held c.args.work.now) c.in_ok-next.field-0 c.loop-next.invariant.cells_stay c.in_default.is c.loop-next.invariant.gave c.in_ok-next.ensures.next
+
+pub given-cell-requires : goal.given-cell-requires
+given-cell-requires g c =
+    let s = chosen_at (g.W.CellSource.held c.args.work.now) c.in_ok-next.field-0 c.in-Some.next c.loop-next.invariant.cells_stay c.in-Some.is c.in_ok-next.ensures.next in
+    record { suits = suits_by c.in-Some.next s c.head.ensures }

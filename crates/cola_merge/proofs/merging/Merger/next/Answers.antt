@@ -32,4 +32,4 @@ returns-clause-next g c =
     chosen c.args.self.now c.args.steps.now c.requires.heads tt (g.W.CellSource.held c.fetch.new.work) (g.W.CellSource.spent c.fetch.new.work) c.fetch.new.steps c.fetch.new.self c.in_ok-fetch.ensures.cells_stay c.in_ok-fetch.ensures.fetch
     (g.W.CellSource.held c.fetch-2.new.work) (g.W.CellSource.spent c.fetch-2.new.work) c.fetch-2.new.steps c.fetch-2.new.self c.in_ok-fetch-2.ensures.cells_stay c.in_ok-fetch-2.ensures.fetch
     (g.W.CellSource.spent c.fetch-3.new.work) c.fetch-3.new.steps c.fetch-3.new.self c.in_ok-fetch-3.ensures.fetch
-    c.choice.result c.choice.ensures.choice c.choice.ensures.fits
+    c.choice.result c.choice.ensures.choice c.choice.ensures.suits

@@ -18,9 +18,8 @@ step-requires-clause-fetched g c = c.in_ok-choice.ensures.next.fetched
 pub step-requires-clause-asked : goal.step-requires-clause-asked
 step-requires-clause-asked g c = (chosen_is c.in_ok-choice.field-0 c.in-Some.choice c.in-Some.is c.in_ok-choice.ensures.next).asked
 
-pub step-requires-clause-fits : goal.step-requires-clause-fits
-step-requires-clause-fits g c =
-    subst (λ (h : Held). HeadFits h.fixed.format c.in-Some.choice.cell) (sym c.in_ok-choice.ensures.cells_stay) (chosen_is c.in_ok-choice.field-0 c.in-Some.choice c.in-Some.is c.in_ok-choice.ensures.next).fits
+pub step-requires-clause-suits : goal.step-requires-clause-suits
+step-requires-clause-suits g c = (chosen_is c.in_ok-choice.field-0 c.in-Some.choice c.in-Some.is c.in_ok-choice.ensures.next).suits
 
 pub step-requires-clause-levels : goal.step-requires-clause-levels
 step-requires-clause-levels g c = subst (λ (h : Held). h.fixed.levels ≤ 23) (sym c.in_ok-choice.ensures.cells_stay) c.requires.levels

@@ -1,4 +1,6 @@
-use Rattle.std.proofs.Common.{◌≡◌, ◌+◌, ◌≤◌, true, ap, sym, subst, ◌∙◌, ℕ, List}
+use Rattle.std.proofs.Common.{◌≡◌, ◌+◌, ◌≤◌, true, ap, sym, subst, ◌∙◌, ℕ, List, Some, None}
+use Rattle.std.specs.Prelude.{if◌then◌else◌}
+use Rattle.cola_cell.specs.Packed.{given}
 use Rattle.cola_cell.specs.Flat.{shadow_at}
 use Rattle.cola_cell.specs.Decoded.{decoded}
 use Rattle.cola_cell.specs.Places.{IsPlace}
@@ -18,13 +20,13 @@ returns g c =
     (subst (λ (s : Store _). is_in_tail (block_cells s.geometry) (shadow_at s.shadows c.args.level) c.args.slot c.args.index ≡ true) (sym c.self.view_is) c.requires.tail) in
     record {
       answer = λ faults.
-          subst (λ (s : Store _). ReadAnswers (held_of g.D.Device.bytes s) faults faults c.args.level c.args.slot c.args.index c.cell_or_bad.result) c.self.view_is
-          (tail-says g.D.Device.bytes view faults c.args.level c.args.slot c.args.index c.place-number.result c.cell_in.result c.cell_or_bad.result
+          subst (λ (s : Store _). ReadAnswers (held_of g.D.Device.bytes s) faults faults c.args.level c.args.slot c.args.index (given c.refill_from-taken.new.into c.taken_or_bad.result)) c.self.view_is
+          (tail-says g.D.Device.bytes view faults c.args.level c.args.slot c.args.index c.place-number.result (if c.refill_from-taken.result then Some c.refill_from-taken.new.into else None) (given c.refill_from-taken.new.into c.taken_or_bad.result)
           (subst (λ (s : Store _). IsPlace (s.geometry.bottom + 1) c.args.level c.args.slot c.args.index) (sym c.self.view_is) c.requires.place)
           (subst (λ (s : Store _). s.geometry.block_exp ≤ c.args.level + 2) (sym c.self.view_is) c.requires.device)
           inside
-          (c.cell_in.ensures
+          (c.refill_from-taken.ensures
           ∙ ap (λ (xs : List ℕ). decoded i.geometry.format (cell_bytes i.geometry.format xs c.place_in_tails-place.result)) c.deref.ensures.value
           ∙ ap (λ (n : ℕ). decoded i.geometry.format (cell_bytes i.geometry.format i.tails.items.items n)) c.place_in_tails-place.ensures.value)
-          c.place-number.ensures.value c.cell_or_bad.ensures);
+          c.place-number.ensures.value (c.taken_or_bad.ensures c.refill_from-taken.new.into));
     }

@@ -22,7 +22,10 @@ returns-clause-searches g c =
     subst (λ (x : Stored g.row.D.Denot). Searches g.D.Device.bytes g.D.Device.counts x (record { chain = c.find.new.work; count = c.self.inside.count; last = c.self.inside.last; account = account c.one_more-self-inside.result }) c.args.key.now c.find.result) c.self.view_is
     (subst (λ (n : ℕ). Searches g.D.Device.bytes g.D.Device.counts s (record { chain = c.find.new.work; count = c.self.inside.count; last = c.self.inside.last; account = account n }) c.args.key.now c.find.result) (sym c.one_more-self-inside.ensures)
     (searched g.D.Device.bytes g.D.Device.counts g.D.Device.kept s c.find.new.work c.visible-runs.result.items c.args.key.now c.find.result c.args.steps.now c.find.new.steps c.self.invariant c.visible-runs.ensures.runs
-    c.find.ensures.cells_stay c.find.ensures.kept c.find.ensures.exact c.find.ensures.cause c.find.ensures.costs c.find.ensures.turns))
+    c.find.ensures.cells_stay c.find.ensures.kept c.find.ensures.exact c.find.ensures.cause c.find.ensures.costs c.find.ensures.turns
+    (λ m holds.
+    let ready = c.visible-runs.ensures.searched s.chain.store.geometry.keys (found_in m) holds.stands in
+    c.find.ensures.turns (visible_lists (held_of g.D.Device.bytes s) s.chain.clock s.chain.levels) ready.told ready.sampled)))
 
 pub returns-clause-right : goal.returns-clause-right
 returns-clause-right g c =
