@@ -13,6 +13,9 @@
  * Keys and values are bytes of any kind, of these lengths at most, by the version of the file. A key has at least one byte;
  * a value may be empty. Keys are ordered byte by byte, a key before those that it begins.
  *
+ * Where a call has nothing to say of a place, as the length of a value that is not there, or is refused, the place stays as it
+ * was; only the rows of a refused cola_next may be others.
+ *
  * One thread at a time may call with one store; stores in other bytes are independent. There is no global state, no output.
  *
  * Asked of the caller, since no check can tell: the bytes given to cola_open stay mapped, writable, aligned as malloc aligns

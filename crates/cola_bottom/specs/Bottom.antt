@@ -1,7 +1,11 @@
 -- The aim of a merge at the bottom.
-use Rattle.std.specs.Prelude.{ℕ, true, false}
+use Rattle.std.specs.Prelude.{ℕ, true, false, List, []}
 use Rattle.cola_clock.specs.declared.state.Part.TheVariants.{All}
+use Rattle.cola_runs.specs.Weave.{bottom_items, weave}
 use Rattle.cola_cell.specs.declared.cell.Run.{Run}
+use Rattle.cola_cell.specs.Held.{Held, LawCell}
+use Rattle.cola_cell.specs.Order.{key_cmp}
+use Rattle.cola_cell.specs.ToldCells.{run_cells}
 use Rattle.cola_merge.specs.declared.aims.Feed.TheVariants as feed
 use Rattle.cola_merge.specs.declared.aims.Aim.{Aim}
 
@@ -17,3 +21,7 @@ bottom_of own incoming slot = record {
   young = false;
   bottom = true;
 }
+
+-- the cells that the bottom's two runs weave
+abbrev pub bottom_run : Held → Run → Run → List LawCell
+bottom_run held own incoming = weave key_cmp bottom_items (run_cells held own) (run_cells held incoming) []

@@ -20,6 +20,7 @@ use Rattle.cola_handle.specs.Calls.{both_fit, ByLength, GetSays, StampSays, Dele
 use Rattle.cola_handle.specs.Cursors.{NextSays, Writes, Moves, is_good}
 use Rattle.cola_handle.specs.Numbers.{number}
 use Rattle.cola_handle.specs.Open.{bytes_of, HoldsMap, shape_of, levels_of, Stays, place_of, device_of}
+use Rattle.cola_handle.specs.Reading.{ReadsFew}
 use Rattle.cola_handle.specs.Created.{HasSize}
 use Rattle.cola_handle.specs.Lent.{StandsFor, HasTerms, OpenCause, AreLeft}
 
@@ -37,6 +38,7 @@ module _ (old : Session) (key : List ℕ) where
     pub answer : (m : Map) → HoldsMap old m → GetSays m key (HoldsMap new) result
     pub length : ByLength (is_key (shape_of old) key) (new ≡ old) result
     pub ticks : OnOk result (new.ticks ≤ get_bound (levels_of old))
+    pub reads : ReadsFew old new
     pub stays : Stays old new
 
   -- a stamp
@@ -44,6 +46,7 @@ module _ (old : Session) (key : List ℕ) where
     pub answer : (m : Map) → HoldsMap old m → StampSays m key (HoldsMap new) result
     pub length : ByLength (is_key (shape_of old) key) (new ≡ old) result
     pub ticks : OnOk result (new.ticks ≤ get_bound (levels_of old))
+    pub reads : ReadsFew old new
     pub stays : Stays old new
 
   -- a delete

@@ -3,11 +3,12 @@
 #![tactic(auto)]
 
 ghost use Rattle.std.specs.Prelude.{◌≡◌, ◌<◌, ◌≤◌, ◌↔◌, ℕ, pos, true, false, List, [], length, take, Result, Ok, Some, None, IsSome, IfOk};
+ghost use Rattle.std.specs.Result.{result_unwrap_or};
 ghost use Rattle.cola_spec.specs.Map.{Map, count, pairs_between};
 ghost use Rattle.cola_handle.specs.declared.answer.Answer.TheVariants as answer;
 ghost use Rattle.cola_handle.specs.declared.session.Session.{Session};
 ghost use Rattle.cola_handle.specs.Cursors.{are_short, IsSet, ahead, end_at, gave, is_good};
-ghost use Rattle.cola_handle.specs.Numbers.{number, found, made, made_if, replaced};
+ghost use Rattle.cola_handle.specs.Numbers.{number, found, made, made_if, was_told, other_told, value_told, length_told, stamp_told};
 ghost use Rattle.cola_handle.specs.Open.{HoldsMap};
 ghost use Rattle.cola_c.specs.Exports.{Answered, Gets, Stamps, Deletes, Puts, PutsIf, Nexts, Tells, Opens, IsRefused, Closes, Checkpoints, Unfinished, Sizes};
 ghost use Rattle.cola_handle.specs.Created.{Creates};
@@ -49,9 +50,13 @@ pub extern "C" fn cola_core_create(bytes: &mut [u8], keys: u64, block: u8, versi
 #[unsafe(no_mangle)]
 pub extern "C" fn cola_core_open(alloc: Global, cola: &mut Cola, region: &mut Region) -> i32
     requires { IsSome region.old.bytes }
-    ensures in_use { (session : Session) → cola.old.owned.session ≡ Some session → (result ≡ pos (number answer.InUse)) × (cola.new ≡ cola.old) × (region.new ≡ region.old) }
-    ensures opened { cola.old.owned.session ≡ None → (session : Session) → cola.new.owned.session ≡ Some session → (result ≡ pos (number answer.Done)) × (region.new.bytes ≡ None) × Opens region.old session }
-    ensures refused { cola.old.owned.session ≡ None → cola.new.owned.session ≡ None → Tells result (IsRefused region.old region.new) }
+    ensures in_use { (session : Session) → cola.old.owned.session ≡ Some session →
+        (result ≡ pos (number answer.InUse)) × (cola.new ≡ cola.old) × (region.new ≡ region.old) }
+    ensures opened { cola.old.owned.session ≡ None → (session : Session) →
+        cola.new.owned.session ≡ Some session →
+        (result ≡ pos (number answer.Done)) × (region.new.bytes ≡ None) × Opens region.old session }
+    ensures refused { cola.old.owned.session ≡ None → cola.new.owned.session ≡ None →
+        Tells result (IsRefused region.old region.new) }
 {
     if cola.is_open() {
         return Answer::InUse.code();
@@ -78,8 +83,12 @@ pub extern "C" fn cola_core_put(
     value: &[u8],
     was: &mut bool,
 ) -> i32
-    ensures closed { cola.old.owned.session ≡ None → (result ≡ pos (number answer.Closed)) × (cola.new.owned.session ≡ None) }
-    ensures answered { (session : Session) → cola.old.owned.session ≡ Some session → Answered cola.new.owned.session result made (λ new put. Puts session key.now value.now new put × IfOk put (λ done. was.new ≡ replaced done)) }
+    ensures closed { cola.old.owned.session ≡ None →
+        (result ≡ pos (number answer.Closed)) × (cola.new.owned.session ≡ None)
+        × (was.new ≡ was.old) }
+    ensures answered { (session : Session) → cola.old.owned.session ≡ Some session →
+        Answered cola.new.owned.session result made
+        (λ new put. Puts session key.now value.now new put × (was.new ≡ was_told put was.old)) }
 {
     let Some(mut session) = cola.take(alloc) else {
         return Answer::Closed.code();
@@ -99,8 +108,13 @@ pub extern "C" fn cola_core_put_if(
     value: &[u8],
     stamp: &mut u64,
 ) -> i32
-    ensures closed { cola.old.owned.session ≡ None → (result ≡ pos (number answer.Closed)) × (cola.new.owned.session ≡ None) }
-    ensures answered { (session : Session) → cola.old.owned.session ≡ Some session → Answered cola.new.owned.session result made_if (λ new put. PutsIf session key.now seen value.now new put) }
+    ensures closed { cola.old.owned.session ≡ None →
+        (result ≡ pos (number answer.Closed)) × (cola.new.owned.session ≡ None)
+        × (stamp.new ≡ stamp.old) }
+    ensures answered { (session : Session) → cola.old.owned.session ≡ Some session →
+        Answered cola.new.owned.session result made_if
+        (λ new put. PutsIf session key.now seen value.now new put
+        × (stamp.new ≡ other_told put stamp.old)) }
 {
     let Some(mut session) = cola.take(alloc) else {
         return Answer::Closed.code();
@@ -120,8 +134,13 @@ pub extern "C" fn cola_core_get(
     len: &mut usize,
 ) -> i32
     requires { 72 ≤ length into.old }
-    ensures closed { cola.old.owned.session ≡ None → (result ≡ pos (number answer.Closed)) × (cola.new.owned.session ≡ None) }
-    ensures answered { (session : Session) → cola.old.owned.session ≡ Some session → Answered cola.new.owned.session result found (λ new got. Gets session key.now new got × ((value : List ℕ) → got ≡ Ok (Some value) → (take (length value) into.new ≡ value) × (len.new ≡ length value))) }
+    ensures closed { cola.old.owned.session ≡ None →
+        (result ≡ pos (number answer.Closed)) × (cola.new.owned.session ≡ None)
+        × (into.new ≡ into.old) × (len.new ≡ len.old) }
+    ensures answered { (session : Session) → cola.old.owned.session ≡ Some session →
+        Answered cola.new.owned.session result found
+        (λ new got. Gets session key.now new got × (into.new ≡ value_told got into.old)
+        × (len.new ≡ length_told got len.old)) }
 {
     let Some(mut session) = cola.take(alloc) else {
         return Answer::Closed.code();
@@ -139,8 +158,12 @@ pub extern "C" fn cola_core_stamp(
     key: &[u8],
     stamp: &mut u64,
 ) -> i32
-    ensures closed { cola.old.owned.session ≡ None → (result ≡ pos (number answer.Closed)) × (cola.new.owned.session ≡ None) }
-    ensures answered { (session : Session) → cola.old.owned.session ≡ Some session → Answered cola.new.owned.session result found (λ new got. Stamps session key.now new got × ((given : ℕ) → got ≡ Ok (Some given) → stamp.new ≡ given)) }
+    ensures closed { cola.old.owned.session ≡ None →
+        (result ≡ pos (number answer.Closed)) × (cola.new.owned.session ≡ None)
+        × (stamp.new ≡ stamp.old) }
+    ensures answered { (session : Session) → cola.old.owned.session ≡ Some session →
+        Answered cola.new.owned.session result found
+        (λ new got. Stamps session key.now new got × (stamp.new ≡ stamp_told got stamp.old)) }
 {
     let Some(mut session) = cola.take(alloc) else {
         return Answer::Closed.code();
@@ -153,8 +176,10 @@ pub extern "C" fn cola_core_stamp(
 /// Takes a key out.
 #[unsafe(no_mangle)]
 pub extern "C" fn cola_core_delete(alloc: Global, cola: &mut Cola, key: &[u8]) -> i32
-    ensures closed { cola.old.owned.session ≡ None → (result ≡ pos (number answer.Closed)) × (cola.new.owned.session ≡ None) }
-    ensures answered { (session : Session) → cola.old.owned.session ≡ Some session → Answered cola.new.owned.session result found (λ new old. Deletes session key.now new old) }
+    ensures closed { cola.old.owned.session ≡ None →
+        (result ≡ pos (number answer.Closed)) × (cola.new.owned.session ≡ None) }
+    ensures answered { (session : Session) → cola.old.owned.session ≡ Some session →
+        Answered cola.new.owned.session result found (λ new old. Deletes session key.now new old) }
 {
     let Some(mut session) = cola.take(alloc) else {
         return Answer::Closed.code();
@@ -167,10 +192,14 @@ pub extern "C" fn cola_core_delete(alloc: Global, cola: &mut Cola, key: &[u8]) -
 /// The number of keys.
 #[unsafe(no_mangle)]
 pub extern "C" fn cola_core_count(alloc: Global, cola: &mut Cola, keys: &mut u64) -> i32
-    ensures closed { cola.old.owned.session ≡ None → (result ≡ pos (number answer.Closed)) × (cola.new.owned.session ≡ None) }
+    ensures closed { cola.old.owned.session ≡ None →
+        (result ≡ pos (number answer.Closed)) × (cola.new.owned.session ≡ None)
+        × (keys.new ≡ keys.old) }
     ensures stays { cola.new.owned.session ≡ cola.old.owned.session }
-    ensures done { (session : Session) → cola.old.owned.session ≡ Some session → result ≡ pos (number answer.Done) }
-    ensures answered { (session : Session) (m : Map) → cola.old.owned.session ≡ Some session → HoldsMap session m → keys.new ≡ count m }
+    ensures done { (session : Session) → cola.old.owned.session ≡ Some session →
+        result ≡ pos (number answer.Done) }
+    ensures answered { (session : Session) (m : Map) → cola.old.owned.session ≡ Some session →
+        HoldsMap session m → keys.new ≡ count m }
 {
     let Some(session) = cola.take(alloc) else {
         return Answer::Closed.code();
@@ -183,9 +212,12 @@ pub extern "C" fn cola_core_count(alloc: Global, cola: &mut Cola, keys: &mut u64
 /// Sets a cursor before the first key from a low end on.
 #[unsafe(no_mangle)]
 pub extern "C" fn cola_core_seek(cursor: &mut Cursor, low: &[u8], high: &[u8], bounded: bool) -> i32
-    ensures set { are_short low.now high.now ≡ true → (result ≡ pos (number answer.Done)) × IsSet low.now high.now bounded cursor.new }
-    ensures ahead { (m : Map) → are_short low.now high.now ≡ true → ahead m cursor.new ≡ pairs_between m low.now (end_at bounded high.now) }
-    ensures long { are_short low.now high.now ≡ false → (result ≡ pos (number answer.Length)) × (cursor.new ≡ cursor.old) }
+    ensures set { are_short low.now high.now ≡ true →
+        (result ≡ pos (number answer.Done)) × IsSet low.now high.now bounded cursor.new }
+    ensures ahead { (m : Map) → are_short low.now high.now ≡ true →
+        ahead m cursor.new ≡ pairs_between m low.now (end_at bounded high.now) }
+    ensures long { are_short low.now high.now ≡ false →
+        (result ≡ pos (number answer.Length)) × (cursor.new ≡ cursor.old) }
 {
     match Cursor::seek(low, high, bounded) {
         Ok(place) => {
@@ -215,7 +247,7 @@ fn next_on<L: Ledger>(
 /// Of the next rows: how many they are.
 fn tell_next(next: Result<usize, Refusal>, wanted: usize, given: &mut usize) -> i32
     ensures number { result ≡ pos (number (gave wanted next)) }
-    ensures given { IfOk next (λ count. given.new ≡ count) }
+    ensures given { given.new ≡ result_unwrap_or next given.old }
 {
     match next {
         Ok(count) => {
@@ -238,9 +270,17 @@ pub extern "C" fn cola_core_next(
     rows: &mut [Row],
     given: &mut usize,
 ) -> i32
-    ensures closed { cola.old.owned.session ≡ None → (result ≡ pos (number answer.Closed)) × (cola.new.owned.session ≡ None) × (cursor.new ≡ cursor.old) }
-    ensures answered { (session : Session) → cola.old.owned.session ≡ Some session → Answered cola.new.owned.session result (gave (length rows.old)) (λ new next. Nexts session cursor.old rows.old new cursor.new rows.new next × IfOk next (λ count. given.new ≡ count)) }
-    ensures ended { (session : Session) (m : Map) → cola.old.owned.session ≡ Some session → HoldsMap session m → is_good cursor.old ≡ true → (result ≡ pos (number answer.Absent)) ↔ ((0 < length rows.old) × (ahead m cursor.old ≡ [])) }
+    ensures closed { cola.old.owned.session ≡ None →
+        (result ≡ pos (number answer.Closed)) × (cola.new.owned.session ≡ None)
+        × (cursor.new ≡ cursor.old) × (rows.new ≡ rows.old) × (given.new ≡ given.old) }
+    ensures answered { (session : Session) → cola.old.owned.session ≡ Some session →
+        Answered cola.new.owned.session result (gave (length rows.old))
+        (λ new next. Nexts session cursor.old rows.old new cursor.new rows.new next
+        × (given.new ≡ result_unwrap_or next given.old)) }
+    ensures ended { (session : Session) (m : Map) → cola.old.owned.session ≡ Some session →
+        HoldsMap session m → is_good cursor.old ≡ true →
+        (result ≡ pos (number answer.Absent))
+        ↔ ((0 < length rows.old) × (ahead m cursor.old ≡ [])) }
 {
     let Some(mut session) = cola.take(alloc) else {
         return Answer::Closed.code();
@@ -253,9 +293,14 @@ pub extern "C" fn cola_core_next(
 /// Closes the store and opens it again. An error gives the bytes back: then the handle is closed.
 #[unsafe(no_mangle)]
 pub extern "C" fn cola_core_checkpoint(alloc: Global, cola: &mut Cola, region: &mut Region) -> i32
-    ensures closed { cola.old.owned.session ≡ None → (result ≡ pos (number answer.Closed)) × (cola.new.owned.session ≡ None) × (region.new ≡ region.old) }
-    ensures done { (old new : Session) → cola.old.owned.session ≡ Some old → cola.new.owned.session ≡ Some new → (result ≡ pos (number answer.Done)) × (region.new ≡ region.old) × Checkpoints old new }
-    ensures refused { (old : Session) → cola.old.owned.session ≡ Some old → cola.new.owned.session ≡ None → Tells result (Unfinished old region.new) }
+    ensures closed { cola.old.owned.session ≡ None →
+        (result ≡ pos (number answer.Closed)) × (cola.new.owned.session ≡ None)
+        × (region.new ≡ region.old) }
+    ensures done { (old new : Session) → cola.old.owned.session ≡ Some old →
+        cola.new.owned.session ≡ Some new →
+        (result ≡ pos (number answer.Done)) × (region.new ≡ region.old) × Checkpoints old new }
+    ensures refused { (old : Session) → cola.old.owned.session ≡ Some old →
+        cola.new.owned.session ≡ None → Tells result (Unfinished old region.new) }
 {
     let Some(session) = cola.take(alloc) else {
         return Answer::Closed.code();
@@ -276,9 +321,11 @@ pub extern "C" fn cola_core_checkpoint(alloc: Global, cola: &mut Cola, region: &
 /// Closes the store, and gives its bytes back in the region, where they were.
 #[unsafe(no_mangle)]
 pub extern "C" fn cola_core_close(alloc: Global, cola: &mut Cola, region: &mut Region) -> i32
-    ensures closed { cola.old.owned.session ≡ None → (result ≡ pos (number answer.Closed)) × (region.new ≡ region.old) }
+    ensures closed { cola.old.owned.session ≡ None →
+        (result ≡ pos (number answer.Closed)) × (region.new ≡ region.old) }
     ensures left { cola.new.owned.session ≡ None }
-    ensures done { (session : Session) → cola.old.owned.session ≡ Some session → (result ≡ pos (number answer.Done)) × Closes session region.new }
+    ensures done { (session : Session) → cola.old.owned.session ≡ Some session →
+        (result ≡ pos (number answer.Done)) × Closes session region.new }
 {
     let Some(session) = cola.take(alloc) else {
         return Answer::Closed.code();

@@ -4,7 +4,9 @@ use Rattle.cola_cell.specs.declared.cell.Cell.{Cell}
 use Rattle.cola_cell.specs.declared.fault.ReadFault.{ReadFault}
 use Rattle.cola_cell.specs.declared.fault.ReadFault.TheVariants.{Device, BadCell}
 use Rattle.cola_cell.specs.Held.{Held, HasPlace}
-use Rattle.cola_cell.specs.Spent.{Buffer, Spent, Reads}
+use Rattle.cola_cell.specs.Spent.{Buffer, Spent}
+use Rattle.cola_cell.specs.State.{State}
+use Rattle.cola_cell.specs.Reads.{Reads}
 use Rattle.cola_cell.specs.Costs.{Costs, ReadCause}
 
 -- nothing was called
@@ -20,8 +22,8 @@ costs_none spent steps = record {
 }
 
 -- one read makes a tick, and turns to at most one block
-pub costs_read : {held : Held} {old new : Spent} {buffer : Buffer} {level slot index : ℕ} {result : Result Cell ReadFault} {before after : ℕ} →
-    Reads held old new buffer level slot index result → after ≡ before + 1 → Costs old new before after 1 1
+pub costs_read : {old new : State} {buffer : Buffer} {level slot index : ℕ} {result : Result Cell ReadFault} {before after : ℕ} →
+    Reads old new buffer level slot index result → after ≡ before + 1 → Costs old.spent new.spent before after 1 1
 costs_read h e = record {
   steps_stay = omega (arith, e);
   steps_rise = omega (arith, e);
@@ -57,13 +59,13 @@ costs_within h m n = record {
 }
 
 -- a read after other calls
-pub costs_read_then : {held : Held} {old mid new : Spent} {buffer : Buffer} {level slot index : ℕ} {result : Result Cell ReadFault} {before between after ticks turns : ℕ} →
-    Costs old mid before between ticks turns → Reads held mid new buffer level slot index result → after ≡ between + 1 → Costs old new before after (ticks + 1) (turns + 1)
+pub costs_read_then : {old : Spent} {mid new : State} {buffer : Buffer} {level slot index : ℕ} {result : Result Cell ReadFault} {before between after ticks turns : ℕ} →
+    Costs old mid.spent before between ticks turns → Reads mid new buffer level slot index result → after ≡ between + 1 → Costs old new.spent before after (ticks + 1) (turns + 1)
 costs_read_then h r e = costs_then h (costs_read r e)
 
 -- a refused read has its cause
-pub cause_of_read : {held : Held} {old new : Spent} {buffer : Buffer} {level slot index : ℕ} (fault : ReadFault) →
-    HasPlace held level slot index → Reads held old new buffer level slot index (Err fault) → ReadCause held old.faults new.faults fault
+pub cause_of_read : {old new : State} {buffer : Buffer} {level slot index : ℕ} (fault : ReadFault) →
+    HasPlace old.held level slot index → Reads old new buffer level slot index (Err fault) → ReadCause old.held old.spent.faults new.spent.faults fault
 cause_of_read Device p r = r.answer
 cause_of_read {level = level} {slot = slot} {index = index} (BadCell number) p r = record { level = level; slot = slot; index = index; place = p; bad = r.answer }
 

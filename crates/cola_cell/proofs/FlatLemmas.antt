@@ -12,9 +12,10 @@ use Rattle.cola_cell.specs.declared.sink.Shadow.{Shadow}
 use Rattle.cola_cell.specs.Format.{CellFits}
 use Rattle.cola_cell.specs.Places.{slot_size, number_of, IsPlace, block_of}
 use Rattle.cola_cell.specs.Held.{Held, Bad, Told, Tells, LawCell, as_cell, is_untold, with_cell, IsElsewhere}
-use Rattle.cola_cell.specs.Spent.{Buffer, Ticks, Reads, ReadAnswers, ReadCalm}
+use Rattle.cola_cell.specs.Spent.{Buffer, Ticks, ReadAnswers, ReadCalm}
+use Rattle.cola_cell.specs.Reads.{Reads}
 use Rattle.cola_cell.specs.Shadows.{emptied, StaysAround, Restarts, Pushes, PushSpends, Writes, Finishes, FinishSpends}
-use Rattle.cola_cell.specs.Flat.{Flat, IsFlat, shadow_at, spot_of, is_place, spots_of, held_of, spent_of, one_more, next_fails, after_access, found, read_answer, with_shadow, longer, is_full, push_answer, after_push, after_finish}
+use Rattle.cola_cell.specs.Flat.{Flat, IsFlat, shadow_at, spot_of, is_place, spots_of, held_of, spent_of, state_of, one_more, next_fails, after_access, found, read_answer, with_shadow, longer, is_full, push_answer, after_push, after_finish}
 use Rattle.cola_cell.proofs.PlaceNumbers.{numbers_differ, number_within}
 
 -- a place is one for the test too
@@ -95,8 +96,9 @@ on_ok (Err e) p = tt
 
 -- a read meets the trait
 pub reads_flat : (flat : Flat) (buffer : Buffer) (l s i : ℕ) → IsFlat flat → IsPlace flat.levels l s i →
-    Reads (held_of flat) (spent_of flat) (spent_of (after_access flat)) buffer l s i (read_answer flat l s i)
+    Reads (state_of flat) (state_of (after_access flat)) buffer l s i (read_answer flat l s i)
 reads_flat flat buffer l s i f p = record {
+  cells_stay = refl;
   answer = read_says (held_of flat) flat.faults l s i (next_fails flat) (get_or flat.cells (number_of l s i) None) (spot_is flat.levels flat.cells l s i p) (f.cells_fit (number_of l s i));
   faults_stay = counted (next_fails flat) flat.faults;
   calm = read_is_calm flat.faults (number_of l s i) (next_fails flat) (get_or flat.cells (number_of l s i) None);
@@ -149,7 +151,7 @@ writes_none flat new ticks l s i h t = record {
 
 -- a finish meets the trait
 pub finishes_flat : (flat : Flat) (level : ℕ) → level < length flat.shadows →
-    Finishes {A = Unit {0}} (held_of flat) (held_of (after_finish flat level)) (spent_of flat) (spent_of (after_finish flat level)) level (Ok tt)
+    Finishes {A = Unit {0}} (state_of flat) (state_of (after_finish flat level)) level (Ok tt)
 finishes_flat flat level h = record {
   around = around_shadow flat level (record (shadow_at flat.shadows level) { saved = true });
   answer = tt;
@@ -158,7 +160,7 @@ finishes_flat flat level h = record {
   others_stay = λ l s i _. refl;
 }
 
-pub finish_spends : (flat : Flat) (level : ℕ) → FinishSpends (held_of flat) (spent_of flat) (spent_of (after_finish flat level)) level
+pub finish_spends : (flat : Flat) (level : ℕ) → FinishSpends (state_of flat) (state_of (after_finish flat level)) level
 finish_spends flat level = record {
   writes = writes_none flat (after_finish flat level) 0 level (shadow_at flat.shadows level).slot (shadow_at flat.shadows level).len (omega arith) (omega arith);
   only_needed = λ _. record { written_is = refl; lasts_stay = λ _. refl };
@@ -169,7 +171,7 @@ has_room : (flat : Flat) (level : ℕ) → IsFlat flat → is_full flat level �
 has_room flat level f e = let d : (shadow_at flat.shadows level).len ≡ slot_size level → ⊥ = eqb-false (shadow_at flat.shadows level).len (slot_size level) e in let h : (shadow_at flat.shadows level).len ≤ slot_size level = f.lengths_within level in omega (arith, d, h)
 
 -- a push that is refused as overfull
-full_push : (flat : Flat) (level : ℕ) (cell : Cell) → is_full flat level ≡ true → Pushes {A = Unit {0}} (held_of flat) (held_of flat) (spent_of flat) (spent_of flat) level cell (Err (push.Overfull level))
+full_push : (flat : Flat) (level : ℕ) (cell : Cell) → is_full flat level ≡ true → Pushes {A = Unit {0}} (state_of flat) (state_of flat) level cell (Err (push.Overfull level))
 full_push flat level cell e = record {
   around = record { fixed_is = refl; shadows_stay = λ _ _. refl; telling_is = λ _ _ _. refl };
   answer = (eqb-true (shadow_at flat.shadows level).len (slot_size level) e, refl, refl, refl);
@@ -180,7 +182,7 @@ full_push flat level cell e = record {
 
 -- a push that the device refuses
 refused_push : (flat : Flat) (level : ℕ) (cell : Cell) → IsFlat flat → level < length flat.shadows → is_full flat level ≡ false → next_fails flat ≡ true →
-    Pushes {A = Unit {0}} (held_of flat) (held_of (with_shadow (after_access flat) level (record (shadow_at flat.shadows level) { saved = false }))) (spent_of flat) (spent_of (after_access flat)) level cell (Err push.Device)
+    Pushes {A = Unit {0}} (state_of flat) (state_of (with_shadow (after_access flat) level (record (shadow_at flat.shadows level) { saved = false }))) level cell (Err push.Device)
 refused_push flat level cell f h e d = record {
   around = around_shadow flat level (record (shadow_at flat.shadows level) { saved = false });
   answer = (has_room flat level f e, rw d (rose flat.faults));
@@ -191,7 +193,7 @@ refused_push flat level cell f h e d = record {
 
 -- a push that is accepted
 accepted_push : (flat : Flat) (level : ℕ) (cell : Cell) → IsFlat flat → level < flat.levels → is_full flat level ≡ false → next_fails flat ≡ false →
-    Pushes {A = Unit {0}} (held_of flat) (held_of (longer (after_access flat) level (shadow_at flat.shadows level) cell)) (spent_of flat) (spent_of (after_access flat)) level cell (Ok tt)
+    Pushes {A = Unit {0}} (state_of flat) (state_of (longer (after_access flat) level (shadow_at flat.shadows level) cell)) level cell (Ok tt)
 accepted_push flat level cell f h e c =
     let shadow : Shadow = shadow_at flat.shadows level in
     let room : shadow.len < slot_size level = has_room flat level f e in
@@ -218,8 +220,7 @@ accepted_push flat level cell f h e c =
 
 -- a push by its two tests
 push_by : (flat : Flat) (level : ℕ) (cell : Cell) (full fails : Bool) → IsFlat flat → level < flat.levels → is_full flat level ≡ full → next_fails flat ≡ fails →
-    Pushes {A = Unit {0}} (held_of flat) (held_of (if full then flat else if fails then with_shadow (after_access flat) level (record (shadow_at flat.shadows level) { saved = false }) else longer (after_access flat) level (shadow_at flat.shadows level) cell))
-    (spent_of flat) (spent_of (if full then flat else if fails then with_shadow (after_access flat) level (record (shadow_at flat.shadows level) { saved = false }) else longer (after_access flat) level (shadow_at flat.shadows level) cell))
+    Pushes {A = Unit {0}} (state_of flat) (state_of (if full then flat else if fails then with_shadow (after_access flat) level (record (shadow_at flat.shadows level) { saved = false }) else longer (after_access flat) level (shadow_at flat.shadows level) cell))
     level cell (if full then Err (push.Overfull level) else if fails then Err push.Device else Ok tt)
 push_by flat level cell true fails f h e d = full_push flat level cell e
 push_by flat level cell false true f h e d = refused_push flat level cell f (low_level flat level f h) e d
@@ -227,12 +228,12 @@ push_by flat level cell false false f h e d = accepted_push flat level cell f h 
 
 -- a push meets the trait
 pub pushes_flat : (flat : Flat) (level : ℕ) (cell : Cell) → IsFlat flat → level < flat.levels →
-    Pushes {A = Unit {0}} (held_of flat) (held_of (after_push flat level cell)) (spent_of flat) (spent_of (after_push flat level cell)) level cell (push_answer flat level)
+    Pushes {A = Unit {0}} (state_of flat) (state_of (after_push flat level cell)) level cell (push_answer flat level)
 pushes_flat flat level cell f h = push_by flat level cell (is_full flat level) (next_fails flat) f h refl refl
 
 -- what a push spends by its two tests
 spends_by : (flat : Flat) (level : ℕ) (cell : Cell) (full fails : Bool) →
-    PushSpends {A = Unit {0}} (held_of flat) (spent_of flat) (spent_of (if full then flat else if fails then with_shadow (after_access flat) level (record (shadow_at flat.shadows level) { saved = false }) else longer (after_access flat) level (shadow_at flat.shadows level) cell))
+    PushSpends {A = Unit {0}} (state_of flat) (state_of (if full then flat else if fails then with_shadow (after_access flat) level (record (shadow_at flat.shadows level) { saved = false }) else longer (after_access flat) level (shadow_at flat.shadows level) cell))
     level (if full then Err (push.Overfull level) else if fails then Err push.Device else Ok tt)
 spends_by flat level cell true fails = record {
   writes = writes_none flat flat 0 level (shadow_at flat.shadows level).slot (shadow_at flat.shadows level).len (omega arith) (omega arith);
@@ -248,7 +249,7 @@ spends_by flat level cell false false = record {
 }
 
 pub push_spends : (flat : Flat) (level : ℕ) (cell : Cell) →
-    PushSpends {A = Unit {0}} (held_of flat) (spent_of flat) (spent_of (after_push flat level cell)) level (push_answer flat level)
+    PushSpends {A = Unit {0}} (state_of flat) (state_of (after_push flat level cell)) level (push_answer flat level)
 push_spends flat level cell = spends_by flat level cell (is_full flat level) (next_fails flat)
 
 -- the number of a place is that of a cell
@@ -266,25 +267,25 @@ read_found flat l s i n c d e h k = let a : get_or flat.cells n None ≡ c = get
 
 -- a read meets the trait by its own clauses
 pub read_meets : (flat new : Flat) (buffer : Buffer) (l s i : ℕ) (result : Result Cell ReadFault) → IsFlat flat → IsPlace flat.levels l s i → result ≡ read_answer flat l s i → new ≡ after_access flat →
-    Reads (held_of flat) (spent_of flat) (spent_of new) buffer l s i result
+    Reads (state_of flat) (state_of new) buffer l s i result
 read_meets flat new buffer l s i result f p e d =
-    subst (λ r. Reads (held_of flat) (spent_of flat) (spent_of new) buffer l s i r) (sym e)
-    (subst (λ n. Reads (held_of flat) (spent_of flat) (spent_of n) buffer l s i (read_answer flat l s i)) (sym d) (reads_flat flat buffer l s i f p))
+    subst (λ r. Reads (state_of flat) (state_of new) buffer l s i r) (sym e)
+    (subst (λ n. Reads (state_of flat) (state_of n) buffer l s i (read_answer flat l s i)) (sym d) (reads_flat flat buffer l s i f p))
 
 -- a push meets the trait by its own clauses
 pub push_meets : (flat new : Flat) (level : ℕ) (cell : Cell) (result : Result Unit PushFault) → IsFlat flat → level < flat.levels → result ≡ push_answer flat level → new ≡ after_push flat level cell →
-    Pushes {A = Unit {0}} (held_of flat) (held_of new) (spent_of flat) (spent_of new) level cell result × PushSpends {A = Unit {0}} (held_of flat) (spent_of flat) (spent_of new) level result
+    Pushes {A = Unit {0}} (state_of flat) (state_of new) level cell result × PushSpends {A = Unit {0}} (state_of flat) (state_of new) level result
 push_meets flat new level cell result f h e d =
-    subst (λ r. Pushes {A = Unit {0}} (held_of flat) (held_of new) (spent_of flat) (spent_of new) level cell r × PushSpends {A = Unit {0}} (held_of flat) (spent_of flat) (spent_of new) level r) (sym e)
-    (subst (λ n. Pushes {A = Unit {0}} (held_of flat) (held_of n) (spent_of flat) (spent_of n) level cell (push_answer flat level) × PushSpends {A = Unit {0}} (held_of flat) (spent_of flat) (spent_of n) level (push_answer flat level)) (sym d)
+    subst (λ r. Pushes {A = Unit {0}} (state_of flat) (state_of new) level cell r × PushSpends {A = Unit {0}} (state_of flat) (state_of new) level r) (sym e)
+    (subst (λ n. Pushes {A = Unit {0}} (state_of flat) (state_of n) level cell (push_answer flat level) × PushSpends {A = Unit {0}} (state_of flat) (state_of n) level (push_answer flat level)) (sym d)
     (pushes_flat flat level cell f h, push_spends flat level cell))
 
 -- a finish meets the trait by its own clauses
 pub finish_meets : (flat new : Flat) (level : ℕ) (result : Result Unit PushFault) → IsFlat flat → level < flat.levels → result ≡ Ok tt → new ≡ after_finish flat level →
-    Finishes {A = Unit {0}} (held_of flat) (held_of new) (spent_of flat) (spent_of new) level result × FinishSpends (held_of flat) (spent_of flat) (spent_of new) level
+    Finishes {A = Unit {0}} (state_of flat) (state_of new) level result × FinishSpends (state_of flat) (state_of new) level
 finish_meets flat new level result f h e d =
-    subst (λ r. Finishes {A = Unit {0}} (held_of flat) (held_of new) (spent_of flat) (spent_of new) level r × FinishSpends (held_of flat) (spent_of flat) (spent_of new) level) (sym e)
-    (subst (λ n. Finishes {A = Unit {0}} (held_of flat) (held_of n) (spent_of flat) (spent_of n) level (Ok tt) × FinishSpends (held_of flat) (spent_of flat) (spent_of n) level) (sym d)
+    subst (λ r. Finishes {A = Unit {0}} (state_of flat) (state_of new) level r × FinishSpends (state_of flat) (state_of new) level) (sym e)
+    (subst (λ n. Finishes {A = Unit {0}} (state_of flat) (state_of n) level (Ok tt) × FinishSpends (state_of flat) (state_of n) level) (sym d)
     (finishes_flat flat level (low_level flat level f h), finish_spends flat level))
 
 -- a restart meets the trait by its own clauses

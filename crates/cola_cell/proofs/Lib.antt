@@ -15,3 +15,5 @@ pub mod RunLemmas
 pub mod DecodedLemmas
 pub mod KeyWords
 pub mod Packs
+pub mod CellLists
+pub mod ToldRuns

@@ -9,7 +9,9 @@ use Rattle.cola_cell.specs.declared.fault.PushFault.{PushFault}
 use Rattle.cola_cell.specs.declared.fault.PushFault.TheVariants as push
 use Rattle.cola_cell.specs.declared.sink.Shadow.{Shadow}
 use Rattle.cola_cell.specs.Held.{Held, span, HasPlace, Spot, Untold, Bad, Told, Tells, LawCell, as_cell, is_untold, with_cell, IsTelling}
-use Rattle.cola_cell.specs.Spent.{Buffer, Spent, Reads}
+use Rattle.cola_cell.specs.State.{State}
+use Rattle.cola_cell.specs.Reads.{Reads}
+use Rattle.cola_cell.specs.Spent.{Buffer}
 use Rattle.cola_cell.specs.Shadows.{StaysAround, IsKept, Restarts, Pushes, Finishes, after_push}
 use Rattle.cola_cell.specs.Listed.{Stands, IsRun}
 
@@ -73,29 +75,29 @@ stands_more spots i [] c h e = (subst (λ n. spots n ≡ Told c) (let k : i + 0 
 stands_more spots i (b ∷ cells) c h e = (h.0, stands_more spots (suc i) cells c h.1 (subst (λ n. spots n ≡ Told c) (let k : i + suc (length cells) ≡ suc i + length cells = omega arith in k) e))
 
 -- a push changes no place below the shadow's end, and none of another run
-beside : {A : Type 0} (old new : Held) (before now : Spent) (level : ℕ) (cell : Cell) (result : Result A PushFault) (l s n i : ℕ) → Pushes old new before now level cell result →
-    (l ≢ level) ⊎ (s ≢ (old.shadows level).slot) ⊎ (n ≤ (old.shadows level).len) → i < n → new.spots l s i ≡ old.spots l s i
-beside old new before now level cell result l s n i p (inl d) h = p.others_stay l s i (inl d)
-beside old new before now level cell result l s n i p (inr (inl d)) h = p.others_stay l s i (inr (inl d))
-beside old new before now level cell result l s n i p (inr (inr d)) h = p.others_stay l s i (inr (inr (λ e. omega (arith, d, e, h))))
+beside : {A : Type 0} (old new : State) (level : ℕ) (cell : Cell) (result : Result A PushFault) (l s n i : ℕ) → Pushes old new level cell result →
+    (l ≢ level) ⊎ (s ≢ (old.held.shadows level).slot) ⊎ (n ≤ (old.held.shadows level).len) → i < n → new.held.spots l s i ≡ old.held.spots l s i
+beside old new level cell result l s n i p (inl d) h = p.others_stay l s i (inl d)
+beside old new level cell result l s n i p (inr (inl d)) h = p.others_stay l s i (inr (inl d))
+beside old new level cell result l s n i p (inr (inr d)) h = p.others_stay l s i (inr (inr (λ e. omega (arith, d, e, h))))
 
 -- a push leaves each run that does not reach behind the shadow's end
-pub push_keeps_run : {A : Type 0} (old new : Held) (before now : Spent) (level : ℕ) (cell : Cell) (result : Result A PushFault) (run : Run) (cells : List LawCell) → Pushes old new before now level cell result →
-    (run.level ≢ level) ⊎ (run.slot ≢ (old.shadows level).slot) ⊎ (run.len ≤ (old.shadows level).len) → IsRun old run cells → IsRun new run cells
-push_keeps_run old new before now level cell result run cells p d h =
-    run_stays old new run cells (λ i l. beside old new before now level cell result run.level run.slot run.len i p d l) h
+pub push_keeps_run : {A : Type 0} (old new : State) (level : ℕ) (cell : Cell) (result : Result A PushFault) (run : Run) (cells : List LawCell) → Pushes old new level cell result →
+    (run.level ≢ level) ⊎ (run.slot ≢ (old.held.shadows level).slot) ⊎ (run.len ≤ (old.held.shadows level).len) → IsRun old.held run cells → IsRun new.held run cells
+push_keeps_run old new level cell result run cells p d h =
+    run_stays old.held new.held run cells (λ i l. beside old new level cell result run.level run.slot run.len i p d l) h
 
 -- an accepted push makes the shadow's run one cell longer
-pub push_adds_cell : {A : Type 0} (old new : Held) (before now : Spent) (level : ℕ) (cell : Cell) (a : A) (cells : List LawCell) → Pushes old new before now level cell (Ok a) →
-    is_untold (old.spots level (old.shadows level).slot (old.shadows level).len) ≡ false →
-    IsRun old (record { level = level; slot = (old.shadows level).slot; len = (old.shadows level).len }) cells →
-    IsRun new (record { level = level; slot = (new.shadows level).slot; len = (new.shadows level).len }) (cells ++ as_cell cell ∷ [])
-push_adds_cell old new before now level cell a cells p t h = rw p.shadow_is (record {
-  length_is = (let e : (old.shadows level).len ≡ length cells = h.length_is in let k : length (cells ++ as_cell cell ∷ []) ≡ length cells + 1 = length-append cells (as_cell cell ∷ []) in omega (arith, e, k));
-  stands = stands_more (new.spots level (old.shadows level).slot) 0 cells (as_cell cell)
-      (push_keeps_run old new before now level cell (Ok a) (record { level = level; slot = (old.shadows level).slot; len = (old.shadows level).len }) cells p (inr (inr (omega arith))) h).stands
-      (subst (λ n. new.spots level (old.shadows level).slot n ≡ Told (as_cell cell)) (let e : (old.shadows level).len ≡ length cells = h.length_is in let k : (old.shadows level).len ≡ 0 + length cells = omega (arith, e) in k)
-      (p.answer.1 ∙ put_is_told (old.spots level (old.shadows level).slot (old.shadows level).len) (as_cell cell) t));
+pub push_adds_cell : {A : Type 0} (old new : State) (level : ℕ) (cell : Cell) (a : A) (cells : List LawCell) → Pushes old new level cell (Ok a) →
+    is_untold (old.held.spots level (old.held.shadows level).slot (old.held.shadows level).len) ≡ false →
+    IsRun old.held (record { level = level; slot = (old.held.shadows level).slot; len = (old.held.shadows level).len }) cells →
+    IsRun new.held (record { level = level; slot = (new.held.shadows level).slot; len = (new.held.shadows level).len }) (cells ++ as_cell cell ∷ [])
+push_adds_cell old new level cell a cells p t h = rw p.shadow_is (record {
+  length_is = (let e : (old.held.shadows level).len ≡ length cells = h.length_is in let k : length (cells ++ as_cell cell ∷ []) ≡ length cells + 1 = length-append cells (as_cell cell ∷ []) in omega (arith, e, k));
+  stands = stands_more (new.held.spots level (old.held.shadows level).slot) 0 cells (as_cell cell)
+      (push_keeps_run old new level cell (Ok a) (record { level = level; slot = (old.held.shadows level).slot; len = (old.held.shadows level).len }) cells p (inr (inr (omega arith))) h).stands
+      (subst (λ n. new.held.spots level (old.held.shadows level).slot n ≡ Told (as_cell cell)) (let e : (old.held.shadows level).len ≡ length cells = h.length_is in let k : (old.held.shadows level).len ≡ 0 + length cells = omega (arith, e) in k)
+      (p.answer.1 ∙ put_is_told (old.held.spots level (old.held.shadows level).slot (old.held.shadows level).len) (as_cell cell) t));
 })
 
 -- an object that tells every place goes on to do so
@@ -113,37 +115,37 @@ pub restart_keeps_run : (old new : Held) (level slot : ℕ) (run : Run) (cells :
 restart_keeps_run old new level slot run cells r d h = run_stays old new run cells (λ i l. restart_beside old new level slot run.level run.slot i r d) h
 
 -- a finish leaves each run that does not reach behind the shadow's end
-finish_beside : {A : Type 0} (old new : Held) (before now : Spent) (level : ℕ) (result : Result A PushFault) (l s n i : ℕ) → Finishes old new before now level result →
-    (l ≢ level) ⊎ (s ≢ (old.shadows level).slot) ⊎ (n ≤ (old.shadows level).len) → i < n → new.spots l s i ≡ old.spots l s i
-finish_beside old new before now level result l s n i f (inl d) h = f.others_stay l s i (inl d)
-finish_beside old new before now level result l s n i f (inr (inl d)) h = f.others_stay l s i (inr (inl d))
-finish_beside old new before now level result l s n i f (inr (inr d)) h = f.others_stay l s i (inr (inr (omega (arith, d, h))))
+finish_beside : {A : Type 0} (old new : State) (level : ℕ) (result : Result A PushFault) (l s n i : ℕ) → Finishes old new level result →
+    (l ≢ level) ⊎ (s ≢ (old.held.shadows level).slot) ⊎ (n ≤ (old.held.shadows level).len) → i < n → new.held.spots l s i ≡ old.held.spots l s i
+finish_beside old new level result l s n i f (inl d) h = f.others_stay l s i (inl d)
+finish_beside old new level result l s n i f (inr (inl d)) h = f.others_stay l s i (inr (inl d))
+finish_beside old new level result l s n i f (inr (inr d)) h = f.others_stay l s i (inr (inr (omega (arith, d, h))))
 
-pub finish_keeps_run : {A : Type 0} (old new : Held) (before now : Spent) (level : ℕ) (result : Result A PushFault) (run : Run) (cells : List LawCell) → Finishes old new before now level result →
-    (run.level ≢ level) ⊎ (run.slot ≢ (old.shadows level).slot) ⊎ (run.len ≤ (old.shadows level).len) → IsRun old run cells → IsRun new run cells
-finish_keeps_run old new before now level result run cells f d h =
-    run_stays old new run cells (λ i l. finish_beside old new before now level result run.level run.slot run.len i f d l) h
+pub finish_keeps_run : {A : Type 0} (old new : State) (level : ℕ) (result : Result A PushFault) (run : Run) (cells : List LawCell) → Finishes old new level result →
+    (run.level ≢ level) ⊎ (run.slot ≢ (old.held.shadows level).slot) ⊎ (run.len ≤ (old.held.shadows level).len) → IsRun old.held run cells → IsRun new.held run cells
+finish_keeps_run old new level result run cells f d h =
+    run_stays old.held new.held run cells (λ i l. finish_beside old new level result run.level run.slot run.len i f d l) h
 
 -- a read within a run gives its cell
-pub run_is_read : (held : Held) (before now : Spent) (buffer : Buffer) (run : Run) (cells : List LawCell) (i : ℕ) (cell : Cell) (d : LawCell) → IsRun held run cells → i < run.len →
-    Reads held before now buffer run.level run.slot i (Ok cell) → get_or cells i d ≡ as_cell cell
-run_is_read held before now buffer run cells i cell d h l r = given_is_told (held.spots run.level run.slot i) (get_or cells i d) (as_cell cell) (run_tells held run cells i d h l) r.answer.told
+pub run_is_read : (before now : State) (buffer : Buffer) (run : Run) (cells : List LawCell) (i : ℕ) (cell : Cell) (d : LawCell) → IsRun before.held run cells → i < run.len →
+    Reads before now buffer run.level run.slot i (Ok cell) → get_or cells i d ≡ as_cell cell
+run_is_read before now buffer run cells i cell d h l r = given_is_told (before.held.spots run.level run.slot i) (get_or cells i d) (as_cell cell) (run_tells before.held run cells i d h l) r.answer.told
 
 -- and never finds that it is no cell
-pub run_is_good : (held : Held) (before now : Spent) (buffer : Buffer) (run : Run) (cells : List LawCell) (i number : ℕ) → IsRun held run cells → i < run.len →
-    Reads held before now buffer run.level run.slot i (Err (BadCell number)) → ⊥
-run_is_good held before now buffer run cells i number h l r = told_is_good (held.spots run.level run.slot i) (get_or cells i any_cell) (run_tells held run cells i any_cell h l) r.answer.told
+pub run_is_good : (before now : State) (buffer : Buffer) (run : Run) (cells : List LawCell) (i number : ℕ) → IsRun before.held run cells → i < run.len →
+    Reads before now buffer run.level run.slot i (Err (BadCell number)) → ⊥
+run_is_good before now buffer run cells i number h l r = told_is_good (before.held.spots run.level run.slot i) (get_or cells i any_cell) (run_tells before.held run cells i any_cell h l) r.answer.told
 
 -- what was pushed is told
-pub pushed_is_told : {A : Type 0} (old new : Held) (before now : Spent) (level : ℕ) (cell : Cell) (a : A) → Pushes old new before now level cell (Ok a) →
-    is_untold (old.spots level (old.shadows level).slot (old.shadows level).len) ≡ false → new.spots level (old.shadows level).slot (old.shadows level).len ≡ Told (as_cell cell)
-pushed_is_told old new before now level cell a p t = p.answer.1 ∙ put_is_told (old.spots level (old.shadows level).slot (old.shadows level).len) (as_cell cell) t
+pub pushed_is_told : {A : Type 0} (old new : State) (level : ℕ) (cell : Cell) (a : A) → Pushes old new level cell (Ok a) →
+    is_untold (old.held.spots level (old.held.shadows level).slot (old.held.shadows level).len) ≡ false → new.held.spots level (old.held.shadows level).slot (old.held.shadows level).len ≡ Told (as_cell cell)
+pushed_is_told old new level cell a p t = p.answer.1 ∙ put_is_told (old.held.spots level (old.held.shadows level).slot (old.held.shadows level).len) (as_cell cell) t
 
 -- what was pushed is read again
-pub pushed_is_read : {A : Type 0} (old new : Held) (before now : Spent) (level : ℕ) (cell : Cell) (a : A) (earlier later : Spent) (buffer : Buffer) (found : Cell) → Pushes old new before now level cell (Ok a) →
-    is_untold (old.spots level (old.shadows level).slot (old.shadows level).len) ≡ false → Reads new earlier later buffer level (old.shadows level).slot (old.shadows level).len (Ok found) → as_cell found ≡ as_cell cell
-pushed_is_read old new before now level cell a earlier later buffer found p t r =
-    sym (given_is_told (new.spots level (old.shadows level).slot (old.shadows level).len) (as_cell cell) (as_cell found) (pushed_is_told old new before now level cell a p t) r.answer.told)
+pub pushed_is_read : {A : Type 0} (old new : State) (level : ℕ) (cell : Cell) (a : A) (earlier later : State) (buffer : Buffer) (found : Cell) → Pushes old new level cell (Ok a) →
+    is_untold (old.held.spots level (old.held.shadows level).slot (old.held.shadows level).len) ≡ false → earlier.held ≡ new.held → Reads earlier later buffer level (old.held.shadows level).slot (old.held.shadows level).len (Ok found) → as_cell found ≡ as_cell cell
+pushed_is_read old new level cell a earlier later buffer found p t stays r =
+    sym (given_is_told (earlier.held.spots level (old.held.shadows level).slot (old.held.shadows level).len) (as_cell cell) (as_cell found) (ap (λ held. held.spots level (old.held.shadows level).slot (old.held.shadows level).len) stays ∙ pushed_is_told old new level cell a p t) r.answer.told)
 
 -- a shadow after a push stands where it stood
 after_push_slot : {A : Type 0} (span : ℕ) (shadow : Shadow) (result : Result A PushFault) → (after_push span shadow result).slot ≡ shadow.slot
@@ -152,5 +154,5 @@ after_push_slot span shadow (Err push.Device) = refl
 after_push_slot span shadow (Err (push.Overfull level)) = refl
 
 -- a push leaves the shadow in its slot
-pub slot_stays : {A : Type 0} {old new : Held} {before now : Spent} {level : ℕ} {cell : Cell} {result : Result A PushFault} → Pushes old new before now level cell result → (new.shadows level).slot ≡ (old.shadows level).slot
-slot_stays {A} {old} {new} {before} {now} {level} {cell} {result} p = ap (λ shadow. shadow.slot) p.shadow_is ∙ after_push_slot (span old) (old.shadows level) result
+pub slot_stays : {A : Type 0} {old new : State} {level : ℕ} {cell : Cell} {result : Result A PushFault} → Pushes old new level cell result → (new.held.shadows level).slot ≡ (old.held.shadows level).slot
+slot_stays {A} {old} {new} {level} {cell} {result} p = ap (λ shadow. shadow.slot) p.shadow_is ∙ after_push_slot (span old.held) (old.held.shadows level) result

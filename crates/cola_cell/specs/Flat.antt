@@ -12,6 +12,7 @@ use Rattle.cola_cell.specs.Format.{CellFits}
 use Rattle.cola_cell.specs.Places.{slot_size, number_of}
 use Rattle.cola_cell.specs.Held.{Held, Spot, Spots, Bad, Told, as_cell}
 use Rattle.cola_cell.specs.Spent.{Spent}
+use Rattle.cola_cell.specs.State.{State}
 use Rattle.cola_cell.specs.Shadows.{emptied}
 
 -- how many levels; the cells by number, with none where none was set; the shadows by level; the accesses so far, the numbers of those that fail, the faults and the ticks
@@ -77,6 +78,10 @@ held_of flat =
 -- what they spend: no block is ever turned to or written
 abbrev pub spent_of : Flat → Spent
 spent_of flat = record { faults = flat.faults; ticked = flat.ticked; turned = 0; written = 0; lasts = λ buffer. None }
+
+-- its state
+abbrev pub state_of : Flat → State
+state_of flat = record { held = held_of flat; spent = spent_of flat }
 
 -- one more, by a count that ends at the last value of u64
 abbrev pub one_more : ℕ → ℕ

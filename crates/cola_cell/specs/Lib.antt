@@ -13,3 +13,8 @@ pub mod Costs
 pub mod Flat
 pub mod Decoded
 pub mod Packed
+pub mod State
+pub mod Reads
+pub mod ToldCells
+pub mod Looks
+pub mod Shapes

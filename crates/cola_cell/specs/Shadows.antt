@@ -8,6 +8,7 @@ use Rattle.cola_cell.specs.declared.sink.Shadow.{Shadow}
 use Rattle.cola_cell.specs.Places.{slot_size, Block, block_of}
 use Rattle.cola_cell.specs.Held.{Held, is_untold, with_cell, as_cell, span, IsElsewhere}
 use Rattle.cola_cell.specs.Spent.{Buffer, Spent, Ticks}
+use Rattle.cola_cell.specs.State.{State}
 
 -- an empty shadow in this slot: there is nothing that could be lost
 abbrev pub emptied : ℕ → Shadow
@@ -37,13 +38,14 @@ after_push span shadow (Err Device) = record { slot = shadow.slot; len = shadow.
 after_push span shadow (Err (Overfull _)) = shadow
 
 -- what a push says by its answer: the cell stands at the shadow's end where there was room; or the device failed where there was room; or there was none, and nothing changed
-abbrev pub PushAnswers : {A : Type 0} (old new : Held) (before now : Spent) (level : ℕ) (cell : Cell) → Result A PushFault → Type 0
-PushAnswers old new before now level cell (Ok _) =
-    ((old.shadows level).len < slot_size level)
-    × (new.spots level (old.shadows level).slot (old.shadows level).len ≡ with_cell (old.spots level (old.shadows level).slot (old.shadows level).len) (as_cell cell))
-PushAnswers old new before now level cell (Err Device) = ((old.shadows level).len < slot_size level) × Rose before.faults now.faults
-PushAnswers old new before now level cell (Err (Overfull number)) =
-    ((old.shadows level).len ≡ slot_size level) × (number ≡ level) × (new ≡ old) × (now ≡ before)
+abbrev pub PushAnswers : {A : Type 0} (old new : State) (level : ℕ) (cell : Cell) → Result A PushFault → Type 0
+PushAnswers old new level cell (Ok _) =
+    ((old.held.shadows level).len < slot_size level)
+    × (new.held.spots level (old.held.shadows level).slot (old.held.shadows level).len
+    ≡ with_cell (old.held.spots level (old.held.shadows level).slot (old.held.shadows level).len) (as_cell cell))
+PushAnswers old new level cell (Err Device) = ((old.held.shadows level).len < slot_size level) × Rose old.spent.faults new.spent.faults
+PushAnswers old new level cell (Err (Overfull number)) =
+    ((old.held.shadows level).len ≡ slot_size level) × (number ≡ level) × (new.held ≡ old.held) × (new.spent ≡ old.spent)
 
 -- no fault was counted, unless the answer is the device's fault
 abbrev pub WriteCalm : {A : Type 0} (before now : ℕ) → Result A PushFault → Type 0
@@ -52,12 +54,13 @@ WriteCalm before now (Err Device) = ⊤
 WriteCalm before now (Err (Overfull _)) = now ≡ before
 
 -- a push: what it answers, and that no place but the shadow's end changes
-pub record Pushes {A : Type 0} (old new : Held) (before now : Spent) (level : ℕ) (cell : Cell) (result : Result A PushFault) : Type 0 where
-  pub around : StaysAround old new level
-  pub answer : PushAnswers old new before now level cell result
-  pub calm : WriteCalm before.faults now.faults result
-  pub shadow_is : new.shadows level ≡ after_push (span old) (old.shadows level) result
-  pub others_stay : (l s i : ℕ) → IsElsewhere level (old.shadows level).slot (old.shadows level).len l s i → new.spots l s i ≡ old.spots l s i
+pub record Pushes {A : Type 0} (old new : State) (level : ℕ) (cell : Cell) (result : Result A PushFault) : Type 0 where
+  pub around : StaysAround old.held new.held level
+  pub answer : PushAnswers old new level cell result
+  pub calm : WriteCalm old.spent.faults new.spent.faults result
+  pub shadow_is : new.held.shadows level ≡ after_push (span old.held) (old.held.shadows level) result
+  pub others_stay : (l s i : ℕ) → IsElsewhere level (old.held.shadows level).slot (old.held.shadows level).len l s i →
+      new.held.spots l s i ≡ old.held.spots l s i
 
 -- the ticks of a push: none where there was no room
 abbrev pub push_ticks : {A : Type 0} → Result A PushFault → ℕ
@@ -84,9 +87,9 @@ pub record Writes (old new : Spent) (ticks : ℕ) (block : Block) : Type 0 where
   pub lasts_forget : (buffer : Buffer) → Forgets block (old.lasts buffer) (new.lasts buffer)
 
 -- what a push spends: it writes only where it fills a block, or would
-pub record PushSpends {A : Type 0} (held : Held) (old new : Spent) (level : ℕ) (result : Result A PushFault) : Type 0 where
-  pub writes : Writes old new (push_ticks result) (block_of (span held) level (held.shadows level).slot (held.shadows level).len)
-  pub only_full : ((held.shadows level).len + 1) % span held ≢ 0 → WritesNothing old new
+pub record PushSpends {A : Type 0} (old new : State) (level : ℕ) (result : Result A PushFault) : Type 0 where
+  pub writes : Writes old.spent new.spent (push_ticks result) (block_of (span old.held) level (old.held.shadows level).slot (old.held.shadows level).len)
+  pub only_full : ((old.held.shadows level).len + 1) % span old.held ≢ 0 → WritesNothing old.spent new.spent
 
 -- what a finish says by its answer: the device's fault has its cause and comes only where something was to be written
 abbrev pub FinishAnswers : {A : Type 0} (held : Held) (before now level : ℕ) → Result A PushFault → Type 0
@@ -95,14 +98,15 @@ FinishAnswers held before now level (Err Device) = Rose before now × ((held.sha
 FinishAnswers held before now level (Err (Overfull _)) = ⊥
 
 -- a finish: afterwards the shadow is on the device where it is accepted, and no place changes but those behind the shadow in its slot
-pub record Finishes {A : Type 0} (old new : Held) (before now : Spent) (level : ℕ) (result : Result A PushFault) : Type 0 where
-  pub around : StaysAround old new level
-  pub answer : FinishAnswers old before.faults now.faults level result
-  pub calm : WriteCalm before.faults now.faults result
-  pub shadow_is : new.shadows level ≡ record (old.shadows level) { saved = is_ok result }
-  pub others_stay : (l s i : ℕ) → (l ≢ level) ⊎ (s ≢ (old.shadows level).slot) ⊎ (i < (old.shadows level).len) → new.spots l s i ≡ old.spots l s i
+pub record Finishes {A : Type 0} (old new : State) (level : ℕ) (result : Result A PushFault) : Type 0 where
+  pub around : StaysAround old.held new.held level
+  pub answer : FinishAnswers old.held old.spent.faults new.spent.faults level result
+  pub calm : WriteCalm old.spent.faults new.spent.faults result
+  pub shadow_is : new.held.shadows level ≡ record (old.held.shadows level) { saved = is_ok result }
+  pub others_stay : (l s i : ℕ) → (l ≢ level) ⊎ (s ≢ (old.held.shadows level).slot) ⊎ (i < (old.held.shadows level).len) →
+      new.held.spots l s i ≡ old.held.spots l s i
 
 -- what a finish spends: no tick, and it writes only what is not on the device, and nothing where slots are smaller than a block
-pub record FinishSpends (held : Held) (old new : Spent) (level : ℕ) : Type 0 where
-  pub writes : Writes old new 0 (block_of (span held) level (held.shadows level).slot (held.shadows level).len)
-  pub only_needed : IsKept held level → WritesNothing old new
+pub record FinishSpends (old new : State) (level : ℕ) : Type 0 where
+  pub writes : Writes old.spent new.spent 0 (block_of (span old.held) level (old.held.shadows level).slot (old.held.shadows level).len)
+  pub only_needed : IsKept old.held level → WritesNothing old.spent new.spent

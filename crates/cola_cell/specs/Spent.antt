@@ -52,18 +52,3 @@ abbrev pub ReadCalm : {T : Type 0} (before now : ℕ) → Result T ReadFault →
 ReadCalm before now (Ok answer) = now ≡ before
 ReadCalm before now (Err Device) = ⊤
 ReadCalm before now (Err (BadCell number)) = now ≡ before
-
--- a read by way of a buffer: what it answers, its one tick, and the at most one block that it turns to
-pub record Reads (held : Held) (old new : Spent) (buffer : Buffer) (level slot index : ℕ) (result : Result Cell ReadFault) : Type 0 where
-  pub answer : ReadAnswers held old.faults new.faults level slot index result
-  pub faults_stay : old.faults ≤ new.faults
-  pub calm : ReadCalm old.faults new.faults result
-  pub one_tick : Ticks old.ticked new.ticked 1
-  pub written_is : new.written ≡ old.written
-  pub turned_stays : old.turned ≤ new.turned
-  pub turned_rises : new.turned ≤ old.turned + 1
-  pub in_last : old.lasts buffer ≡ Some (block_of (span held) level slot index) → StaysAt old new buffer
-  pub in_small : slot_size level < span held → StaysAt old new buffer
-  pub moves : OnOk result (old.turned < new.turned → new.lasts buffer ≡ Some (block_of (span held) level slot index))
-  pub keeps : OnOk result (new.turned ≡ old.turned → (new.lasts buffer ≡ old.lasts buffer) ⊎ (new.lasts buffer ≡ Some (block_of (span held) level slot index)))
-  pub others_stay : (other : Buffer) → other ≢ buffer → new.lasts other ≡ old.lasts other

@@ -28,6 +28,9 @@ pub enum Cell {
     },
 }
 
+/// The most levels that an object of cells has.
+pub const MOST_LEVELS: usize = 23;
+
 /// The run of the first `len` cells of a level's slot. A level has slots 0 and 1.
 #[derive(Clone, Copy, Debug, Default, PartialEq, Eq, Drop)]
 pub struct Run {

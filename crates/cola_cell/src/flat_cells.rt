@@ -5,7 +5,7 @@ ghost use Rattle.cola_cell.specs.Format.{CellFits};
 ghost use Rattle.cola_cell.specs.Places.{slot_size, number_of, IsPlace};
 ghost use Rattle.cola_cell.specs.Shadows.{emptied, push_ticks};
 ghost use Rattle.cola_cell.specs.Packed.{given, passed, MayPass};
-ghost use Rattle.cola_cell.specs.Flat.{IsFlat, new_cells, held_of, spent_of, next_fails, after_access, read_answer, with_cell_at, with_shadow, longer, shadow_at, push_answer, after_push, after_finish};
+ghost use Rattle.cola_cell.specs.Flat.{IsFlat, new_cells, state_of, next_fails, after_access, read_answer, with_cell_at, with_shadow, longer, shadow_at, push_answer, after_push, after_finish};
 
 use crate::cell::{Cell, Item, Reader};
 use crate::fault::{PushFault, ReadFault};
@@ -139,9 +139,7 @@ impl FlatCells {
 }
 
 impl CellSource for FlatCells {
-    ghost held = { held_of };
-
-    ghost spent = { spent_of };
+    ghost state = { state_of };
 
     ghost kept = { λ _. tt };
 

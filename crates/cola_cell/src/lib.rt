@@ -18,9 +18,10 @@ mod short;
 mod sink;
 mod source;
 mod spelling;
+pub mod told_laws;
 mod value;
 
-pub use cell::{Cell, Item, Reader, Run};
+pub use cell::{Cell, Item, MOST_LEVELS, Reader, Run};
 pub use fault::{PushFault, ReadFault, StepFault};
 pub use flat_cells::FlatCells;
 pub use format::Format;
@@ -29,5 +30,5 @@ pub use law::{cell_is_one, decoding_gives_back, decoding_is_a_function, spelling
 pub use packed::{Packed, Pass};
 pub use sink::{CellSink, Shadow};
 pub use source::CellSource;
-pub use spelling::{decode, decode_wide, encode, encode_wide};
+pub use spelling::{LAST_STAMP, decode, decode_wide, encode, encode_wide};
 pub use value::Value;

@@ -243,7 +243,8 @@ impl Packed {
     #[inline]
     pub fn refill(&mut self, format: Format, bytes: &[u8]) -> bool
         requires { length bytes.now ≡ width format }
-        ensures cell { MatchBool result (IsSpelling format self.new bytes.now) (IsNoSpelling format bytes.now) }
+        ensures cell { MatchBool result (IsSpelling format self.new bytes.now)
+            (IsNoSpelling format bytes.now) }
         ensures stays { IsFalse result → self.new ≡ self.old }
     {
         if !is_cell(format, bytes) {
@@ -373,7 +374,8 @@ impl Packed {
 #[inline(always)]
 pub(crate) fn is_cell(format: Format, bytes: &[u8]) -> bool
     requires { length bytes.now ≡ width format }
-    ensures { MatchBool result (IsSpelling format (standing format bytes.now) bytes.now) (IsNoSpelling format bytes.now) }
+    ensures { MatchBool result (IsSpelling format (standing format bytes.now) bytes.now)
+        (IsNoSpelling format bytes.now) }
 {
     let key_room = &bytes[format.key_at()..format.value_at()];
     let value_room = &bytes[format.value_at()..format.width()];
@@ -407,7 +409,8 @@ fn key_cmp_in(format: Format, bytes: &[u8], key: &Key) -> Ordering
 fn cmp_keys_in(format: Format, left: &[u8], right: &[u8]) -> Ordering
     requires left { IsSpelling format (standing format left.now) left.now }
     requires right { IsSpelling format (standing format right.now) right.now }
-    ensures { result ≡ key_cmp (key_of (standing format left.now)) (key_of (standing format right.now)) }
+    ensures { result ≡ key_cmp (key_of (standing format left.now))
+        (key_of (standing format right.now)) }
 {
     let from = format.key_at();
     let to = format.value_at();
@@ -509,7 +512,8 @@ fn fits_in(format: Format, bytes: &[u8])
 fn know_in(own: Format, bytes: &[u8], format: Format)
     requires spelled { IsSpelling own (standing own bytes.now) bytes.now }
     requires fits { CellFits format (standing own bytes.now) }
-    ensures { IsSpelling format (standing own bytes.now) (spelling format (standing own bytes.now)) }
+    ensures { IsSpelling format (standing own bytes.now)
+        (spelling format (standing own bytes.now)) }
 {}
 
 /// Writes the lookahead cell of the key of a cell.

@@ -142,7 +142,8 @@ fn put_word(room: &[u8], place: usize, into: &mut [u8])
     requires low { place ≤ 64 }
     requires fits { length room.now ≤ length into.old }
     requires front { take place into.old ≡ take place (padded (length into.old) room.now) }
-    ensures front { take (place + 8) into.new ≡ take (place + 8) (padded (length into.old) room.now) }
+    ensures front { take (place + 8) into.new
+        ≡ take (place + 8) (padded (length into.old) room.now) }
     ensures size { length into.new ≡ length into.old }
 {
     if place < into.len() {
@@ -155,7 +156,8 @@ fn put_word(room: &[u8], place: usize, into: &mut [u8])
 fn word_at(room: &[u8], place: usize) -> u64
     requires words { length room.now % 8 ≡ 0 }
     requires word { place % 8 ≡ 0 }
-    ensures { (n : ℕ) → place + 8 ≤ n → little_bytes 8 result ≡ take 8 (drop place (padded n room.now)) }
+    ensures { (n : ℕ) → place + 8 ≤ n → little_bytes 8 result
+        ≡ take 8 (drop place (padded n room.now)) }
 {
     if place >= room.len() {
         return 0;
@@ -169,7 +171,8 @@ fn word_at(room: &[u8], place: usize) -> u64
 pub fn is_filled(room: &[u8], len: u8) -> bool
     requires words { length room.now % 8 ≡ 0 }
     requires small { length room.now ≤ 72 }
-    ensures { MatchBool result (Fills room.now len (take len room.now)) ((list : List ℕ) → ¬ Fills room.now len list) }
+    ensures { MatchBool result (Fills room.now len (take len room.now)) ((list : List ℕ) →
+        ¬ Fills room.now len list) }
 {
     len as usize <= room.len() && is_zero_from(room, len as usize)
 }

@@ -27,11 +27,12 @@ pub trait CellSink: CellSource {
     /// Empties the level's shadow and places it in this slot. The cells of the shadow that it gives up stay
     /// where they are all on the device, or where a slot of the level is smaller than a block.
     fn restart(&mut self, level: u8, slot: u8)
-        requires level_in { level < (Self.held self.old).fixed.levels }
+        requires level_in { level < (Self.state self.old).held.fixed.levels }
         requires slot_in { slot < 2 }
         ensures kept { Self.kept self.new ≡ Self.kept self.old }
-        ensures restarts { Restarts (Self.held self.old) (Self.held self.new) level slot }
-        ensures spends_nothing { Self.spent self.new ≡ Self.spent self.old };
+        ensures restarts { Restarts (Self.state self.old).held
+            (Self.state self.new).held level slot }
+        ensures spends_nothing { (Self.state self.new).spent ≡ (Self.state self.old).spent };
 
     /// Appends a cell to the level's shadow, which stands in this slot. It is refused as overfull exactly
     /// where the shadow fills its slot, before any tick; and where the device failed, which leaves the
@@ -43,13 +44,13 @@ pub trait CellSink: CellSource {
         cell: &Cell,
         steps: &mut Steps<L>,
     ) -> Result<(), PushFault>
-        requires level_in { level < (Self.held self.old).fixed.levels }
-        requires in_slot { slot ≡ ((Self.held self.old).shadows level).slot }
-        requires fits { CellFits (Self.held self.old).fixed.format cell.now }
+        requires level_in { level < (Self.state self.old).held.fixed.levels }
+        requires in_slot { slot ≡ ((Self.state self.old).held.shadows level).slot }
+        requires fits { CellFits (Self.state self.old).held.fixed.format cell.now }
         ensures kept { Self.kept self.new ≡ Self.kept self.old }
         ensures ticks { steps.new ≡ steps.old + push_ticks result }
-        ensures pushes { Pushes (Self.held self.old) (Self.held self.new) (Self.spent self.old) (Self.spent self.new) level cell.now result }
-        ensures spends { PushSpends (Self.held self.old) (Self.spent self.old) (Self.spent self.new) level result };
+        ensures pushes { Pushes (Self.state self.old) (Self.state self.new) level cell.now result }
+        ensures spends { PushSpends (Self.state self.old) (Self.state self.new) level result };
 
     /// As `push`, of what becomes of a packed cell.
     fn push_as<L: Ledger>(
@@ -60,27 +61,28 @@ pub trait CellSink: CellSource {
         pass: Pass,
         steps: &mut Steps<L>,
     ) -> Result<(), PushFault>
-        requires level_in { level < (Self.held self.old).fixed.levels }
-        requires in_slot { slot ≡ ((Self.held self.old).shadows level).slot }
+        requires level_in { level < (Self.state self.old).held.fixed.levels }
+        requires in_slot { slot ≡ ((Self.state self.old).held.shadows level).slot }
         requires may { MayPass pass cell.now }
-        requires fits { CellFits (Self.held self.old).fixed.format cell.now }
+        requires fits { CellFits (Self.state self.old).held.fixed.format cell.now }
         ensures kept { Self.kept self.new ≡ Self.kept self.old }
         ensures ticks { steps.new ≡ steps.old + push_ticks result }
-        ensures pushes { Pushes (Self.held self.old) (Self.held self.new) (Self.spent self.old) (Self.spent self.new) level (passed pass cell.now) result }
-        ensures spends { PushSpends (Self.held self.old) (Self.spent self.old) (Self.spent self.new) level result };
+        ensures pushes { Pushes (Self.state self.old) (Self.state self.new) level
+            (passed pass cell.now) result }
+        ensures spends { PushSpends (Self.state self.old) (Self.state self.new) level result };
 
     /// Writes to the device what is not yet there of the level's shadow. It is refused only where the device
     /// failed, and changes no cell of the shadow.
     fn finish(&mut self, level: u8) -> Result<(), PushFault>
-        requires { level < (Self.held self.old).fixed.levels }
+        requires { level < (Self.state self.old).held.fixed.levels }
         ensures kept { Self.kept self.new ≡ Self.kept self.old }
-        ensures finishes { Finishes (Self.held self.old) (Self.held self.new) (Self.spent self.old) (Self.spent self.new) level result }
-        ensures spends { FinishSpends (Self.held self.old) (Self.spent self.old) (Self.spent self.new) level };
+        ensures finishes { Finishes (Self.state self.old) (Self.state self.new) level result }
+        ensures spends { FinishSpends (Self.state self.old) (Self.state self.new) level };
 
     /// The length of the level's shadow, in cells.
     fn shadow_len(&self, level: u8) -> u32
-        requires { level < (Self.held self.now).fixed.levels }
-        ensures value { result ≡ ((Self.held self.now).shadows level).len }
+        requires { level < (Self.state self.now).held.fixed.levels }
+        ensures value { result ≡ ((Self.state self.now).held.shadows level).len }
         ensures within { result ≤ slot_size level }
-        ensures slot { ((Self.held self.now).shadows level).slot < 2 };
+        ensures slot { ((Self.state self.now).held.shadows level).slot < 2 };
 }

@@ -1,8 +1,10 @@
 //! Objects of cells that are read.
 ghost use Rattle.std.specs.Prelude.{◌≡◌, ◌+◌, ◌%◌, ◌^◌, ◌≤◌};
-ghost use Rattle.cola_cell.specs.Held.{Held, HasPlace};
+ghost use Rattle.cola_cell.specs.Held.{HasPlace};
 ghost use Rattle.cola_cell.specs.Packed.{given};
-ghost use Rattle.cola_cell.specs.Spent.{Spent, Search, By, Reads};
+ghost use Rattle.cola_cell.specs.Reads.{Reads};
+ghost use Rattle.cola_cell.specs.Spent.{Search, By};
+ghost use Rattle.cola_cell.specs.State.{State};
 
 use crate::cell::{Cell, Reader};
 use crate::fault::ReadFault;
@@ -18,13 +20,11 @@ use std::sync::ledger::Ledger;
 /// power of two times as many; the object has one place for the block that searches and cursors read last,
 /// and one for each reader and level.
 pub trait CellSource {
-    /// The cells that it holds, and how the shadow of each level stands.
-    ghost held: { Self → Held };
+    /// Its state: the cells that it holds and how the shadow of each level stands; and what it has spent, which is its
+    /// counts of faults, ticks and blocks, and the blocks that were read last.
+    ghost state: { Self → State };
 
-    /// Its counts of faults, ticks and blocks, and the blocks that were read last.
-    ghost spent: { Self → Spent };
-
-    /// What it has beside its cells and counts, of which a caller may want to know that no call changes it: an
+    /// What it has beside its state, of which a caller may want to know that no call changes it: an
     /// object over a device may name the device's size and the bytes behind its cells, one over a cache its size.
     ghost Kept: { Type 0 } = { Unit {0} };
 
@@ -39,11 +39,10 @@ pub trait CellSource {
         index: u32,
         steps: &mut Steps<L>,
     ) -> Result<Cell, ReadFault>
-        requires { HasPlace (held self.old) level slot index }
-        ensures cells_stay { held self.new ≡ held self.old }
+        requires { HasPlace (state self.old).held level slot index }
         ensures kept { kept self.new ≡ kept self.old }
         ensures one_tick { steps.new ≡ steps.old + 1 }
-        ensures reads { Reads (held self.old) (spent self.old) (spent self.new) Search level slot index result };
+        ensures reads { Reads (state self.old) (state self.new) Search level slot index result };
 
     /// The cell at a place, for a source of a merge: as `read`, by the place that this reader has for the
     /// level's last block.
@@ -55,11 +54,11 @@ pub trait CellSource {
         index: u32,
         steps: &mut Steps<L>,
     ) -> Result<Cell, ReadFault>
-        requires { HasPlace (held self.old) level slot index }
-        ensures cells_stay { held self.new ≡ held self.old }
+        requires { HasPlace (state self.old).held level slot index }
         ensures kept { kept self.new ≡ kept self.old }
         ensures one_tick { steps.new ≡ steps.old + 1 }
-        ensures reads { Reads (held self.old) (spent self.old) (spent self.new) (By reader level) level slot index result };
+        ensures reads { Reads (state self.old) (state self.new)
+            (By reader level) level slot index result };
 
     /// As `read`, into a packed cell. Where it is refused, that has any cell.
     fn read_into<L: Ledger>(
@@ -70,11 +69,11 @@ pub trait CellSource {
         into: &mut Packed,
         steps: &mut Steps<L>,
     ) -> Result<(), ReadFault>
-        requires { HasPlace (held self.old) level slot index }
-        ensures cells_stay { held self.new ≡ held self.old }
+        requires { HasPlace (state self.old).held level slot index }
         ensures kept { kept self.new ≡ kept self.old }
         ensures one_tick { steps.new ≡ steps.old + 1 }
-        ensures reads { Reads (held self.old) (spent self.old) (spent self.new) Search level slot index (given into.new result) };
+        ensures reads { Reads (state self.old) (state self.new) Search level slot index
+            (given into.new result) };
 
     /// As `read_for`, into a packed cell. Where it is refused, that has any cell.
     fn read_for_into<L: Ledger>(
@@ -86,14 +85,14 @@ pub trait CellSource {
         into: &mut Packed,
         steps: &mut Steps<L>,
     ) -> Result<(), ReadFault>
-        requires { HasPlace (held self.old) level slot index }
-        ensures cells_stay { held self.new ≡ held self.old }
+        requires { HasPlace (state self.old).held level slot index }
         ensures kept { kept self.new ≡ kept self.old }
         ensures one_tick { steps.new ≡ steps.old + 1 }
-        ensures reads { Reads (held self.old) (spent self.old) (spent self.new) (By reader level) level slot index (given into.new result) };
+        ensures reads { Reads (state self.old) (state self.new) (By reader level) level slot index
+            (given into.new result) };
 
     /// How many ticks it has made, modulo `2^64`.
     fn ticked(&self) -> u64
-        ensures value { result ≡ (spent self.now).ticked % 2 ^ 64 }
-        ensures levels { (held self.now).fixed.levels ≤ 23 };
+        ensures value { result ≡ (state self.now).spent.ticked % 2 ^ 64 }
+        ensures levels { (state self.now).held.fixed.levels ≤ 23 };
 }

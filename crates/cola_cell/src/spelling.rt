@@ -14,7 +14,7 @@ use crate::value::Value;
 use byteorder::{ByteOrder, LittleEndian};
 
 /// The largest stamp.
-const LAST_STAMP: u64 = 1 << 63;
+pub const LAST_STAMP: u64 = 1 << 63;
 
 /// Zeros in the place of a value.
 static NO_VALUE: [u8; 72] = [0; 72];
@@ -110,7 +110,8 @@ pub(crate) fn put_stamp(format: Format, stamp: u64, into: &mut [u8])
 // Bytes 0 to 3: kind, youth, and the lengths of key and value.
 #[inline(always)]
 fn head(cell: &Cell) -> [u8; 4]
-    ensures { result ≡ kind_of cell.now ∷ young_of cell.now ∷ length (key_of cell.now) ∷ length (value_of cell.now) ∷ [] }
+    ensures { result ≡ kind_of cell.now ∷ young_of cell.now ∷ length (key_of cell.now) ∷ length
+        (value_of cell.now) ∷ [] }
 {
     match cell {
         Cell::Item {
@@ -226,7 +227,8 @@ pub(crate) fn is_kind(kind: u8, young: u8, value_len: u8, stamp: u64) -> bool
 #[inline(always)]
 pub(crate) fn stamp_in(format: Format, bytes: &[u8]) -> Option<u64>
     requires { length bytes.now ≡ width format }
-    ensures { MatchOption result ((stamp : ℕ) → ¬ StampIs format stamp bytes.now) (λ stamp. StampIs format stamp bytes.now) }
+    ensures { MatchOption result ((stamp : ℕ) → ¬ StampIs format stamp bytes.now)
+        (λ stamp. StampIs format stamp bytes.now) }
 {
     if let Format::One = format {
         return Some(0);

@@ -22,7 +22,7 @@ use Rattle.cola_level.specs.declared.level.Level.{Level}
 use Rattle.cola_level.specs.Marks.{all_marks_of}
 use Rattle.cola_level.specs.Standing.{transfers_of, is_kept}
 use Rattle.cola_mutation.specs.Levels.{IsChain}
-use Rattle.cola_mutation.specs.Work.{State, transfers}
+use Rattle.cola_mutation.specs.Work.{WorkState, transfers}
 use Rattle.cola_mutation.specs.Standing.{AllTrade}
 use Rattle.cola_run.specs.Cells.{block_cells}
 use Rattle.cola_run.proofs.Reading.{span-is}
@@ -166,7 +166,7 @@ one_more : (m : ℕ) → min (suc m) last_value ≡ added m 1
 one_more m = ap (λ (n : ℕ). min n last_value) (let e : suc m ≡ m + 1 = omega arith in e)
 
 -- the account of the levels after an accepted step, at a clock that is the next one
-pub paid-next : (s u : State) (t next m b d : ℕ) (levels after : List Level) → 2 ≤ length levels → IsChain u.held next after → next ≡ next_clock (length levels) t → u.held.fixed ≡ s.held.fixed →
+pub paid-next : (s u : WorkState) (t next m b d : ℕ) (levels after : List Level) → 2 ≤ length levels → IsChain u.held next after → next ≡ next_clock (length levels) t → u.held.fixed ≡ s.held.fixed →
     s.spent.turned ≤ u.spent.turned → s.spent.written ≤ u.spent.written → AllTrade t s u levels after →
     ArePaid s.held.fixed.doublings m t levels (sums_of s.held s.spent b d) →
     ArePaid u.held.fixed.doublings (added m 1) next after (sums_of u.held u.spent (added b (u.spent.turned - s.spent.turned)) (added d (u.spent.written - s.spent.written)))
@@ -267,8 +267,8 @@ pub paid-step : {D : Type 0} (bytes : D → Option (List ℕ)) (counts : D → C
     IsPaid bytes counts old → IsPaid bytes counts new
 paid-step bytes counts old new from to many chain clock fixed turned written trades accepted reads writes paid = record {
   paid =
-      let s : State = record { held = held_of bytes old; spent = spent_of counts old; steps = from } in
-      let u : State = record { held = held_of bytes new; spent = spent_of counts new; steps = to } in
+      let s : WorkState = record { held = held_of bytes old; spent = spent_of counts old; steps = from } in
+      let u : WorkState = record { held = held_of bytes new; spent = spent_of counts new; steps = to } in
       let done = paid-next s u old.clock new.clock old.accepted old.reads old.writes old.levels new.levels many chain clock fixed turned written trades paid.paid in
       subst (λ (n : ℕ). ArePaid (held_of bytes new).fixed.doublings n new.clock new.levels (sums_of (held_of bytes new) (spent_of counts new) new.reads new.writes)) (sym accepted)
       (subst (λ (n : ℕ). ArePaid (held_of bytes new).fixed.doublings (added old.accepted 1) new.clock new.levels (sums_of (held_of bytes new) (spent_of counts new) n new.writes)) (sym reads)

@@ -3,3 +3,4 @@ pub mod Account
 pub mod Headers
 pub mod Searching
 pub mod Beginning
+pub mod Stepping

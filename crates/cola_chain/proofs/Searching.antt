@@ -13,9 +13,9 @@ use Rattle.cola_laws.proofs.Facts.{visible-sampled}
 use Rattle.cola_cell.specs.declared.cell.Run.{Run}
 use Rattle.cola_cell.specs.Held.{Held, LawCell, Stamped}
 use Rattle.cola_cell.specs.Order.{key_cmp}
-use Rattle.cola_told.specs.Cells.{cells}
-use Rattle.cola_told.proofs.CellLists.{length-cells}
-use Rattle.cola_told.proofs.ToldRuns.{told_is}
+use Rattle.cola_cell.specs.ToldCells.{cells}
+use Rattle.cola_cell.proofs.CellLists.{length-cells}
+use Rattle.cola_cell.proofs.ToldRuns.{told_is}
 use Rattle.cola_image.specs.Standing.{AreRunsTold}
 use Rattle.cola_look.specs.Runs.{HasRun, AreRuns, BeginsNear}
 use Rattle.cola_level.specs.declared.level.Level.{Level}

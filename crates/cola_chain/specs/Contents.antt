@@ -2,6 +2,7 @@
 use Rattle.std.specs.Prelude.{ℕ, Bool, List, Option}
 use Rattle.cola_cell.specs.Held.{Held}
 use Rattle.cola_cell.specs.Spent.{Spent}
+use Rattle.cola_cell.specs.State.{State}
 use Rattle.cola_device.specs.declared.counts.Counts.{Counts}
 use Rattle.cola_level.specs.declared.level.Level.{Level}
 use Rattle.cola_run.specs.Store as run
@@ -24,6 +25,10 @@ held_of bytes chain = run.held_of bytes chain.store
 -- what it spends: what its store does
 abbrev pub spent_of : {D : Type 0} → (D → Counts) → Contents D → Spent
 spent_of counts chain = run.spent_of counts chain.store
+
+-- its state: that of its store
+abbrev pub state_of : {D : Type 0} → (D → Option (List ℕ)) → (D → Counts) → Contents D → State
+state_of bytes counts chain = run.state_of bytes counts chain.store
 
 -- what a chain has beside its cells and counts: what its store has, its levels, its clock, and the numbers of its accepted steps and of the reads and writes in these
 pub record Kept (K : Type 0) : Type 0 where

@@ -1,3 +1,5 @@
 pub mod Contents
 pub mod Account
 pub mod Runs
+pub mod Steps
+pub mod Files

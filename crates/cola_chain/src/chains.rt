@@ -1,29 +1,24 @@
 //! The chain of a store.
-ghost use Rattle.std.specs.Prelude.{◌≡◌, ℕ, ◌+◌, ◌-◌, ◌*◌, ◌/◌, ◌^◌, ◌≤◌, ◌<◌, List, length, All, Option, true, false, IfSome, IfOk, IfErr, OnOk, OnErr, MatchResult};
-ghost use Rattle.cola_spec.specs.Map.{Map};
-ghost use Rattle.cola_laws.specs.Plain.{next_clock};
+ghost use Rattle.std.specs.Prelude.{◌≡◌, ℕ, ◌-◌, ◌*◌, ◌/◌, ◌≤◌, ◌<◌, List, All, Option, true, false, IfSome};
 ghost use Rattle.cola_cell.specs.Format.{KeyFits, ItemFits};
-ghost use Rattle.cola_cell.specs.Held.{Held, Stamped, IsTelling};
+ghost use Rattle.cola_cell.specs.Held.{Stamped};
 ghost use Rattle.cola_layout.specs.Marks.{all_numbers};
-ghost use Rattle.cola_image.specs.Standing.{LevelsStandFor, found_in};
 ghost use Rattle.cola_look.specs.Runs.{HasRun};
 ghost use Rattle.cola_level.specs.Marks.{all_marks_of};
-ghost use Rattle.cola_level.specs.Work.{IsCalm, IsDevice};
-ghost use Rattle.cola_mutation.specs.Work.{state_of, Costs};
-ghost use Rattle.cola_mutation.specs.Standing.{StandsFor, KeepsProgress, KeepsVisible, HasRefusal};
-ghost use Rattle.cola_mutation.specs.Steps.{IsMapOf, ChangesMap, KeepsMap, step_ticks};
-ghost use Rattle.cola_image.specs.Cells.{file_spots};
+ghost use Rattle.cola_mutation.specs.Standing.{StandsFor};
 ghost use Rattle.cola_run.specs.Store as run;
-ghost use Rattle.cola_run.specs.Saving.{IsLoaded, SameReads, AreFileSpots};
-ghost use Rattle.cola_chain.specs.Account.{IsPaid, IsContents, IsBounded, CountsStep};
-ghost use Rattle.cola_chain.specs.Contents.{held_of, spent_of, kept_of};
+ghost use Rattle.cola_run.specs.Saving.{IsLoaded};
+ghost use Rattle.cola_chain.specs.Account.{IsPaid, IsContents, IsBounded};
+ghost use Rattle.cola_chain.specs.Contents.{held_of};
+ghost use Rattle.cola_chain.specs.Files.{StandsForFile, FileStandsFor};
+ghost use Rattle.cola_chain.specs.Steps.{Steps as ChainSteps};
 ghost use Rattle.cola_chain.specs.Runs.{visible_runs, visible_lists, AreSearched};
 
 use crate::counting::{add, rise};
 use crate::lists::{levels_of, marks_of_levels, runs_of};
 use crate::room::Room;
 use arrayvec::ArrayVec;
-use cola_cell::{Item, Key, Run, StepFault};
+use cola_cell::{Item, Key, MOST_LEVELS, Run, StepFault};
 use cola_device::Device;
 use cola_layout::Header;
 use cola_level::Level;
@@ -40,7 +35,7 @@ use std::sync::ledger::Ledger;
 #[derive(Drop)]
 pub struct Chain<D: Device> {
     pub(crate) runs: RunStore<D>,
-    pub(crate) levels: Box<ArrayVec<Level, 23>>,
+    pub(crate) levels: Box<ArrayVec<Level, MOST_LEVELS>>,
     pub(crate) clock: u64,
     pub(crate) accepted: u64,
     pub(crate) reads: u64,
@@ -80,7 +75,7 @@ impl<D: Device> Chain<D> {
     /// stand in the room. It has counted nothing yet.
     pub fn new(runs: RunStore<D>, room: Room, header: &Header) -> Chain<D>
         requires geometry { runs.geometry ≡ header.now.geometry }
-        requires loaded { IsLoaded header.now (run.held_of D.bytes runs) (D.bytes runs.buffers.cache.device) }
+        requires loaded { IsLoaded header.now (run.held_of D.bytes runs) (D.bytes (run.device_of runs)) }
         ensures store { result.store ≡ runs }
         ensures clock { result.clock ≡ header.now.clock }
         ensures marks { all_marks_of result.levels ≡ all_numbers header.now.levels.items }
@@ -88,10 +83,8 @@ impl<D: Device> Chain<D> {
         ensures counted { result.counted ≡ true }
         // its account is paid at once, whatever its merges have still to do
         ensures paid { IsPaid D.bytes D.counts result }
-        // and what it means, where the device tells its bytes and the levels of the file stand for a map
-        ensures stands { IfSome (D.bytes runs.buffers.cache.device) (λ bytes. (most : ℕ) (m : Map) → IsTelling (held_of D.bytes result) →
-            LevelsStandFor most header.now.clock (all_numbers header.now.levels.items) (file_spots header.now.geometry.format bytes) m →
-            StandsFor (held_of D.bytes result) most result.clock result.levels (found_in m)) }
+        // and what it means, where the device tells its bytes
+        ensures stands { IfSome (D.bytes (run.device_of runs)) (StandsForFile D.bytes result header.now) }
     {
         Chain {
             runs,
@@ -105,12 +98,14 @@ impl<D: Device> Chain<D> {
     }
 
     /// The visible runs, from level 0 on, as a search and a cursor take them.
-    pub fn visible(&self) -> ArrayVec<Run, 23>
+    pub fn visible(&self) -> ArrayVec<Run, MOST_LEVELS>
         ensures sound { IsContents D.bytes D.counts self.now }
         ensures runs { result.items ≡ visible_runs self.now.clock 0 self.now.levels }
         ensures has { All (HasRun (held_of D.bytes self.now)) result.items }
-        ensures searched { (most : ℕ) (m : List ℕ → Option Stamped) → StandsFor (held_of D.bytes self.now) most self.now.clock self.now.levels m →
-            AreSearched (held_of D.bytes self.now) result.items (visible_lists (held_of D.bytes self.now) self.now.clock self.now.levels) m }
+        ensures searched { (most : ℕ) (m : List ℕ → Option Stamped) →
+            StandsFor (held_of D.bytes self.now) most self.now.clock self.now.levels m →
+            AreSearched (held_of D.bytes self.now) result.items
+            (visible_lists (held_of D.bytes self.now) self.now.clock self.now.levels) m }
     {
         runs_of(self.levels.as_slice(), self.clock)
     }
@@ -133,27 +128,9 @@ impl<D: Device> Chain<D> {
     ) -> Result<(), StepFault>
         requires key_fits { KeyFits (held_of D.bytes self.old).fixed.format key.now }
         requires item_fits { ItemFits (held_of D.bytes self.old).fixed.format item.now }
-        ensures kept { run.kept_of D.bytes D.counts D.kept self.new.store ≡ run.kept_of D.bytes D.counts D.kept self.old.store }
-        ensures fixed { (held_of D.bytes self.new).fixed ≡ (held_of D.bytes self.old).fixed }
-        ensures many { length self.new.levels ≡ length self.old.levels }
-        ensures clock { MatchResult result (λ _. self.new.clock ≡ next_clock (length self.old.levels) self.old.clock) (λ _. self.new.clock ≡ self.old.clock) }
-        ensures progress { OnErr result (KeepsProgress self.old.clock self.old.levels self.new.levels) }
-        ensures visible { OnErr result (KeepsVisible self.old.clock (length self.old.levels) (held_of D.bytes self.old) (held_of D.bytes self.new)) }
-        // what it means
-        ensures changes { OnOk result (ChangesMap (held_of D.bytes self.old) (held_of D.bytes self.new) self.old.clock self.new.clock key.now item.now self.old.levels self.new.levels) }
-        ensures keeps { OnErr result (KeepsMap (held_of D.bytes self.old) (held_of D.bytes self.new) self.old.clock self.old.levels self.new.levels) }
-        // why it was refused
-        ensures only { (most : ℕ) (m : List ℕ → Option Stamped) → IsMapOf (held_of D.bytes self.old) most self.old.clock self.old.levels m → IfErr result IsDevice }
-        ensures cause { IfErr result (HasRefusal (state_of (held_of D.bytes self.new) (spent_of D.counts self.new) steps.new) (spent_of D.counts self.old).faults) }
-        ensures calm { IsCalm (spent_of D.counts self.old).faults (spent_of D.counts self.new).faults result }
-        // what it cost
-        ensures costs { Costs (state_of (held_of D.bytes self.old) (spent_of D.counts self.old) steps.old) (state_of (held_of D.bytes self.new) (spent_of D.counts self.new) steps.new)
-            (step_ticks (length self.old.levels)) (length self.old.levels / 2) }
-        ensures transfers { (spent_of D.counts self.new).turned + (spent_of D.counts self.new).written
-            ≤ (spent_of D.counts self.old).turned + (spent_of D.counts self.old).written + (9 + 60 * (length self.old.levels / 2)) }
-        // how it is counted
-        ensures counts { CountsStep D.counts self.old self.new result }
-        ensures paid { OnOk result (IsPaid D.bytes D.counts self.old → IsPaid D.bytes D.counts self.new) }
+        ensures kept { run.kept_of D.bytes D.counts D.kept self.new.store ≡
+            run.kept_of D.bytes D.counts D.kept self.old.store }
+        ensures steps { ChainSteps D.Device self.old self.new steps.old steps.new key.now item.now result }
     {
         let before = self.runs.transfers();
         match cola_mutation::step(
@@ -189,11 +166,7 @@ impl<D: Device> Chain<D> {
         ensures clock { result.clock ≡ self.now.clock }
         ensures last { result.last ≡ 0 }
         ensures marks { all_numbers result.levels.items ≡ all_marks_of self.now.levels }
-        // a file with this header and the cells of the chain's runs, as a flush leaves it, has levels that stand for the map
-        // for which the chain's do
-        ensures stands { (most : ℕ) (m : Map) (flushed : Held) (bytes : List ℕ) → StandsFor (held_of D.bytes self.now) most self.now.clock self.now.levels (found_in m) →
-            SameReads (held_of D.bytes self.now) flushed → AreFileSpots self.now.store.geometry flushed.spots bytes →
-            LevelsStandFor most result.clock (all_numbers result.levels.items) (file_spots result.geometry.format bytes) m }
+        ensures stands { FileStandsFor D.bytes self.now result }
     {
         let levels = marks_of_levels(self.levels.as_slice());
         Header {

@@ -7,7 +7,7 @@ ghost use Rattle.cola_mutation.specs.Levels.{levels_with};
 ghost use Rattle.cola_chain.specs.Runs.{visible_runs};
 
 use arrayvec::ArrayVec;
-use cola_cell::Run;
+use cola_cell::{MOST_LEVELS, Run};
 use cola_clock::visible_slot;
 use cola_layout::Marks;
 use cola_level::Level;
@@ -26,7 +26,7 @@ fn run_of(level: &Level, number: u8, clock: u64) -> Run
 }
 
 /// The levels with these marks.
-pub(crate) fn levels_of(marks: &[Marks]) -> ArrayVec<Level, 23>
+pub(crate) fn levels_of(marks: &[Marks]) -> ArrayVec<Level, MOST_LEVELS>
     requires { length marks.now ≤ 23 }
     ensures { result.items ≡ levels_with (all_numbers marks.now) }
 {
@@ -38,7 +38,7 @@ pub(crate) fn levels_of(marks: &[Marks]) -> ArrayVec<Level, 23>
 }
 
 /// The marks of these levels.
-pub(crate) fn marks_of_levels(levels: &[Level]) -> ArrayVec<Marks, 23>
+pub(crate) fn marks_of_levels(levels: &[Level]) -> ArrayVec<Marks, MOST_LEVELS>
     requires { length levels.now ≤ 23 }
     ensures numbers { all_numbers result.items ≡ all_marks_of levels.now }
     ensures many { length result.items ≡ length levels.now }
@@ -51,7 +51,7 @@ pub(crate) fn marks_of_levels(levels: &[Level]) -> ArrayVec<Marks, 23>
 }
 
 /// The visible runs of these levels, from level 0 on.
-pub(crate) fn runs_of(levels: &[Level], clock: u64) -> ArrayVec<Run, 23>
+pub(crate) fn runs_of(levels: &[Level], clock: u64) -> ArrayVec<Run, MOST_LEVELS>
     requires levels_in { length levels.now ≤ 23 }
     requires clock_in { clock < 2 ^ 23 }
     ensures { result.items ≡ visible_runs clock 0 levels.now }

@@ -2,8 +2,9 @@
 ghost use Rattle.std.specs.Prelude.{◌≡◌, ◌+◌, ◌%◌, ◌^◌, ◌≤◌, false};
 ghost use Rattle.cola_cell.specs.Held.{HasPlace};
 ghost use Rattle.cola_cell.specs.Packed.{given};
-ghost use Rattle.cola_cell.specs.Spent.{Search, By, Reads};
-ghost use Rattle.cola_chain.specs.Contents.{held_of, spent_of, Kept, kept_of};
+ghost use Rattle.cola_cell.specs.Reads.{Reads};
+ghost use Rattle.cola_cell.specs.Spent.{Search, By};
+ghost use Rattle.cola_chain.specs.Contents.{held_of, state_of, Kept, kept_of};
 
 use crate::chains::Chain;
 use cola_cell::{Cell, CellSource, Packed, ReadFault, Reader};
@@ -12,9 +13,7 @@ use cola_outside::Steps;
 use std::sync::ledger::Ledger;
 
 impl<D: Device> CellSource for Chain<D> {
-    ghost held = { held_of D.bytes };
-
-    ghost spent = { spent_of D.counts };
+    ghost state = { state_of D.bytes D.counts };
 
     ghost Kept = { Kept D.Kept };
 
@@ -29,10 +28,11 @@ impl<D: Device> CellSource for Chain<D> {
         steps: &mut Steps<L>,
     ) -> Result<Cell, ReadFault>
         requires { HasPlace (held_of D.bytes self.old) level slot index }
-        ensures cells_stay { held_of D.bytes self.new ≡ held_of D.bytes self.old }
-        ensures kept { kept_of D.bytes D.counts D.kept self.new ≡ kept_of D.bytes D.counts D.kept self.old }
+        ensures kept { kept_of D.bytes D.counts D.kept self.new ≡
+            kept_of D.bytes D.counts D.kept self.old }
         ensures one_tick { steps.new ≡ steps.old + 1 }
-        ensures reads { Reads (held_of D.bytes self.old) (spent_of D.counts self.old) (spent_of D.counts self.new) Search level slot index result }
+        ensures reads { Reads (state_of D.bytes D.counts self.old)
+            (state_of D.bytes D.counts self.new) Search level slot index result }
         ensures counted { self.new.counted ≡ self.old.counted }
     {
         self.runs.read(level, slot, index, steps)
@@ -49,10 +49,11 @@ impl<D: Device> CellSource for Chain<D> {
         steps: &mut Steps<L>,
     ) -> Result<Cell, ReadFault>
         requires { HasPlace (held_of D.bytes self.old) level slot index }
-        ensures cells_stay { held_of D.bytes self.new ≡ held_of D.bytes self.old }
-        ensures kept { kept_of D.bytes D.counts D.kept self.new ≡ kept_of D.bytes D.counts D.kept self.old }
+        ensures kept { kept_of D.bytes D.counts D.kept self.new ≡
+            kept_of D.bytes D.counts D.kept self.old }
         ensures one_tick { steps.new ≡ steps.old + 1 }
-        ensures reads { Reads (held_of D.bytes self.old) (spent_of D.counts self.old) (spent_of D.counts self.new) (By reader level) level slot index result }
+        ensures reads { Reads (state_of D.bytes D.counts self.old)
+            (state_of D.bytes D.counts self.new) (By reader level) level slot index result }
         ensures counted { self.new.counted ≡ false }
     {
         self.counted = false;
@@ -69,10 +70,11 @@ impl<D: Device> CellSource for Chain<D> {
         steps: &mut Steps<L>,
     ) -> Result<(), ReadFault>
         requires { HasPlace (held_of D.bytes self.old) level slot index }
-        ensures cells_stay { held_of D.bytes self.new ≡ held_of D.bytes self.old }
-        ensures kept { kept_of D.bytes D.counts D.kept self.new ≡ kept_of D.bytes D.counts D.kept self.old }
+        ensures kept { kept_of D.bytes D.counts D.kept self.new ≡
+            kept_of D.bytes D.counts D.kept self.old }
         ensures one_tick { steps.new ≡ steps.old + 1 }
-        ensures reads { Reads (held_of D.bytes self.old) (spent_of D.counts self.old) (spent_of D.counts self.new) Search level slot index (given into.new result) }
+        ensures reads { Reads (state_of D.bytes D.counts self.old)
+            (state_of D.bytes D.counts self.new) Search level slot index (given into.new result) }
         ensures counted { self.new.counted ≡ self.old.counted }
     {
         self.runs.read_into(level, slot, index, into, steps)
@@ -89,10 +91,11 @@ impl<D: Device> CellSource for Chain<D> {
         steps: &mut Steps<L>,
     ) -> Result<(), ReadFault>
         requires { HasPlace (held_of D.bytes self.old) level slot index }
-        ensures cells_stay { held_of D.bytes self.new ≡ held_of D.bytes self.old }
-        ensures kept { kept_of D.bytes D.counts D.kept self.new ≡ kept_of D.bytes D.counts D.kept self.old }
+        ensures kept { kept_of D.bytes D.counts D.kept self.new ≡
+            kept_of D.bytes D.counts D.kept self.old }
         ensures one_tick { steps.new ≡ steps.old + 1 }
-        ensures reads { Reads (held_of D.bytes self.old) (spent_of D.counts self.old) (spent_of D.counts self.new) (By reader level) level slot index (given into.new result) }
+        ensures reads { Reads (state_of D.bytes D.counts self.old)
+            (state_of D.bytes D.counts self.new) (By reader level) level slot index (given into.new result) }
         ensures counted { self.new.counted ≡ false }
     {
         self.counted = false;

@@ -2,6 +2,7 @@
 ghost use Rattle.std.specs.Prelude.{◌≡◌};
 
 use arrayvec::ArrayVec;
+use cola_cell::MOST_LEVELS;
 use cola_level::Level;
 use std::alloc::{AllocError, Global};
 
@@ -9,7 +10,7 @@ use std::alloc::{AllocError, Global};
 /// moved without them. It is taken before the store is loaded, and a chain takes no memory.
 #[derive(Drop)]
 pub struct Room {
-    levels: Box<ArrayVec<Level, 23>>,
+    levels: Box<ArrayVec<Level, MOST_LEVELS>>,
 }
 
 impl Room {
@@ -20,7 +21,10 @@ impl Room {
     }
 
     /// The levels, in the room.
-    pub(crate) fn with(self, levels: ArrayVec<Level, 23>) -> Box<ArrayVec<Level, 23>>
+    pub(crate) fn with(
+        self,
+        levels: ArrayVec<Level, MOST_LEVELS>,
+    ) -> Box<ArrayVec<Level, MOST_LEVELS>>
         ensures { result.value ≡ levels }
     {
         let Room { levels: mut room } = self;

@@ -1,9 +1,11 @@
 -- Tests after others.
 use Rattle.std.proofs.Common.{◌≡◌, ℕ, List, [], ◌∷◌, ◌++◌, Option, None, Result, Ok, Err, IfOk, IfErr, subst}
 use Rattle.std.specs.List.{AllByRecursion}
+use Rattle.cola_outside.specs.Faults.{Rose}
 use Rattle.cola_cell.specs.declared.fault.ReadFault.{ReadFault}
 use Rattle.cola_cell.specs.declared.fault.ReadFault.TheVariants.{Device, BadCell}
 use Rattle.cola_cell.specs.Held.{Held, IsTelling}
+use Rattle.cola_cell.specs.State.{State}
 use Rattle.cola_layout.specs.declared.header.Header.{Header}
 use Rattle.cola_verdict.specs.declared.verdict.Flaw.{Flaw}
 use Rattle.cola_verdict.specs.declared.verdict.Flaw.TheVariants.{Cell}
@@ -28,14 +30,14 @@ goes-on header old mid before these found (Ok v) same none finds verdict = λ pa
     last (all-then (tested_by header old) before these passed (first passed))
 
 -- the answer of all tests, where no cell of the runs is bad
-pub of-runs : (header : Header) (old mid : Held) (before between now : ℕ) (found : Option (ℕ × ℕ)) (result : Result Verdict ReadFault) → mid ≡ old → between ≡ before → found ≡ None →
-    FindsCell header old found → IfOk result (FindsVerdict (tested_by header mid) (Cell ∷ [])) → IfErr result (TestCause header mid between now) → Tests header old before now result
-of-runs header old mid before between now found (Ok v) same calm none cells verdict cause = λ tells.
-    let told : IsTelling old → AreCellsTold (tested_by header old) = subst (FindsCell header old) none cells in
-    let last : FindsVerdict (tested_by header old) (Cell ∷ []) v = subst (λ (h : Held). FindsVerdict (tested_by header h) (Cell ∷ []) v) same verdict in
+pub of-runs : (header : Header) (old mid new : State) (found : Option (ℕ × ℕ)) (result : Result Verdict ReadFault) → mid.held ≡ old.held → mid.spent.faults ≡ old.spent.faults → found ≡ None →
+    FindsCell header old.held found → IfOk result (FindsVerdict (tested_by header mid.held) (Cell ∷ [])) → IfErr result (TestCause header mid.held mid.spent.faults new.spent.faults) → Tests header old new result
+of-runs header old mid new found (Ok v) same calm none cells verdict cause = λ tells.
+    let told : IsTelling old.held → AreCellsTold (tested_by header old.held) = subst (FindsCell header old.held) none cells in
+    let last : FindsVerdict (tested_by header old.held) (Cell ∷ []) v = subst (λ (h : Held). FindsVerdict (tested_by header h) (Cell ∷ []) v) same verdict in
     last (told tells, tt)
-of-runs header old mid before between now found (Err Device) same calm none cells verdict cause = subst (λ (n : ℕ). TestCause header old n now Device) calm (subst (λ (h : Held). TestCause header h between now Device) same cause)
-of-runs header old mid before between now found (Err (BadCell number)) same calm none cells verdict cause = λ tells.
-    let told : IsTelling old → AreCellsTold (tested_by header old) = subst (FindsCell header old) none cells in
-    let refused : TestCause header old between now (BadCell number) = subst (λ (h : Held). TestCause header h between now (BadCell number)) same cause in
+of-runs header old mid new found (Err Device) same calm none cells verdict cause = subst (λ (n : ℕ). Rose n new.spent.faults) calm cause
+of-runs header old mid new found (Err (BadCell number)) same calm none cells verdict cause = λ tells.
+    let told : IsTelling old.held → AreCellsTold (tested_by header old.held) = subst (FindsCell header old.held) none cells in
+    let refused : AreCellsTold (tested_by header old.held) → ⊥ = subst (λ (h : Held). AreCellsTold (tested_by header h) → ⊥) same cause in
     refused (told tells)

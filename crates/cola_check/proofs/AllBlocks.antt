@@ -104,11 +104,13 @@ module _ (header : Header) (held : Held) where
           omega (arith, r, a, b, c)
 
   -- one level fewer is left
-  pub shadow-done : (level turned before now : ℕ) → 1 ≤ level → turned + shadows_to level ≤ before + shadows_to bottom → now ≤ turned + shadow_blocks header held level → now + shadows_to (level - 1) ≤ before + shadows_to bottom
-  shadow-done zero turned before now one h k = absurd (omega (arith, one))
-  shadow-done (suc level) turned before now one h k =
+  pub shadow-done : (object : Held) (level turned before now : ℕ) → object ≡ held → 1 ≤ level → turned + shadows_to level ≤ before + shadows_to bottom → now ≤ turned + shadow_blocks header object level →
+      now + shadows_to (level - 1) ≤ before + shadows_to bottom
+  shadow-done object zero turned before now same one h k = absurd (omega (arith, one))
+  shadow-done object (suc level) turned before now same one h k =
       let e : suc level - 1 ≡ level = omega arith in
-      subst (λ (n : ℕ). now + shadows_to n ≤ before + shadows_to bottom) (sym e) (omega (arith, h, k))
+      let f = ap (λ (o : Held). shadow_blocks header o (suc level)) same in
+      subst (λ (n : ℕ). now + shadows_to n ≤ before + shadows_to bottom) (sym e) (omega (arith, h, k, f))
 
   -- ---- the two runs of a level
 

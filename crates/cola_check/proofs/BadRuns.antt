@@ -7,7 +7,7 @@ use Rattle.cola_cell.specs.Held.{Held, IsTelling}
 use Rattle.cola_cell.specs.Places.{number_of, slot_size}
 use Rattle.cola_clock.specs.Clock.{visible_slot}
 use Rattle.cola_clock.proofs.MarkLaws.{marks-each}
-use Rattle.cola_told.specs.Cells.{IsTold}
+use Rattle.cola_cell.specs.ToldCells.{IsTold}
 use Rattle.cola_layout.specs.declared.header.Header.{Header}
 use Rattle.cola_layout.specs.Marks.{all_numbers}
 use Rattle.cola_layout.proofs.Levels.{numbers-length}

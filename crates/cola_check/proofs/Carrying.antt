@@ -11,7 +11,7 @@ use Rattle.cola_cell.specs.declared.cell.Cell.{Cell}
 use Rattle.cola_cell.specs.declared.cell.Run.{Run}
 use Rattle.cola_cell.specs.Held.{Held, LawCell, Stamped}
 use Rattle.cola_cell.specs.Order.{key_cmp}
-use Rattle.cola_told.specs.Cells.{run_cells}
+use Rattle.cola_cell.specs.ToldCells.{run_cells}
 use Rattle.cola_check.specs.declared.carried.Beside.{Beside}
 use Rattle.cola_check.specs.declared.carried.Step.{Step}
 use Rattle.cola_check.specs.declared.walk.Found.{Found}

@@ -5,19 +5,22 @@ use Rattle.cola_cell.specs.declared.cell.Reader.{Reader}
 use Rattle.cola_cell.specs.declared.cell.Reader.TheVariants.{Own, Incoming, Sample}
 use Rattle.cola_cell.specs.declared.cell.Run.{Run}
 use Rattle.cola_cell.specs.declared.fault.ReadFault.{ReadFault}
-use Rattle.cola_cell.specs.Held.{Held, span}
+use Rattle.cola_cell.specs.Held.{Held}
 use Rattle.cola_cell.specs.Places.{Block}
-use Rattle.cola_cell.specs.Spent.{Buffer, By, Spent, Reads}
+use Rattle.cola_cell.specs.Spent.{Buffer, By}
+use Rattle.cola_cell.specs.State.{State}
+use Rattle.cola_cell.specs.Reads.{Reads}
 use Rattle.cola_merge.specs.declared.aims.Feed.{Feed}
 use Rattle.cola_merge.specs.declared.aims.Feed.TheVariants as feed
 use Rattle.cola_merge.specs.declared.aims.Aim.{Aim}
 use Rattle.cola_merge.specs.declared.merging.Merger.{Merger}
 use Rattle.cola_merge.specs.Blocks.{Lasts, run_left, feed_left}
-use Rattle.cola_merge.specs.States.{IsOther, IsBeside}
+use Rattle.cola_merge.specs.Pulls.{Pulls}
+use Rattle.cola_merge.specs.States.{IsOther, IsBeside, state}
 use Rattle.cola_check.specs.Blocks.{blocks_from, run_blocks, TurnsTo}
-use Rattle.cola_check.specs.Cut.{AtLevel, IsAway, IsSpread, MergeReadsOn, FollowsBlocks, ComparesBlocks, merge_blocks, feed_blocks, aim_blocks}
+use Rattle.cola_check.specs.Cut.{AtLevel, IsAway, IsSpread, FollowsBlocks, ComparesBlocks, merge_blocks, feed_blocks, aim_blocks}
 use Rattle.cola_check.specs.Others.{by_others}
-use Rattle.cola_check.proofs.RunBlocks.{read-goes, run-most, every-eighth}
+use Rattle.cola_check.proofs.RunBlocks.{read-goes, run-most, every-eighth, from-stays}
 use Rattle.cola_check.proofs.WalkBlocks.{own≢incoming, own≢sample, incoming≢own, incoming≢sample, sample≢own, sample≢incoming}
 
 -- ---- feeds and buffers
@@ -72,131 +75,140 @@ feed-stays d x y reader (feed.Sampled run) at e = ap (λ (last : Option Block). 
 feed-stays d x y reader (feed.One cell) at e = refl
 feed-stays d x y reader feed.Nothing at e = refl
 
--- a merge has the same blocks left where its buffers have
-merge-stays : (held : Held) (aim : Aim) (a b : Spent) (m : Merger) → AtLevel aim.own (λ level. b.lasts (By Own level) ≡ a.lasts (By Own level)) → AtLevel aim.incoming (λ level. b.lasts (By Incoming level) ≡ a.lasts (By Incoming level)) →
-    AtLevel aim.sample (λ level. b.lasts (By Sample level) ≡ a.lasts (By Sample level)) → merge_blocks held b aim m ≡ merge_blocks held a aim m
-merge-stays held aim a b m own incoming sample =
-    let d : ℕ = held.fixed.doublings in
-    let x = feed-stays d a.lasts b.lasts Own aim.own m.own.at own in
-    let y = feed-stays d a.lasts b.lasts Incoming aim.incoming m.incoming.at incoming in
-    let z = feed-stays d a.lasts b.lasts Sample aim.sample m.sample.at sample in
-    omega (arith, x, y, z)
+-- a merge has the same blocks left where the cells stay and its buffers have the blocks that they had
+merge-stays : (aim : Aim) (old new : State) (m : Merger) → new.held ≡ old.held → AtLevel aim.own (λ level. new.spent.lasts (By Own level) ≡ old.spent.lasts (By Own level)) →
+    AtLevel aim.incoming (λ level. new.spent.lasts (By Incoming level) ≡ old.spent.lasts (By Incoming level)) → AtLevel aim.sample (λ level. new.spent.lasts (By Sample level) ≡ old.spent.lasts (By Sample level)) →
+    merge_blocks new aim m ≡ merge_blocks old aim m
+merge-stays aim old new m stays own incoming sample =
+    let d : ℕ = old.held.fixed.doublings in
+    let w = ap (λ (o : Held). merge_blocks (record new { held = o }) aim m) stays in
+    let x = feed-stays d old.spent.lasts new.spent.lasts Own aim.own m.own.at own in
+    let y = feed-stays d old.spent.lasts new.spent.lasts Incoming aim.incoming m.incoming.at incoming in
+    let z = feed-stays d old.spent.lasts new.spent.lasts Sample aim.sample m.sample.at sample in
+    omega (arith, w, x, y, z)
+
+-- a merge went on: the object turned to no more blocks than lie between, and no buffer changed but the merge's
+pub record MergeReadsOn (aim : Aim) (old new : State) (m n : Merger) : Type 0 where
+  pub stays : new.held ≡ old.held
+  pub blocks : new.spent.turned + merge_blocks new aim n ≤ old.spent.turned + merge_blocks old aim m
+  pub others_stay : (buffer : Buffer) → IsBeside aim buffer → new.spent.lasts buffer ≡ old.spent.lasts buffer
+
+pub merge-reads : {aim : Aim} (old new : State) (m n : Merger) (i j : ℕ) (given : Option Cell) → Pulls aim (state old m i) (state new n j) (Ok given) → MergeReadsOn aim old new m n
+merge-reads {aim} old new m n i j given p = record {
+  stays = p.cells_stay;
+  blocks = subst (λ (o : Held). new.spent.turned + merge_blocks (record new { held = o }) aim n ≤ old.spent.turned + merge_blocks old aim m) (sym p.cells_stay) p.turned;
+  others_stay = p.lasts;
+}
 
 -- ---- two merges of one aim, the second by the other readers
 
 -- while the first goes on, the second has the same blocks left
-second-stays : {held : Held} {aim : Aim} (spread : IsSpread aim) {a b : Spent} {m n : Merger} (second : Merger) → MergeReadsOn held aim a b m n →
-    merge_blocks held (by_others b) aim second ≡ merge_blocks held (by_others a) aim second
-second-stays {held} {aim} spread {a} {b} second h =
-    merge-stays held aim (by_others a) (by_others b) second
+second-stays : {aim : Aim} (spread : IsSpread aim) {old new : State} {m n : Merger} (second : Merger) → MergeReadsOn aim old new m n → merge_blocks (by_others new) aim second ≡ merge_blocks (by_others old) aim second
+second-stays {aim} spread {old} {new} second h =
+    merge-stays aim (by_others old) (by_others new) second h.stays
     (at-level aim.own (λ level n. h.others_stay (By Incoming level) (beside-incoming aim level n)) spread.own_incoming)
     (at-level aim.incoming (λ level n. h.others_stay (By Sample level) (beside-sample aim level n)) spread.incoming_sample)
     (at-level aim.sample (λ level n. h.others_stay (By Own level) (beside-own aim level n)) spread.sample_own)
 
 -- and the first, while the second goes on
-first-stays : {held : Held} {aim : Aim} (spread : IsSpread aim) (a b : Spent) {m n : Merger} (first : Merger) → MergeReadsOn held aim (by_others a) (by_others b) m n →
-    merge_blocks held b aim first ≡ merge_blocks held a aim first
-first-stays {held} {aim} spread a b first h =
-    merge-stays held aim a b first
+first-stays : {aim : Aim} (spread : IsSpread aim) (old new : State) {m n : Merger} (first : Merger) → MergeReadsOn aim (by_others old) (by_others new) m n → merge_blocks new aim first ≡ merge_blocks old aim first
+first-stays {aim} spread old new first h =
+    merge-stays aim old new first h.stays
     (at-level aim.own (λ level n. h.others_stay (By Sample level) (beside-sample aim level n)) (away-both aim.sample aim.own spread.sample_own))
     (at-level aim.incoming (λ level n. h.others_stay (By Own level) (beside-own aim level n)) (away-both aim.own aim.incoming spread.own_incoming))
     (at-level aim.sample (λ level n. h.others_stay (By Incoming level) (beside-incoming aim level n)) (away-both aim.incoming aim.sample spread.incoming_sample))
 
 -- both went on, and turned to no more blocks than lie between
-pub record BothReadOn (held : Held) (aim : Aim) (a b : Spent) (first second now other : Merger) : Type 0 where
-  pub blocks : b.turned + merge_blocks held b aim now + merge_blocks held (by_others b) aim other ≤ a.turned + merge_blocks held a aim first + merge_blocks held (by_others a) aim second
+pub record BothReadOn (aim : Aim) (old new : State) (first second now other : Merger) : Type 0 where
+  pub blocks : new.spent.turned + merge_blocks new aim now + merge_blocks (by_others new) aim other ≤ old.spent.turned + merge_blocks old aim first + merge_blocks (by_others old) aim second
 
-pub both-none : (held : Held) (aim : Aim) (spent : Spent) (first second : Merger) → BothReadOn held aim spent spent first second first second
-both-none held aim spent first second = record { blocks = omega arith }
+pub both-none : (aim : Aim) (object : State) (first second : Merger) → BothReadOn aim object object first second first second
+both-none aim object first second = record { blocks = omega arith }
 
-pub first-on : {held : Held} {aim : Aim} → IsSpread aim → {a b c : Spent} {first second now other next : Merger} → BothReadOn held aim a b first second now other → MergeReadsOn held aim b c now next →
-    BothReadOn held aim a c first second next other
-first-on spread {other = other} h k =
-    let w = h.blocks in
-    let x = k.blocks in
-    let y = second-stays spread other k in
-    record { blocks = omega (arith, w, x, y) }
+-- the first went on, or the first and then the second
+module _ {aim : Aim} {old between : State} (one : State) {first second now next other : Merger} {j k : ℕ} {given : Option Cell} (spread : IsSpread aim) (h : BothReadOn aim old between first second now other)
+    (p : Pulls aim (state between now j) (state one next k) (Ok given)) where
+  first-on : BothReadOn aim old one first second next other
+  first-on =
+      let r = merge-reads between one now next j k given p in
+      let w = h.blocks in
+      let x = r.blocks in
+      let y = second-stays spread other r in
+      record { blocks = omega (arith, w, x, y) }
 
-pub second-on : {held : Held} {aim : Aim} → IsSpread aim → {a b : Spent} (c : Spent) {first second now other next : Merger} → BothReadOn held aim a b first second now other →
-    MergeReadsOn held aim (by_others b) (by_others c) other next → BothReadOn held aim a c first second now next
-second-on spread {b = b} c {now = now} h k =
-    let w = h.blocks in
-    let x = k.blocks in
-    let y = first-stays spread b c now k in
-    record { blocks = omega (arith, w, x, y) }
+  pub both-on : (two : State) (last : Merger) (l : ℕ) (given : Option Cell) → Pulls aim (state (by_others one) other k) (state (by_others two) last l) (Ok given) → BothReadOn aim old two first second next last
+  both-on two last l given q =
+      let r = merge-reads (by_others one) (by_others two) other last k l given q in
+      let w = first-on.blocks in
+      let x = r.blocks in
+      let y = first-stays spread one two next r in
+      record { blocks = omega (arith, w, x, y) }
 
-pub both-end : {held : Held} {aim : Aim} {a b : Spent} {first second now other : Merger} → BothReadOn held aim a b first second now other → ComparesBlocks held aim a b first second
+pub both-end : {aim : Aim} {old new : State} {first second now other : Merger} → BothReadOn aim old new first second now other → ComparesBlocks old new aim first second
 both-end h = let w = h.blocks in omega (arith, w)
 
 -- ---- a merge beside a run
 
 -- both went on, the run by the reader of incoming cells
-pub record AlongReadsOn (held : Held) (aim : Aim) (run : Run) (a b : Spent) (m n : Merger) (at : ℕ) : Type 0 where
-  pub blocks : b.turned + merge_blocks held b aim n + blocks_from held b Incoming run at ≤ a.turned + merge_blocks held a aim m + run_blocks held run
+pub record AlongReadsOn (aim : Aim) (run : Run) (old new : State) (m n : Merger) (at : ℕ) : Type 0 where
+  pub blocks : new.spent.turned + merge_blocks new aim n + blocks_from new Incoming run at ≤ old.spent.turned + merge_blocks old aim m + run_blocks old.held run
 
-pub along-none : (held : Held) (aim : Aim) (run : Run) (spent : Spent) (m : Merger) → AlongReadsOn held aim run spent spent m m 0
-along-none held aim run spent m = let l = run-most held spent Incoming run 0 in record { blocks = omega (arith, l) }
+pub along-none : (aim : Aim) (run : Run) (object : State) (m : Merger) → AlongReadsOn aim run object object m m 0
+along-none aim run object m = let l = run-most object Incoming run 0 in record { blocks = omega (arith, l) }
 
-pub merge-along : {held : Held} {aim : Aim} {run : Run} {a b c : Spent} {m n o : Merger} {at : ℕ} → IsAway run.level aim.incoming → AlongReadsOn held aim run a b m n at → MergeReadsOn held aim b c n o →
-    AlongReadsOn held aim run a c m o at
-merge-along {held} {aim} {run} {a} {b} {c} {m} {n} {o} {at} away h k =
-    let w = h.blocks in
-    let x = k.blocks in
-    let y : blocks_from held c Incoming run at ≡ blocks_from held b Incoming run at =
-    ap (λ (last : Option Block). run_left (span held) last run (span held) run.len at) (k.others_stay (By Incoming run.level) (beside-incoming aim run.level away)) in
-    record { blocks = omega (arith, w, x, y) }
+-- the merge went on, or the merge and then the run
+module _ {aim : Aim} {run : Run} {old between : State} (one : State) {m n o : Merger} {j k at : ℕ} {given : Option Cell} (away : IsAway run.level aim.incoming) (h : AlongReadsOn aim run old between m n at)
+    (p : Pulls aim (state between n j) (state one o k) (Ok given)) where
+  pub merge-along : AlongReadsOn aim run old one m o at
+  merge-along =
+      let r = merge-reads between one n o j k given p in
+      let w = h.blocks in
+      let x = r.blocks in
+      let y = from-stays between one Incoming run at r.stays (r.others_stay (By Incoming run.level) (beside-incoming aim run.level away)) in
+      record { blocks = omega (arith, w, x, y) }
 
-pub run-along : {held : Held} {aim : Aim} {run : Run} {a b c : Spent} {m n : Merger} {at : ℕ} (cell : Cell) → IsAway run.level aim.incoming → AlongReadsOn held aim run a b m n at →
-    Reads held b c (By Incoming run.level) run.level run.slot at (Ok cell) → at < run.len → AlongReadsOn held aim run a c m n (at + 1)
-run-along {held} {aim} {run} {a} {b} {c} {m} {n} {at} cell away h r l =
-    let w = h.blocks in
-    let x = read-goes Incoming run cell at r l in
-    let y = merge-stays held aim b c n
-    (any-level aim.own (λ level. r.others_stay (By Own level) (λ e. own≢incoming (let same : Own ≡ Incoming = cc in same))))
-    (at-level aim.incoming (λ level n. r.others_stay (By Incoming level) (λ e. n (let same : run.level ≡ level = cc in same))) away)
-    (any-level aim.sample (λ level. r.others_stay (By Sample level) (λ e. sample≢incoming (let same : Sample ≡ Incoming = cc in same)))) in
-    record { blocks = omega (arith, w, x, y) }
+  pub run-along : {new : State} (cell : Cell) → Reads one new (By Incoming run.level) run.level run.slot at (Ok cell) → at < run.len → AlongReadsOn aim run old new m o (at + 1)
+  run-along {new} cell r l =
+      let w = merge-along.blocks in
+      let x = read-goes Incoming run cell at r l in
+      let y = merge-stays aim one new o r.cells_stay
+      (any-level aim.own (λ level. r.others_stay (By Own level) (λ e. own≢incoming (let same : Own ≡ Incoming = cc in same))))
+      (at-level aim.incoming (λ level n. r.others_stay (By Incoming level) (λ e. n (let same : run.level ≡ level = cc in same))) away)
+      (any-level aim.sample (λ level. r.others_stay (By Sample level) (λ e. sample≢incoming (let same : Sample ≡ Incoming = cc in same)))) in
+      record { blocks = omega (arith, w, x, y) }
 
-pub along-ends : {held : Held} {aim : Aim} {run : Run} {a b : Spent} {m n : Merger} {at : ℕ} → AlongReadsOn held aim run a b m n at → FollowsBlocks held aim run a b m n
+pub along-ends : {aim : Aim} {run : Run} {old new : State} {m n : Merger} {at : ℕ} → AlongReadsOn aim run old new m n at → FollowsBlocks old new aim run m n
 along-ends h = let w = h.blocks in omega (arith, w)
 
 -- ---- a whole merge
 
-feed-most : (held : Held) (spent : Spent) (reader : Reader) (f : Feed) (at : ℕ) → feed_left held.fixed.doublings spent.lasts reader f at ≤ feed_blocks held f
-feed-most held spent reader (feed.Run run) at = let l = run-most held spent reader run at in omega (arith, l)
-feed-most held spent reader (feed.Sampled run) at = every-eighth held spent reader run at
-feed-most held spent reader (feed.One cell) at = omega arith
-feed-most held spent reader feed.Nothing at = omega arith
+feed-most : (object : State) (reader : Reader) (f : Feed) (at : ℕ) → feed_left object.held.fixed.doublings object.spent.lasts reader f at ≤ feed_blocks object.held f
+feed-most object reader (feed.Run run) at = let l = run-most object reader run at in omega (arith, l)
+feed-most object reader (feed.Sampled run) at = every-eighth object reader run at
+feed-most object reader (feed.One cell) at = omega arith
+feed-most object reader feed.Nothing at = omega arith
 
 -- whatever was read last, and from whichever cursors on, a merge has no more blocks left than its feeds fill
-pub merge-most : (held : Held) (spent : Spent) (aim : Aim) (m : Merger) → merge_blocks held spent aim m ≤ aim_blocks held aim
-merge-most held spent aim m =
-    let x = feed-most held spent Own aim.own m.own.at in
-    let y = feed-most held spent Incoming aim.incoming m.incoming.at in
-    let z = feed-most held spent Sample aim.sample m.sample.at in
+merge-most : (object : State) (aim : Aim) (m : Merger) → merge_blocks object aim m ≤ aim_blocks object.held aim
+merge-most object aim m =
+    let x = feed-most object Own aim.own m.own.at in
+    let y = feed-most object Incoming aim.incoming m.incoming.at in
+    let z = feed-most object Sample aim.sample m.sample.at in
     omega (arith, x, y, z)
 
 -- ---- the test of a cut
 
-pub merge-at : {h : Held} {aim : Aim} {a : Spent} {m : Merger} (held : Held) (b : Spent) (n : Merger) → h ≡ held → MergeReadsOn h aim a b m n → MergeReadsOn held aim a b m n
-merge-at {h} {aim} {a} {m} held b n e r = subst (λ (x : Held). MergeReadsOn x aim a b m n) e r
-
-pub reads-at : {h : Held} {a b : Spent} {buffer : Buffer} {level slot index : ℕ} {result : Result Cell ReadFault} (held : Held) → h ≡ held → Reads h a b buffer level slot index result → Reads held a b buffer level slot index result
-reads-at {h} {a} {b} {buffer} {level} {slot} {index} {result} held e r = subst (λ (x : Held). Reads x a b buffer level slot index result) e r
-
-module _ (held : Held) (aim : Aim) (run : Run) (a b : Spent) (m n : Merger) (follows : FollowsBlocks held aim run a b m n) where
+module _ (old one : State) (aim : Aim) (run : Run) (m n : Merger) (follows : FollowsBlocks old one aim run m n) where
   -- the merge has not given the cells of the run
-  pub cut-differs : TurnsTo a b (2 * aim_blocks held aim + run_blocks held run)
-  cut-differs = let l = merge-most held a aim m in omega (arith, follows, l)
-
-  both-compared : (c : Spent) (second : Merger) → ComparesBlocks held aim b c n second → TurnsTo a c (2 * aim_blocks held aim + run_blocks held run)
-  both-compared c second h =
-      let l = merge-most held a aim m in
-      let k = merge-most held (by_others b) aim second in
-      omega (arith, follows, h, l, k)
+  pub cut-differs : TurnsTo old one (2 * aim_blocks old.held aim + run_blocks old.held run)
+  cut-differs = let l = merge-most old aim m in omega (arith, follows, l)
 
   -- it has, and was compared with a second
-  pub cut-compared : {h : Held} → h ≡ held → (c : Spent) (second : Merger) (result : Result Bool ReadFault) → IsSpread aim → OnOk result (IsSpread aim → ComparesBlocks h aim b c n second) →
-      OnOk result (TurnsTo a c (2 * aim_blocks held aim + run_blocks held run))
-  cut-compared e c second (Ok same) spread k = both-compared c second (subst (λ (x : Held). ComparesBlocks x aim b c n second) e (k spread))
-  cut-compared e c second (Err fault) spread k = tt
+  pub cut-compared : one.held ≡ old.held → (new : State) (second : Merger) (result : Result Bool ReadFault) → IsSpread aim → OnOk result (IsSpread aim → ComparesBlocks one new aim n second) →
+      OnOk result (TurnsTo old new (2 * aim_blocks old.held aim + run_blocks old.held run))
+  cut-compared stays new second (Ok same) spread k =
+      let h = k spread in
+      let l = merge-most old aim m in
+      let o = subst (λ (o : Held). merge_blocks (by_others one) aim second ≤ aim_blocks o aim) stays (merge-most (by_others one) aim second) in
+      omega (arith, follows, h, l, o)
+  cut-compared stays new second (Err fault) spread k = tt

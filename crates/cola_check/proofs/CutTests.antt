@@ -23,7 +23,7 @@ use Rattle.cola_merge.specs.Feeds.{part_of, IsSource, IsFeedTold}
 use Rattle.cola_merge.specs.Pulls.{AreInOrder}
 use Rattle.cola_merge.proofs.ToldRuns.{sampled_feed}
 use Rattle.cola_runs.specs.Weave.{Part, IsCut, bottom_items}
-use Rattle.cola_told.specs.Cells.{run_cells}
+use Rattle.cola_cell.specs.ToldCells.{run_cells}
 use Rattle.cola_verdict.specs.Tests.{FileLevel, below_at, AreCellsTold}
 use Rattle.cola_check.specs.declared.cut.Cursors.{Cursors}
 use Rattle.cola_check.specs.Blocks.{run_blocks, shadow_blocks}

@@ -1,14 +1,15 @@
 -- A shadow beside its build.
-use Rattle.std.proofs.Common.{◌≡◌, ℕ, ◌+◌, ◌*◌, ◌≤◌, ◌↔◌, Bool, true, false, IsTrue, IfOk, IfErr, List, [], ◌∷◌, ◌++◌, Result, Ok, Err, ap, sym, subst, ◌∙◌, arith}
+use Rattle.std.proofs.Common.{◌≡◌, ℕ, ◌+◌, ◌*◌, ◌≤◌, ◌↔◌, Bool, true, false, IsTrue, IfOk, List, [], ◌∷◌, ◌++◌, Result, Ok, Err, ap, sym, subst, ◌∙◌, arith}
 use Rattle.std.proofs.lemmas.Bool.{true≢false}
 use Rattle.cola_outside.specs.Faults.{Rose}
 use Rattle.cola_cell.specs.declared.cell.Run.{Run}
 use Rattle.cola_cell.specs.declared.fault.ReadFault.{ReadFault}
 use Rattle.cola_cell.specs.declared.fault.ReadFault.TheVariants.{Device, BadCell}
 use Rattle.cola_cell.specs.Held.{Held, LawCell}
-use Rattle.cola_cell.specs.Spent.{Spent, ReadCalm}
+use Rattle.cola_cell.specs.Spent.{Spent}
+use Rattle.cola_cell.specs.State.{State}
 use Rattle.cola_cell.specs.Costs.{Costs}
-use Rattle.cola_told.specs.Cells.{run_cells}
+use Rattle.cola_cell.specs.ToldCells.{run_cells}
 use Rattle.cola_merge.specs.declared.aims.Aim.{Aim}
 use Rattle.cola_merge.specs.declared.merging.Merger.{Merger}
 use Rattle.cola_merge.specs.Heads.{fresh, HasHeads, fetched}
@@ -19,9 +20,9 @@ use Rattle.cola_merge.proofs.Sums.{spends_then}
 use Rattle.cola_merge.proofs.Stepping.{all_read}
 use Rattle.cola_merge.proofs.Ahead.{ahead-fresh, cut_is_ahead}
 use Rattle.cola_check.specs.declared.cut.Cursors.{Cursors}
-use Rattle.cola_check.specs.Reading.{IsRunTold, PassCause}
+use Rattle.cola_check.specs.Reading.{IsRunTold, PassCause, ReadsRuns}
 use Rattle.cola_check.specs.Cut.{CutFits, CutsAfter, runs_of_aim, resumed, Followed, Compared}
-use Rattle.cola_check.proofs.Following.{with_run, calm_then, tails_same}
+use Rattle.cola_check.proofs.Following.{with_run, tails_same}
 
 -- ---- where a merge begins
 
@@ -85,62 +86,55 @@ costs_of {a} {b} {i} {j} {n} s w l = record {
 }
 
 -- a pass of a merge that begins
-pub from_fresh : {held : Held} {aim : Aim} {run : Run} {a b : Spent} {m n : Merger} {i j : ℕ} {answer : Bool} (result : Bool) → m ≡ fresh → answer ≡ result → Followed held aim run a b m n i j (Ok answer) →
-    Followed held aim run a b fresh n i j (Ok result)
-from_fresh {held} {aim} {run} {a} {b} {m} {n} {i} {j} {answer} result e f p =
-    subst (λ (x : Bool). Followed held aim run a b fresh n i j (Ok x)) f (subst (λ (x : Merger). Followed held aim run a b x n i j (Ok answer)) e p)
+pub from_fresh : {aim : Aim} {run : Run} {old new : State} {m n : Merger} {i j : ℕ} {answer : Bool} (result : Bool) → m ≡ fresh → answer ≡ result → Followed old new aim run m n i j (Ok answer) →
+    Followed old new aim run fresh n i j (Ok result)
+from_fresh {aim} {run} {old} {new} {m} {n} {i} {j} {answer} result e f p =
+    subst (λ (x : Bool). Followed old new aim run fresh n i j (Ok x)) f (subst (λ (x : Merger). Followed old new aim run x n i j (Ok answer)) e p)
 
 -- a pass of a merge that was resumed, where the object keeps its cells
-pub from_cursors : {h : Held} {aim : Aim} {b c : Spent} {n o : Merger} {j k : ℕ} {result : Result Bool ReadFault} (held : Held) (cursors : Cursors) → h ≡ held → o ≡ resumed cursors → Compared h aim b c n o j k result →
-    Compared held aim b c n (resumed cursors) j k result
-from_cursors {h} {aim} {b} {c} {n} {o} {j} {k} {result} held cursors e f p =
-    subst (λ (x : Merger). Compared held aim b c n x j k result) f (subst (λ (x : Held). Compared x aim b c n o j k result) e p)
+pub from_cursors : {aim : Aim} {one new : State} {n o : Merger} {j k : ℕ} {result : Result Bool ReadFault} (held : Held) (cursors : Cursors) → one.held ≡ held → o ≡ resumed cursors → Compared one new aim n o j k result →
+    Compared (record one { held = held }) new aim n (resumed cursors) j k result
+from_cursors {aim} {one} {new} {n} {o} {j} {k} {result} held cursors e f p =
+    subst (λ (x : Merger). Compared (record one { held = held }) new aim n x j k result) f (subst (λ (x : Held). Compared (record one { held = x }) new aim n o j k result) e p)
 
 -- what the test says, from its two passes
-pub record Tested (held : Held) (aim : Aim) (cursors : Cursors) (shadow : Run) (a b : Spent) (from to : ℕ) (result : Result Bool ReadFault) : Type 0 where
-  pub cut : AreInOrder held aim → IsRunTold held shadow → IfOk result (λ cut. IsTrue cut ↔ CutsAfter held aim cursors (run_cells held shadow))
-  pub costs : Costs a b from to (2 * cells_read aim + shadow.len) (2 * cells_read aim + shadow.len)
-  pub cause : IfErr result (PassCause held (shadow ∷ runs_of_aim aim) a.faults b.faults)
-  pub calm : ReadCalm a.faults b.faults result
+pub record Tested (old new : State) (aim : Aim) (cursors : Cursors) (shadow : Run) (from to : ℕ) (result : Result Bool ReadFault) : Type 0 where
+  pub cut : AreInOrder old.held aim → IsRunTold old.held shadow → IfOk result (λ cut. IsTrue cut ↔ CutsAfter old.held aim cursors (run_cells old.held shadow))
+  pub reads : ReadsRuns old new from to (shadow ∷ runs_of_aim aim) (2 * cells_read aim + shadow.len) result
 
-module _ {held : Held} {aim : Aim} {cursors : Cursors} {shadow : Run} {a b : Spent} {n : Merger} {i j : ℕ} (f : CutFits held aim cursors shadow) where
+module _ {old one : State} {aim : Aim} {cursors : Cursors} {shadow : Run} {n : Merger} {i j : ℕ} (f : CutFits old.held aim cursors shadow) where
   -- the first pass was refused
-  pub first_fails : (result : Result Bool ReadFault) (fault : ReadFault) → result ≡ Err fault → {m : Merger} → Followed held aim shadow a b m n i j (Err fault) → Tested held aim cursors shadow a b i j result
-  first_fails result fault e p = subst (λ (x : Result Bool ReadFault). Tested held aim cursors shadow a b i j x) (sym e) (record {
+  pub first_fails : (result : Result Bool ReadFault) (fault : ReadFault) → result ≡ Err fault → {m : Merger} → Followed old one aim shadow m n i j (Err fault) → Tested old one aim cursors shadow i j result
+  first_fails result fault e p = subst (λ (x : Result Bool ReadFault). Tested old one aim cursors shadow i j x) (sym e) (record {
     cut = λ t w. tt;
-    costs = costs_of p.spends p.written_is (let l = p.ticks in omega (arith, l));
-    cause = p.cause;
-    calm = p.calm;
+    reads = record { cause = p.cause; cost = costs_of p.spends p.written_is (let l = p.ticks in omega (arith, l)) };
   })
 
   -- the shadow is no beginning of the whole run
-  pub first_differs : Followed held aim shadow a b fresh n i j (Ok false) → Tested held aim cursors shadow a b i j (Ok false)
+  pub first_differs : Followed old one aim shadow fresh n i j (Ok false) → Tested old one aim cursors shadow i j (Ok false)
   first_differs p = record {
     cut = λ t w. (λ no. absurd (true≢false (sym no)), λ c. absurd (begins_otherwise f t (p.follows t w) c));
-    costs = costs_of p.spends p.written_is (let l = p.ticks in let r = all_read p.heads in omega (arith, l, r));
-    cause = tt;
-    calm = p.calm;
+    reads = record { cause = tt; cost = costs_of p.spends p.written_is (let l = p.ticks in let r = all_read p.heads in omega (arith, l, r)) };
   }
 
-  module _ {c : Spent} {k : ℕ} (p : Followed held aim shadow a b fresh n i j (Ok true)) where
-    costs_both : {result : Result Bool ReadFault} → Compared held aim b c n (resumed cursors) j k result → Costs a c i k (2 * cells_read aim + shadow.len) (2 * cells_read aim + shadow.len)
+  -- the second pass told
+  module _ {new : State} {k : ℕ} (p : Followed old one aim shadow fresh n i j (Ok true)) where
+    costs_both : {result : Result Bool ReadFault} → Compared (record one { held = old.held }) new aim n (resumed cursors) j k result → Costs old.spent new.spent i k (2 * cells_read aim + shadow.len) (2 * cells_read aim + shadow.len)
     costs_both q = costs_of (spends_then p.spends q.spends) (q.written_is ∙ p.written_is)
         (more i j k (fetched aim fresh) (fetched aim n) (fetched aim (resumed cursors)) (cells_read aim) shadow.len p.ticks q.ticks)
       where
         more : (i j k x y z r l : ℕ) → j + x ≤ i + (y + l) → k + y + z ≤ j + 2 * r → k ≤ i + (2 * r + l)
         more i j k x y z r l g h = omega (arith, g, h)
 
-    -- the second pass told
-    pub second_tells : (result : Result Bool ReadFault) → Compared held aim b c n (resumed cursors) j k result → Tested held aim cursors shadow a c i k result
-    second_tells (Ok answer) q = record {
+    pub second_tells : one.spent.faults ≡ old.spent.faults → (result : Result Bool ReadFault) → Compared (record one { held = old.held }) new aim n (resumed cursors) j k result → Tested old new aim cursors shadow i k result
+    second_tells calm (Ok answer) q = record {
       cut = λ t w. goes_on_as f t n answer (p.follows t w) (q.same t);
-      costs = costs_both q;
-      cause = tt;
-      calm = q.calm ∙ p.calm;
+      reads = record { cause = tt; cost = costs_both q };
     }
-    second_tells (Err fault) q = record {
+    second_tells calm (Err fault) q = record {
       cut = λ t w. tt;
-      costs = costs_both q;
-      cause = with_run held shadow (runs_of_aim aim) a.faults c.faults fault (cause_before held (runs_of_aim aim) a.faults b.faults c.faults fault p.calm q.cause);
-      calm = calm_then Bool Bool a.faults b.faults c.faults fault p.calm q.calm;
+      reads = record {
+        cause = with_run old.held shadow (runs_of_aim aim) old.spent.faults new.spent.faults fault (cause_before old.held (runs_of_aim aim) old.spent.faults one.spent.faults new.spent.faults fault calm q.cause);
+        cost = costs_both q;
+      };
     }

@@ -9,7 +9,7 @@ use Rattle.cola_laws.specs.Slots.{level_of, levels_of}
 use Rattle.cola_layout.specs.declared.header.Header.{Header}
 use Rattle.cola_layout.specs.Marks.{all_numbers}
 use Rattle.cola_layout.proofs.Levels.{numbers-length}
-use Rattle.cola_told.specs.Cells.{run_cells}
+use Rattle.cola_cell.specs.ToldCells.{run_cells}
 use Rattle.cola_verdict.specs.Tests.{FileLevel, Tested, levels_in, level_at, below_at, run_len, AreCellsTold}
 use Rattle.cola_check.specs.Found.{tested_by, numbers_at, visible_of, shadow_of}
 use Rattle.cola_check.specs.Reading.{IsRunTold}

@@ -16,13 +16,13 @@ use Rattle.cola_layout.specs.declared.header.Header.{Header}
 use Rattle.cola_layout.proofs.Powers.{next_power}
 use Rattle.cola_look.specs.Runs.{HasRun}
 use Rattle.cola_runs.specs.Cells.{IsRising, sample}
-use Rattle.cola_told.specs.Cells.{run_cells}
+use Rattle.cola_cell.specs.ToldCells.{run_cells}
 use Rattle.cola_verdict.specs.Tests.{FileLevel, level_at, below_at, AreCellsTold, HasSample, HasFewItems, IsInOrder}
 use Rattle.cola_verdict.proofs.Prefixes.{no-order}
 use Rattle.cola_check.specs.declared.visible.Few.{Few}
 use Rattle.cola_check.specs.declared.visible.Few.TheVariants.{Cells}
 use Rattle.cola_check.specs.declared.visible.RunTests.{RunTests}
-use Rattle.cola_check.specs.Beside.{AreInOrder, BesideCause}
+use Rattle.cola_check.specs.Beside.{AreInOrder}
 use Rattle.cola_check.specs.Carrying.{IsCarried, AreCarried}
 use Rattle.cola_check.specs.Firsts.{AreFewAt}
 use Rattle.cola_check.specs.Found.{tested_by, visible_of, shadow_of}
@@ -225,14 +225,14 @@ unfit-answer header held (suc i) one unfit reached = (λ e. cc, λ f. absurd (un
 -- why the walk was refused
 pub walk-cause : (header : Header) (held mid : Held) (level : ℕ) → 1 ≤ level → level ≤ header.geometry.bottom → mid ≡ held →
     (above own shadow : Run) → above ≡ visible_of header (level - 1) → own ≡ visible_of header level → shadow ≡ shadow_of header level → (before between now : ℕ) → between ≡ before → (answer : Result Bool ReadFault) →
-    IfErr answer (BesideCause mid above own shadow between now) → IfErr answer (TestCause header held before now)
+    IfErr answer (PassCause mid (above ∷ own ∷ shadow ∷ []) between now) → IfErr answer (TestCause header held before now)
 walk-cause header held mid level one low stays above own shadow a o s before between now calm (Ok carried) h = tt
 walk-cause header held mid level one low stays above own shadow a o s before between now calm (Err fault) h =
     cause-of-test header held (visible_of header (level - 1) ∷ visible_of header level ∷ shadow_of header level ∷ [])
     (λ t. (visible-told header held (level - 1) (omega (arith, low)) t, (visible-told header held level low t, (shadow-told header held level low t, tt)))) before now fault
     (let none : false ≡ false = refl in
-    subst (λ (n : ℕ). BesideCause held (visible_of header (level - 1)) (visible_of header level) (shadow_of header level) n now fault) calm
-    (same-runs (λ h a o s odd bottom. BesideCause h a o s between now fault) stays a o s none none h))
+    subst (λ (n : ℕ). PassCause held (visible_of header (level - 1) ∷ visible_of header level ∷ shadow_of header level ∷ []) n now fault) calm
+    (same-runs (λ h a o s odd bottom. PassCause h (a ∷ o ∷ s ∷ []) between now fault) stays a o s none none h))
 
 -- the tests of the shadow, and one pass over it and the runs beside it
 pub finished-ticks : (header : Header) (level : ℕ) → 1 ≤ level → level ≤ header.geometry.bottom → (above own shadow : Run) → above ≡ visible_of header (level - 1) → own ≡ visible_of header level → shadow ≡ shadow_of header level →

@@ -15,9 +15,9 @@ use Rattle.cola_cell.specs.Held.{Held, Told, Tells, LawCell, Stamped, as_cell, a
 use Rattle.cola_cell.specs.Order.{key_cmp}
 use Rattle.cola_cell.proofs.RunLemmas.{run_tells, given_is_told}
 use Rattle.cola_look.specs.Runs.{HasRun}
-use Rattle.cola_told.specs.Cells.{run_cells}
-use Rattle.cola_told.proofs.ToldRuns.{told_is}
-use Rattle.cola_told.proofs.CellLists.{length-cells}
+use Rattle.cola_cell.specs.ToldCells.{run_cells}
+use Rattle.cola_cell.proofs.ToldRuns.{told_is}
+use Rattle.cola_cell.proofs.CellLists.{length-cells}
 use Rattle.cola_check.specs.declared.walk.Found.{Found}
 use Rattle.cola_check.specs.declared.walk.Found.TheVariants.{Nothing, Old, Young}
 use Rattle.cola_check.specs.declared.walk.Walk.{Walk}

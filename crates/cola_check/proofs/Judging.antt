@@ -11,6 +11,7 @@ use Rattle.cola_cell.specs.Flat.{spot_of}
 use Rattle.cola_cell.specs.Held.{Held, Bad, IsTelling, is_untold}
 use Rattle.cola_cell.specs.Places.{number_of, slot_size}
 use Rattle.cola_cell.specs.Spent.{ReadCalm}
+use Rattle.cola_cell.specs.State.{State}
 use Rattle.cola_clock.specs.Clock.{visible_slot}
 use Rattle.cola_device.specs.declared.device.Device as device
 use Rattle.cola_image.specs.Cells.{cell_bytes, file_spots}
@@ -20,7 +21,7 @@ use Rattle.cola_layout.specs.Fields.{fields_of}
 use Rattle.cola_clock.specs.Marks.{Marks as LevelMarks}
 use Rattle.cola_layout.proofs.Levels.{number-at}
 use Rattle.cola_run.specs.Saving as run
-use Rattle.cola_told.specs.Cells.{IsTold}
+use Rattle.cola_cell.specs.ToldCells.{IsTold}
 use Rattle.cola_verdict.specs.declared.verdict.Flaw.TheVariants.{Cell as CellFlaw}
 use Rattle.cola_verdict.specs.declared.verdict.Verdict.{Verdict}
 use Rattle.cola_verdict.specs.declared.verdict.Verdict.TheVariants.{Broken}
@@ -96,18 +97,17 @@ module _ {D : Type 0} (d : device.Ghosts D) (header : Header) (before now : D) w
   not-sure held told level number are untold (inr other) = other level number refl
 
   -- the answer of a test, by that of its cells
-  pub by-cells : (held : Held) (faults : ℕ) (answer : Result Verdict ReadFault) (result : Result Verdict CheckFault) →
-      IfSome (d.bytes before) (λ bytes. IsTelling held × run.AreFileSpots header.geometry held.spots bytes) →
+  pub by-cells : (old new : State) (answer : Result Verdict ReadFault) (result : Result Verdict CheckFault) → IfSome (d.bytes before) (λ bytes. IsTelling old.held × run.AreFileSpots header.geometry old.held.spots bytes) →
       (loaded : ℕ) → loaded ≤ (d.counts before).reads + (header.geometry.bottom + 3) → OnOk answer ((d.counts now).reads ≤ loaded + test_blocks (fields_of header)) →
-      faults ≡ (d.counts before).faults → Tests header held faults (d.counts now).faults answer → ReadCalm faults (d.counts now).faults answer →
+      old.spent.faults ≡ (d.counts before).faults → new.spent.faults ≡ (d.counts now).faults → Tests header old new answer → ReadCalm old.spent.faults new.spent.faults answer →
       Judges answer result → TestsAnswer d header before now result
-  by-cells held faults (Ok verdict) result are loaded load blocks same tests calm judges =
-      subst (TestsAnswer d header before now) (sym judges) (record { verdict_is = of-file held (d.bytes before) verdict are tests; few_reads = λ sure. omega (arith, load, blocks); no_fault = calm ∙ same })
-  by-cells held faults (Err (read.BadCell number)) result are loaded load blocks same tests calm judges =
+  by-cells old new (Ok verdict) result are loaded load blocks first last tests calm judges =
+      subst (TestsAnswer d header before now) (sym judges) (record { verdict_is = of-file old.held (d.bytes before) verdict are tests; few_reads = λ sure. omega (arith, load, blocks); no_fault = sym last ∙ calm ∙ first })
+  by-cells old new (Err (read.BadCell number)) result are loaded load blocks first last tests calm judges =
       subst (TestsAnswer d header before now) (sym judges.1.0)
-      (record { verdict_is = of-file held (d.bytes before) (Broken CellFlaw judges.0 number) are (λ tells. absurd (tests tells)); few_reads = λ sure. absurd (not-sure held (d.bytes before) judges.0 number are tests sure); no_fault = calm ∙ same })
-  by-cells held faults (Err read.Device) result are loaded load blocks same tests calm judges =
-      subst (TestsAnswer d header before now) (sym judges) (subst (λ (n : ℕ). Rose n (d.counts now).faults) same tests)
+      (record { verdict_is = of-file old.held (d.bytes before) (Broken CellFlaw judges.0 number) are (λ tells. absurd (tests tells)); few_reads = λ sure. absurd (not-sure old.held (d.bytes before) judges.0 number are tests sure); no_fault = sym last ∙ calm ∙ first })
+  by-cells old new (Err read.Device) result are loaded load blocks first last tests calm judges =
+      subst (TestsAnswer d header before now) (sym judges) (subst (λ (n : ℕ). Rose n (d.counts now).faults) first (subst (Rose old.spent.faults) last tests))
 
   in-front : (told : Option (List ℕ)) (level number : ℕ) → IsLevelOf number level → IfSome told (λ bytes. run.IsLowestBad header (file_spots header.geometry.format bytes) number) →
       IfSome told (λ bytes. IsVerdict (tested_of (fields_of header) bytes) (Broken CellFlaw level number))

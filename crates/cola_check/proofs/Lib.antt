@@ -25,7 +25,6 @@ mod LiveSteps
 mod LiveTests
 mod LiveWalk
 mod Made
-mod OtherReaders
 mod Prefixes
 mod RunBlocks
 mod Sampling

@@ -15,7 +15,7 @@ use Rattle.cola_layout.specs.declared.header.Header.{Header}
 use Rattle.cola_layout.proofs.Powers.{next_power}
 use Rattle.cola_look.specs.Runs.{HasRun}
 use Rattle.cola_runs.specs.Cells.{IsRising, IsWellFormed}
-use Rattle.cola_told.specs.Cells.{IsTold, run_cells}
+use Rattle.cola_cell.specs.ToldCells.{IsTold, run_cells}
 use Rattle.cola_verdict.specs.declared.verdict.Flaw.{Flaw}
 use Rattle.cola_verdict.specs.declared.verdict.Flaw.TheVariants.{Cell, Order, Sample, Length, Shadow, Live, Count, Stamp}
 use Rattle.cola_verdict.specs.declared.verdict.Verdict.{Verdict}

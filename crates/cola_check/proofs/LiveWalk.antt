@@ -6,7 +6,7 @@ use Rattle.cola_runs.specs.Cells.{IsRising}
 use Rattle.cola_runs.specs.Seen.{seen, holds}
 use Rattle.cola_cell.specs.declared.cell.Run.{Run}
 use Rattle.cola_cell.specs.Held.{Held}
-use Rattle.cola_cell.specs.Spent.{Spent}
+use Rattle.cola_cell.specs.State.{State}
 use Rattle.cola_cell.specs.Order.{key_cmp}
 use Rattle.cola_cell.specs.Places.{slot_size}
 use Rattle.cola_cell.proofs.PlaceNumbers.{slot_size-mono}
@@ -56,7 +56,7 @@ module _ (held : Held) where
   unfolding IsStrictlySortedBy
   empty_in_order run e = record {
     told = λ i l. absurd (omega arith);
-    rising = subst (λ n. IsRising key_cmp (Rattle.cola_told.specs.Cells.cells (held.spots run.level run.slot) 0 n)) (sym e) tt;
+    rising = subst (λ n. IsRising key_cmp (Rattle.cola_cell.specs.ToldCells.cells (held.spots run.level run.slot) 0 n)) (sym e) tt;
   }
 
   shadow_in_order : (shadow : Option Run) (visible : Run) (runs : List Run) → AllByRecursion (IsInOrder held) (with_shadow shadow runs) → IsInOrder held (shadow_or_none shadow visible) × AllByRecursion (IsInOrder held) runs
@@ -365,14 +365,13 @@ refilled_unread held k {xs} {olds} news before after f h u =
     let b = ap all_unread f in
     omega (arith, a, b, u)
 
-pub refilled_blocks : {held : Held} {a b : Spent} {n : ℕ} (object : Held) (k : List ℕ) {xs olds : List LevelWalks} (news : List LevelWalks) → held ≡ object → xs ≡ olds → Each (PassesLevel held k) xs news → AllReadOn held a b n xs news →
-    b.turned + all_left object b (refill (length olds) olds news) ≤ a.turned + all_left object a olds
-refilled_blocks {held} {a} {b} object k {xs} {olds} news e f h r =
-    let x : b.turned + all_left held b news ≤ a.turned + all_left held a xs = r.blocks in
-    let y : b.turned + all_left object b news ≤ a.turned + all_left object a xs = subst (λ (z : Held). b.turned + all_left z b news ≤ a.turned + all_left z a xs) e x in
-    let p = ap (all_left object b) (refilled_walks held k news f h) in
-    let q = ap (all_left object a) f in
-    omega (arith, y, p, q)
+pub refilled_blocks : (held : Held) {old new : State} {n : ℕ} (k : List ℕ) {xs olds : List LevelWalks} (news : List LevelWalks) → xs ≡ olds → Each (PassesLevel held k) xs news → AllReadOn old new n xs news →
+    new.spent.turned + all_left new (refill (length olds) olds news) ≤ old.spent.turned + all_left old olds
+refilled_blocks held {old} {new} k {xs} {olds} news f h r =
+    let x = r.blocks in
+    let p = ap (all_left new) (refilled_walks held k news f h) in
+    let q = ap (all_left old) f in
+    omega (arith, x, p, q)
 
 pub same_least : {xs ys : List LevelWalks} {answer wanted : Option (List ℕ)} → xs ≡ ys → answer ≡ least_from None (walks_in xs) → answer ≡ wanted → least_from None (walks_in ys) ≡ wanted
 same_least {xs} {ys} e f g = ap (λ (z : List LevelWalks). least_from None (walks_in z)) (sym e) ∙ sym f ∙ g

@@ -10,7 +10,9 @@ use Rattle.cola_cell.specs.declared.cell.Run.{Run}
 use Rattle.cola_cell.specs.declared.fault.ReadFault.{ReadFault}
 use Rattle.cola_cell.specs.Held.{Held, span}
 use Rattle.cola_cell.specs.Places.{slot_size, Block, block_of}
-use Rattle.cola_cell.specs.Spent.{Spent, By, Reads}
+use Rattle.cola_cell.specs.Spent.{By}
+use Rattle.cola_cell.specs.Reads.{Reads}
+use Rattle.cola_cell.specs.State.{State}
 use Rattle.cola_layout.specs.declared.header.Header.{Header}
 use Rattle.cola_merge.specs.Blocks.{is_last, groups, run_left}
 use Rattle.cola_merge.proofs.Groups.{div-mono, sampled_block, read_left, run_left-next}
@@ -23,19 +25,18 @@ pub span-pos : (held : Held) → 0 < span held
 span-pos held = let p = pow_pos held.fixed.doublings in omega (arith, p)
 
 -- a read of the cell at an index takes as many blocks as it turns to
-pub read-here : {held : Held} {old new : Spent} (reader : Reader) (run : Run) (cell : Cell) (at : ℕ) → Reads held old new (By reader run.level) run.level run.slot at (Ok cell) → at < run.len →
-    GoesOn held old new reader run at at
-read-here {held} {old} {new} reader run cell at r h =
-    let s : ℕ = span held in
-    read_left s (old.lasts (By reader run.level)) (new.lasts (By reader run.level)) run s run.len at old.turned new.turned h r.turned_rises (λ e. (r.in_small e).turned_is)
-    (λ b. let i = r.in_last b in (i.turned_is, i.last_is)) r.moves
+read-here : {old new : State} (reader : Reader) (run : Run) (cell : Cell) (at : ℕ) → Reads old new (By reader run.level) run.level run.slot at (Ok cell) → at < run.len → GoesOn old new reader run at at
+read-here {old} {new} reader run cell at r h =
+    let s : ℕ = span old.held in
+    subst (λ (o : Held). new.spent.turned + blocks_from (record new { held = o }) reader run at ≤ old.spent.turned + blocks_from old reader run at) (sym r.cells_stay)
+    (read_left s (old.spent.lasts (By reader run.level)) (new.spent.lasts (By reader run.level)) run s run.len at old.spent.turned new.spent.turned h r.turned_rises (λ e. (r.in_small e).turned_is)
+    (λ b. let i = r.in_last b in (i.turned_is, i.last_is)) r.moves)
 
 -- and goes on to the next one
-pub read-goes : {held : Held} {old new : Spent} (reader : Reader) (run : Run) (cell : Cell) (at : ℕ) → Reads held old new (By reader run.level) run.level run.slot at (Ok cell) → at < run.len →
-    GoesOn held old new reader run at (at + 1)
-read-goes {held} {old} {new} reader run cell at r h =
-    let here : GoesOn held old new reader run at at = read-here reader run cell at r h in
-    let next = run_left-next (span held) (new.lasts (By reader run.level)) run (span held) run.len at (span-pos held) h in
+pub read-goes : {old new : State} (reader : Reader) (run : Run) (cell : Cell) (at : ℕ) → Reads old new (By reader run.level) run.level run.slot at (Ok cell) → at < run.len → GoesOn old new reader run at (at + 1)
+read-goes {old} {new} reader run cell at r h =
+    let here : GoesOn old new reader run at at = read-here reader run cell at r h in
+    let next = run_left-next (span new.held) (new.spent.lasts (By reader run.level)) run (span new.held) run.len at (span-pos new.held) h in
     omega (arith, here, next)
 
 groups-most : (size at len : ℕ) → 0 < size → groups size at len ≤ len / size + 1
@@ -73,73 +74,92 @@ left-none s last run size len at h = go (nat_lt (slot_size run.level) s)
     go false = let e = groups-none size at len h in omega (arith, e)
 
 -- whatever was read last, and from whichever cell on, a run has no more blocks left than it fills
-pub run-most : (held : Held) (spent : Spent) (reader : Reader) (run : Run) (at : ℕ) → blocks_from held spent reader run at + 1 ≤ run_blocks held run
-run-most held spent reader run at = let m = left-most (span held) (spent.lasts (By reader run.level)) run (span held) run.len at (span-pos held) in omega (arith, m)
+pub run-most : (object : State) (reader : Reader) (run : Run) (at : ℕ) → blocks_from object reader run at + 1 ≤ run_blocks object.held run
+run-most object reader run at =
+    let s : ℕ = span object.held in
+    let m = left-most s (object.spent.lasts (By reader run.level)) run s run.len at (span-pos object.held) in
+    omega (arith, m)
 
 -- ---- the sample of a run, every eighth of its cells
 
 -- whatever was read last, and from whichever key on, a sample has no more blocks left than its run fills
-pub every-eighth : (held : Held) (spent : Spent) (reader : Reader) (run : Run) (at : ℕ) →
-    run_left (span held) (spent.lasts (By reader run.level)) run (2 ^ held.fixed.doublings) (run.len / 8) at ≤ run_blocks held run
-every-eighth held spent reader run at =
-    let d : ℕ = held.fixed.doublings in
-    let m = left-most (span held) (spent.lasts (By reader run.level)) run (2 ^ d) (run.len / 8) at (pow_pos d) in
+pub every-eighth : (object : State) (reader : Reader) (run : Run) (at : ℕ) →
+    run_left (span object.held) (object.spent.lasts (By reader run.level)) run (2 ^ object.held.fixed.doublings) (run.len / 8) at ≤ run_blocks object.held run
+every-eighth object reader run at =
+    let d : ℕ = object.held.fixed.doublings in
+    let m = left-most (span object.held) (object.spent.lasts (By reader run.level)) run (2 ^ d) (run.len / 8) at (pow_pos d) in
     let e : run.len / 8 / 2 ^ d ≡ run.len / (8 * 2 ^ d) = div-div-eq-div-mul run.len 8 (2 ^ d) in
     omega (arith, m, e)
 
-pub sample-most : (held : Held) (spent : Spent) (run : Option Run) (at : ℕ) → sample_from held spent run at ≤ run_blocks_or held run
-sample-most held spent None at = omega arith
-sample-most held spent (Some run) at = every-eighth held spent Sample run at
+pub sample-most : (object : State) (run : Option Run) (at : ℕ) → sample_from object run at ≤ run_blocks_or object.held run
+sample-most object None at = omega arith
+sample-most object (Some run) at = every-eighth object Sample run at
 
-pub sample-reads : {held : Held} {old new : Spent} (run : Run) (cell : Cell) (at : ℕ) → Reads held old new (By Sample run.level) run.level run.slot (8 * at + 7) (Ok cell) → at < run.len / 8 →
-    SampleReadsOn held old new (Some run) at (at + 1)
-sample-reads {held} {old} {new} run cell at r h =
-    let d : ℕ = held.fixed.doublings in
-    let s : ℕ = span held in
-    let before : Option Block = old.lasts (By Sample run.level) in
-    let last : Option Block = new.lasts (By Sample run.level) in
+pub sample-reads : {old new : State} (run : Run) (cell : Cell) (at : ℕ) → Reads old new (By Sample run.level) run.level run.slot (8 * at + 7) (Ok cell) → at < run.len / 8 → SampleReadsOn old new (Some run) at (at + 1)
+sample-reads {old} {new} run cell at r h =
+    let d : ℕ = old.held.fixed.doublings in
+    let s : ℕ = span old.held in
+    let before : Option Block = old.spent.lasts (By Sample run.level) in
+    let last : Option Block = new.spent.lasts (By Sample run.level) in
     let same : (8 * at + 7) / s ≡ at / 2 ^ d = sampled_block at d in
     let block : Some (block_of s run.level run.slot (8 * at + 7)) ≡ Some (record { level = run.level; slot = run.slot; number = at / 2 ^ d }) =
     ap (λ (n : ℕ). Some (record { level = run.level; slot = run.slot; number = n })) same in
-    let here : new.turned + run_left s last run (2 ^ d) (run.len / 8) at ≤ old.turned + run_left s before run (2 ^ d) (run.len / 8) at =
-    read_left s before last run (2 ^ d) (run.len / 8) at old.turned new.turned h r.turned_rises (λ e. (r.in_small e).turned_is)
+    let here : new.spent.turned + run_left s last run (2 ^ d) (run.len / 8) at ≤ old.spent.turned + run_left s before run (2 ^ d) (run.len / 8) at =
+    read_left s before last run (2 ^ d) (run.len / 8) at old.spent.turned new.spent.turned h r.turned_rises (λ e. (r.in_small e).turned_is)
     (λ b. let i = r.in_last (b ∙ sym block) in (i.turned_is, i.last_is)) (λ m. r.moves m ∙ block) in
     let next = run_left-next s last run (2 ^ d) (run.len / 8) at (pow_pos d) h in
-    record { blocks = omega (arith, here, next); own_stays = λ level. r.others_stay (By Own level) (λ e. cc) }
+    record {
+      blocks = subst (λ (o : Held). new.spent.turned + sample_from (record new { held = o }) (Some run) (at + 1) ≤ old.spent.turned + sample_from old (Some run) at) (sym r.cells_stay) (omega (arith, here, next));
+      own_stays = λ level. r.others_stay (By Own level) (λ e. cc);
+    }
 
 -- behind its last key nothing is left
-pub sample-past : (held : Held) (spent : Spent) (run : Run) (at : ℕ) → run.len / 8 ≤ at → SampleReadsOn held spent spent (Some run) at (at + 1)
-sample-past held spent run at h =
-    let e = left-none (span held) (spent.lasts (By Sample run.level)) run (2 ^ held.fixed.doublings) (run.len / 8) at h in
-    let f = left-none (span held) (spent.lasts (By Sample run.level)) run (2 ^ held.fixed.doublings) (run.len / 8) (at + 1) (omega (arith, h)) in
+pub sample-past : (object : State) (run : Run) (at : ℕ) → run.len / 8 ≤ at → SampleReadsOn object object (Some run) at (at + 1)
+sample-past object run at h =
+    let s : ℕ = span object.held in
+    let d : ℕ = object.held.fixed.doublings in
+    let e = left-none s (object.spent.lasts (By Sample run.level)) run (2 ^ d) (run.len / 8) at h in
+    let f = left-none s (object.spent.lasts (By Sample run.level)) run (2 ^ d) (run.len / 8) (at + 1) (omega (arith, h)) in
     record { blocks = omega (arith, e, f); own_stays = λ level. refl }
 
 -- a way from the first cell on, and one more block
-pub goes-few : (held : Held) (a b : Spent) (reader : Reader) (run : Run) (at now : ℕ) → GoesOn held a b reader run 0 at → now ≤ b.turned + 1 → now ≤ a.turned + run_blocks held run
-goes-few held a b reader run at now g h =
-    let m = run-most held a reader run 0 in
+pub goes-few : (old between : State) (reader : Reader) (run : Run) (at now : ℕ) → GoesOn old between reader run 0 at → now ≤ between.spent.turned + 1 → now ≤ old.spent.turned + run_blocks old.held run
+goes-few old between reader run at now g h =
+    let m = run-most old reader run 0 in
     omega (arith, g, h, m)
+
+-- a reader has the same blocks left where the cells stay and its buffer has the block that it had
+pub from-stays : (old new : State) (reader : Reader) (run : Run) (at : ℕ) → new.held ≡ old.held → new.spent.lasts (By reader run.level) ≡ old.spent.lasts (By reader run.level) →
+    blocks_from new reader run at ≡ blocks_from old reader run at
+from-stays old new reader run at stays e =
+    ap (λ (o : Held). run_left (span o) (new.spent.lasts (By reader run.level)) run (span o) run.len at) stays
+    ∙ ap (λ (last : Option Block). run_left (span old.held) last run (span old.held) run.len at) e
 
 -- ---- a run, and the sample of the run below it
 
+-- the blocks turned to, and those left of a run and of the sample of the run below it
+abbrev pub both_left : State → Run → Option Run → ℕ → ℕ → ℕ
+both_left object run below at looks = object.spent.turned + blocks_from object Own run at + sample_from object below looks
+
 -- a cell of the run is read
-pub own-read : (held : Held) {a b : Spent} (run : Run) (below : Option Run) (cell : Cell) (at looks : ℕ) → Reads held a b (By Own run.level) run.level run.slot at (Ok cell) → at < run.len →
-    b.turned + blocks_from held b Own run (at + 1) + sample_from held b below looks ≤ a.turned + blocks_from held a Own run at + sample_from held a below looks
-own-read held {a} {b} run below cell at looks r h =
+pub own-read : {old new : State} (run : Run) (below : Option Run) (cell : Cell) (at looks : ℕ) → Reads old new (By Own run.level) run.level run.slot at (Ok cell) → at < run.len →
+    both_left new run below (at + 1) looks ≤ both_left old run below at looks
+own-read {old} {new} run below cell at looks r h =
     let goes = read-goes Own run cell at r h in
     let same = kept below in
     omega (arith, goes, same)
   where
-    kept : (some : Option Run) → sample_from held b some looks ≡ sample_from held a some looks
+    kept : (some : Option Run) → sample_from new some looks ≡ sample_from old some looks
     kept None = refl
-    kept (Some next) = ap (λ (last : Option Block). run_left (span held) last next (2 ^ held.fixed.doublings) (next.len / 8) looks) (r.others_stay (By Sample next.level) (λ e. cc))
+    kept (Some next) = ap (λ (o : Held). run_left (span o) (new.spent.lasts (By Sample next.level)) next (2 ^ o.fixed.doublings) (next.len / 8) looks) r.cells_stay
+        ∙ ap (λ (last : Option Block). run_left (span old.held) last next (2 ^ old.held.fixed.doublings) (next.len / 8) looks) (r.others_stay (By Sample next.level) (λ e. cc))
 
 -- a key of the sample may be read
-pub sample-read : (held : Held) {a b : Spent} (run : Run) (below : Option Run) (at from to more : ℕ) → to ≡ from + more → SampleReadsOn held a b below from (from + more) →
-    b.turned + blocks_from held b Own run at + sample_from held b below to ≤ a.turned + blocks_from held a Own run at + sample_from held a below from
-sample-read held {a} {b} run below at from to more e r =
-    let goes : b.turned + sample_from held b below to ≤ a.turned + sample_from held a below from = subst (λ (n : ℕ). b.turned + sample_from held b below n ≤ a.turned + sample_from held a below from) (sym e) r.blocks in
-    let same : blocks_from held b Own run at ≡ blocks_from held a Own run at = ap (λ (last : Option Block). run_left (span held) last run (span held) run.len at) (r.own_stays run.level) in
+pub sample-read : {old new : State} (run : Run) (below : Option Run) (at from to more : ℕ) → new.held ≡ old.held → to ≡ from + more → SampleReadsOn old new below from (from + more) →
+    both_left new run below at to ≤ both_left old run below at from
+sample-read {old} {new} run below at from to more stays e r =
+    let goes : new.spent.turned + sample_from new below to ≤ old.spent.turned + sample_from old below from = subst (λ (n : ℕ). new.spent.turned + sample_from new below n ≤ old.spent.turned + sample_from old below from) (sym e) r.blocks in
+    let same = from-stays old new Own run at stays (r.own_stays run.level) in
     omega (arith, goes, same)
 
 -- ---- sums over levels
@@ -191,11 +211,12 @@ blocks-then header {held} {object} level old mid new e h k =
 -- ---- calls
 
 -- a call turns to no more than one that turns to fewer blocks
-pub turns-within : {T : Type 0} (old new : Spent) (few many : ℕ) (result : Result T ReadFault) → few ≤ many → OnOk result (TurnsTo old new few) → OnOk result (TurnsTo old new many)
+pub turns-within : {T : Type 0} (old new : State) (few many : ℕ) (result : Result T ReadFault) → few ≤ many → OnOk result (TurnsTo old new few) → OnOk result (TurnsTo old new many)
 turns-within old new few many (Ok answer) h k = omega (arith, h, k)
 turns-within old new few many (Err fault) h k = tt
 
--- one behind another
-pub turns-then : {T : Type 0} (old between new : Spent) (few more most : ℕ) (result : Result T ReadFault) → TurnsTo old between few → few + more ≤ most → OnOk result (TurnsTo between new more) → OnOk result (TurnsTo old new most)
-turns-then old between new few more most (Ok answer) h l k = omega (arith, h, l, k)
-turns-then old between new few more most (Err fault) h l k = tt
+-- one behind another, where the first keeps the cells
+pub turns-then : {T : Type 0} (old between new : State) (few : ℕ) (more : Held → ℕ) (most : ℕ) (result : Result T ReadFault) → between.held ≡ old.held → TurnsTo old between few → few + more old.held ≤ most →
+    OnOk result (TurnsTo between new (more between.held)) → OnOk result (TurnsTo old new most)
+turns-then old between new few more most (Ok answer) stays h l k = let e = ap more stays in omega (arith, h, l, k, e)
+turns-then old between new few more most (Err fault) stays h l k = tt

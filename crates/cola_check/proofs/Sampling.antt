@@ -12,8 +12,8 @@ use Rattle.cola_cell.specs.declared.cell.Run.{Run}
 use Rattle.cola_cell.specs.Held.{Held, Spot, LawCell, as_cell}
 use Rattle.cola_cell.specs.Spent.{IsGiven}
 use Rattle.cola_cell.proofs.RunLemmas.{given_is_told}
-use Rattle.cola_told.specs.Cells.{cell_at, cells, run_cells}
-use Rattle.cola_told.proofs.CellLists.{length-cells, get-cells, cells-more}
+use Rattle.cola_cell.specs.ToldCells.{cell_at, cells, run_cells}
+use Rattle.cola_cell.proofs.CellLists.{length-cells, get-cells, cells-more}
 use Rattle.cola_verdict.specs.Tests.{HasSample}
 use Rattle.cola_check.specs.Prefix.{lists_below, sample_len, sample_reads, BeginsSample}
 use Rattle.cola_check.specs.Reading.{IsRunTold}

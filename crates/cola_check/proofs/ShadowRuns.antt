@@ -18,7 +18,7 @@ use Rattle.cola_layout.specs.Marks.{all_numbers}
 use Rattle.cola_layout.proofs.Powers.{next_power}
 use Rattle.cola_look.specs.Runs.{HasRun}
 use Rattle.cola_runs.specs.Cells.{IsWellFormed, IsRising, sample}
-use Rattle.cola_told.specs.Cells.{run_cells, cell_at}
+use Rattle.cola_cell.specs.ToldCells.{run_cells, cell_at}
 use Rattle.cola_verdict.specs.Tests.{FileLevel, level_at, below_at, AreCellsTold}
 use Rattle.cola_check.specs.Found.{tested_by, visible_of, shadow_of}
 use Rattle.cola_check.specs.Reading.{IsRunTold, HasBadIn, HasBadRun, PassCause}

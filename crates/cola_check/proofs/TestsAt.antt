@@ -12,7 +12,7 @@ use Rattle.cola_laws.specs.Chain.{visibles}
 use Rattle.cola_look.specs.Runs.{HasRun}
 use Rattle.cola_layout.specs.declared.header.Header.{Header}
 use Rattle.cola_layout.proofs.Powers.{next_power, power-le}
-use Rattle.cola_told.specs.Cells.{run_cells}
+use Rattle.cola_cell.specs.ToldCells.{run_cells}
 use Rattle.cola_verdict.specs.Tests.{FileLevel, AreCellsTold, HasSample, HasFew, level_at, below_at}
 use Rattle.cola_check.specs.declared.visible.Few.{Few}
 use Rattle.cola_check.specs.declared.visible.RunTests.{RunTests}

@@ -4,7 +4,7 @@ use Rattle.cola_cell.specs.declared.cell.Run.{Run}
 use Rattle.cola_cell.specs.Held.{Held, Bad, IsTelling, is_untold}
 use Rattle.cola_cell.specs.Places.{number_of}
 use Rattle.cola_cell.specs.Spent.{IsBad}
-use Rattle.cola_told.specs.Cells.{IsTold, AreTold}
+use Rattle.cola_cell.specs.ToldCells.{IsTold, AreTold}
 use Rattle.cola_layout.specs.declared.header.Header.{Header}
 use Rattle.cola_verdict.specs.Tests.{AreCellsTold, IsLowestBad}
 use Rattle.cola_check.specs.Found.{tested_by, run_in}

@@ -6,12 +6,12 @@ use Rattle.cola_cell.specs.declared.cell.Reader.TheVariants.{Own, Incoming, Samp
 use Rattle.cola_cell.specs.declared.fault.ReadFault.{ReadFault}
 use Rattle.cola_cell.specs.Held.{Held}
 use Rattle.cola_cell.specs.Order.{key_cmp}
-use Rattle.cola_cell.specs.Spent.{Spent}
-use Rattle.cola_told.specs.Cells.{run_cells}
+use Rattle.cola_cell.specs.State.{State}
+use Rattle.cola_cell.specs.ToldCells.{run_cells}
 use Rattle.cola_check.specs.declared.carried.Beside.{Beside}
 use Rattle.cola_check.specs.declared.carried.Step.{Step}
 use Rattle.cola_check.specs.declared.walk.Walk.{Walk}
-use Rattle.cola_check.specs.Reading.{IsRunTold, PassCause}
+use Rattle.cola_check.specs.Reading.{IsRunTold}
 use Rattle.cola_check.specs.Blocks.{run_blocks}
 use Rattle.cola_check.specs.Walks.{WalkFits, IsReady, unread, walk_blocks, Passes}
 
@@ -25,10 +25,6 @@ pub record AreInOrder (held : Held) (above own shadow : Run) : Type 0 where
   pub above_in : IsInOrder held above
   pub own_in : IsInOrder held own
   pub shadow_in : IsInOrder held shadow
-
--- the cause of a refused pass over the three runs
-abbrev pub BesideCause : Held → Run → Run → Run → ℕ → ℕ → ReadFault → Type 0
-BesideCause held above own shadow = PassCause held (above ∷ own ∷ shadow ∷ [])
 
 -- the walks as a list, and their runs
 abbrev pub walks_of : Beside → List Walk
@@ -86,14 +82,18 @@ pub record ReadApart (walks : Beside) : Type 0 where
   pub shadow : walks.shadow.reader ≡ Sample
 
 -- the blocks that the walks have still to turn to
-abbrev pub beside_blocks : Held → Spent → Beside → ℕ
-beside_blocks held spent walks = walk_blocks held spent walks.above + walk_blocks held spent walks.own + walk_blocks held spent walks.shadow
+abbrev pub beside_blocks : State → Beside → ℕ
+beside_blocks object walks = walk_blocks object walks.above + walk_blocks object walks.own + walk_blocks object walks.shadow
+
+-- at most how many blocks the three runs fill
+abbrev pub three_blocks : Held → Run → Run → Run → ℕ
+three_blocks held above own shadow = run_blocks held above + run_blocks held own + run_blocks held shadow
 
 -- the walks went on: the object turned to no more blocks than lie between
-pub record BesideReadsOn (held : Held) (a b : Spent) (old new : Beside) : Type 0 where
-  pub blocks : b.turned + beside_blocks held b new ≤ a.turned + beside_blocks held a old
+pub record BesideReadsOn (old new : State) (walks now : Beside) : Type 0 where
+  pub blocks : new.spent.turned + beside_blocks new now ≤ old.spent.turned + beside_blocks old walks
 
 -- the walks begun: they read apart, and with what they have still to turn to they take no more blocks than their runs fill
-pub record BesideBegan (held : Held) (a b : Spent) (above own shadow : Run) (walks : Beside) : Type 0 where
+pub record BesideBegan (old new : State) (above own shadow : Run) (walks : Beside) : Type 0 where
   pub apart : ReadApart walks
-  pub blocks : b.turned + beside_blocks held b walks ≤ a.turned + (run_blocks held above + run_blocks held own + run_blocks held shadow)
+  pub blocks : new.spent.turned + beside_blocks new walks ≤ old.spent.turned + three_blocks old.held above own shadow

@@ -4,34 +4,36 @@ use Rattle.cola_cell.specs.declared.cell.Reader.{Reader}
 use Rattle.cola_cell.specs.declared.cell.Reader.TheVariants.{Own, Sample}
 use Rattle.cola_cell.specs.declared.cell.Run.{Run}
 use Rattle.cola_cell.specs.Held.{Held, span}
-use Rattle.cola_cell.specs.Spent.{Spent, By}
+use Rattle.cola_cell.specs.Spent.{By}
+use Rattle.cola_cell.specs.State.{State}
 use Rattle.cola_layout.specs.declared.header.Header.{Header}
 use Rattle.cola_merge.specs.Blocks.{run_left}
 use Rattle.cola_check.specs.BadCells.{cells_above}
 use Rattle.cola_check.specs.Found.{run_in}
 
 -- the blocks of a run that hold a cell from an index on; but not the one that its reader read last
-abbrev pub blocks_from : Held → Spent → Reader → Run → ℕ → ℕ
-blocks_from held spent reader run at = run_left (span held) (spent.lasts (By reader run.level)) run (span held) run.len at
+abbrev pub blocks_from : State → Reader → Run → ℕ → ℕ
+blocks_from object reader run at = run_left (span object.held) (object.spent.lasts (By reader run.level)) run (span object.held) run.len at
 
 -- a reader that went on in a run, from one index to another, turned to no more blocks than lie between
-abbrev pub GoesOn : Held → Spent → Spent → Reader → Run → ℕ → ℕ → Type 0
-GoesOn held old new reader run from to = new.turned + blocks_from held new reader run to ≤ old.turned + blocks_from held old reader run from
+abbrev pub GoesOn : State → State → Reader → Run → ℕ → ℕ → Type 0
+GoesOn old new reader run from to = new.spent.turned + blocks_from new reader run to ≤ old.spent.turned + blocks_from old reader run from
 
 -- the same of the cells of its sample, every eighth cell of the run, of which so many were read; none where there is no run
-abbrev pub sample_from : Held → Spent → Option Run → ℕ → ℕ
-sample_from held spent None at = 0
-sample_from held spent (Some run) at = run_left (span held) (spent.lasts (By Sample run.level)) run (2 ^ held.fixed.doublings) (run.len / 8) at
+abbrev pub sample_from : State → Option Run → ℕ → ℕ
+sample_from object None at = 0
+sample_from object (Some run) at =
+    run_left (span object.held) (object.spent.lasts (By Sample run.level)) run (2 ^ object.held.fixed.doublings) (run.len / 8) at
 
 -- the sample of a run was read on, from one of its cells to another: the object turned to no more blocks than lie between, and
 -- no buffer changed by which a level's own run is read
-pub record SampleReadsOn (held : Held) (a b : Spent) (run : Option Run) (from to : ℕ) : Type 0 where
-  pub blocks : b.turned + sample_from held b run to ≤ a.turned + sample_from held a run from
-  pub own_stays : (level : ℕ) → b.lasts (By Own level) ≡ a.lasts (By Own level)
+pub record SampleReadsOn (old new : State) (run : Option Run) (from to : ℕ) : Type 0 where
+  pub blocks : new.spent.turned + sample_from new run to ≤ old.spent.turned + sample_from old run from
+  pub own_stays : (level : ℕ) → new.spent.lasts (By Own level) ≡ old.spent.lasts (By Own level)
 
 -- a call turned to at most so many blocks
-abbrev pub TurnsTo : Spent → Spent → ℕ → Type 0
-TurnsTo old new blocks = new.turned ≤ old.turned + blocks
+abbrev pub TurnsTo : State → State → ℕ → Type 0
+TurnsTo old new blocks = new.spent.turned ≤ old.spent.turned + blocks
 
 -- at most how many blocks are turned to for the cells of a run: those that lie whole in it, and one at each of its ends
 abbrev pub run_blocks : Held → Run → ℕ

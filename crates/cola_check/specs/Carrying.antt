@@ -7,7 +7,7 @@ use Rattle.cola_laws.specs.Sound.{Carried, Keeps}
 use Rattle.cola_cell.specs.declared.cell.Run.{Run}
 use Rattle.cola_cell.specs.Held.{Held, LawCell, Stamped}
 use Rattle.cola_cell.specs.Order.{key_cmp}
-use Rattle.cola_told.specs.Cells.{run_cells}
+use Rattle.cola_cell.specs.ToldCells.{run_cells}
 
 -- the part that a level builds, by the parity of its period and by whether it is the bottom
 abbrev pub part_at : Bool → Bool → Part

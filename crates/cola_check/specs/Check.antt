@@ -68,7 +68,8 @@ module _ {D : Type 0} (d : device.Ghosts D) (before now : D) (from to : ℕ) whe
     pub header : Fields
     pub is : IfSome (d.bytes before) (HasVerdict header verdict)
     pub reading : IsReadBy header
-    pub few_reads : IsSure (d.bytes before) verdict → (d.counts now).reads ≤ (d.counts before).reads + (1 + (header.bottom + 3) + test_blocks header)
+    pub few_reads : IsSure (d.bytes before) verdict →
+        (d.counts now).reads ≤ (d.counts before).reads + (1 + (header.bottom + 3) + test_blocks header)
     pub no_fault : (d.counts now).faults ≡ (d.counts before).faults
 
   -- the device failed while the cells were read
@@ -101,7 +102,8 @@ module _ {D : Type 0} (d : device.Ghosts D) (header : Header) (before now : D) w
   -- the verdict on the cells of a file with this header, where its bytes are told
   pub record HasCellsTested (verdict : Verdict) : Type 0 where
     pub verdict_is : IfSome (d.bytes before) (λ bytes. IsVerdict (tested_of (fields_of header) bytes) verdict)
-    pub few_reads : IsSure (d.bytes before) verdict → (d.counts now).reads ≤ (d.counts before).reads + ((header.geometry.bottom + 3) + test_blocks (fields_of header))
+    pub few_reads : IsSure (d.bytes before) verdict →
+        (d.counts now).reads ≤ (d.counts before).reads + ((header.geometry.bottom + 3) + test_blocks (fields_of header))
     pub no_fault : (d.counts now).faults ≡ (d.counts before).faults
 
   -- why the cells of a file were not tested

@@ -1,13 +1,12 @@
 -- When cursors cut a build after a shadow, and what the test of it reads.
-use Rattle.std.specs.Prelude.{◌≡◌, ◌≢◌, ℕ, ◌+◌, ◌*◌, ◌≤◌, ⊤, Option, Bool, true, false, List, [], ◌∷◌, ◌++◌, drop, ◌↔◌, IsTrue, IfOk, IfErr, Result, Ok, Err}
+use Rattle.std.specs.Prelude.{◌≡◌, ◌≢◌, ℕ, ◌+◌, ◌*◌, ◌≤◌, ⊤, Bool, true, false, List, [], ◌∷◌, ◌++◌, drop, ◌↔◌, IsTrue, IfOk, IfErr, Result, Ok, Err}
 use Rattle.cola_runs.specs.Weave.{IsCut}
-use Rattle.cola_cell.specs.declared.cell.Cell.{Cell}
 use Rattle.cola_cell.specs.declared.cell.Run.{Run}
 use Rattle.cola_cell.specs.declared.fault.ReadFault.{ReadFault}
 use Rattle.cola_cell.specs.Held.{Held, LawCell}
-use Rattle.cola_cell.specs.Spent.{Buffer, Spent, ReadCalm}
+use Rattle.cola_cell.specs.State.{State}
 use Rattle.cola_cell.specs.Order.{key_cmp}
-use Rattle.cola_told.specs.Cells.{run_cells}
+use Rattle.cola_cell.specs.ToldCells.{run_cells}
 use Rattle.cola_look.specs.Runs.{HasRun}
 use Rattle.cola_merge.specs.declared.aims.Feed.{Feed}
 use Rattle.cola_merge.specs.declared.aims.Feed.TheVariants as feed
@@ -15,10 +14,10 @@ use Rattle.cola_merge.specs.declared.aims.Aim.{Aim}
 use Rattle.cola_merge.specs.declared.merging.Merger.{Merger}
 use Rattle.cola_merge.specs.Feeds.{part_of, feed_len, feed_cells, feed_keys, IsFeed}
 use Rattle.cola_merge.specs.Blocks.{blocks_left}
-use Rattle.cola_merge.specs.Heads.{head_at, consumed, HasHeads, fetched}
-use Rattle.cola_merge.specs.States.{Spends, IsBeside}
+use Rattle.cola_merge.specs.Heads.{head_at, HasHeads, fetched}
+use Rattle.cola_merge.specs.States.{Spends}
 use Rattle.cola_merge.specs.Advance.{cells_read}
-use Rattle.cola_merge.specs.Pulls.{AreInOrder, ahead, Gives, given_cells, HasPullCause, IsFrugal}
+use Rattle.cola_merge.specs.Pulls.{AreInOrder, ahead}
 use Rattle.cola_check.specs.declared.cut.Cursors.{Cursors}
 use Rattle.cola_check.specs.Blocks.{run_blocks}
 use Rattle.cola_check.specs.Others.{by_others}
@@ -87,55 +86,39 @@ reach aim n (Ok answer) = fetched aim n
 reach aim n (Err fault) = cells_read aim
 
 -- a pass of a merge along a run
-pub record Followed (held : Held) (aim : Aim) (run : Run) (old new : Spent) (m n : Merger) (from to : ℕ) (result : Result Bool ReadFault) : Type 0 where
-  pub follows : AreInOrder held aim → IsRunTold held run → Follows held aim m n (run_cells held run) result
-  pub heads : HasHeads held aim n
+pub record Followed (old new : State) (aim : Aim) (run : Run) (m n : Merger) (from to : ℕ) (result : Result Bool ReadFault) : Type 0 where
+  pub follows : AreInOrder old.held aim → IsRunTold old.held run →
+      Follows old.held aim m n (run_cells old.held run) result
+  pub heads : HasHeads old.held aim n
   pub ticks : to + fetched aim m ≤ from + (reach aim n result + run.len)
-  pub spends : Spends old new from to
-  pub written_is : new.written ≡ old.written
-  pub cause : IfErr result (PassCause held (run ∷ runs_of_aim aim) old.faults new.faults)
-  pub calm : ReadCalm old.faults new.faults result
+  pub spends : Spends old.spent new.spent from to
+  pub written_is : new.spent.written ≡ old.spent.written
+  pub cause : IfErr result (PassCause old.held (run ∷ runs_of_aim aim) old.spent.faults new.spent.faults)
 
 -- a pass of two merges side by side: whether the same cells were ahead of both
-pub record Compared (held : Held) (aim : Aim) (old new : Spent) (first second : Merger) (from to : ℕ) (result : Result Bool ReadFault) : Type 0 where
-  pub same : AreInOrder held aim → IfOk result (λ same. IsTrue same ↔ (ahead held aim first ≡ ahead held aim second))
+pub record Compared (old new : State) (aim : Aim) (first second : Merger) (from to : ℕ) (result : Result Bool ReadFault) : Type 0 where
+  pub same : AreInOrder old.held aim →
+      IfOk result (λ same. IsTrue same ↔ (ahead old.held aim first ≡ ahead old.held aim second))
   pub ticks : to + fetched aim first + fetched aim second ≤ from + 2 * cells_read aim
-  pub spends : Spends old new from to
-  pub written_is : new.written ≡ old.written
-  pub cause : IfErr result (PassCause held (runs_of_aim aim) old.faults new.faults)
-  pub calm : ReadCalm old.faults new.faults result
-
--- ---- one pull of a merge
-
--- what a pull of a merge says
-pub record Pulled (held : Held) (aim : Aim) (a b : Spent) (m n : Merger) (from to : ℕ) (result : Result (Option Cell) ReadFault) : Type 0 where
-  pub gives : AreInOrder held aim → Gives held aim m n result
-  pub heads : HasHeads held aim n
-  pub consumes : consumed m + given_cells result ≤ consumed n
-  pub cause : HasPullCause held aim a.faults b n to result
-  pub calm : ReadCalm a.faults b.faults result
-  pub ticks : IsFrugal aim m n from to result
-  pub spends : Spends a b from to
-  pub written_is : b.written ≡ a.written
+  pub spends : Spends old.spent new.spent from to
+  pub written_is : new.spent.written ≡ old.spent.written
+  pub cause : IfErr result (PassCause old.held (runs_of_aim aim) old.spent.faults new.spent.faults)
 
 -- ---- blocks
 
 -- the blocks that a merge has still to turn to
-abbrev pub merge_blocks : Held → Spent → Aim → Merger → ℕ
-merge_blocks held spent aim m = blocks_left held.fixed.doublings spent.lasts aim m
-
--- a merge went on: the object turned to no more blocks than lie between, and no buffer changed but the merge's
-pub record MergeReadsOn (held : Held) (aim : Aim) (a b : Spent) (m n : Merger) : Type 0 where
-  pub blocks : b.turned + merge_blocks held b aim n ≤ a.turned + merge_blocks held a aim m
-  pub others_stay : (buffer : Buffer) → IsBeside aim buffer → b.lasts buffer ≡ a.lasts buffer
+abbrev pub merge_blocks : State → Aim → Merger → ℕ
+merge_blocks object aim m = blocks_left object.held.fixed.doublings object.spent.lasts aim m
 
 -- a merge went along a run: with what it has still to turn to it took no more blocks than it had before and the run fills
-abbrev pub FollowsBlocks : Held → Aim → Run → Spent → Spent → Merger → Merger → Type 0
-FollowsBlocks held aim run a b m n = b.turned + merge_blocks held b aim n ≤ a.turned + merge_blocks held a aim m + run_blocks held run
+abbrev pub FollowsBlocks : State → State → Aim → Run → Merger → Merger → Type 0
+FollowsBlocks old new aim run m n =
+    new.spent.turned + merge_blocks new aim n ≤ old.spent.turned + merge_blocks old aim m + run_blocks old.held run
 
 -- two merges went on side by side, the second by the other readers: they turned to no more blocks than both had still to turn to
-abbrev pub ComparesBlocks : Held → Aim → Spent → Spent → Merger → Merger → Type 0
-ComparesBlocks held aim a b first second = b.turned ≤ a.turned + merge_blocks held a aim first + merge_blocks held (by_others a) aim second
+abbrev pub ComparesBlocks : State → State → Aim → Merger → Merger → Type 0
+ComparesBlocks old new aim first second =
+    new.spent.turned ≤ old.spent.turned + merge_blocks old aim first + merge_blocks (by_others old) aim second
 
 -- at most how many blocks are turned to for a feed, and for those of an aim
 abbrev pub feed_blocks : Held → Feed → ℕ

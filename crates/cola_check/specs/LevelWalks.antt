@@ -7,9 +7,10 @@ use Rattle.cola_cell.specs.declared.cell.Reader.{Reader}
 use Rattle.cola_cell.specs.declared.cell.Reader.TheVariants.{Own, Incoming}
 use Rattle.cola_cell.specs.declared.fault.ReadFault.{ReadFault}
 use Rattle.cola_cell.specs.Held.{Held}
-use Rattle.cola_cell.specs.Spent.{By, Spent}
+use Rattle.cola_cell.specs.Spent.{By}
+use Rattle.cola_cell.specs.State.{State}
 use Rattle.cola_look.specs.Runs.{HasRun}
-use Rattle.cola_told.specs.Cells.{run_cells}
+use Rattle.cola_cell.specs.ToldCells.{run_cells}
 use Rattle.cola_check.specs.declared.walk.Found.{Found}
 use Rattle.cola_check.specs.declared.walk.Walk.{Walk}
 use Rattle.cola_check.specs.declared.tally.Said.{Said}
@@ -163,25 +164,32 @@ ReadFrom n [] = ⊤
 ReadFrom n (level ∷ levels) = ReadsAt n level × ReadFrom (suc n) levels
 
 -- the blocks that the walks of a level have still to turn to, and those of levels
-abbrev pub level_left : Held → Spent → LevelWalks → ℕ
-level_left held spent level = walk_blocks held spent level.visible.walk + walk_blocks held spent level.shadow.walk
+abbrev pub level_left : State → LevelWalks → ℕ
+level_left object level = walk_blocks object level.visible.walk + walk_blocks object level.shadow.walk
 
-abbrev pub all_left : Held → Spent → List LevelWalks → ℕ
-all_left held spent [] = 0
-all_left held spent (level ∷ levels) = level_left held spent level + all_left held spent levels
+abbrev pub all_left : State → List LevelWalks → ℕ
+all_left object [] = 0
+all_left object (level ∷ levels) = level_left object level + all_left object levels
 
 -- the walks of this level went on: the object turned to no more blocks than lie between, and no buffer of another level changed
-pub record LevelReadsOn (held : Held) (a b : Spent) (n : ℕ) (old new : LevelWalks) : Type 0 where
-  pub blocks : b.turned + level_left held b new ≤ a.turned + level_left held a old
-  pub others_stay : (reader : Reader) (level : ℕ) → level ≢ n → b.lasts (By reader level) ≡ a.lasts (By reader level)
+pub record LevelReadsOn (old new : State) (n : ℕ) (walks now : LevelWalks) : Type 0 where
+  pub blocks : new.spent.turned + level_left new now ≤ old.spent.turned + level_left old walks
+  pub others_stay : (reader : Reader) (level : ℕ) → level ≢ n →
+      new.spent.lasts (By reader level) ≡ old.spent.lasts (By reader level)
 
 -- the same of levels, from this one on
-pub record AllReadOn (held : Held) (a b : Spent) (n : ℕ) (old new : List LevelWalks) : Type 0 where
-  pub blocks : b.turned + all_left held b new ≤ a.turned + all_left held a old
-  pub others_stay : (reader : Reader) (level : ℕ) → level < n → b.lasts (By reader level) ≡ a.lasts (By reader level)
+pub record AllReadOn (old new : State) (n : ℕ) (walks now : List LevelWalks) : Type 0 where
+  pub blocks : new.spent.turned + all_left new now ≤ old.spent.turned + all_left old walks
+  pub others_stay : (reader : Reader) (level : ℕ) → level < n →
+      new.spent.lasts (By reader level) ≡ old.spent.lasts (By reader level)
 
 -- the walks over the runs of this level begun: with what they have still to turn to they take no more blocks than these fill,
 -- and no buffer of another level changed
-pub record LevelBegan (held : Held) (a b : Spent) (n : ℕ) (level : LevelRuns) (new : LevelWalks) : Type 0 where
-  pub blocks : b.turned + level_left held b new ≤ a.turned + blocks_at held level
-  pub others_stay : (reader : Reader) (other : ℕ) → other ≢ n → b.lasts (By reader other) ≡ a.lasts (By reader other)
+pub record LevelBegan (old new : State) (n : ℕ) (level : LevelRuns) (walks : LevelWalks) : Type 0 where
+  pub blocks : new.spent.turned + level_left new walks ≤ old.spent.turned + blocks_at old.held level
+  pub others_stay : (reader : Reader) (other : ℕ) → other ≢ n →
+      new.spent.lasts (By reader other) ≡ old.spent.lasts (By reader other)
+
+-- the same of levels, from level 0 on
+abbrev pub AllBegan : State → State → List LevelRuns → List LevelWalks → Type 0
+AllBegan old new levels walks = StandFrom 0 levels → new.spent.turned + all_left new walks ≤ old.spent.turned + blocks_of old.held levels

@@ -5,7 +5,7 @@ use Rattle.cola_runs.specs.Cells.{Entry, Look, link_of, look_keys, count_looks, 
 use Rattle.cola_cell.specs.declared.cell.Cell.{Cell}
 use Rattle.cola_cell.specs.declared.cell.Run.{Run}
 use Rattle.cola_cell.specs.Held.{Held, LawCell, as_cell}
-use Rattle.cola_told.specs.Cells.{run_cells}
+use Rattle.cola_cell.specs.ToldCells.{run_cells}
 use Rattle.cola_verdict.specs.Tests.{IsInOrder, EndsOrder, HasFewItems}
 use Rattle.cola_check.specs.declared.prefix.Prefix.{Prefix}
 use Rattle.cola_check.specs.declared.visible.Few.{Few}

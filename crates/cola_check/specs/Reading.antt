@@ -1,12 +1,14 @@
--- What a pass over runs needs to be told, and why it is refused.
-use Rattle.std.specs.Prelude.{◌⊎◌, ℕ, ◌<◌, List, [], ◌∷◌}
+-- What a pass over runs needs to be told, what it spends, and why it is refused.
+use Rattle.std.specs.Prelude.{◌⊎◌, ℕ, ◌+◌, ◌-◌, ◌<◌, ◌≤◌, List, [], ◌∷◌, Result, IfErr}
 use Rattle.cola_outside.specs.Faults.{Rose}
 use Rattle.cola_cell.specs.declared.cell.Run.{Run}
 use Rattle.cola_cell.specs.declared.fault.ReadFault.{ReadFault}
 use Rattle.cola_cell.specs.declared.fault.ReadFault.TheVariants.{Device, BadCell}
+use Rattle.cola_cell.specs.Costs.{Costs}
 use Rattle.cola_cell.specs.Held.{Held}
 use Rattle.cola_cell.specs.Spent.{IsBad}
-use Rattle.cola_told.specs.Cells.{AreTold}
+use Rattle.cola_cell.specs.State.{State}
+use Rattle.cola_cell.specs.ToldCells.{AreTold}
 
 -- a cell is told of each place of the run
 abbrev pub IsRunTold : Held → Run → Type 0
@@ -27,3 +29,17 @@ HasBadRun held number (run ∷ runs) = HasBadIn held run number ⊎ HasBadRun he
 abbrev pub PassCause : Held → List Run → ℕ → ℕ → ReadFault → Type 0
 PassCause held runs before now Device = Rose before now
 PassCause held runs before now (BadCell number) = HasBadRun held number runs
+
+module _ {A : Type 0} (old new : State) (from to : ℕ) where
+  -- a call that reads at most so many cells of these runs: each in at most a tick, by turning to at most one block; and why it
+  -- is refused
+  pub record ReadsRuns (runs : List Run) (cells : ℕ) (result : Result A ReadFault) : Type 0 where
+    pub cause : IfErr result (PassCause old.held runs old.spent.faults new.spent.faults)
+    pub cost : Costs old.spent new.spent from to cells cells
+
+  -- a call on walks over these runs, of whose cells so many were unread before it and so many are left unread after it: each
+  -- tick turns to at most one block; and why it is refused
+  pub record ReadsAhead (runs : List Run) (before left : ℕ) (result : Result A ReadFault) : Type 0 where
+    pub cause : IfErr result (PassCause old.held runs old.spent.faults new.spent.faults)
+    pub unread : to + left ≤ from + before
+    pub turns : Costs old.spent new.spent from to (to - from) (to - from)

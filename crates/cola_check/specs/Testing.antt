@@ -1,10 +1,12 @@
 -- What the tests of the cells of an object answer, one after another.
-use Rattle.std.specs.Prelude.{◌≡◌, ℕ, ◌+◌, ◌*◌, ◌^◌, List, Option, Some, None, Result, Ok, Err}
+use Rattle.std.specs.Prelude.{◌≡◌, ℕ, ◌+◌, ◌*◌, ◌^◌, List, Option, Some, None, Result, Ok, Err, IfErr}
 use Rattle.std.specs.List.{AllByRecursion}
 use Rattle.cola_outside.specs.Faults.{Rose}
 use Rattle.cola_cell.specs.declared.fault.ReadFault.{ReadFault}
 use Rattle.cola_cell.specs.declared.fault.ReadFault.TheVariants.{Device, BadCell}
+use Rattle.cola_cell.specs.Costs.{Costs}
 use Rattle.cola_cell.specs.Held.{Held, IsTelling}
+use Rattle.cola_cell.specs.State.{State}
 use Rattle.cola_layout.specs.declared.header.Header.{Header}
 use Rattle.cola_verdict.specs.declared.verdict.Flaw.{Flaw}
 use Rattle.cola_verdict.specs.declared.verdict.Verdict.{Verdict}
@@ -48,9 +50,15 @@ abbrev pub TestCause : Header → Held → ℕ → ℕ → ReadFault → Type 0
 TestCause header held before now Device = Rose before now
 TestCause header held before now (BadCell number) = AreCellsTold (tested_by header held) → ⊥
 
+-- a test of an object with the levels of a header, which makes at most so many ticks, and turns to at most one block in each;
+-- and why it is refused
+pub record ReadsFile {A : Type 0} (header : Header) (old new : State) (from to ticks : ℕ) (result : Result A ReadFault) : Type 0 where
+  pub cause : IfErr result (TestCause header old.held old.spent.faults new.spent.faults)
+  pub cost : Costs old.spent new.spent from to ticks ticks
+
 -- the verdict, where the object tells its cells; or the device failed. A cell that is bad at a second reading, and was not at
 -- the first, is none that is told
-abbrev pub Tests : Header → Held → ℕ → ℕ → Result Verdict ReadFault → Type 0
-Tests header held before now (Ok verdict) = IsTelling held → IsVerdict (tested_by header held) verdict
-Tests header held before now (Err Device) = Rose before now
-Tests header held before now (Err (BadCell number)) = IsTelling held → ⊥
+abbrev pub Tests : Header → State → State → Result Verdict ReadFault → Type 0
+Tests header old new (Ok verdict) = IsTelling old.held → IsVerdict (tested_by header old.held) verdict
+Tests header old new (Err Device) = Rose old.spent.faults new.spent.faults
+Tests header old new (Err (BadCell number)) = IsTelling old.held → ⊥

@@ -14,9 +14,10 @@ use Rattle.cola_cell.specs.Cell.{key_of}
 use Rattle.cola_cell.specs.Held.{Held, Told, Tells, LawCell, Stamped, as_cell, as_item}
 use Rattle.cola_cell.specs.Order.{key_cmp}
 use Rattle.cola_cell.specs.Spent.{Buffer, By, Spent}
+use Rattle.cola_cell.specs.State.{State}
 use Rattle.cola_cell.specs.Costs.{Costs}
 use Rattle.cola_look.specs.Runs.{HasRun}
-use Rattle.cola_told.specs.Cells.{run_cells}
+use Rattle.cola_cell.specs.ToldCells.{run_cells}
 use Rattle.cola_check.specs.declared.walk.Found.{Found}
 use Rattle.cola_check.specs.declared.walk.Found.TheVariants.{Nothing, Old, Young}
 use Rattle.cola_check.specs.declared.walk.Walk.{Walk}
@@ -104,21 +105,18 @@ abbrev pub Turns : Spent → Spent → ℕ → ℕ → Type 0
 Turns old new before after = Costs old new before after (after - before) (after - before)
 
 -- the blocks that a walk has still to turn to
-abbrev pub walk_blocks : Held → Spent → Walk → ℕ
-walk_blocks held spent walk = blocks_from held spent walk.reader walk.run walk.at
+abbrev pub walk_blocks : State → Walk → ℕ
+walk_blocks object walk = blocks_from object walk.reader walk.run walk.at
 
 -- a walk before the first cell of a run, which is not read
 abbrev pub unbegun : Run → Reader → Walk
 unbegun run reader = record { run = run; reader = reader; at = 0; head = None }
 
 -- a walk went on: the object turned to no more blocks than lie between, and no buffer changed but the walk's
-pub record ReadsOn (held : Held) (a b : Spent) (old new : Walk) : Type 0 where
-  pub blocks : b.turned + walk_blocks held b new ≤ a.turned + walk_blocks held a old
-  pub others_stay : (other : Buffer) → other ≢ By old.reader old.run.level → b.lasts other ≡ a.lasts other
-
--- a call that reads at most so many cells spends this
-abbrev pub ReadsUpTo : Spent → Spent → ℕ → ℕ → ℕ → Type 0
-ReadsUpTo old new before after cells = Costs old new before after cells cells
+pub record ReadsOn (old new : State) (walk now : Walk) : Type 0 where
+  pub blocks : new.spent.turned + walk_blocks new now ≤ old.spent.turned + walk_blocks old walk
+  pub others_stay : (other : Buffer) → other ≢ By walk.reader walk.run.level →
+      new.spent.lasts other ≡ old.spent.lasts other
 
 -- the cells of its run that a walk has still to pass
 abbrev pub rest : Held → Walk → List LawCell

@@ -1,11 +1,11 @@
 //! A walk over a finished shadow and the runs beside it, key by key.
-ghost use Rattle.std.specs.Prelude.{◌≡◌, ◌+◌, ◌↔◌, IfOk, IfErr, OnOk, IsTrue};
-ghost use Rattle.cola_cell.specs.Spent.{ReadCalm};
+ghost use Rattle.std.specs.Prelude.{◌+◌, ◌↔◌, [], ◌∷◌, IfOk, OnOk, IsTrue};
+ghost use Rattle.cola_cell.specs.Looks.{OnlyLooks};
 ghost use Rattle.cola_look.specs.Runs.{HasRun};
-ghost use Rattle.cola_check.specs.Blocks.{TurnsTo, run_blocks};
-ghost use Rattle.cola_check.specs.Walks.{ReadsUpTo};
+ghost use Rattle.cola_check.specs.Blocks.{TurnsTo};
+ghost use Rattle.cola_check.specs.Reading.{ReadsRuns};
 ghost use Rattle.cola_check.specs.Carrying.{AreCarried};
-ghost use Rattle.cola_check.specs.Beside.{AreInOrder, BesideCause};
+ghost use Rattle.cola_check.specs.Beside.{AreInOrder, three_blocks};
 
 use crate::fitting::fits;
 use crate::walk::{Found, Walk};
@@ -30,11 +30,11 @@ pub(crate) struct Step {
 }
 
 impl Beside {
-    ghost use Rattle.std.specs.Prelude.{◌≡◌, ◌+◌, ◌≤◌, [], ◌∷◌, IfOk, IfErr, OnOk, None};
+    ghost use Rattle.std.specs.Prelude.{◌≡◌, ◌+◌, [], ◌∷◌, IfOk, OnOk, None};
     ghost use Rattle.cola_look.specs.Runs.{HasRun};
-    ghost use Rattle.cola_check.specs.Reading.{PassCause};
-    ghost use Rattle.cola_check.specs.Walks.{Turns, least_from};
-    ghost use Rattle.cola_check.specs.Beside.{BesideCause, BeginBeside, BesideFits, AreReady, StepsBeside, ReadApart, BesideBegan, BesideReadsOn};
+    ghost use Rattle.cola_check.specs.Reading.{ReadsAhead};
+    ghost use Rattle.cola_check.specs.Walks.{least_from};
+    ghost use Rattle.cola_check.specs.Beside.{BeginBeside, BesideFits, AreReady, StepsBeside, ReadApart, BesideBegan, BesideReadsOn};
     ghost use Rattle.cola_check.specs.Beside.{all_unread, unread_begun, unread_stepped, runs_of, walks_of};
 
     /// The walks before the first cells of their runs.
@@ -45,17 +45,15 @@ impl Beside {
         shadow: &Run,
         steps: &mut Steps<L>,
     ) -> Result<Beside, ReadFault>
-        requires above { HasRun (W.held work.old) above.now }
-        requires own { HasRun (W.held work.old) own.now }
-        requires shadow { HasRun (W.held work.old) shadow.now }
-        ensures begins { IfOk result (BeginBeside (W.held work.old) above.now own.now shadow.now) }
-        ensures unread { steps.new + unread_begun result ≤ steps.old + (above.now.len + own.now.len + shadow.now.len) }
-        ensures turns { Turns (W.spent work.old) (W.spent work.new) steps.old steps.new }
-        ensures blocks { IfOk result (BesideBegan (W.held work.old) (W.spent work.old) (W.spent work.new) above.now own.now shadow.now) }
-        ensures cause { IfErr result (BesideCause (W.held work.old) above.now own.now shadow.now (W.spent work.old).faults (W.spent work.new).faults) }
-        ensures cells_stay { W.held work.new ≡ W.held work.old }
-        ensures kept { W.kept work.new ≡ W.kept work.old }
-        ensures calm { ReadCalm (W.spent work.old).faults (W.spent work.new).faults result }
+        requires above { HasRun (W.state work.old).held above.now }
+        requires own { HasRun (W.state work.old).held own.now }
+        requires shadow { HasRun (W.state work.old).held shadow.now }
+        ensures begins { IfOk result (BeginBeside (W.state work.old).held above.now own.now shadow.now) }
+        ensures reads { ReadsAhead (W.state work.old) (W.state work.new) steps.old steps.new
+            (above.now ∷ own.now ∷ shadow.now ∷ []) (above.now.len + own.now.len + shadow.now.len) (unread_begun result) result }
+        ensures blocks { IfOk result (BesideBegan (W.state work.old) (W.state work.new)
+            above.now own.now shadow.now) }
+        ensures looks { OnlyLooks W.CellSource work.old work.new result }
     {
         let above = Walk::begin(work, above, Reader::Incoming, steps)?;
         let own = Walk::begin(work, own, Reader::Own, steps)?;
@@ -81,16 +79,14 @@ impl Beside {
         key: &Key,
         steps: &mut Steps<L>,
     ) -> Result<Step, ReadFault>
-        requires fit { BesideFits (W.held work.old) self.old }
+        requires fit { BesideFits (W.state work.old).held self.old }
         requires ready { AreReady self.old }
-        ensures passes { IfOk result (StepsBeside (W.held work.old) key.now self.old self.new) }
-        ensures unread { steps.new + unread_stepped self.new result ≤ steps.old + all_unread self.old }
-        ensures turns { Turns (W.spent work.old) (W.spent work.new) steps.old steps.new }
-        ensures blocks { OnOk result (ReadApart self.old → BesideReadsOn (W.held work.old) (W.spent work.old) (W.spent work.new) self.old self.new) }
-        ensures cause { IfErr result (PassCause (W.held work.old) (runs_of self.old) (W.spent work.old).faults (W.spent work.new).faults) }
-        ensures cells_stay { W.held work.new ≡ W.held work.old }
-        ensures kept { W.kept work.new ≡ W.kept work.old }
-        ensures calm { ReadCalm (W.spent work.old).faults (W.spent work.new).faults result }
+        ensures passes { IfOk result (StepsBeside (W.state work.old).held key.now self.old self.new) }
+        ensures reads { ReadsAhead (W.state work.old) (W.state work.new) steps.old steps.new
+            (runs_of self.old) (all_unread self.old) (unread_stepped self.new result) result }
+        ensures blocks { OnOk result (ReadApart self.old →
+            BesideReadsOn (W.state work.old) (W.state work.new) self.old self.new) }
+        ensures looks { OnlyLooks W.CellSource work.old work.new result }
     {
         let above = self.above.pass(work, key, steps)?;
         let own = self.own.pass(work, key, steps)?;
@@ -110,17 +106,17 @@ pub(crate) fn is_carried<W: CellSource, L: Ledger>(
     bottom: bool,
     steps: &mut Steps<L>,
 ) -> Result<bool, ReadFault>
-    requires above { HasRun (W.held work.old) above.now }
-    requires own { HasRun (W.held work.old) own.now }
-    requires shadow { HasRun (W.held work.old) shadow.now }
-    ensures carried { IfOk result (λ carried. AreInOrder (W.held work.old) above.now own.now shadow.now →
-        IsTrue carried ↔ AreCarried (W.held work.old) odd bottom above.now own.now shadow.now) }
-    ensures costs { ReadsUpTo (W.spent work.old) (W.spent work.new) steps.old steps.new (above.now.len + own.now.len + shadow.now.len) }
-    ensures blocks { OnOk result (TurnsTo (W.spent work.old) (W.spent work.new) (run_blocks (W.held work.old) above.now + run_blocks (W.held work.old) own.now + run_blocks (W.held work.old) shadow.now)) }
-    ensures cause { IfErr result (BesideCause (W.held work.old) above.now own.now shadow.now (W.spent work.old).faults (W.spent work.new).faults) }
-    ensures cells_stay { W.held work.new ≡ W.held work.old }
-    ensures kept { W.kept work.new ≡ W.kept work.old }
-    ensures calm { ReadCalm (W.spent work.old).faults (W.spent work.new).faults result }
+    requires above { HasRun (W.state work.old).held above.now }
+    requires own { HasRun (W.state work.old).held own.now }
+    requires shadow { HasRun (W.state work.old).held shadow.now }
+    ensures carried { IfOk result (λ carried.
+        AreInOrder (W.state work.old).held above.now own.now shadow.now →
+        IsTrue carried ↔ AreCarried (W.state work.old).held odd bottom above.now own.now shadow.now) }
+    ensures blocks { OnOk result (TurnsTo (W.state work.old) (W.state work.new)
+        (three_blocks (W.state work.old).held above.now own.now shadow.now)) }
+    ensures reads { ReadsRuns (W.state work.old) (W.state work.new) steps.old steps.new
+        (above.now ∷ own.now ∷ shadow.now ∷ []) (above.now.len + own.now.len + shadow.now.len) result }
+    ensures looks { OnlyLooks W.CellSource work.old work.new result }
 {
     let mut walks = Beside::begin(work, above, own, shadow, steps)?;
     while let Some(key) = walks.least_key() {

@@ -1,12 +1,11 @@
 //! The lowest cell of the runs of a file whose bytes spell none.
-ghost use Rattle.std.specs.Prelude.{◌≡◌, ◌+◌, ◌^◌, ◌≤◌, ◌<◌, [], None, IfOk, IfErr};
-ghost use Rattle.cola_cell.specs.Costs.{Costs};
-ghost use Rattle.cola_cell.specs.Spent.{ReadCalm};
+ghost use Rattle.std.specs.Prelude.{◌≡◌, ◌+◌, ◌^◌, ◌≤◌, ◌<◌, [], None, IfOk};
+ghost use Rattle.cola_cell.specs.Looks.{OnlyLooks};
 ghost use Rattle.cola_cell.specs.declared.cell.Reader.TheVariants.{Own};
 ghost use Rattle.cola_look.specs.Runs.{HasRun};
 ghost use Rattle.cola_check.specs.BadCells.{FindsOne, FindsIn, FindsAt, FindsCell, level_cells, all_cells};
-ghost use Rattle.cola_check.specs.Blocks.{GoesOn, run_blocks, level_blocks, all_blocks};
-ghost use Rattle.cola_check.specs.Reading.{PassCause};
+ghost use Rattle.cola_check.specs.Blocks.{GoesOn, TurnsTo, run_blocks, level_blocks, all_blocks};
+ghost use Rattle.cola_check.specs.Reading.{ReadsRuns};
 
 use crate::runs::run_at;
 use cola_cell::{CellSource, ReadFault, Reader, Run};
@@ -21,15 +20,14 @@ fn bad_at<W: CellSource, L: Ledger>(
     index: u32,
     steps: &mut Steps<L>,
 ) -> Result<Option<u64>, ReadFault>
-    requires run { HasRun (W.held work.old) run.now }
+    requires run { HasRun (W.state work.old).held run.now }
     requires index { index < run.now.len }
-    ensures finds { IfOk result (FindsOne (W.held work.old) run.now index) }
-    ensures cause { IfErr result (PassCause (W.held work.old) [] (W.spent work.old).faults (W.spent work.new).faults) }
-    ensures cost { Costs (W.spent work.old) (W.spent work.new) steps.old steps.new 1 1 }
-    ensures goes { IfOk result (λ bad. bad ≡ None → GoesOn (W.held work.old) (W.spent work.old) (W.spent work.new) Own run.now index (index + 1)) }
-    ensures cells_stay { W.held work.new ≡ W.held work.old }
-    ensures kept { W.kept work.new ≡ W.kept work.old }
-    ensures calm { ReadCalm (W.spent work.old).faults (W.spent work.new).faults result }
+    ensures finds { IfOk result (FindsOne (W.state work.old).held run.now index) }
+    ensures reads { ReadsRuns (W.state work.old) (W.state work.new) steps.old steps.new
+        [] 1 result }
+    ensures goes { IfOk result (λ bad. bad ≡ None →
+        GoesOn (W.state work.old) (W.state work.new) Own run.now index (index + 1)) }
+    ensures looks { OnlyLooks W.CellSource work.old work.new result }
 {
     match work.read_for(Reader::Own, run.level, run.slot, index, steps) {
         Ok(_) => Ok(None),
@@ -44,14 +42,13 @@ pub(crate) fn bad_in_run<W: CellSource, L: Ledger>(
     run: &Run,
     steps: &mut Steps<L>,
 ) -> Result<Option<u64>, ReadFault>
-    requires { HasRun (W.held work.old) run.now }
-    ensures finds { IfOk result (FindsIn (W.held work.old) run.now) }
-    ensures cause { IfErr result (PassCause (W.held work.old) [] (W.spent work.old).faults (W.spent work.new).faults) }
-    ensures cost { Costs (W.spent work.old) (W.spent work.new) steps.old steps.new run.now.len run.now.len }
-    ensures blocks { (W.spent work.new).turned ≤ (W.spent work.old).turned + run_blocks (W.held work.old) run.now }
-    ensures cells_stay { W.held work.new ≡ W.held work.old }
-    ensures kept { W.kept work.new ≡ W.kept work.old }
-    ensures calm { ReadCalm (W.spent work.old).faults (W.spent work.new).faults result }
+    requires { HasRun (W.state work.old).held run.now }
+    ensures finds { IfOk result (FindsIn (W.state work.old).held run.now) }
+    ensures reads { ReadsRuns (W.state work.old) (W.state work.new) steps.old steps.new
+        [] run.now.len result }
+    ensures blocks { TurnsTo (W.state work.old) (W.state work.new)
+        (run_blocks (W.state work.old).held run.now) }
+    ensures looks { OnlyLooks W.CellSource work.old work.new result }
 {
     for index in 0..run.len {
         if let Some(number) = bad_at(work, run, index, steps)? {
@@ -69,14 +66,13 @@ fn bad_in_level<W: CellSource, L: Ledger>(
     steps: &mut Steps<L>,
 ) -> Result<Option<u64>, ReadFault>
     requires level { level ≤ header.now.geometry.bottom }
-    requires levels { (W.held work.old).fixed.levels ≡ header.now.geometry.bottom + 1 }
-    ensures finds { IfOk result (FindsAt header.now (W.held work.old) level) }
-    ensures cause { IfErr result (PassCause (W.held work.old) [] (W.spent work.old).faults (W.spent work.new).faults) }
-    ensures cost { Costs (W.spent work.old) (W.spent work.new) steps.old steps.new (level_cells header.now level) (level_cells header.now level) }
-    ensures blocks { (W.spent work.new).turned ≤ (W.spent work.old).turned + level_blocks header.now (W.held work.old) level }
-    ensures cells_stay { W.held work.new ≡ W.held work.old }
-    ensures kept { W.kept work.new ≡ W.kept work.old }
-    ensures calm { ReadCalm (W.spent work.old).faults (W.spent work.new).faults result }
+    requires levels { (W.state work.old).held.fixed.levels ≡ header.now.geometry.bottom + 1 }
+    ensures finds { IfOk result (FindsAt header.now (W.state work.old).held level) }
+    ensures reads { ReadsRuns (W.state work.old) (W.state work.new) steps.old steps.new
+        [] (level_cells header.now level) result }
+    ensures blocks { TurnsTo (W.state work.old) (W.state work.new)
+        (level_blocks header.now (W.state work.old).held level) }
+    ensures looks { OnlyLooks W.CellSource work.old work.new result }
 {
     match bad_in_run(work, &run_at(header, level, 0), steps)? {
         Some(number) => Ok(Some(number)),
@@ -91,15 +87,14 @@ pub(crate) fn first_bad_cell<W: CellSource, L: Ledger>(
     header: &Header,
     steps: &mut Steps<L>,
 ) -> Result<Option<(u8, u64)>, ReadFault>
-    requires { (W.held work.old).fixed.levels ≡ header.now.geometry.bottom + 1 }
-    ensures finds { IfOk result (FindsCell header.now (W.held work.old)) }
-    ensures cause { IfErr result (PassCause (W.held work.old) [] (W.spent work.old).faults (W.spent work.new).faults) }
-    ensures cost { Costs (W.spent work.old) (W.spent work.new) steps.old steps.new (all_cells header.now) (all_cells header.now) }
-    ensures blocks { (W.spent work.new).turned ≤ (W.spent work.old).turned + all_blocks header.now (W.held work.old) }
+    requires { (W.state work.old).held.fixed.levels ≡ header.now.geometry.bottom + 1 }
+    ensures finds { IfOk result (FindsCell header.now (W.state work.old).held) }
+    ensures reads { ReadsRuns (W.state work.old) (W.state work.new) steps.old steps.new
+        [] (all_cells header.now) result }
+    ensures blocks { TurnsTo (W.state work.old) (W.state work.new)
+        (all_blocks header.now (W.state work.old).held) }
     ensures few { all_cells header.now ≤ 2 ^ (header.now.geometry.bottom + 4) }
-    ensures cells_stay { W.held work.new ≡ W.held work.old }
-    ensures kept { W.kept work.new ≡ W.kept work.old }
-    ensures calm { ReadCalm (W.spent work.old).faults (W.spent work.new).faults result }
+    ensures looks { OnlyLooks W.CellSource work.old work.new result }
 {
     for level in 0..header.geometry.levels() {
         if let Some(number) = bad_in_level(work, header, level, steps)? {

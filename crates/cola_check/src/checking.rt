@@ -3,6 +3,7 @@ ghost use Rattle.std.specs.Prelude.{◌≡◌};
 ghost use Rattle.cola_device.specs.Bytes.{HasRange};
 ghost use Rattle.cola_run.specs.Cells.{file_bytes};
 ghost use Rattle.cola_check.specs.Check.{IsLevelOf, Judges, Checks, TestsAnswer, ReadsCells, TestsMade};
+ghost use Rattle.cola_run.specs.Store.{device_of};
 
 use crate::fault::CheckFault;
 use crate::testing::test_cells;
@@ -47,9 +48,11 @@ fn test_store<D: Device, L: Ledger>(
     steps: &mut Steps<L>,
 ) -> Result<Verdict, CheckFault>
     requires { header.now.geometry ≡ runs.old.geometry }
-    ensures answer { TestsAnswer D.Device header.now runs.old.buffers.cache.device runs.new.buffers.cache.device result }
-    ensures reads { ReadsCells D.Device header.now runs.old.buffers.cache.device runs.new.buffers.cache.device steps.old steps.new }
-    ensures kept { D.kept runs.new.buffers.cache.device ≡ D.kept runs.old.buffers.cache.device }
+    ensures answer { TestsAnswer D.Device header.now
+        (device_of runs.old) (device_of runs.new) result }
+    ensures reads { ReadsCells D.Device header.now
+        (device_of runs.old) (device_of runs.new) steps.old steps.new }
+    ensures kept { D.kept (device_of runs.new) ≡ D.kept (device_of runs.old) }
 {
     match runs.load(header) {
         Ok(()) => judged(test_cells(runs, header, steps)),

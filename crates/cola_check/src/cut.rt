@@ -1,17 +1,17 @@
 //! Whether cursors cut a build after its shadow.
-ghost use Rattle.std.specs.Prelude.{◌≡◌, ◌+◌, ◌*◌, ◌↔◌, IsTrue, IfOk, IfErr, OnOk, ◌∷◌};
+ghost use Rattle.std.specs.Prelude.{◌≡◌, ◌+◌, ◌*◌, ◌↔◌, IsTrue, IfOk, OnOk, ◌∷◌};
 ghost use Rattle.cola_cell.specs.Held.{as_cell};
-ghost use Rattle.cola_cell.specs.Spent.{ReadCalm};
-ghost use Rattle.cola_cell.specs.Costs.{Costs};
-ghost use Rattle.cola_told.specs.Cells.{run_cells};
+ghost use Rattle.cola_cell.specs.Looks.{OnlyLooks};
+ghost use Rattle.cola_cell.specs.ToldCells.{run_cells};
 ghost use Rattle.cola_look.specs.Runs.{HasRun};
 ghost use Rattle.cola_merge.specs.Heads.{HasHeads};
 ghost use Rattle.cola_merge.specs.Advance.{cells_read};
-ghost use Rattle.cola_merge.specs.Pulls.{AreInOrder};
-ghost use Rattle.cola_check.specs.Reading.{IsRunTold, PassCause};
+ghost use Rattle.cola_merge.specs.Pulls.{AreInOrder, Pulls};
+ghost use Rattle.cola_merge.specs.States.{state};
+ghost use Rattle.cola_check.specs.Reading.{IsRunTold, ReadsRuns};
 ghost use Rattle.cola_check.specs.Blocks.{TurnsTo, run_blocks};
 ghost use Rattle.cola_check.specs.Cut.{CutFits, CutsAfter, Followed, Compared, runs_of_aim};
-ghost use Rattle.cola_check.specs.Cut.{IsAway, IsSpread, Pulled, MergeReadsOn, FollowsBlocks, ComparesBlocks, aim_blocks};
+ghost use Rattle.cola_check.specs.Cut.{IsAway, IsSpread, FollowsBlocks, ComparesBlocks, aim_blocks};
 ghost use Rattle.cola_check.specs.Others.{by_others};
 
 use crate::others::ByOthers;
@@ -45,12 +45,13 @@ fn gives_run<W: CellSource, L: Ledger>(
     run: &Run,
     steps: &mut Steps<L>,
 ) -> Result<bool, ReadFault>
-    requires heads { HasHeads (W.held work.old) aim.now merger.old }
-    requires run { HasRun (W.held work.old) run.now }
-    ensures blocks { OnOk result (IsAway run.now.level aim.now.incoming → FollowsBlocks (W.held work.old) aim.now run.now (W.spent work.old) (W.spent work.new) merger.old merger.new) }
-    ensures followed { Followed (W.held work.old) aim.now run.now (W.spent work.old) (W.spent work.new) merger.old merger.new steps.old steps.new result }
-    ensures cells_stay { W.held work.new ≡ W.held work.old }
-    ensures kept { W.kept work.new ≡ W.kept work.old }
+    requires heads { HasHeads (W.state work.old).held aim.now merger.old }
+    requires run { HasRun (W.state work.old).held run.now }
+    ensures blocks { OnOk result (IsAway run.now.level aim.now.incoming →
+        FollowsBlocks (W.state work.old) (W.state work.new) aim.now run.now merger.old merger.new) }
+    ensures followed { Followed (W.state work.old) (W.state work.new) aim.now run.now
+        merger.old merger.new steps.old steps.new result }
+    ensures looks { OnlyLooks W.CellSource work.old work.new result }
 {
     for index in 0..run.len {
         let Some(given) = merger.pull(work, aim, steps)? else {
@@ -71,11 +72,10 @@ fn pull_by_others<W: CellSource, L: Ledger>(
     aim: &Aim,
     steps: &mut Steps<L>,
 ) -> Result<Option<Cell>, ReadFault>
-    requires { HasHeads (W.held work.old) aim.now merger.old }
-    ensures pulled { Pulled (W.held work.old) aim.now (by_others (W.spent work.old)) (by_others (W.spent work.new)) merger.old merger.new steps.old steps.new result }
-    ensures blocks { OnOk result (MergeReadsOn (W.held work.old) aim.now (by_others (W.spent work.old)) (by_others (W.spent work.new)) merger.old merger.new) }
-    ensures cells_stay { W.held work.new ≡ W.held work.old }
+    requires { HasHeads (W.state work.old).held aim.now merger.old }
     ensures kept { W.kept work.new ≡ W.kept work.old }
+    ensures pulls { Pulls aim.now (state (by_others (W.state work.old)) merger.old steps.old)
+        (state (by_others (W.state work.new)) merger.new steps.new) result }
 {
     let mut others = ByOthers { object: work };
     merger.pull(&mut others, aim, steps)
@@ -90,12 +90,13 @@ fn gives_same<W: CellSource, L: Ledger>(
     aim: &Aim,
     steps: &mut Steps<L>,
 ) -> Result<bool, ReadFault>
-    requires first { HasHeads (W.held work.old) aim.now first.old }
-    requires second { HasHeads (W.held work.old) aim.now second.old }
-    ensures blocks { OnOk result (IsSpread aim.now → ComparesBlocks (W.held work.old) aim.now (W.spent work.old) (W.spent work.new) first.old second.old) }
-    ensures compared { Compared (W.held work.old) aim.now (W.spent work.old) (W.spent work.new) first.old second.old steps.old steps.new result }
-    ensures cells_stay { W.held work.new ≡ W.held work.old }
-    ensures kept { W.kept work.new ≡ W.kept work.old }
+    requires first { HasHeads (W.state work.old).held aim.now first.old }
+    requires second { HasHeads (W.state work.old).held aim.now second.old }
+    ensures blocks { OnOk result (IsSpread aim.now →
+        ComparesBlocks (W.state work.old) (W.state work.new) aim.now first.old second.old) }
+    ensures compared { Compared (W.state work.old) (W.state work.new) aim.now
+        first.old second.old steps.old steps.new result }
+    ensures looks { OnlyLooks W.CellSource work.old work.new result }
 {
     while let Some(one) = first.pull(work, aim, steps)? {
         let Some(other) = pull_by_others(second, work, aim, steps)? else {
@@ -121,16 +122,15 @@ pub(crate) fn is_cut<W: CellSource, L: Ledger>(
     shadow: &Run,
     steps: &mut Steps<L>,
 ) -> Result<bool, ReadFault>
-    requires fits { CutFits (W.held work.old) aim.now cursors.now shadow.now }
-    ensures cut { AreInOrder (W.held work.old) aim.now → IsRunTold (W.held work.old) shadow.now →
-        IfOk result (λ cut. IsTrue cut ↔ CutsAfter (W.held work.old) aim.now cursors.now (run_cells (W.held work.old) shadow.now)) }
-    ensures costs { Costs (W.spent work.old) (W.spent work.new) steps.old steps.new
-        (2 * cells_read aim.now + shadow.now.len) (2 * cells_read aim.now + shadow.now.len) }
-    ensures blocks { OnOk result (TurnsTo (W.spent work.old) (W.spent work.new) (2 * aim_blocks (W.held work.old) aim.now + run_blocks (W.held work.old) shadow.now)) }
-    ensures cause { IfErr result (PassCause (W.held work.old) (shadow.now ∷ runs_of_aim aim.now) (W.spent work.old).faults (W.spent work.new).faults) }
-    ensures calm { ReadCalm (W.spent work.old).faults (W.spent work.new).faults result }
-    ensures cells_stay { W.held work.new ≡ W.held work.old }
-    ensures kept { W.kept work.new ≡ W.kept work.old }
+    requires fits { CutFits (W.state work.old).held aim.now cursors.now shadow.now }
+    ensures cut { AreInOrder (W.state work.old).held aim.now →
+        IsRunTold (W.state work.old).held shadow.now →
+        IfOk result (λ cut. IsTrue cut ↔ CutsAfter (W.state work.old).held aim.now cursors.now (run_cells (W.state work.old).held shadow.now)) }
+    ensures blocks { OnOk result (TurnsTo (W.state work.old) (W.state work.new)
+        (2 * aim_blocks (W.state work.old).held aim.now + run_blocks (W.state work.old).held shadow.now)) }
+    ensures reads { ReadsRuns (W.state work.old) (W.state work.new) steps.old steps.new
+        (shadow.now ∷ runs_of_aim aim.now) (2 * cells_read aim.now + shadow.now.len) result }
+    ensures looks { OnlyLooks W.CellSource work.old work.new result }
 {
     let mut whole = Merger::begin();
     if !gives_run(&mut whole, work, aim, shadow, steps)? {

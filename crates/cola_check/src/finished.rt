@@ -1,12 +1,11 @@
 //! Whether the shadow of a level is finished, once its window is over.
-ghost use Rattle.std.specs.Prelude.{◌≡◌, ◌↔◌, ◌+◌, ◌*◌, ◌^◌, ◌≤◌, None, IsTrue, IfOk, IfErr, OnOk};
-ghost use Rattle.cola_cell.specs.Costs.{Costs};
-ghost use Rattle.cola_cell.specs.Spent.{ReadCalm};
+ghost use Rattle.std.specs.Prelude.{◌≡◌, ◌↔◌, ◌+◌, ◌*◌, ◌^◌, ◌≤◌, None, IsTrue, IfOk, OnOk};
+ghost use Rattle.cola_cell.specs.Looks.{OnlyLooks};
 ghost use Rattle.cola_verdict.specs.Tests.{AreCellsTold};
 ghost use Rattle.cola_check.specs.Blocks.{TurnsTo, run_blocks, blocks_below, shadow_blocks};
 ghost use Rattle.cola_check.specs.Found.{tested_by, shadow_of};
 ghost use Rattle.cola_check.specs.Shadows.{IsReached, FitAt, FinishedAt};
-ghost use Rattle.cola_check.specs.Testing.{HasLevels, TestCause};
+ghost use Rattle.cola_check.specs.Testing.{HasLevels, ReadsFile};
 
 use crate::aims::next_run;
 use crate::carried::is_carried;
@@ -19,7 +18,8 @@ use std::sync::ledger::Ledger;
 
 /// Whether the tests of a run found no flaw.
 fn is_good(tests: &RunTests) -> bool
-    ensures { IsTrue result ↔ ((tests.now.disorder ≡ None) × IsTrue tests.now.is_sampled × IsTrue tests.now.has_few) }
+    ensures { IsTrue result ↔
+        ((tests.now.disorder ≡ None) × IsTrue tests.now.is_sampled × IsTrue tests.now.has_few) }
 {
     tests.disorder.is_none() && tests.is_sampled && tests.has_few
 }
@@ -32,15 +32,14 @@ fn is_fit<W: CellSource, L: Ledger>(
     steps: &mut Steps<L>,
 ) -> Result<bool, ReadFault>
     requires level { level ≤ header.now.geometry.bottom }
-    requires levels { HasLevels header.now (W.held work.old) }
-    ensures fit { IfOk result (λ fit. AreCellsTold (tested_by header.now (W.held work.old)) →
-        (IsTrue fit ↔ FitAt (tested_by header.now (W.held work.old)) level)) }
-    ensures cause { IfErr result (TestCause header.now (W.held work.old) (W.spent work.old).faults (W.spent work.new).faults) }
-    ensures cost { Costs (W.spent work.old) (W.spent work.new) steps.old steps.new (5 * 2 ^ level) (5 * 2 ^ level) }
-    ensures blocks { OnOk result (TurnsTo (W.spent work.old) (W.spent work.new) (run_blocks (W.held work.old) (shadow_of header.now level) + blocks_below header.now (W.held work.old) level)) }
-    ensures cells_stay { W.held work.new ≡ W.held work.old }
-    ensures kept { W.kept work.new ≡ W.kept work.old }
-    ensures calm { ReadCalm (W.spent work.old).faults (W.spent work.new).faults result }
+    requires levels { HasLevels header.now (W.state work.old).held }
+    ensures fit { IfOk result (λ fit. AreCellsTold (tested_by header.now (W.state work.old).held) →
+        (IsTrue fit ↔ FitAt (tested_by header.now (W.state work.old).held) level)) }
+    ensures reads { ReadsFile header.now (W.state work.old) (W.state work.new) steps.old steps.new
+        (5 * 2 ^ level) result }
+    ensures blocks { OnOk result (TurnsTo (W.state work.old) (W.state work.new)
+        (run_blocks (W.state work.old).held (shadow_of header.now level) + blocks_below header.now (W.state work.old).held level)) }
+    ensures looks { OnlyLooks W.CellSource work.old work.new result }
 {
     let shadow = shadow_run(header, level);
     let next = next_run(header, level);
@@ -59,15 +58,15 @@ pub(crate) fn is_finished<W: CellSource, L: Ledger>(
 ) -> Result<bool, ReadFault>
     requires level { level ≤ header.now.geometry.bottom }
     requires above { 1 ≤ level }
-    requires levels { HasLevels header.now (W.held work.old) }
-    ensures finished { IfOk result (λ finished. IsReached (tested_by header.now (W.held work.old)) level →
-        (IsTrue finished ↔ FinishedAt (tested_by header.now (W.held work.old)) level)) }
-    ensures cause { IfErr result (TestCause header.now (W.held work.old) (W.spent work.old).faults (W.spent work.new).faults) }
-    ensures cost { Costs (W.spent work.old) (W.spent work.new) steps.old steps.new (18 * 2 ^ level) (18 * 2 ^ level) }
-    ensures blocks { OnOk result (TurnsTo (W.spent work.old) (W.spent work.new) (shadow_blocks header.now (W.held work.old) level)) }
-    ensures cells_stay { W.held work.new ≡ W.held work.old }
-    ensures kept { W.kept work.new ≡ W.kept work.old }
-    ensures calm { ReadCalm (W.spent work.old).faults (W.spent work.new).faults result }
+    requires levels { HasLevels header.now (W.state work.old).held }
+    ensures finished { IfOk result (λ finished.
+        IsReached (tested_by header.now (W.state work.old).held) level →
+        (IsTrue finished ↔ FinishedAt (tested_by header.now (W.state work.old).held) level)) }
+    ensures reads { ReadsFile header.now (W.state work.old) (W.state work.new) steps.old steps.new
+        (18 * 2 ^ level) result }
+    ensures blocks { OnOk result (TurnsTo (W.state work.old) (W.state work.new)
+        (shadow_blocks header.now (W.state work.old).held level)) }
+    ensures looks { OnlyLooks W.CellSource work.old work.new result }
 {
     if !is_fit(work, header, level, steps)? {
         return Ok(false);

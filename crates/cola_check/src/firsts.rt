@@ -59,10 +59,10 @@ impl FirstFlaws {
 
     /// Those of one level more.
     pub(crate) fn with(&self, level: u8, tests: &RunTests) -> FirstFlaws
-        ensures found { (file : Tested) → AreFirstFlaws file level self.now → AreTestsAt file level tests.now →
-            AreFirstFlaws file (level + 1) result }
-        ensures placed { ArePlaced level self.now → IfSome tests.now.disorder (λ index. index < slot_size level) →
-            ArePlaced (level + 1) result }
+        ensures found { (file : Tested) → AreFirstFlaws file level self.now →
+            AreTestsAt file level tests.now → AreFirstFlaws file (level + 1) result }
+        ensures placed { ArePlaced level self.now →
+            IfSome tests.now.disorder (λ index. index < slot_size level) → ArePlaced (level + 1) result }
     {
         FirstFlaws {
             order: self.order.or(place_of(level, tests.disorder)),
@@ -75,7 +75,8 @@ impl FirstFlaws {
 /// The verdict on a file with this flaw at this place of a visible run.
 fn broken_visible(header: &Header, flaw: Flaw, place: (u8, u32)) -> Verdict
     requires { IsPlaceAbove (header.now.geometry.bottom + 1) place }
-    ensures { result ≡ Verdict.Broken flaw place.0 (number_of place.0 (visible_slot header.now.clock place.0) place.1) }
+    ensures { result ≡ Verdict.Broken flaw place.0
+        (number_of place.0 (visible_slot header.now.clock place.0) place.1) }
 {
     let (level, index) = place;
     broken_at(header, flaw, visible_run(header, level), index)

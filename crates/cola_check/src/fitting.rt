@@ -49,7 +49,8 @@ fn taken(odd: bool, bottom: bool, own: &Found) -> Option<Item>
 
 /// What a level keeps of an item: the bottom no tombstone.
 fn kept(bottom: bool, item: Option<Item>) -> Option<Item>
-    ensures { (odd : Bool) → option_map as_item result ≡ kept_or_none (part_at odd bottom) (option_map as_item item) }
+    ensures { (odd : Bool) → option_map as_item result ≡
+        kept_or_none (part_at odd bottom) (option_map as_item item) }
 {
     match item {
         Some(Item::Tombstone) if bottom => None,
@@ -59,7 +60,8 @@ fn kept(bottom: bool, item: Option<Item>) -> Option<Item>
 
 /// Whether the shadow has of the key what it carries.
 fn carries(odd: bool, bottom: bool, above: &Found, own: &Found, shadow: &Found) -> bool
-    ensures { IsTrue result ↔ Carried (part_at odd bottom) (as_seen above.now) (as_seen own.now) (as_seen shadow.now) }
+    ensures { IsTrue result ↔
+        Carried (part_at odd bottom) (as_seen above.now) (as_seen own.now) (as_seen shadow.now) }
 {
     match above {
         Found::Nothing => is_same(&shadow.item(), &kept(bottom, taken(odd, bottom, own))),

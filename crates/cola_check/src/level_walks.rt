@@ -1,16 +1,16 @@
 //! Walks over the runs of several levels at once.
-ghost use Rattle.std.specs.Prelude.{◌≡◌, ℕ, ◌+◌, ◌≤◌, length, None, IfOk, IfErr, OnOk};
+ghost use Rattle.std.specs.Prelude.{◌≡◌, ℕ, ◌≤◌, length, None, IfOk, OnOk};
 ghost use Rattle.std.specs.List.{AllByRecursion};
-ghost use Rattle.cola_cell.specs.Spent.{ReadCalm};
-ghost use Rattle.cola_check.specs.Reading.{PassCause};
-ghost use Rattle.cola_check.specs.Walks.{Turns, least_from};
-ghost use Rattle.cola_check.specs.LevelWalks.{HasLevel, runs_of, cells_in, Each, BeginsLevel, StandFrom, blocks_of, ReadFrom, all_left, AllReadOn};
+ghost use Rattle.cola_cell.specs.Looks.{OnlyLooks};
+ghost use Rattle.cola_check.specs.Reading.{ReadsAhead};
+ghost use Rattle.cola_check.specs.Walks.{least_from};
+ghost use Rattle.cola_check.specs.LevelWalks.{HasLevel, runs_of, cells_in, Each, BeginsLevel, AllBegan, ReadFrom, AllReadOn};
 ghost use Rattle.cola_check.specs.LevelWalks.{runs_in, walks_in, LevelFits, IsLevelReady, all_unread, all_unread_begun, all_unread_after, PassesLevel};
 
 use crate::tally::Said;
 use crate::walk::Walk;
 use arrayvec::ArrayVec;
-use cola_cell::{CellSource, Key, ReadFault, Reader, Run};
+use cola_cell::{CellSource, Key, MOST_LEVELS, ReadFault, Reader, Run};
 use cola_outside::Steps;
 use std::sync::ledger::Ledger;
 
@@ -82,9 +82,9 @@ impl LevelRuns {
 }
 
 impl Heard {
-    ghost use Rattle.std.specs.Prelude.{◌≡◌, ◌+◌, ◌≤◌, [], ◌∷◌, IfErr, OnOk};
-    ghost use Rattle.cola_check.specs.Reading.{PassCause};
-    ghost use Rattle.cola_check.specs.Walks.{Turns, ReadsOn, WalkFits, IsReady, unread, unread_after};
+    ghost use Rattle.std.specs.Prelude.{[], ◌∷◌, OnOk};
+    ghost use Rattle.cola_check.specs.Reading.{ReadsAhead};
+    ghost use Rattle.cola_check.specs.Walks.{ReadsOn, WalkFits, IsReady, unread, unread_after};
     ghost use Rattle.cola_check.specs.LevelWalks.{Hears};
 
     /// Passes the cells at the front of its walk that have this key, and hears what the run has of it there.
@@ -94,16 +94,15 @@ impl Heard {
         key: &Key,
         steps: &mut Steps<L>,
     ) -> Result<(), ReadFault>
-        requires fits { WalkFits (W.held work.old) self.old.walk }
+        requires fits { WalkFits (W.state work.old).held self.old.walk }
         requires ready { IsReady self.old.walk }
-        ensures hears { OnOk result (Hears (W.held work.old) key.now self.old.walk self.new.walk self.new.said) }
-        ensures unread { steps.new + unread_after self.new.walk result ≤ steps.old + unread self.old.walk }
-        ensures turns { Turns (W.spent work.old) (W.spent work.new) steps.old steps.new }
-        ensures blocks { OnOk result (ReadsOn (W.held work.old) (W.spent work.old) (W.spent work.new) self.old.walk self.new.walk) }
-        ensures cause { IfErr result (PassCause (W.held work.old) (self.old.walk.run ∷ []) (W.spent work.old).faults (W.spent work.new).faults) }
-        ensures cells_stay { W.held work.new ≡ W.held work.old }
-        ensures kept { W.kept work.new ≡ W.kept work.old }
-        ensures calm { ReadCalm (W.spent work.old).faults (W.spent work.new).faults result }
+        ensures hears { OnOk result (Hears (W.state work.old).held key.now
+            self.old.walk self.new.walk self.new.said) }
+        ensures reads { ReadsAhead (W.state work.old) (W.state work.new) steps.old steps.new
+            (self.old.walk.run ∷ []) (unread self.old.walk) (unread_after self.new.walk result) result }
+        ensures blocks { OnOk result (ReadsOn (W.state work.old) (W.state work.new)
+            self.old.walk self.new.walk) }
+        ensures looks { OnlyLooks W.CellSource work.old work.new result }
     {
         if !self.walk.has_key(key) {
             self.said = Said::Nothing;
@@ -119,16 +118,15 @@ impl Heard {
         key: &Key,
         steps: &mut Steps<L>,
     ) -> Result<(), ReadFault>
-        requires fits { WalkFits (W.held work.old) self.old.walk }
+        requires fits { WalkFits (W.state work.old).held self.old.walk }
         requires ready { IsReady self.old.walk }
-        ensures hears { OnOk result (Hears (W.held work.old) key.now self.old.walk self.new.walk self.new.said) }
-        ensures unread { steps.new + unread_after self.new.walk result ≤ steps.old + unread self.old.walk }
-        ensures turns { Turns (W.spent work.old) (W.spent work.new) steps.old steps.new }
-        ensures blocks { OnOk result (ReadsOn (W.held work.old) (W.spent work.old) (W.spent work.new) self.old.walk self.new.walk) }
-        ensures cause { IfErr result (PassCause (W.held work.old) (self.old.walk.run ∷ []) (W.spent work.old).faults (W.spent work.new).faults) }
-        ensures cells_stay { W.held work.new ≡ W.held work.old }
-        ensures kept { W.kept work.new ≡ W.kept work.old }
-        ensures calm { ReadCalm (W.spent work.old).faults (W.spent work.new).faults result }
+        ensures hears { OnOk result (Hears (W.state work.old).held key.now
+            self.old.walk self.new.walk self.new.said) }
+        ensures reads { ReadsAhead (W.state work.old) (W.state work.new) steps.old steps.new
+            (self.old.walk.run ∷ []) (unread self.old.walk) (unread_after self.new.walk result) result }
+        ensures blocks { OnOk result (ReadsOn (W.state work.old) (W.state work.new)
+            self.old.walk self.new.walk) }
+        ensures looks { OnlyLooks W.CellSource work.old work.new result }
     {
         let found = self.walk.pass(work, key, steps)?;
         self.said = Said::of(&found);
@@ -137,9 +135,9 @@ impl Heard {
 }
 
 impl LevelWalks {
-    ghost use Rattle.std.specs.Prelude.{◌≡◌, ℕ, ◌+◌, ◌≤◌, [], ◌∷◌, IfOk, IfErr, OnOk};
-    ghost use Rattle.cola_check.specs.Reading.{PassCause};
-    ghost use Rattle.cola_check.specs.Walks.{Turns, lesser};
+    ghost use Rattle.std.specs.Prelude.{◌≡◌, ℕ, [], ◌∷◌, IfOk, OnOk};
+    ghost use Rattle.cola_check.specs.Reading.{ReadsAhead};
+    ghost use Rattle.cola_check.specs.Walks.{lesser};
     ghost use Rattle.cola_check.specs.LevelWalks.{HasLevel, runs_of, cells_in, BeginsLevel, StandsAt, LevelBegan, ReadsAt, LevelReadsOn};
     ghost use Rattle.cola_check.specs.LevelWalks.{runs_in, LevelFits, IsLevelReady, level_unread, unread_level_begun, level_unread_after, PassesLevel};
 
@@ -150,15 +148,13 @@ impl LevelWalks {
         level: &LevelRuns,
         steps: &mut Steps<L>,
     ) -> Result<LevelWalks, ReadFault>
-        requires { HasLevel (W.held work.old) level.now }
-        ensures begins { IfOk result (BeginsLevel (W.held work.old) level.now) }
-        ensures unread { steps.new + unread_level_begun result ≤ steps.old + cells_in (runs_of (level.now ∷ [])) }
-        ensures turns { Turns (W.spent work.old) (W.spent work.new) steps.old steps.new }
-        ensures blocks { IfOk result (λ walks. (n : ℕ) → StandsAt n level.now → LevelBegan (W.held work.old) (W.spent work.old) (W.spent work.new) n level.now walks) }
-        ensures cause { IfErr result (PassCause (W.held work.old) (runs_of (level.now ∷ [])) (W.spent work.old).faults (W.spent work.new).faults) }
-        ensures cells_stay { W.held work.new ≡ W.held work.old }
-        ensures kept { W.kept work.new ≡ W.kept work.old }
-        ensures calm { ReadCalm (W.spent work.old).faults (W.spent work.new).faults result }
+        requires { HasLevel (W.state work.old).held level.now }
+        ensures begins { IfOk result (BeginsLevel (W.state work.old).held level.now) }
+        ensures reads { ReadsAhead (W.state work.old) (W.state work.new) steps.old steps.new
+            (runs_of (level.now ∷ [])) (cells_in (runs_of (level.now ∷ []))) (unread_level_begun result) result }
+        ensures blocks { IfOk result (λ walks. (n : ℕ) → StandsAt n level.now →
+            LevelBegan (W.state work.old) (W.state work.new) n level.now walks) }
+        ensures looks { OnlyLooks W.CellSource work.old work.new result }
     {
         let shadow_run = level.shadow_run();
         let visible = Walk::begin(work, &level.visible, Reader::Own, steps)?;
@@ -178,7 +174,8 @@ impl LevelWalks {
 
     /// Leaves the least of a key and those of the next cells, where there is one of them.
     fn lower(&self, least: &mut Option<Key>)
-        ensures { least.new ≡ lesser (lesser least.old self.now.visible.walk.head) self.now.shadow.walk.head }
+        ensures { least.new ≡
+            lesser (lesser least.old self.now.visible.walk.head) self.now.shadow.walk.head }
     {
         self.visible.walk.lower(least);
         self.shadow.walk.lower(least);
@@ -191,16 +188,14 @@ impl LevelWalks {
         key: &Key,
         steps: &mut Steps<L>,
     ) -> Result<(), ReadFault>
-        requires fits { LevelFits (W.held work.old) self.old }
+        requires fits { LevelFits (W.state work.old).held self.old }
         requires ready { IsLevelReady self.old }
-        ensures passes { OnOk result (PassesLevel (W.held work.old) key.now self.old self.new) }
-        ensures unread { steps.new + level_unread_after self.new result ≤ steps.old + level_unread self.old }
-        ensures turns { Turns (W.spent work.old) (W.spent work.new) steps.old steps.new }
-        ensures blocks { OnOk result ((n : ℕ) → ReadsAt n self.old → LevelReadsOn (W.held work.old) (W.spent work.old) (W.spent work.new) n self.old self.new) }
-        ensures cause { IfErr result (PassCause (W.held work.old) (runs_in (self.old ∷ [])) (W.spent work.old).faults (W.spent work.new).faults) }
-        ensures cells_stay { W.held work.new ≡ W.held work.old }
-        ensures kept { W.kept work.new ≡ W.kept work.old }
-        ensures calm { ReadCalm (W.spent work.old).faults (W.spent work.new).faults result }
+        ensures passes { OnOk result (PassesLevel (W.state work.old).held key.now self.old self.new) }
+        ensures reads { ReadsAhead (W.state work.old) (W.state work.new) steps.old steps.new
+            (runs_in (self.old ∷ [])) (level_unread self.old) (level_unread_after self.new result) result }
+        ensures blocks { OnOk result ((n : ℕ) → ReadsAt n self.old →
+            LevelReadsOn (W.state work.old) (W.state work.new) n self.old self.new) }
+        ensures looks { OnlyLooks W.CellSource work.old work.new result }
     {
         self.visible.pass(work, key, steps)?;
         self.shadow.pass(work, key, steps)
@@ -212,18 +207,16 @@ pub(crate) fn begin_all<W: CellSource, L: Ledger>(
     work: &mut W,
     levels: &[LevelRuns],
     steps: &mut Steps<L>,
-) -> Result<ArrayVec<LevelWalks, 23>, ReadFault>
-    requires runs { AllByRecursion (HasLevel (W.held work.old)) levels.now }
+) -> Result<ArrayVec<LevelWalks, MOST_LEVELS>, ReadFault>
+    requires runs { AllByRecursion (HasLevel (W.state work.old).held) levels.now }
     requires few { length levels.now ≤ 23 }
-    ensures begins { IfOk result (λ walks. Each (BeginsLevel (W.held work.old)) levels.now walks.items) }
-    ensures unread { steps.new + all_unread_begun result ≤ steps.old + cells_in (runs_of levels.now) }
-    ensures turns { Turns (W.spent work.old) (W.spent work.new) steps.old steps.new }
-    ensures blocks { IfOk result (λ walks. StandFrom 0 levels.now →
-        (W.spent work.new).turned + all_left (W.held work.old) (W.spent work.new) walks.items ≤ (W.spent work.old).turned + blocks_of (W.held work.old) levels.now) }
-    ensures cause { IfErr result (PassCause (W.held work.old) (runs_of levels.now) (W.spent work.old).faults (W.spent work.new).faults) }
-    ensures cells_stay { W.held work.new ≡ W.held work.old }
-    ensures kept { W.kept work.new ≡ W.kept work.old }
-    ensures calm { ReadCalm (W.spent work.old).faults (W.spent work.new).faults result }
+    ensures begins { IfOk result (λ walks.
+        Each (BeginsLevel (W.state work.old).held) levels.now walks.items) }
+    ensures reads { ReadsAhead (W.state work.old) (W.state work.new) steps.old steps.new
+        (runs_of levels.now) (cells_in (runs_of levels.now)) (all_unread_begun result) result }
+    ensures blocks { IfOk result (λ walks.
+        AllBegan (W.state work.old) (W.state work.new) levels.now walks.items) }
+    ensures looks { OnlyLooks W.CellSource work.old work.new result }
 {
     let mut begun = ArrayVec::new();
     for i in 0..levels.len() {
@@ -252,16 +245,14 @@ pub(crate) fn pass_all<W: CellSource, L: Ledger>(
     key: &Key,
     steps: &mut Steps<L>,
 ) -> Result<(), ReadFault>
-    requires fit { AllByRecursion (LevelFits (W.held work.old)) levels.old }
+    requires fit { AllByRecursion (LevelFits (W.state work.old).held) levels.old }
     requires ready { AllByRecursion IsLevelReady levels.old }
-    ensures passes { OnOk result (Each (PassesLevel (W.held work.old) key.now) levels.old levels.new) }
-    ensures unread { steps.new + all_unread_after levels.new result ≤ steps.old + all_unread levels.old }
-    ensures turns { Turns (W.spent work.old) (W.spent work.new) steps.old steps.new }
-    ensures blocks { OnOk result ((n : ℕ) → ReadFrom n levels.old → AllReadOn (W.held work.old) (W.spent work.old) (W.spent work.new) n levels.old levels.new) }
-    ensures cause { IfErr result (PassCause (W.held work.old) (runs_in levels.old) (W.spent work.old).faults (W.spent work.new).faults) }
-    ensures cells_stay { W.held work.new ≡ W.held work.old }
-    ensures kept { W.kept work.new ≡ W.kept work.old }
-    ensures calm { ReadCalm (W.spent work.old).faults (W.spent work.new).faults result }
+    ensures passes { OnOk result (Each (PassesLevel (W.state work.old).held key.now) levels.old levels.new) }
+    ensures reads { ReadsAhead (W.state work.old) (W.state work.new) steps.old steps.new
+        (runs_in levels.old) (all_unread levels.old) (all_unread_after levels.new result) result }
+    ensures blocks { OnOk result ((n : ℕ) → ReadFrom n levels.old →
+        AllReadOn (W.state work.old) (W.state work.new) n levels.old levels.new) }
+    ensures looks { OnlyLooks W.CellSource work.old work.new result }
 {
     let Some((level, below)) = levels.split_first_mut() else {
         return Ok(());

@@ -1,11 +1,10 @@
 //! The live keys of several levels, counted in one walk over all their runs.
-ghost use Rattle.std.specs.Prelude.{◌≡◌, ◌≤◌, ◌↔◌, length, map, IfOk, IfErr, OnOk, IsTrue};
+ghost use Rattle.std.specs.Prelude.{◌≡◌, ◌≤◌, ◌↔◌, length, map, IfOk, OnOk, IsTrue};
 ghost use Rattle.std.specs.List.{AllByRecursion};
-ghost use Rattle.cola_cell.specs.Costs.{Costs};
-ghost use Rattle.cola_cell.specs.Spent.{ReadCalm};
+ghost use Rattle.cola_cell.specs.Looks.{OnlyLooks};
 ghost use Rattle.cola_verdict.specs.Tests.{live_pairs};
 ghost use Rattle.cola_check.specs.Blocks.{TurnsTo};
-ghost use Rattle.cola_check.specs.Reading.{PassCause};
+ghost use Rattle.cola_check.specs.Reading.{ReadsRuns};
 ghost use Rattle.cola_check.specs.Chains.{visible_runs, AreLiveCounts, AreStamped};
 ghost use Rattle.cola_check.specs.LevelWalks.{HasLevel, runs_of, cells_in, cells_of, AreRunsInOrder, StandFrom, blocks_of};
 
@@ -24,19 +23,18 @@ pub(crate) fn count_live<W: CellSource, L: Ledger>(
     last: u64,
     steps: &mut Steps<L>,
 ) -> Result<Tally, ReadFault>
-    requires runs { AllByRecursion (HasLevel (W.held work.old)) levels.now }
+    requires runs { AllByRecursion (HasLevel (W.state work.old).held) levels.now }
     requires few { length levels.now ≤ 23 }
     ensures many { IfOk result (λ tally. length tally.counts.items ≡ length levels.now) }
-    ensures counts { IfOk result (λ tally. AreRunsInOrder (W.held work.old) levels.now →
-        AreLiveCounts (map (cells_of (W.held work.old)) levels.now) tally.counts.items) }
-    ensures stamped { IfOk result (λ tally. AreRunsInOrder (W.held work.old) levels.now →
-        IsTrue tally.stamped ↔ AreStamped last (live_pairs (visible_runs (map (cells_of (W.held work.old)) levels.now)))) }
-    ensures costs { Costs (W.spent work.old) (W.spent work.new) steps.old steps.new (cells_in (runs_of levels.now)) (cells_in (runs_of levels.now)) }
-    ensures blocks { OnOk result (StandFrom 0 levels.now → TurnsTo (W.spent work.old) (W.spent work.new) (blocks_of (W.held work.old) levels.now)) }
-    ensures cause { IfErr result (PassCause (W.held work.old) (runs_of levels.now) (W.spent work.old).faults (W.spent work.new).faults) }
-    ensures cells_stay { W.held work.new ≡ W.held work.old }
-    ensures kept { W.kept work.new ≡ W.kept work.old }
-    ensures calm { ReadCalm (W.spent work.old).faults (W.spent work.new).faults result }
+    ensures counts { IfOk result (λ tally. AreRunsInOrder (W.state work.old).held levels.now →
+        AreLiveCounts (map (cells_of (W.state work.old).held) levels.now) tally.counts.items) }
+    ensures stamped { IfOk result (λ tally. AreRunsInOrder (W.state work.old).held levels.now →
+        IsTrue tally.stamped ↔ AreStamped last (live_pairs (visible_runs (map (cells_of (W.state work.old).held) levels.now)))) }
+    ensures blocks { OnOk result (StandFrom 0 levels.now →
+        TurnsTo (W.state work.old) (W.state work.new) (blocks_of (W.state work.old).held levels.now)) }
+    ensures reads { ReadsRuns (W.state work.old) (W.state work.new) steps.old steps.new
+        (runs_of levels.now) (cells_in (runs_of levels.now)) result }
+    ensures looks { OnlyLooks W.CellSource work.old work.new result }
 {
     // every object has at most 23 levels, so that no count is too large for its type
     let _ = work.ticked();

@@ -1,20 +1,19 @@
 //! The tests of the live keys.
-ghost use Rattle.std.specs.Prelude.{◌≡◌, ◌≤◌, ◌+◌, ◌↔◌, ◌∷◌, [], length, IfOk, IfErr, OnOk, IsTrue};
-ghost use Rattle.cola_cell.specs.Costs.{Costs};
-ghost use Rattle.cola_cell.specs.Spent.{ReadCalm};
+ghost use Rattle.std.specs.Prelude.{◌≡◌, ◌≤◌, ◌+◌, ◌↔◌, ◌∷◌, [], length, IfOk, OnOk, IsTrue};
+ghost use Rattle.cola_cell.specs.Looks.{OnlyLooks};
 ghost use Rattle.cola_clock.specs.Clock.{is_over};
 ghost use Rattle.cola_verdict.specs.declared.verdict.Flaw.TheVariants as flaw;
 ghost use Rattle.cola_check.specs.Blocks.{TurnsTo, all_blocks};
 ghost use Rattle.cola_check.specs.Found.{tested_by};
 ghost use Rattle.cola_check.specs.Living.{finished_shadow, counted_level, counted_from, AreFew, FindsCrowded, JudgesWhole, JudgesCounts};
-ghost use Rattle.cola_check.specs.Testing.{HasLevels, FindsVerdict, TestCause, live_ticks};
+ghost use Rattle.cola_check.specs.Testing.{HasLevels, FindsVerdict, ReadsFile, live_ticks};
 
 use crate::level_walks::LevelRuns;
 use crate::live::count_live;
 use crate::runs::{broken_at, shadow_run, visible_run};
 use crate::tally::{LiveCount, Tally};
 use arrayvec::ArrayVec;
-use cola_cell::{CellSource, ReadFault, Run};
+use cola_cell::{CellSource, MOST_LEVELS, ReadFault, Run};
 use cola_clock::{Phase, phase};
 use cola_layout::Header;
 use cola_outside::Steps;
@@ -59,7 +58,7 @@ fn counted_level(header: &Header, level: u8) -> LevelRuns
 }
 
 /// The runs of all levels whose live keys are counted.
-fn counted_levels(header: &Header) -> ArrayVec<LevelRuns, 23>
+fn counted_levels(header: &Header) -> ArrayVec<LevelRuns, MOST_LEVELS>
     ensures { result.items ≡ counted_from header.now 0 (header.now.geometry.bottom + 1) }
 {
     let mut levels = ArrayVec::new();
@@ -123,16 +122,14 @@ pub(crate) fn test_live<W: CellSource, L: Ledger>(
     header: &Header,
     steps: &mut Steps<L>,
 ) -> Result<Verdict, ReadFault>
-    requires { HasLevels header.now (W.held work.old) }
-    ensures finds { IfOk result (FindsVerdict (tested_by header.now (W.held work.old))
+    requires { HasLevels header.now (W.state work.old).held }
+    ensures finds { IfOk result (FindsVerdict (tested_by header.now (W.state work.old).held)
         (flaw.Cell ∷ flaw.Order ∷ flaw.Sample ∷ flaw.Length ∷ flaw.Shadow ∷ [])) }
-    ensures cause { IfErr result (TestCause header.now (W.held work.old) (W.spent work.old).faults (W.spent work.new).faults) }
-    ensures cost { Costs (W.spent work.old) (W.spent work.new) steps.old steps.new
-        (live_ticks header.now.geometry.bottom) (live_ticks header.now.geometry.bottom) }
-    ensures blocks { OnOk result (TurnsTo (W.spent work.old) (W.spent work.new) (all_blocks header.now (W.held work.old))) }
-    ensures cells_stay { W.held work.new ≡ W.held work.old }
-    ensures kept { W.kept work.new ≡ W.kept work.old }
-    ensures calm { ReadCalm (W.spent work.old).faults (W.spent work.new).faults result }
+    ensures reads { ReadsFile header.now (W.state work.old) (W.state work.new) steps.old steps.new
+        (live_ticks header.now.geometry.bottom) result }
+    ensures blocks { OnOk result (TurnsTo (W.state work.old) (W.state work.new)
+        (all_blocks header.now (W.state work.old).held)) }
+    ensures looks { OnlyLooks W.CellSource work.old work.new result }
 {
     let levels = counted_levels(header);
     let tally = count_live(work, levels.as_slice(), header.last, steps)?;

@@ -27,9 +27,7 @@ fn other_reader(reader: Reader) -> Reader
 }
 
 impl<'a, W: CellSource> CellSource for ByOthers<'a, W> {
-    ghost held = { λ others. W.held others.object.now };
-
-    ghost spent = { λ others. by_others (W.spent others.object.now) };
+    ghost state = { λ others. by_others (W.state others.object.now) };
 
     ghost Kept = { W.Kept × GName };
 

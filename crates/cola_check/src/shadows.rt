@@ -1,8 +1,7 @@
 //! The tests of the shadows, from the bottom up.
-ghost use Rattle.std.specs.Prelude.{◌≡◌, ◌∷◌, ◌↔◌, ◌*◌, ◌-◌, ◌^◌, ◌≤◌, [], true, IsTrue, IfOk, IfErr, OnOk};
-ghost use Rattle.cola_cell.specs.Costs.{Costs};
+ghost use Rattle.std.specs.Prelude.{◌≡◌, ◌∷◌, ◌↔◌, ◌*◌, ◌-◌, ◌^◌, ◌≤◌, [], true, IsTrue, IfOk, OnOk};
+ghost use Rattle.cola_cell.specs.Looks.{OnlyLooks};
 ghost use Rattle.cola_cell.specs.Places.{number_of};
-ghost use Rattle.cola_cell.specs.Spent.{ReadCalm};
 ghost use Rattle.cola_clock.specs.Clock.{works, visible_slot};
 ghost use Rattle.cola_clock.specs.Schedule.{phase_at};
 ghost use Rattle.cola_verdict.specs.Tests.{ShadowAt};
@@ -10,7 +9,7 @@ ghost use Rattle.cola_verdict.specs.declared.verdict.Flaw.TheVariants as flaw;
 ghost use Rattle.cola_check.specs.Blocks.{TurnsTo, shadow_blocks, all_blocks};
 ghost use Rattle.cola_check.specs.Found.{tested_by};
 ghost use Rattle.cola_check.specs.Shadows.{IsReached, CutAt};
-ghost use Rattle.cola_check.specs.Testing.{HasLevels, FindsFlaw, TestCause, shadow_ticks};
+ghost use Rattle.cola_check.specs.Testing.{HasLevels, FindsFlaw, ReadsFile, shadow_ticks};
 
 use crate::aims::{aim_at, cursors_at};
 use crate::cut::is_cut;
@@ -33,15 +32,14 @@ fn has_cut<W: CellSource, L: Ledger>(
     requires level { level ≤ header.now.geometry.bottom }
     requires above { 1 ≤ level }
     requires inside { works header.now.clock level ≡ true }
-    requires levels { HasLevels header.now (W.held work.old) }
-    ensures cut { IfOk result (λ cut. IsReached (tested_by header.now (W.held work.old)) level →
-        (IsTrue cut ↔ CutAt (tested_by header.now (W.held work.old)) level)) }
-    ensures cause { IfErr result (TestCause header.now (W.held work.old) (W.spent work.old).faults (W.spent work.new).faults) }
-    ensures cost { Costs (W.spent work.old) (W.spent work.new) steps.old steps.new (18 * 2 ^ level) (18 * 2 ^ level) }
-    ensures blocks { OnOk result (TurnsTo (W.spent work.old) (W.spent work.new) (shadow_blocks header.now (W.held work.old) level)) }
-    ensures cells_stay { W.held work.new ≡ W.held work.old }
-    ensures kept { W.kept work.new ≡ W.kept work.old }
-    ensures calm { ReadCalm (W.spent work.old).faults (W.spent work.new).faults result }
+    requires levels { HasLevels header.now (W.state work.old).held }
+    ensures cut { IfOk result (λ cut. IsReached (tested_by header.now (W.state work.old).held) level →
+        (IsTrue cut ↔ CutAt (tested_by header.now (W.state work.old).held) level)) }
+    ensures reads { ReadsFile header.now (W.state work.old) (W.state work.new) steps.old steps.new
+        (18 * 2 ^ level) result }
+    ensures blocks { OnOk result (TurnsTo (W.state work.old) (W.state work.new)
+        (shadow_blocks header.now (W.state work.old).held level)) }
+    ensures looks { OnlyLooks W.CellSource work.old work.new result }
 {
     let aim = aim_at(header, level);
     let cursors = cursors_at(header, level);
@@ -67,15 +65,14 @@ fn has_shadow<W: CellSource, L: Ledger>(
 ) -> Result<bool, ReadFault>
     requires level { level ≤ header.now.geometry.bottom }
     requires above { 1 ≤ level }
-    requires levels { HasLevels header.now (W.held work.old) }
-    ensures has { IfOk result (λ has. IsReached (tested_by header.now (W.held work.old)) level →
-        (IsTrue has ↔ ShadowAt (tested_by header.now (W.held work.old)) level)) }
-    ensures cause { IfErr result (TestCause header.now (W.held work.old) (W.spent work.old).faults (W.spent work.new).faults) }
-    ensures cost { Costs (W.spent work.old) (W.spent work.new) steps.old steps.new (18 * 2 ^ level) (18 * 2 ^ level) }
-    ensures blocks { OnOk result (TurnsTo (W.spent work.old) (W.spent work.new) (shadow_blocks header.now (W.held work.old) level)) }
-    ensures cells_stay { W.held work.new ≡ W.held work.old }
-    ensures kept { W.kept work.new ≡ W.kept work.old }
-    ensures calm { ReadCalm (W.spent work.old).faults (W.spent work.new).faults result }
+    requires levels { HasLevels header.now (W.state work.old).held }
+    ensures has { IfOk result (λ has. IsReached (tested_by header.now (W.state work.old).held) level →
+        (IsTrue has ↔ ShadowAt (tested_by header.now (W.state work.old).held) level)) }
+    ensures reads { ReadsFile header.now (W.state work.old) (W.state work.new) steps.old steps.new
+        (18 * 2 ^ level) result }
+    ensures blocks { OnOk result (TurnsTo (W.state work.old) (W.state work.new)
+        (shadow_blocks header.now (W.state work.old).held level)) }
+    ensures looks { OnlyLooks W.CellSource work.old work.new result }
 {
     match phase_of(header, level) {
         Phase::Before => Ok(true),
@@ -90,16 +87,14 @@ pub(crate) fn test_shadows<W: CellSource, L: Ledger>(
     header: &Header,
     steps: &mut Steps<L>,
 ) -> Result<Option<Verdict>, ReadFault>
-    requires { HasLevels header.now (W.held work.old) }
-    ensures finds { IfOk result (FindsFlaw (tested_by header.now (W.held work.old))
+    requires { HasLevels header.now (W.state work.old).held }
+    ensures finds { IfOk result (FindsFlaw (tested_by header.now (W.state work.old).held)
         (flaw.Cell ∷ flaw.Order ∷ flaw.Sample ∷ flaw.Length ∷ []) (flaw.Shadow ∷ [])) }
-    ensures cause { IfErr result (TestCause header.now (W.held work.old) (W.spent work.old).faults (W.spent work.new).faults) }
-    ensures cost { Costs (W.spent work.old) (W.spent work.new) steps.old steps.new
-        (shadow_ticks header.now.geometry.bottom) (shadow_ticks header.now.geometry.bottom) }
-    ensures blocks { OnOk result (TurnsTo (W.spent work.old) (W.spent work.new) (6 * all_blocks header.now (W.held work.old))) }
-    ensures cells_stay { W.held work.new ≡ W.held work.old }
-    ensures kept { W.kept work.new ≡ W.kept work.old }
-    ensures calm { ReadCalm (W.spent work.old).faults (W.spent work.new).faults result }
+    ensures reads { ReadsFile header.now (W.state work.old) (W.state work.new) steps.old steps.new
+        (shadow_ticks header.now.geometry.bottom) result }
+    ensures blocks { OnOk result (TurnsTo (W.state work.old) (W.state work.new)
+        (6 * all_blocks header.now (W.state work.old).held)) }
+    ensures looks { OnlyLooks W.CellSource work.old work.new result }
 {
     let mut level = header.geometry.bottom;
     while level > 0 {

@@ -6,7 +6,7 @@ ghost use Rattle.cola_check.specs.Tally.{HasRoom, visible_said, shadow_said, cou
 use crate::level_walks::LevelWalks;
 use crate::walk::Found;
 use arrayvec::ArrayVec;
-use cola_cell::Item;
+use cola_cell::{Item, MOST_LEVELS};
 
 /// What runs have of a key: nothing, a tombstone, or a value with this stamp.
 #[derive(Clone, Copy, Debug, Drop)]
@@ -35,7 +35,7 @@ pub(crate) struct Answers {
 /// down has a stamp above a number.
 #[derive(Drop)]
 pub(crate) struct Tally {
-    pub counts: ArrayVec<LiveCount, 23>,
+    pub counts: ArrayVec<LiveCount, MOST_LEVELS>,
     pub stamped: bool,
 }
 
@@ -104,7 +104,8 @@ impl Answers {
     /// shadow, in an even one above what is visible.
     fn under(&self, level: &LevelWalks) -> Answers
         ensures visible { result.visible ≡ said_or level.now.visible.said self.now.visible }
-        ensures shadow { result.shadow ≡ said_or level.now.shadow.said (cond level.now.odd self.now.shadow self.now.visible) }
+        ensures shadow { result.shadow ≡
+            said_or level.now.shadow.said (cond level.now.odd self.now.shadow self.now.visible) }
     {
         let below = if level.odd { self.shadow } else { self.visible };
         Answers {
@@ -181,7 +182,8 @@ impl Tally {
         requires same { length self.old.counts.items ≡ length levels.now }
         requires rooms { AllByRecursion HasRoom self.old.counts.items }
         ensures counted { self.new.counts.items ≡ counted self.old.counts.items levels.now }
-        ensures stamped { IsTrue self.new.stamped ↔ (IsTrue self.old.stamped × IsWithin last (visible_said levels.now)) }
+        ensures stamped { IsTrue self.new.stamped ↔
+            (IsTrue self.old.stamped × IsWithin last (visible_said levels.now)) }
     {
         let answers = add_live(self.counts.as_mut_slice(), levels);
         self.stamped = self.stamped && answers.visible.is_within(last);

@@ -1,12 +1,12 @@
 //! The tests of the cells of a file, one after another.
-ghost use Rattle.std.specs.Prelude.{◌≡◌, ◌+◌, ◌*◌, ◌^◌, ◌∷◌, [], IfOk, IfErr, OnOk};
+ghost use Rattle.std.specs.Prelude.{◌≡◌, ◌+◌, ◌*◌, ◌^◌, ◌∷◌, [], IfOk, OnOk};
 ghost use Rattle.cola_cell.specs.Costs.{Costs};
-ghost use Rattle.cola_cell.specs.Spent.{ReadCalm};
+ghost use Rattle.cola_cell.specs.Looks.{OnlyLooks};
 ghost use Rattle.cola_verdict.specs.declared.verdict.Flaw.TheVariants as flaw;
 ghost use Rattle.cola_check.specs.Blocks.{TurnsTo, all_blocks};
 ghost use Rattle.cola_check.specs.Check.{test_ticks};
 ghost use Rattle.cola_check.specs.Found.{tested_by};
-ghost use Rattle.cola_check.specs.Testing.{HasLevels, FindsVerdict, TestCause, Tests, rest_ticks, run_ticks};
+ghost use Rattle.cola_check.specs.Testing.{HasLevels, FindsVerdict, ReadsFile, Tests, rest_ticks, run_ticks};
 
 use crate::cells::first_bad_cell;
 use crate::living::test_live;
@@ -24,15 +24,14 @@ fn test_rest<W: CellSource, L: Ledger>(
     header: &Header,
     steps: &mut Steps<L>,
 ) -> Result<Verdict, ReadFault>
-    requires { HasLevels header.now (W.held work.old) }
-    ensures finds { IfOk result (FindsVerdict (tested_by header.now (W.held work.old)) (flaw.Cell ∷ flaw.Order ∷ flaw.Sample ∷ flaw.Length ∷ [])) }
-    ensures cause { IfErr result (TestCause header.now (W.held work.old) (W.spent work.old).faults (W.spent work.new).faults) }
-    ensures cost { Costs (W.spent work.old) (W.spent work.new) steps.old steps.new
-        (rest_ticks header.now.geometry.bottom) (rest_ticks header.now.geometry.bottom) }
-    ensures blocks { OnOk result (TurnsTo (W.spent work.old) (W.spent work.new) (7 * all_blocks header.now (W.held work.old))) }
-    ensures cells_stay { W.held work.new ≡ W.held work.old }
-    ensures kept { W.kept work.new ≡ W.kept work.old }
-    ensures calm { ReadCalm (W.spent work.old).faults (W.spent work.new).faults result }
+    requires { HasLevels header.now (W.state work.old).held }
+    ensures finds { IfOk result (FindsVerdict (tested_by header.now (W.state work.old).held)
+        (flaw.Cell ∷ flaw.Order ∷ flaw.Sample ∷ flaw.Length ∷ [])) }
+    ensures reads { ReadsFile header.now (W.state work.old) (W.state work.new) steps.old steps.new
+        (rest_ticks header.now.geometry.bottom) result }
+    ensures blocks { OnOk result (TurnsTo (W.state work.old) (W.state work.new)
+        (7 * all_blocks header.now (W.state work.old).held)) }
+    ensures looks { OnlyLooks W.CellSource work.old work.new result }
 {
     match test_shadows(work, header, steps)? {
         Some(verdict) => Ok(verdict),
@@ -46,15 +45,14 @@ fn test_runs<W: CellSource, L: Ledger>(
     header: &Header,
     steps: &mut Steps<L>,
 ) -> Result<Verdict, ReadFault>
-    requires { HasLevels header.now (W.held work.old) }
-    ensures finds { IfOk result (FindsVerdict (tested_by header.now (W.held work.old)) (flaw.Cell ∷ [])) }
-    ensures cause { IfErr result (TestCause header.now (W.held work.old) (W.spent work.old).faults (W.spent work.new).faults) }
-    ensures cost { Costs (W.spent work.old) (W.spent work.new) steps.old steps.new
-        (run_ticks header.now.geometry.bottom) (run_ticks header.now.geometry.bottom) }
-    ensures blocks { OnOk result (TurnsTo (W.spent work.old) (W.spent work.new) (9 * all_blocks header.now (W.held work.old))) }
-    ensures cells_stay { W.held work.new ≡ W.held work.old }
-    ensures kept { W.kept work.new ≡ W.kept work.old }
-    ensures calm { ReadCalm (W.spent work.old).faults (W.spent work.new).faults result }
+    requires { HasLevels header.now (W.state work.old).held }
+    ensures finds { IfOk result (FindsVerdict (tested_by header.now (W.state work.old).held)
+        (flaw.Cell ∷ [])) }
+    ensures reads { ReadsFile header.now (W.state work.old) (W.state work.new) steps.old steps.new
+        (run_ticks header.now.geometry.bottom) result }
+    ensures blocks { OnOk result (TurnsTo (W.state work.old) (W.state work.new)
+        (9 * all_blocks header.now (W.state work.old).held)) }
+    ensures looks { OnlyLooks W.CellSource work.old work.new result }
 {
     match test_visibles(work, header, steps)? {
         Some(verdict) => Ok(verdict),
@@ -69,14 +67,13 @@ pub(crate) fn test_cells<W: CellSource, L: Ledger>(
     header: &Header,
     steps: &mut Steps<L>,
 ) -> Result<Verdict, ReadFault>
-    requires { HasLevels header.now (W.held work.old) }
-    ensures tests { Tests header.now (W.held work.old) (W.spent work.old).faults (W.spent work.new).faults result }
-    ensures costs { Costs (W.spent work.old) (W.spent work.new) steps.old steps.new
+    requires { HasLevels header.now (W.state work.old).held }
+    ensures tests { Tests header.now (W.state work.old) (W.state work.new) result }
+    ensures costs { Costs (W.state work.old).spent (W.state work.new).spent steps.old steps.new
         (test_ticks header.now.geometry.bottom) (test_ticks header.now.geometry.bottom) }
-    ensures blocks { OnOk result (TurnsTo (W.spent work.old) (W.spent work.new) (10 * all_blocks header.now (W.held work.old))) }
-    ensures calm { ReadCalm (W.spent work.old).faults (W.spent work.new).faults result }
-    ensures cells_stay { W.held work.new ≡ W.held work.old }
-    ensures kept { W.kept work.new ≡ W.kept work.old }
+    ensures blocks { OnOk result (TurnsTo (W.state work.old) (W.state work.new)
+        (10 * all_blocks header.now (W.state work.old).held)) }
+    ensures looks { OnlyLooks W.CellSource work.old work.new result }
 {
     match first_bad_cell(work, header, steps)? {
         Some((level, number)) => Ok(Verdict::Broken(Flaw::Cell, level, number)),

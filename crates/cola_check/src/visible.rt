@@ -1,16 +1,15 @@
 //! The tests of one run: its order, its sample of the run below, and how many cells it has.
-ghost use Rattle.std.specs.Prelude.{◌≡◌, ◌↔◌, ◌+◌, ◌-◌, ◌≤◌, ◌<◌, ◌/◌, ◌∷◌, [], List, IsTrue, IfOk, IfErr, OnOk, IfSome, Some, slice_get, min};
+ghost use Rattle.std.specs.Prelude.{◌≡◌, ◌↔◌, ◌+◌, ◌-◌, ◌≤◌, ◌<◌, ◌/◌, ◌∷◌, [], List, IsTrue, IfOk, OnOk, IfSome, Some, slice_get, min};
 ghost use Rattle.std.specs.Option.{option_to_list};
-ghost use Rattle.cola_cell.specs.Costs.{Costs};
 ghost use Rattle.cola_cell.specs.Held.{Held, LawCell, as_cell};
-ghost use Rattle.cola_cell.specs.Spent.{ReadCalm};
+ghost use Rattle.cola_cell.specs.Looks.{OnlyLooks};
 ghost use Rattle.cola_look.specs.Runs.{HasRun};
 ghost use Rattle.cola_runs.specs.Cells.{sample, count_looks};
-ghost use Rattle.cola_told.specs.Cells.{run_cells};
+ghost use Rattle.cola_cell.specs.ToldCells.{run_cells};
 ghost use Rattle.cola_verdict.specs.Tests.{HasSample};
 ghost use Rattle.cola_check.specs.Blocks.{TurnsTo, SampleReadsOn, run_blocks, run_blocks_or};
 ghost use Rattle.cola_check.specs.Prefix.{AreBothTold, OrderIs, IsFew, lists_below, sample_len, sample_reads, Suits, IsSeen};
-ghost use Rattle.cola_check.specs.Reading.{IsRunTold, PassCause};
+ghost use Rattle.cola_check.specs.Reading.{IsRunTold, ReadsRuns};
 
 use crate::kinds::{has_key, is_look, is_old_value};
 use crate::prefix::Prefix;
@@ -53,7 +52,8 @@ fn has_few_items(seen: &Prefix, items: u32, young: u32) -> bool
 
 /// Whether the cells are as few as they must be.
 fn is_few(few: Few, seen: &Prefix) -> bool
-    ensures { (lists : List (List LawCell)) (cells : List LawCell) → IsSeen lists cells seen.now → (IsTrue result ↔ IsFew few cells) }
+    ensures { (lists : List (List LawCell)) (cells : List LawCell) → IsSeen lists cells seen.now →
+        (IsTrue result ↔ IsFew few cells) }
 {
     match few {
         Few::Items { items, young } => has_few_items(seen, items, young),
@@ -70,11 +70,13 @@ fn has_sample(seen: &Prefix, below: Option<Run>) -> bool
 
 /// What is known of all cells of a run, as the tests say it.
 fn tests_of(seen: &Prefix, below: Option<Run>, few: Few) -> RunTests
-    ensures order { (lists : List (List LawCell)) (cells : List LawCell) → IsSeen lists cells seen.now → OrderIs cells result.disorder }
+    ensures order { (lists : List (List LawCell)) (cells : List LawCell) → IsSeen lists cells seen.now →
+        OrderIs cells result.disorder }
     ensures within { IfSome result.disorder (λ index. index < seen.now.place) }
-    ensures sampled { (held : Held) (rest : List (List LawCell)) (cells : List LawCell) → IsSeen (lists_below held below rest) cells seen.now →
-        (IsTrue result.is_sampled ↔ HasSample cells (lists_below held below rest)) }
-    ensures few { (lists : List (List LawCell)) (cells : List LawCell) → IsSeen lists cells seen.now → (IsTrue result.has_few ↔ IsFew few cells) }
+    ensures sampled { (held : Held) (rest : List (List LawCell)) (cells : List LawCell) →
+        IsSeen (lists_below held below rest) cells seen.now → (IsTrue result.is_sampled ↔ HasSample cells (lists_below held below rest)) }
+    ensures few { (lists : List (List LawCell)) (cells : List LawCell) → IsSeen lists cells seen.now →
+        (IsTrue result.has_few ↔ IsFew few cells) }
 {
     RunTests {
         disorder: seen.disorder,
@@ -91,15 +93,14 @@ fn has_sampled<W: CellSource, L: Ledger>(
     number: u32,
     steps: &mut Steps<L>,
 ) -> Result<bool, ReadFault>
-    requires { HasRun (W.held work.old) run.now }
-    ensures sampled { IfOk result (λ is. IsRunTold (W.held work.old) run.now →
-        (IsTrue is ↔ (slice_get (sample (run_cells (W.held work.old) run.now)) number ≡ Some key.now))) }
-    ensures cause { IfErr result (PassCause (W.held work.old) (run.now ∷ []) (W.spent work.old).faults (W.spent work.new).faults) }
-    ensures cost { Costs (W.spent work.old) (W.spent work.new) steps.old steps.new (min 1 (run.now.len / 8 - number)) (min 1 (run.now.len / 8 - number)) }
-    ensures blocks { OnOk result (SampleReadsOn (W.held work.old) (W.spent work.old) (W.spent work.new) (Some run.now) number (number + 1)) }
-    ensures cells_stay { W.held work.new ≡ W.held work.old }
-    ensures kept { W.kept work.new ≡ W.kept work.old }
-    ensures calm { ReadCalm (W.spent work.old).faults (W.spent work.new).faults result }
+    requires { HasRun (W.state work.old).held run.now }
+    ensures sampled { IfOk result (λ is. IsRunTold (W.state work.old).held run.now →
+        (IsTrue is ↔ (slice_get (sample (run_cells (W.state work.old).held run.now)) number ≡ Some key.now))) }
+    ensures reads { ReadsRuns (W.state work.old) (W.state work.new) steps.old steps.new
+        (run.now ∷ []) (min 1 (run.now.len / 8 - number)) result }
+    ensures blocks { OnOk result (SampleReadsOn (W.state work.old) (W.state work.new)
+        (Some run.now) number (number + 1)) }
+    ensures looks { OnlyLooks W.CellSource work.old work.new result }
 {
     if number >= run.len / 8 {
         return Ok(false);
@@ -117,16 +118,15 @@ fn suits_at<W: CellSource, L: Ledger>(
     looks: u32,
     steps: &mut Steps<L>,
 ) -> Result<bool, ReadFault>
-    requires { IfSome below (HasRun (W.held work.old)) }
-    ensures suits { IfOk result (λ suits. IfSome below (IsRunTold (W.held work.old)) → (rest : List (List LawCell)) →
-        (IsTrue suits ↔ Suits (lists_below (W.held work.old) below rest) looks (as_cell cell.now))) }
-    ensures cause { IfErr result (PassCause (W.held work.old) (option_to_list below) (W.spent work.old).faults (W.spent work.new).faults) }
-    ensures cost { Costs (W.spent work.old) (W.spent work.new) steps.old steps.new
-        (sample_reads below looks (as_cell cell.now)) (sample_reads below looks (as_cell cell.now)) }
-    ensures blocks { OnOk result (SampleReadsOn (W.held work.old) (W.spent work.old) (W.spent work.new) below looks (looks + count_looks (as_cell cell.now ∷ []))) }
-    ensures cells_stay { W.held work.new ≡ W.held work.old }
-    ensures kept { W.kept work.new ≡ W.kept work.old }
-    ensures calm { ReadCalm (W.spent work.old).faults (W.spent work.new).faults result }
+    requires { IfSome below (HasRun (W.state work.old).held) }
+    ensures suits { IfOk result (λ suits.
+        IfSome below (IsRunTold (W.state work.old).held) → (rest : List (List LawCell)) →
+        (IsTrue suits ↔ Suits (lists_below (W.state work.old).held below rest) looks (as_cell cell.now))) }
+    ensures reads { ReadsRuns (W.state work.old) (W.state work.new) steps.old steps.new
+        (option_to_list below) (sample_reads below looks (as_cell cell.now)) result }
+    ensures blocks { OnOk result (SampleReadsOn (W.state work.old) (W.state work.new) below
+        looks (looks + count_looks (as_cell cell.now ∷ []))) }
+    ensures looks { OnlyLooks W.CellSource work.old work.new result }
 {
     match below {
         Some(run) => {
@@ -147,18 +147,17 @@ fn read_all<W: CellSource, L: Ledger>(
     below: Option<Run>,
     steps: &mut Steps<L>,
 ) -> Result<Prefix, ReadFault>
-    requires run { HasRun (W.held work.old) run.now }
-    requires below { IfSome below (HasRun (W.held work.old)) }
-    ensures seen { IfOk result (λ seen. AreBothTold (W.held work.old) run.now below → (rest : List (List LawCell)) →
-        IsSeen (lists_below (W.held work.old) below rest) (run_cells (W.held work.old) run.now) seen) }
+    requires run { HasRun (W.state work.old).held run.now }
+    requires below { IfSome below (HasRun (W.state work.old).held) }
+    ensures seen { IfOk result (λ seen.
+        AreBothTold (W.state work.old).held run.now below → (rest : List (List LawCell)) →
+        IsSeen (lists_below (W.state work.old).held below rest) (run_cells (W.state work.old).held run.now) seen) }
     ensures whole { IfOk result (λ seen. seen.place ≡ run.now.len) }
-    ensures cause { IfErr result (PassCause (W.held work.old) (run.now ∷ option_to_list below) (W.spent work.old).faults (W.spent work.new).faults) }
-    ensures cost { Costs (W.spent work.old) (W.spent work.new) steps.old steps.new
-        (run.now.len + sample_len below) (run.now.len + sample_len below) }
-    ensures blocks { OnOk result (TurnsTo (W.spent work.old) (W.spent work.new) (run_blocks (W.held work.old) run.now + run_blocks_or (W.held work.old) below)) }
-    ensures cells_stay { W.held work.new ≡ W.held work.old }
-    ensures kept { W.kept work.new ≡ W.kept work.old }
-    ensures calm { ReadCalm (W.spent work.old).faults (W.spent work.new).faults result }
+    ensures reads { ReadsRuns (W.state work.old) (W.state work.new) steps.old steps.new
+        (run.now ∷ option_to_list below) (run.now.len + sample_len below) result }
+    ensures blocks { OnOk result (TurnsTo (W.state work.old) (W.state work.new)
+        (run_blocks (W.state work.old).held run.now + run_blocks_or (W.state work.old).held below)) }
+    ensures looks { OnlyLooks W.CellSource work.old work.new result }
 {
     let mut seen = Prefix::empty();
     for index in 0..run.len {
@@ -178,22 +177,21 @@ pub(crate) fn test_run<W: CellSource, L: Ledger>(
     few: Few,
     steps: &mut Steps<L>,
 ) -> Result<RunTests, ReadFault>
-    requires run { HasRun (W.held work.old) run.now }
-    requires below { IfSome below (HasRun (W.held work.old)) }
-    ensures order { IfOk result (λ tests. AreBothTold (W.held work.old) run.now below →
-        OrderIs (run_cells (W.held work.old) run.now) tests.disorder) }
+    requires run { HasRun (W.state work.old).held run.now }
+    requires below { IfSome below (HasRun (W.state work.old).held) }
+    ensures order { IfOk result (λ tests. AreBothTold (W.state work.old).held run.now below →
+        OrderIs (run_cells (W.state work.old).held run.now) tests.disorder) }
     ensures within { IfOk result (λ tests. IfSome tests.disorder (λ index. index < run.now.len)) }
-    ensures sampled { IfOk result (λ tests. AreBothTold (W.held work.old) run.now below → (rest : List (List LawCell)) →
-        (IsTrue tests.is_sampled ↔ HasSample (run_cells (W.held work.old) run.now) (lists_below (W.held work.old) below rest))) }
-    ensures few { IfOk result (λ tests. AreBothTold (W.held work.old) run.now below →
-        (IsTrue tests.has_few ↔ IsFew few (run_cells (W.held work.old) run.now))) }
-    ensures cause { IfErr result (PassCause (W.held work.old) (run.now ∷ option_to_list below) (W.spent work.old).faults (W.spent work.new).faults) }
-    ensures cost { Costs (W.spent work.old) (W.spent work.new) steps.old steps.new
-        (run.now.len + sample_len below) (run.now.len + sample_len below) }
-    ensures blocks { OnOk result (TurnsTo (W.spent work.old) (W.spent work.new) (run_blocks (W.held work.old) run.now + run_blocks_or (W.held work.old) below)) }
-    ensures cells_stay { W.held work.new ≡ W.held work.old }
-    ensures kept { W.kept work.new ≡ W.kept work.old }
-    ensures calm { ReadCalm (W.spent work.old).faults (W.spent work.new).faults result }
+    ensures sampled { IfOk result (λ tests.
+        AreBothTold (W.state work.old).held run.now below → (rest : List (List LawCell)) →
+        (IsTrue tests.is_sampled ↔ HasSample (run_cells (W.state work.old).held run.now) (lists_below (W.state work.old).held below rest))) }
+    ensures few { IfOk result (λ tests. AreBothTold (W.state work.old).held run.now below →
+        (IsTrue tests.has_few ↔ IsFew few (run_cells (W.state work.old).held run.now))) }
+    ensures reads { ReadsRuns (W.state work.old) (W.state work.new) steps.old steps.new
+        (run.now ∷ option_to_list below) (run.now.len + sample_len below) result }
+    ensures blocks { OnOk result (TurnsTo (W.state work.old) (W.state work.new)
+        (run_blocks (W.state work.old).held run.now + run_blocks_or (W.state work.old).held below)) }
+    ensures looks { OnlyLooks W.CellSource work.old work.new result }
 {
     let seen = read_all(work, run, below, steps)?;
     Ok(tests_of(&seen, below, few))

@@ -1,14 +1,13 @@
 //! The tests of the visible runs, from level 0 down.
-ghost use Rattle.std.specs.Prelude.{◌≡◌, ◌+◌, ◌*◌, ◌^◌, ◌≤◌, ◌<◌, ◌∷◌, [], IfOk, IfErr, OnOk, IfSome};
-ghost use Rattle.cola_cell.specs.Costs.{Costs};
+ghost use Rattle.std.specs.Prelude.{◌≡◌, ◌+◌, ◌*◌, ◌^◌, ◌≤◌, ◌<◌, ◌∷◌, [], IfOk, OnOk, IfSome};
+ghost use Rattle.cola_cell.specs.Looks.{OnlyLooks};
 ghost use Rattle.cola_cell.specs.Places.{slot_size};
-ghost use Rattle.cola_cell.specs.Spent.{ReadCalm};
 ghost use Rattle.cola_verdict.specs.Tests.{AreCellsTold};
 ghost use Rattle.cola_verdict.specs.declared.verdict.Flaw.TheVariants as flaw;
 ghost use Rattle.cola_check.specs.Blocks.{TurnsTo, level_blocks, blocks_below, all_blocks};
 ghost use Rattle.cola_check.specs.Firsts.{IsBelow, AreTestsAt};
 ghost use Rattle.cola_check.specs.Found.{tested_by};
-ghost use Rattle.cola_check.specs.Testing.{HasLevels, FindsFlaw, TestCause, visible_ticks};
+ghost use Rattle.cola_check.specs.Testing.{HasLevels, FindsFlaw, ReadsFile, visible_ticks};
 
 use crate::firsts::{FirstFlaws, verdict_by};
 use crate::runs::{few_at, is_odd_at, visible_run};
@@ -39,16 +38,15 @@ fn test_level<W: CellSource, L: Ledger>(
     steps: &mut Steps<L>,
 ) -> Result<RunTests, ReadFault>
     requires level { level ≤ header.now.geometry.bottom }
-    requires levels { HasLevels header.now (W.held work.old) }
-    ensures tests { IfOk result (λ tests. AreCellsTold (tested_by header.now (W.held work.old)) →
-        AreTestsAt (tested_by header.now (W.held work.old)) level tests) }
+    requires levels { HasLevels header.now (W.state work.old).held }
+    ensures tests { IfOk result (λ tests. AreCellsTold (tested_by header.now (W.state work.old).held) →
+        AreTestsAt (tested_by header.now (W.state work.old).held) level tests) }
     ensures within { IfOk result (λ tests. IfSome tests.disorder (λ index. index < slot_size level)) }
-    ensures cause { IfErr result (TestCause header.now (W.held work.old) (W.spent work.old).faults (W.spent work.new).faults) }
-    ensures cost { Costs (W.spent work.old) (W.spent work.new) steps.old steps.new (5 * 2 ^ level) (5 * 2 ^ level) }
-    ensures blocks { OnOk result (TurnsTo (W.spent work.old) (W.spent work.new) (level_blocks header.now (W.held work.old) level + blocks_below header.now (W.held work.old) level)) }
-    ensures cells_stay { W.held work.new ≡ W.held work.old }
-    ensures kept { W.kept work.new ≡ W.kept work.old }
-    ensures calm { ReadCalm (W.spent work.old).faults (W.spent work.new).faults result }
+    ensures reads { ReadsFile header.now (W.state work.old) (W.state work.new) steps.old steps.new
+        (5 * 2 ^ level) result }
+    ensures blocks { OnOk result (TurnsTo (W.state work.old) (W.state work.new)
+        (level_blocks header.now (W.state work.old).held level + blocks_below header.now (W.state work.old).held level)) }
+    ensures looks { OnlyLooks W.CellSource work.old work.new result }
 {
     let run = visible_run(header, level);
     let below = below_run(header, level);
@@ -63,16 +61,14 @@ pub(crate) fn test_visibles<W: CellSource, L: Ledger>(
     header: &Header,
     steps: &mut Steps<L>,
 ) -> Result<Option<Verdict>, ReadFault>
-    requires { HasLevels header.now (W.held work.old) }
-    ensures finds { IfOk result (FindsFlaw (tested_by header.now (W.held work.old))
+    requires { HasLevels header.now (W.state work.old).held }
+    ensures finds { IfOk result (FindsFlaw (tested_by header.now (W.state work.old).held)
         (flaw.Cell ∷ []) (flaw.Order ∷ flaw.Sample ∷ flaw.Length ∷ [])) }
-    ensures cause { IfErr result (TestCause header.now (W.held work.old) (W.spent work.old).faults (W.spent work.new).faults) }
-    ensures cost { Costs (W.spent work.old) (W.spent work.new) steps.old steps.new
-        (visible_ticks header.now.geometry.bottom) (visible_ticks header.now.geometry.bottom) }
-    ensures blocks { OnOk result (TurnsTo (W.spent work.old) (W.spent work.new) (2 * all_blocks header.now (W.held work.old))) }
-    ensures cells_stay { W.held work.new ≡ W.held work.old }
-    ensures kept { W.kept work.new ≡ W.kept work.old }
-    ensures calm { ReadCalm (W.spent work.old).faults (W.spent work.new).faults result }
+    ensures reads { ReadsFile header.now (W.state work.old) (W.state work.new) steps.old steps.new
+        (visible_ticks header.now.geometry.bottom) result }
+    ensures blocks { OnOk result (TurnsTo (W.state work.old) (W.state work.new)
+        (2 * all_blocks header.now (W.state work.old).held)) }
+    ensures looks { OnlyLooks W.CellSource work.old work.new result }
 {
     let mut flaws = FirstFlaws::none();
     for level in 0..header.geometry.levels() {

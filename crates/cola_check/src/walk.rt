@@ -1,6 +1,5 @@
 //! A walk over one run, cell by cell.
-ghost use Rattle.std.specs.Prelude.{◌≡◌, ◌+◌, ◌<◌, ◌≤◌, [], ◌∷◌, IfOk, IfErr, OnOk, None};
-ghost use Rattle.cola_cell.specs.Spent.{ReadCalm};
+ghost use Rattle.cola_cell.specs.Looks.{OnlyLooks};
 
 use cola_cell::{Cell, CellSource, Item, Key, ReadFault, Reader, Run};
 use cola_outside::Steps;
@@ -54,10 +53,10 @@ impl Found {
 }
 
 impl Walk {
-    ghost use Rattle.std.specs.Prelude.{◌≡◌, ◌+◌, ◌<◌, ◌≤◌, [], ◌∷◌, IfOk, IfErr, OnOk, None};
+    ghost use Rattle.std.specs.Prelude.{◌≡◌, ◌+◌, ◌<◌, [], ◌∷◌, IfOk, OnOk, None};
     ghost use Rattle.cola_look.specs.Runs.{HasRun};
-    ghost use Rattle.cola_check.specs.Reading.{PassCause};
-    ghost use Rattle.cola_check.specs.Walks.{WalkFits, IsReady, unread, unread_after, unread_begun, Turns, unbegun, ReadsOn, Begins, Fetches, Passes, has_key, found_of, lesser};
+    ghost use Rattle.cola_check.specs.Reading.{ReadsAhead};
+    ghost use Rattle.cola_check.specs.Walks.{WalkFits, IsReady, unread, unread_after, unread_begun, unbegun, ReadsOn, Begins, Fetches, Passes, has_key, found_of, lesser};
 
     /// A walk before the first cell of a run, with that cell read, if there is one.
     pub(crate) fn begin<W: CellSource, L: Ledger>(
@@ -66,15 +65,13 @@ impl Walk {
         reader: Reader,
         steps: &mut Steps<L>,
     ) -> Result<Walk, ReadFault>
-        requires run { HasRun (W.held work.old) run.now }
-        ensures begins { IfOk result (Begins (W.held work.old) run.now reader) }
-        ensures unread { steps.new + unread_begun result ≤ steps.old + run.now.len }
-        ensures turns { Turns (W.spent work.old) (W.spent work.new) steps.old steps.new }
-        ensures blocks { IfOk result (ReadsOn (W.held work.old) (W.spent work.old) (W.spent work.new) (unbegun run.now reader)) }
-        ensures cause { IfErr result (PassCause (W.held work.old) (run.now ∷ []) (W.spent work.old).faults (W.spent work.new).faults) }
-        ensures cells_stay { W.held work.new ≡ W.held work.old }
-        ensures kept { W.kept work.new ≡ W.kept work.old }
-        ensures calm { ReadCalm (W.spent work.old).faults (W.spent work.new).faults result }
+        requires run { HasRun (W.state work.old).held run.now }
+        ensures begins { IfOk result (Begins (W.state work.old).held run.now reader) }
+        ensures reads { ReadsAhead (W.state work.old) (W.state work.new) steps.old steps.new
+            (run.now ∷ []) run.now.len (unread_begun result) result }
+        ensures blocks { IfOk result (ReadsOn (W.state work.old) (W.state work.new)
+            (unbegun run.now reader)) }
+        ensures looks { OnlyLooks W.CellSource work.old work.new result }
     {
         let mut walk = Walk {
             run: *run,
@@ -92,15 +89,12 @@ impl Walk {
         work: &mut W,
         steps: &mut Steps<L>,
     ) -> Result<(), ReadFault>
-        requires fits { WalkFits (W.held work.old) self.old }
-        ensures fetches { OnOk result (Fetches (W.held work.old) self.old self.new) }
-        ensures unread { steps.new + unread_after self.new result ≤ steps.old + unread self.old }
-        ensures turns { Turns (W.spent work.old) (W.spent work.new) steps.old steps.new }
-        ensures blocks { OnOk result (ReadsOn (W.held work.old) (W.spent work.old) (W.spent work.new) self.old self.new) }
-        ensures cause { IfErr result (PassCause (W.held work.old) (self.old.run ∷ []) (W.spent work.old).faults (W.spent work.new).faults) }
-        ensures cells_stay { W.held work.new ≡ W.held work.old }
-        ensures kept { W.kept work.new ≡ W.kept work.old }
-        ensures calm { ReadCalm (W.spent work.old).faults (W.spent work.new).faults result }
+        requires fits { WalkFits (W.state work.old).held self.old }
+        ensures fetches { OnOk result (Fetches (W.state work.old).held self.old self.new) }
+        ensures reads { ReadsAhead (W.state work.old) (W.state work.new) steps.old steps.new
+            (self.old.run ∷ []) (unread self.old) (unread_after self.new result) result }
+        ensures blocks { OnOk result (ReadsOn (W.state work.old) (W.state work.new) self.old self.new) }
+        ensures looks { OnlyLooks W.CellSource work.old work.new result }
     {
         if self.head.is_some() || self.at == self.run.len {
             return Ok(());
@@ -179,16 +173,13 @@ impl Walk {
         key: &Key,
         steps: &mut Steps<L>,
     ) -> Result<Found, ReadFault>
-        requires fits { WalkFits (W.held work.old) self.old }
+        requires fits { WalkFits (W.state work.old).held self.old }
         requires ready { IsReady self.old }
-        ensures passes { IfOk result (Passes (W.held work.old) key.now self.old self.new) }
-        ensures unread { steps.new + unread_after self.new result ≤ steps.old + unread self.old }
-        ensures turns { Turns (W.spent work.old) (W.spent work.new) steps.old steps.new }
-        ensures blocks { OnOk result (ReadsOn (W.held work.old) (W.spent work.old) (W.spent work.new) self.old self.new) }
-        ensures cause { IfErr result (PassCause (W.held work.old) (self.old.run ∷ []) (W.spent work.old).faults (W.spent work.new).faults) }
-        ensures cells_stay { W.held work.new ≡ W.held work.old }
-        ensures kept { W.kept work.new ≡ W.kept work.old }
-        ensures calm { ReadCalm (W.spent work.old).faults (W.spent work.new).faults result }
+        ensures passes { IfOk result (Passes (W.state work.old).held key.now self.old self.new) }
+        ensures reads { ReadsAhead (W.state work.old) (W.state work.new) steps.old steps.new
+            (self.old.run ∷ []) (unread self.old) (unread_after self.new result) result }
+        ensures blocks { OnOk result (ReadsOn (W.state work.old) (W.state work.new) self.old self.new) }
+        ensures looks { OnlyLooks W.CellSource work.old work.new result }
     {
         let mut found = Found::Nothing;
         while self.has_key(key) {

@@ -17,9 +17,9 @@ use Rattle.cola_spec.specs.Map.{Shape}
 use Rattle.cola_spec.specs.Lines.{Line}
 use Rattle.cola_spec.specs.Command.{Command, Put, PutIf, Del, Get, Stamp, Range, Scan, Count, Close, Reopen, line_requests}
 use Rattle.cola_spec.specs.Machine as machine
-use Rattle.cola_spec.specs.Machine.{State, Turn, Run, kind_of, turn_text, turns_text, ticks_of, faulted_steps}
+use Rattle.cola_spec.specs.Machine.{State, Turn, History, kind_of, turn_text, turns_text, ticks_of, faulted_steps}
 use Rattle.cola_spec.specs.Bounds.{request_bound}
-use Rattle.cola_table.specs.Terms.{shape_of}
+use Rattle.cola_cell.specs.Shapes.{shape_of}
 use Rattle.cola_line.proofs.Listing.{take_beyond}
 use Rattle.cola_store.specs.Store.{levels_of}
 use Rattle.cola_store.specs.Table.{store_table}
@@ -59,8 +59,8 @@ pub faulted-append : (a b : List Turn) → faulted_steps (a ++ b) ≡ faulted_st
 faulted-append [] b = omega arith
 faulted-append (turn ∷ a) b = let rest = faulted-append a b in omega (arith, rest)
 
-pub run-append : (shape : Shape) (a b : List Turn) (first mid last : State) → Run shape first a mid → Run shape mid b last → Run shape first (a ++ b) last
-run-append shape [] b first mid last start next = subst (λ s. Run shape s b last) start next
+pub run-append : (shape : Shape) (a b : List Turn) (first mid last : State) → History shape first a mid → History shape mid b last → History shape first (a ++ b) last
+run-append shape [] b first mid last start next = subst (λ s. History shape s b last) start next
 run-append shape (turn ∷ a) b first mid last (between, step, rest) next = (between, step, run-append shape a b between mid last rest next)
 
 pub asks-then : (lines : List Line) (line : Line) (format : Format) (a b : List (Option Command)) → AreAsked lines a → b ≡ line_requests (shape_of format 0) line → AreAsked (lines ++ line ∷ []) (a ++ b)
@@ -133,7 +133,7 @@ module _ {K D : Type 0} (h : sink.Ghosts K) (d : device.Ghosts D) (first : Sessi
   -- the turns are those of the lines in the file's format, and lead the session machine from the map that the store held to where the session is; and, where none is faulted, each moves the store and its device's counts as it may
   pub record RunsSoFar (known : Known) (lines : List Line) (turns : List Turn) (now : Point (Session D d) K) : Type 0 where
     pub asks : asked turns ≡ flat_map (line_requests (shape known.sizes)) lines
-    pub run : Run (shape known.sizes) (machine.Open known.map) turns now.state
+    pub run : History (shape known.sizes) (machine.Open known.map) turns now.state
     pub at : SessionAt d known.sizes now.home now.state
     pub moves : faulted_steps turns ≡ 0 → AllMove d known.sizes first.cache turns first.place now.home.place
 

@@ -17,7 +17,7 @@ use Rattle.cola_spec.specs.Lines.{Line, Text, TooLong, line_of, raw_lines, is_li
 use Rattle.cola_spec.specs.Command.{Command, line_requests}
 use Rattle.cola_spec.specs.Reply as reply
 use Rattle.cola_spec.specs.Reply.{Reply}
-use Rattle.cola_spec.specs.Machine.{State, Open, Closing, Closed, Turn, Kind, PlainStep, FaultedStep, ShortStep, StepOf, ShortOfMemory, Run, kind_of, faulted_steps}
+use Rattle.cola_spec.specs.Machine.{State, Open, Closing, Closed, Turn, Kind, PlainStep, FaultedStep, ShortStep, StepOf, ShortOfMemory, History, kind_of, faulted_steps}
 use Rattle.cola_image.specs.Standing.{FileStandsFor}
 use Rattle.cola_store.specs.declared.fault.OpenFault.{OpenFault}
 use Rattle.cola_store.specs.declared.fault.OpenFault.TheVariants as fault
@@ -28,7 +28,7 @@ use Rattle.cola_session.specs.Reading.{input_limit}
 use Rattle.cola_command.specs.File.{Sizes, shape, sizes_in}
 use Rattle.cola_status.specs.Statuses.{refusal_status}
 use Rattle.cola_command.specs.Headline.{FileEnds, StandsAs, NotOpened, WroteAll, CarriesAll, asked, last_close}
-use Rattle.cola_command.specs.HeadlineLaws.{PlainRun, NoneFails, AnsweredPlainly, TransferredFew, Completes, Answered, OutOfMemory}
+use Rattle.cola_command.specs.HeadlineLaws.{PlainHistory, NoneFails, AnsweredPlainly, TransferredFew, Completes, Answered, OutOfMemory}
 use Rattle.cola_session.proofs.CutOff.{not-faulted, only-reopened}
 use Rattle.cola_command.proofs.Carrying.{faulted-append}
 use Rattle.cola_session.proofs.Sessions.{with-carried}
@@ -69,14 +69,14 @@ closed-whole (Closed m (suc byte)) request next step = absurd step
 
 -- a run without faulted turns is plain
 module _ (shape : Shape) where
-  plain-turn : (state next last : State) (turn : Turn) (turns : List Turn) (kind : Kind) → kind_of turn.answer ≡ kind → StepOf shape state turn next kind → (kind ≡ FaultedStep → ⊥) → PlainRun shape next turns last → PlainRun shape state (turn ∷ turns) last
-  plain-turn state next last turn turns PlainStep is step calm rest = inl (step.0, subst (λ (s : State). PlainRun shape s turns last) step.1 rest)
+  plain-turn : (state next last : State) (turn : Turn) (turns : List Turn) (kind : Kind) → kind_of turn.answer ≡ kind → StepOf shape state turn next kind → (kind ≡ FaultedStep → ⊥) → PlainHistory shape next turns last → PlainHistory shape state (turn ∷ turns) last
+  plain-turn state next last turn turns PlainStep is step calm rest = inl (step.0, subst (λ (s : State). PlainHistory shape s turns last) step.1 rest)
   plain-turn state next last turn turns FaultedStep is step calm rest = absurd (calm refl)
   plain-turn state next last turn turns ShortStep is step calm rest =
       let only = only-reopened state turn.request next step in
-      inr (only.0, (memory-only turn.answer is, (closed-whole state turn.request next step, subst (λ (s : State). PlainRun shape s turns last) only.1.0 rest)))
+      inr (only.0, (memory-only turn.answer is, (closed-whole state turn.request next step, subst (λ (s : State). PlainHistory shape s turns last) only.1.0 rest)))
 
-  pub plain-run : (state : State) (turns : List Turn) (last : State) → Run shape state turns last → faulted_steps turns ≡ 0 → PlainRun shape state turns last
+  pub plain-run : (state : State) (turns : List Turn) (last : State) → History shape state turns last → faulted_steps turns ≡ 0 → PlainHistory shape state turns last
   plain-run state [] last same none = same
   plain-run state (turn ∷ turns) last (next, step, rest) none =
       plain-turn state next last turn turns (kind_of turn.answer) refl step (not-faulted (kind_of turn.answer) (faulted_steps turns) none) (plain-run next turns last rest (omega (arith, none)))

@@ -8,12 +8,13 @@ use Rattle.cola_opening.specs.Judged.{file_size, HasHeader}
 use Rattle.cola_spec.specs.Map.{Shape, Map}
 use Rattle.cola_spec.specs.Machine as machine
 use Rattle.cola_spec.specs.Machine.{State}
-use Rattle.cola_table.specs.Terms.{shape_of}
+use Rattle.cola_cell.specs.Shapes.{shape_of}
 use Rattle.cola_image.specs.Standing.{HeaderStandsFor, with_state}
 use Rattle.cola_command.specs.declared.place.Place.{Place}
 use Rattle.cola_command.specs.declared.place.Place.TheVariants.{Open, Closing, Closed}
-use Rattle.cola_store.specs.Store.{Stored, Holds, geometry_of}
+use Rattle.cola_store.specs.Store.{Stored, Holds, geometry_of, device_in}
 use Rattle.cola_store.specs.Sessions.{Owes}
+use Rattle.cola_run.specs.Store as run
 
 -- Sizes
 
@@ -66,8 +67,8 @@ pub record StandsBut (sizes : Sizes) (m : Map) (byte : ℕ) (bytes : List ℕ) :
 
 -- the device of a session
 abbrev pub device_of : {D : Type 0} {d : device.Ghosts D} → Place D d → D
-device_of (Open store) = store.chain.store.buffers.cache.device
-device_of (Closing closing) = closing.runs.buffers.cache.device
+device_of (Open store) = device_in store
+device_of (Closing closing) = run.device_of closing.runs
 device_of (Closed device) = device
 
 -- the store while it is open

@@ -15,10 +15,10 @@ use Rattle.cola_spec.specs.Lines.{Line}
 use Rattle.cola_spec.specs.Command.{Command, Close, line_requests}
 use Rattle.cola_spec.specs.Reply.{Reply}
 use Rattle.cola_spec.specs.Machine as machine
-use Rattle.cola_spec.specs.Machine.{State, Turn, PlainStep, FaultedStep, kind_of, Step, Run, turns_text, ticks_of}
+use Rattle.cola_spec.specs.Machine.{State, Turn, PlainStep, FaultedStep, kind_of, Step, History, turns_text, ticks_of}
 use Rattle.cola_spec.specs.Bounds.{request_bound}
 use Rattle.cola_table.specs.Replies.{turn_of}
-use Rattle.cola_table.specs.Terms.{shape_of}
+use Rattle.cola_cell.specs.Shapes.{shape_of}
 use Rattle.cola_image.specs.Standing.{HeaderStandsFor}
 use Rattle.cola_store.specs.declared.fault.OpenFault.{OpenFault}
 use Rattle.cola_status.specs.Statuses.{refusal_status}
@@ -111,11 +111,11 @@ module _ {D : Type 0} (d : device.Ghosts D) (cache : ℕ) (device device' : D) (
     pub behind : Both (d.bytes device) (d.bytes device') (KeepsBehind sizes)
 
   module _ (ending : Ending) where
-    -- the turns are those of the lines in the file's format, and a run of the session machine from the map that the file stood for; the close at the end is one more step, after which the file is left so; and where no fault was counted, the reads and writes are few
+    -- the turns are those of the lines in the file's format, and a history of the session machine from the map that the file stood for; the close at the end is one more step, after which the file is left so; and where no fault was counted, the reads and writes are few
     pub record RunsToEnd (known : Known) (lines : List Line) (turns : List Turn) (answer : Reply) : Type 0 where
       pub asks : asked turns ≡ flat_map (line_requests (shape known.sizes)) lines
       pub last : State
-      pub run : Run (shape known.sizes) (machine.Open known.map) turns last
+      pub run : History (shape known.sizes) (machine.Open known.map) turns last
       pub end : State
       pub close : Step (shape known.sizes) last (last_close answer) end
       pub left : LeftBy ending known.sizes end (d.bytes device')

@@ -26,11 +26,11 @@ pub record NoneFails {S K D : Type 0} (g : source.Ghosts S) (h : sink.Ghosts K) 
   pub device_answers : Rose (d.counts device).faults (d.counts device').faults → ⊥
 
 -- turns from a state to a last one: each is the one plain step, or an opening of a closed store that found no memory, which changes nothing
-abbrev pub PlainRun : Shape → State → List Turn → State → Type 0
-PlainRun shape state [] last = last ≡ state
-PlainRun shape state (turn ∷ turns) last =
-    ((turn.answer ≡ plain_reply shape state turn.request) × PlainRun shape (plain_after shape state turn.request) turns last)
-    ⊎ ((turn.request ≡ Some Reopen) × ((turn.answer ≡ Refused Memory) × (((m : Map) × (state ≡ Closed m 0)) × PlainRun shape state turns last)))
+abbrev pub PlainHistory : Shape → State → List Turn → State → Type 0
+PlainHistory shape state [] last = last ≡ state
+PlainHistory shape state (turn ∷ turns) last =
+    ((turn.answer ≡ plain_reply shape state turn.request) × PlainHistory shape (plain_after shape state turn.request) turns last)
+    ⊎ ((turn.request ≡ Some Reopen) × ((turn.answer ≡ Refused Memory) × (((m : Map) × (state ≡ Closed m 0)) × PlainHistory shape state turns last)))
 
 module _ {K D : Type 0} (h : sink.Ghosts K) (d : device.Ghosts D) (cost : Bool) (m : Map) (sink sink' : K) (device device' : D) where
   -- the lines were answered as by the map that the file stood for, but that an opening may have found no memory; these replies were written; and the file stands for the last map
@@ -40,7 +40,7 @@ module _ {K D : Type 0} (h : sink.Ghosts K) (d : device.Ghosts D) (cost : Bool) 
     pub turns : List Turn
     pub asks : asked turns ≡ flat_map (line_requests (shape sizes)) lines
     pub last : State
-    pub run : PlainRun (shape sizes) (Open m) turns last
+    pub run : PlainHistory (shape sizes) (Open m) turns last
     pub wrote : Appended (turns_text cost turns) (h.written sink) (h.written sink')
     pub end : State
     pub close : end ≡ plain_after (shape sizes) last (Some Close)

@@ -7,7 +7,7 @@ use Rattle.cola_spec.specs.Reply.{Reply}
 use Rattle.cola_spec.specs.Machine.{Turn}
 use Rattle.cola_transfers.specs.Credit.{last_value}
 use Rattle.cola_opening.specs.Counted.{Spends}
-use Rattle.cola_store.specs.Store.{Stored, HasRead, geometry_of, levels_of}
+use Rattle.cola_store.specs.Store.{Stored, HasRead, geometry_of, levels_of, device_in, cache_in}
 use Rattle.cola_store.specs.Sessions.{IsStoreOpened}
 use Rattle.cola_store.specs.Transfers.{IsCounting, WritesFew, ReadsFew, ReadsOnce}
 use Rattle.cola_command.specs.declared.place.Place.{Place}
@@ -45,7 +45,7 @@ module _ {D : Type 0} (d : device.Ghosts D) where
 
   -- a place whose store stays open keeps its cache
   abbrev pub KeepsCache : Place D d → Place D d → Type 0
-  KeepsCache (Open old) (Open new) = new.chain.store.buffers.cache.blocks ≡ old.chain.store.buffers.cache.blocks
+  KeepsCache (Open old) (Open new) = cache_in new ≡ cache_in old
   KeepsCache _ _ = Unit {0}
 
   module _ (sizes : Sizes) (cache : ℕ) (turn : Turn) where
@@ -54,7 +54,7 @@ module _ {D : Type 0} (d : device.Ghosts D) where
       pub opens_none : opens turn.answer ≡ false
       pub calls : CountsCall old new (mutated turn.answer) (searched turn.answer)
       pub sizes_are : sizes_of (geometry_of new) ≡ sizes
-      pub cache_is : new.chain.store.buffers.cache.blocks ≡ old.chain.store.buffers.cache.blocks
+      pub cache_is : cache_in new ≡ cache_in old
       pub reads_kept : AsksNoRows turn.request → HasRead d.counts old → HasRead d.counts new
 
     -- an open store was closed, in a write for each level and two more
@@ -62,7 +62,7 @@ module _ {D : Type 0} (d : device.Ghosts D) where
       pub quiet : IsQuiet turn.answer
       pub few : TransfersFew store
       pub sizes_are : sizes_of (geometry_of store) ≡ sizes
-      pub spends : Spends (d.counts store.chain.store.buffers.cache.device) (d.counts now) 0 (sizes.bottom + 3) 2
+      pub spends : Spends (d.counts (device_in store)) (d.counts now) 0 (sizes.bottom + 3) 2
 
     -- a closed file was opened
     pub record Reopens (before : D) (store : Stored D) : Type 0 where

@@ -13,7 +13,9 @@ use cola_io::Sink;
 /// Status 0 says that the file stands for a map, and the line that was written how many keys that has; status 13 that it
 /// stands for none. Where it stands for one, and no count of faults rose, the status is 0, or 1 where there was no memory.
 pub fn checked_files_are_judged<K: Sink, D: Device>()
-    ensures sound { (device device' : D) (sink sink' : K) (steps steps' : ℕ) (bytes : List ℕ) → CheckEnds K.Sink D.Device device device' sink sink' steps steps' 0 → D.bytes device ≡ Some bytes →
+    ensures sound { (device device' : D) (sink sink' : K) (steps steps' : ℕ) (bytes : List ℕ) →
+        CheckEnds K.Sink D.Device device device' sink sink' steps steps' 0 →
+        D.bytes device ≡ Some bytes →
         (m : Map) × (FileStandsFor bytes m × Appended (line (codes "sound " ++ decimal (count m))) (K.written sink) (K.written sink')) }
     ensures broken { (device device' : D) (sink sink' : K) (steps steps' : ℕ) (bytes : List ℕ) (m : Map) → CheckEnds K.Sink D.Device device device' sink sink' steps steps' 13 → D.bytes device ≡ Some bytes →
         ¬ FileStandsFor bytes m }

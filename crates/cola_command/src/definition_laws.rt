@@ -20,7 +20,7 @@ ghost use Rattle.cola_spec.specs.Command.{Close, Del, Get, Put, Range, Reopen, S
 ghost use Rattle.cola_spec.specs.Lines.{Line, Text};
 ghost use Rattle.cola_spec.specs.Map.{Map};
 ghost use Rattle.cola_spec.specs.Machine as machine;
-ghost use Rattle.cola_spec.specs.Machine.{FaultedStep, PlainStep, Run, State, Step, Turn, kind_of, ticks_of, turns_text};
+ghost use Rattle.cola_spec.specs.Machine.{FaultedStep, PlainStep, History, State, Step, Turn, kind_of, ticks_of, turns_text};
 ghost use Rattle.cola_spec.specs.Reply as reply;
 ghost use Rattle.cola_spec.specs.Reply.{Reply};
 ghost use Rattle.cola_table.specs.Replies.{turn_of};
@@ -48,7 +48,7 @@ ghost use Rattle.cola_command.specs.Serves.{CreateEnds, Serves, UpgradeEnds};
 ghost use Rattle.cola_command.specs.Turns.{Begun, CloseCause, KeepsFormat, OpenCause, WasLed, file_home};
 ghost use Rattle.cola_command.specs.declared.file.Session.{Session};
 ghost use Rattle.cola_command.specs.declared.place.Place.{Place};
-ghost use Rattle.cola_table.specs.Terms.{shape_of};
+ghost use Rattle.cola_cell.specs.Shapes.{shape_of};
 ghost use Rattle.cola_store.specs.Calls.{AnswersTurn};
 ghost use Rattle.cola_store.specs.Transfers.{ReadsOnce};
 ghost use Rattle.cola_store.specs.Table.{store_table};
@@ -59,7 +59,9 @@ use cola_io::{Sink, Source};
 
 /// Where a reply was not written whole, the texts of the turns of all lines before the last were, and of all turns some front.
 pub fn fronts_have_all_before_the_last()
-    ensures front { (text : List ℕ) (least : ℕ) (written written' : Option (List ℕ)) → WroteFront text least written written' → (size : ℕ) × ((least ≤ size) × Appended (take size text) written written') }
+    ensures front { (text : List ℕ) (least : ℕ) (written written' : Option (List ℕ)) →
+        WroteFront text least written written' →
+        (size : ℕ) × ((least ≤ size) × Appended (take size text) written written') }
     ensures lines { (cost : Bool) (before : List Line) (turns : List Turn) (written written' : Option (List ℕ)) → WroteLines cost before turns written written' →
         (earlier : List Turn) × ((late : List Turn) × ((turns ≡ earlier ++ late) × (AreAsked before (asked earlier) × ((size : ℕ) × ((length (turns_text cost earlier) ≤ size) × Appended (take size (turns_text cost turns)) written written'))))) }
 {}
@@ -69,16 +71,38 @@ pub fn fronts_have_all_before_the_last()
 /// the file, 268 for each; and one read more for an opening that found no memory. Behind that cache the reads of any file of
 /// these sizes are those, and 11 more for an opening that met a damaged cell; a get that met one adds none.
 pub fn transfers_of_turns()
-    ensures writes { (cache : ℕ) (before now : Counts) → FewTransfers example_sizes cache example before now → now.writes ≤ before.writes + 544 }
-    ensures reads { (cache : ℕ) (before now : Counts) → FewTransfers example_sizes cache example before now → now.reads ≤ before.reads + 2132 }
-    ensures reads_cached { (before now : Counts) → FewTransfers example_sizes 256 example before now → now.reads ≤ before.reads + 536 }
-    ensures short_writes { (cache : ℕ) (before now : Counts) → FewTransfers example_sizes cache (turn_of Reopen (reply.Refused reply.Memory) 0 ∷ []) before now → now.writes ≤ before.writes + 268 }
-    ensures short_reads { (cache : ℕ) (before now : Counts) → FewTransfers example_sizes cache (turn_of Reopen (reply.Refused reply.Memory) 0 ∷ []) before now → now.reads ≤ before.reads + 1037 }
-    ensures short_cached { (before now : Counts) → FewTransfers example_sizes 256 (turn_of Reopen (reply.Refused reply.Memory) 0 ∷ []) before now → now.reads ≤ before.reads + 269 }
-    ensures sized { (before now : Counts) → FewCachedReads example_sizes 256 example before now → now.reads ≤ before.reads + 536 }
-    ensures sized_short { (before now : Counts) → FewCachedReads example_sizes 256 (turn_of Reopen (reply.Refused reply.Memory) 0 ∷ []) before now → now.reads ≤ before.reads + 269 }
-    ensures sized_damaged { (before now : Counts) → FewCachedReads example_sizes 256 (turn_of Reopen (reply.Failed (reply.Damaged 3)) 0 ∷ []) before now → now.reads ≤ before.reads + 279 }
-    ensures sized_get { (before now : Counts) → FewCachedReads example_sizes 256 (turn_of (Get []) (reply.Failed (reply.Damaged 3)) 0 ∷ []) before now → now.reads ≤ before.reads + 268 }
+    ensures writes { (cache : ℕ) (before now : Counts) →
+        FewTransfers example_sizes cache example before now → now.writes ≤ before.writes + 544 }
+    ensures reads { (cache : ℕ) (before now : Counts) →
+        FewTransfers example_sizes cache example before now → now.reads ≤ before.reads + 2132 }
+    ensures reads_cached { (before now : Counts) →
+        FewTransfers example_sizes 256 example before now → now.reads ≤ before.reads + 536 }
+    ensures short_writes { (cache : ℕ) (before now : Counts) →
+        FewTransfers example_sizes cache
+        (turn_of Reopen (reply.Refused reply.Memory) 0 ∷ []) before now →
+        now.writes ≤ before.writes + 268 }
+    ensures short_reads { (cache : ℕ) (before now : Counts) →
+        FewTransfers example_sizes cache
+        (turn_of Reopen (reply.Refused reply.Memory) 0 ∷ []) before now →
+        now.reads ≤ before.reads + 1037 }
+    ensures short_cached { (before now : Counts) →
+        FewTransfers example_sizes 256
+        (turn_of Reopen (reply.Refused reply.Memory) 0 ∷ []) before now →
+        now.reads ≤ before.reads + 269 }
+    ensures sized { (before now : Counts) → FewCachedReads example_sizes 256 example before now →
+        now.reads ≤ before.reads + 536 }
+    ensures sized_short { (before now : Counts) →
+        FewCachedReads example_sizes 256
+        (turn_of Reopen (reply.Refused reply.Memory) 0 ∷ []) before now →
+        now.reads ≤ before.reads + 269 }
+    ensures sized_damaged { (before now : Counts) →
+        FewCachedReads example_sizes 256
+        (turn_of Reopen (reply.Failed (reply.Damaged 3)) 0 ∷ []) before now →
+        now.reads ≤ before.reads + 279 }
+    ensures sized_get { (before now : Counts) →
+        FewCachedReads example_sizes 256
+        (turn_of (Get []) (reply.Failed (reply.Damaged 3)) 0 ∷ []) before now →
+        now.reads ≤ before.reads + 268 }
     ensures range_asks_rows { AskNoRows (turn_of (Range [] []) (reply.Rows []) 0 ∷ []) → ⊥ }
     ensures scan_asks_rows { AskNoRows (turn_of (Scan [] 1) (reply.Rows []) 0 ∷ []) → ⊥ }
     ensures get_asks_none { AskNoRows (turn_of (Get []) (reply.Got None) 0 ∷ []) }
@@ -104,7 +128,7 @@ pub fn carried_out<D: Device>()
         IsOfSizes D.Device sizes (place.Closed device) → (Rose (D.counts device).faults (D.counts device').faults → ⊥) → FewCachedReads sizes cache turns (D.counts device) (D.counts device') }
     ensures runs { (cache steps steps' : ℕ) (device device' : D) (known : Known) (lines : List Line) (turns : List Turn) (answer : Reply) → CarriedOut D.Device cache device device' steps steps' Anyhow (Some known) lines turns answer →
         (asked turns ≡ flat_map (line_requests (shape known.sizes)) lines)
-        × ((last : State) × (Run (shape known.sizes) (machine.Open known.map) turns last × ((end : State) × (Step (shape known.sizes) last (turn_of Close answer 0) end × IsLeft known.sizes end (D.bytes device'))))) }
+        × ((last : State) × (History (shape known.sizes) (machine.Open known.map) turns last × ((end : State) × (Step (shape known.sizes) last (turn_of Close answer 0) end × IsLeft known.sizes end (D.bytes device'))))) }
     ensures few { (cache steps steps' : ℕ) (device device' : D) (known : Known) (lines : List Line) (turns : List Turn) (answer : Reply) → CarriedOut D.Device cache device device' steps steps' Anyhow (Some known) lines turns answer →
         (Rose (D.counts device).faults (D.counts device').faults → ⊥) → length turns ≤ 2 ^ 40 → FewTransfers known.sizes cache turns (D.counts device) (D.counts device') }
 {}
@@ -112,15 +136,26 @@ pub fn carried_out<D: Device>()
 /// What is left of a file at a state: nothing is said of one whose closing met a fault, and a closed one stands for the map
 /// but for the state byte, which is the state's, and 0 in one that is left whole. An open store is not left.
 pub fn files_are_left()
-    ensures open { (sizes : Sizes) (m : Map) (told : Option (List ℕ)) → (IsLeft sizes (machine.Open m) told → ⊥) × (IsLeftWhole sizes (machine.Open m) told → ⊥) }
-    ensures closing { (sizes : Sizes) (m : Map) (told : Option (List ℕ)) → IsLeftWhole sizes (machine.Closing m) told → ⊥ }
-    ensures untold { (sizes : Sizes) (m : Map) (byte : ℕ) → (IsLeft sizes (machine.Closed m byte) None → ⊥) × (IsLeftWhole sizes (machine.Closed m byte) None → ⊥) }
-    ensures closed { (sizes : Sizes) (m : Map) (byte : ℕ) (bytes : List ℕ) → IsLeft sizes (machine.Closed m byte) (Some bytes) →
+    ensures open { (sizes : Sizes) (m : Map) (told : Option (List ℕ)) →
+        (IsLeft sizes (machine.Open m) told → ⊥) × (IsLeftWhole sizes (machine.Open m) told → ⊥) }
+    ensures closing { (sizes : Sizes) (m : Map) (told : Option (List ℕ)) →
+        IsLeftWhole sizes (machine.Closing m) told → ⊥ }
+    ensures untold { (sizes : Sizes) (m : Map) (byte : ℕ) →
+        (IsLeft sizes (machine.Closed m byte) None → ⊥)
+        × (IsLeftWhole sizes (machine.Closed m byte) None → ⊥) }
+    ensures closed { (sizes : Sizes) (m : Map) (byte : ℕ) (bytes : List ℕ) →
+        IsLeft sizes (machine.Closed m byte) (Some bytes) →
         (header : Fields) × (HeaderStandsFor header (with_state 0 bytes) m × ((sizes_in header ≡ sizes) × ((state : ℕ) × ((with_state state bytes ≡ bytes) × (byte ≡ min state 255))))) }
-    ensures whole { (sizes : Sizes) (m : Map) (bytes : List ℕ) → IsLeftWhole sizes (machine.Closed m 0) (Some bytes) → (header : Fields) × (HeaderStandsFor header bytes m × (sizes_in header ≡ sizes)) }
-    ensures marked { (sizes : Sizes) (m : Map) (byte : ℕ) (told : Option (List ℕ)) → IsLeftWhole sizes (machine.Closed m (byte + 1)) told → ⊥ }
-    ensures well { (sizes : Sizes) (state : State) (told : Option (List ℕ)) → LeftBy Well sizes state told → IsLeftWhole sizes state told }
-    ensures others { (sizes : Sizes) (state : State) (told : Option (List ℕ)) → (LeftBy Ill sizes state told → IsLeft sizes state told) × (LeftBy Anyhow sizes state told → IsLeft sizes state told) }
+    ensures whole { (sizes : Sizes) (m : Map) (bytes : List ℕ) →
+        IsLeftWhole sizes (machine.Closed m 0) (Some bytes) →
+        (header : Fields) × (HeaderStandsFor header bytes m × (sizes_in header ≡ sizes)) }
+    ensures marked { (sizes : Sizes) (m : Map) (byte : ℕ) (told : Option (List ℕ)) →
+        IsLeftWhole sizes (machine.Closed m (byte + 1)) told → ⊥ }
+    ensures well { (sizes : Sizes) (state : State) (told : Option (List ℕ)) →
+        LeftBy Well sizes state told → IsLeftWhole sizes state told }
+    ensures others { (sizes : Sizes) (state : State) (told : Option (List ℕ)) →
+        (LeftBy Ill sizes state told → IsLeft sizes state told)
+        × (LeftBy Anyhow sizes state told → IsLeft sizes state told) }
 {}
 
 /// The status of a file that was not opened, by the refusal; nothing was read, written or counted then.
@@ -215,7 +250,8 @@ pub fn lines_have_causes<K: Sink, D: Device>()
 pub fn stores_read_each_block_once<K: Sink, D: Device>()
     ensures line { (line : Line) (result : Result (Unit {0}) SinkFault) (turns : List Turn) (old new : Point (Session D D.Device) K) (store : Stored D) → old.home.place ≡ place.Open store →
         LineLeads (store_table D.Device) (file_home D.Device) K.Sink None line result turns old new → ReadsOnce D.counts store }
-    ensures last { (cache steps steps' : ℕ) (cost : Bool) (device device' : D) (lines : List Line) (turns : List Turn) (answer : Reply) (sink sink' : K) (store : Stored D)
+    ensures last { (cache steps steps' : ℕ) (cost : Bool) (device device' : D) (lines : List Line)
+        (turns : List Turn) (answer : Reply) (sink sink' : K) (store : Stored D)
         (led : WasLed D.Device device device' cache cost (LinesLed K.Sink D.Device cache cost sink sink' device device' steps steps' None lines turns) answer) → led.last.place ≡ place.Open store → ReadsOnce D.counts store }
 {}
 
@@ -231,20 +267,28 @@ pub fn look_ups_read_a_block_a_level<K: Sink, D: Device>()
 
 /// The statuses of a session in memory, likewise.
 pub fn memory_sessions_end<S: Source, K: Sink>()
-    ensures status_0 { (keys steps steps' : ℕ) (source source' : S) (sink sink' : K) → MemoryEnds S.Source K.Sink keys source source' sink sink' steps steps' 0 →
+    ensures status_0 { (keys steps steps' : ℕ) (source source' : S) (sink sink' : K) →
+        MemoryEnds S.Source K.Sink keys source source' sink sink' steps steps' 0 →
         (reads : List Read) × (ReadFor S.Source (all_lines (bytes_read reads)) source reads source' × ((met_end reads ≡ true) × ((length (bytes_read reads) < 2 ^ 40)
         × ((Appended (replies keys (all_lines (bytes_read reads))) (K.written sink) (K.written sink') × ((steps ≤ steps') × (steps' ≤ steps + lines_bound keys (all_lines (bytes_read reads))))) × ((S.faults source' ≡ S.faults source) × (K.faults sink' ≡ K.faults sink)))))) }
-    ensures status_1 { (keys steps steps' : ℕ) (source source' : S) (sink sink' : K) → MemoryEnds S.Source K.Sink keys source source' sink sink' steps steps' 1 → (source' ≡ source) × ((sink' ≡ sink) × (steps' ≡ steps)) }
-    ensures status_3 { (keys steps steps' : ℕ) (source source' : S) (sink sink' : K) → MemoryEnds S.Source K.Sink keys source source' sink sink' steps steps' 3 →
+    ensures status_1 { (keys steps steps' : ℕ) (source source' : S) (sink sink' : K) →
+        MemoryEnds S.Source K.Sink keys source source' sink sink' steps steps' 1 →
+        (source' ≡ source) × ((sink' ≡ sink) × (steps' ≡ steps)) }
+    ensures status_3 { (keys steps steps' : ℕ) (source source' : S) (sink sink' : K) →
+        MemoryEnds S.Source K.Sink keys source source' sink sink' steps steps' 3 →
         (reads : List Read) × (ReadFor S.Source (all_ended_lines (bytes_read reads)) source reads source' × ((was_refused reads ≡ true) × ((length (bytes_read reads) < 2 ^ 40)
         × ((Appended (replies keys (all_ended_lines (bytes_read reads))) (K.written sink) (K.written sink') × ((steps ≤ steps') × (steps' ≤ steps + lines_bound keys (all_ended_lines (bytes_read reads))))) × ((S.faults source' ≡ after_fault (S.faults source)) × (K.faults sink' ≡ K.faults sink)))))) }
-    ensures status_4 { (keys steps steps' : ℕ) (source source' : S) (sink sink' : K) → MemoryEnds S.Source K.Sink keys source source' sink sink' steps steps' 4 →
+    ensures status_4 { (keys steps steps' : ℕ) (source source' : S) (sink sink' : K) →
+        MemoryEnds S.Source K.Sink keys source source' sink sink' steps steps' 4 →
         (reads : List Read) × ((before : List Line) × ((last : Line) × (AreFirstLines (before ++ last ∷ []) reads × (ReadFor S.Source before source reads source' × ((was_refused reads ≡ false) × ((length (bytes_read reads) ≤ 2 ^ 40)
         × ((WroteFront (replies keys (before ++ last ∷ [])) (length (replies keys before)) (K.written sink) (K.written sink') × ((steps ≤ steps') × (steps' ≤ steps + lines_bound keys (before ++ last ∷ [])))) × ((S.faults source' ≡ S.faults source) × (K.faults sink' ≡ after_fault (K.faults sink)))))))))) }
-    ensures status_9 { (keys steps steps' : ℕ) (source source' : S) (sink sink' : K) → MemoryEnds S.Source K.Sink keys source source' sink sink' steps steps' 9 →
+    ensures status_9 { (keys steps steps' : ℕ) (source source' : S) (sink sink' : K) →
+        MemoryEnds S.Source K.Sink keys source source' sink sink' steps steps' 9 →
         (reads : List Read) × (ReadFor S.Source (all_ended_lines (bytes_read reads)) source reads source' × ((was_refused reads ≡ false) × ((length (bytes_read reads) ≡ 2 ^ 40)
         × ((Appended (replies keys (all_ended_lines (bytes_read reads))) (K.written sink) (K.written sink') × ((steps ≤ steps') × (steps' ≤ steps + lines_bound keys (all_ended_lines (bytes_read reads))))) × ((S.faults source' ≡ S.faults source) × (K.faults sink' ≡ K.faults sink)))))) }
-    ensures no_other { (keys status steps steps' : ℕ) (source source' : S) (sink sink' : K) → MemoryEnds S.Source K.Sink keys source source' sink sink' steps steps' status → (status ≡ 0) ⊎ ((status ≡ 1) ⊎ ((status ≡ 3) ⊎ ((status ≡ 4) ⊎ (status ≡ 9)))) }
+    ensures no_other { (keys status steps steps' : ℕ) (source source' : S) (sink sink' : K) →
+        MemoryEnds S.Source K.Sink keys source source' sink sink' steps steps' status →
+        (status ≡ 0) ⊎ ((status ≡ 1) ⊎ ((status ≡ 3) ⊎ ((status ≡ 4) ⊎ (status ≡ 9)))) }
 {}
 
 /// What each mode answers, and what it leaves alone.
@@ -275,8 +319,16 @@ pub fn modes_are_served<S: Source, K: Sink, D: Device>()
 
 /// The statuses of making a file, by what it leaves.
 pub fn new_files_end<D: Device>()
-    ensures status_0 { (format : Format) (keys block_exp : ℕ) (device device' : D) → CreateEnds D.Device format keys block_exp device device' 0 → Made D.Device format keys block_exp device device' }
-    ensures status_5 { (format : Format) (keys block_exp : ℕ) (device device' : D) → CreateEnds D.Device format keys block_exp device device' 5 → DeviceFailed D.Device format keys block_exp device device' }
-    ensures status_8 { (format : Format) (keys block_exp : ℕ) (device device' : D) → CreateEnds D.Device format keys block_exp device device' 8 → WasNotEmpty D.Device format keys block_exp device device' }
-    ensures no_other { (format : Format) (keys block_exp status : ℕ) (device device' : D) → CreateEnds D.Device format keys block_exp device device' status → (status ≡ 0) ⊎ ((status ≡ 5) ⊎ (status ≡ 8)) }
+    ensures status_0 { (format : Format) (keys block_exp : ℕ) (device device' : D) →
+        CreateEnds D.Device format keys block_exp device device' 0 →
+        Made D.Device format keys block_exp device device' }
+    ensures status_5 { (format : Format) (keys block_exp : ℕ) (device device' : D) →
+        CreateEnds D.Device format keys block_exp device device' 5 →
+        DeviceFailed D.Device format keys block_exp device device' }
+    ensures status_8 { (format : Format) (keys block_exp : ℕ) (device device' : D) →
+        CreateEnds D.Device format keys block_exp device device' 8 →
+        WasNotEmpty D.Device format keys block_exp device device' }
+    ensures no_other { (format : Format) (keys block_exp status : ℕ) (device device' : D) →
+        CreateEnds D.Device format keys block_exp device device' status →
+        (status ≡ 0) ⊎ ((status ≡ 5) ⊎ (status ≡ 8)) }
 {}

@@ -16,19 +16,26 @@ use cola_io::{Sink, Source};
 
 /// A source that tells fewer than 2^40 bytes gives fewer than 2^40.
 pub fn few_bytes_are_read<S: Source>()
-    ensures { (answered : List Line) (source source' : S) (reads : List Read) → IsSomeAnd (S.left source) (λ bytes. length bytes < 2 ^ 40) → ReadFor S.Source answered source reads source' → length (bytes_read reads) < 2 ^ 40 }
+    ensures { (answered : List Line) (source source' : S) (reads : List Read) →
+        IsSomeAnd (S.left source) (λ bytes. length bytes < 2 ^ 40) →
+        ReadFor S.Source answered source reads source' → length (bytes_read reads) < 2 ^ 40 }
 {}
 
 /// Completeness: where fewer than 2^40 bytes were read, with no fault of the source or the
 /// sink, a session ends with status 0, or with 1 where there was no memory for its table.
 pub fn memory_sessions_complete<S: Source, K: Sink>()
-    ensures { (keys status steps steps' : ℕ) (source source' : S) (sink sink' : K) → MemoryEnds S.Source K.Sink keys source source' sink sink' steps steps' status → NothingFails S.Source K.Sink source source' sink sink' → (status ≡ 0) ⊎ (status ≡ 1) }
+    ensures { (keys status steps steps' : ℕ) (source source' : S) (sink sink' : K) →
+        MemoryEnds S.Source K.Sink keys source source' sink sink' steps steps' status →
+        NothingFails S.Source K.Sink source source' sink sink' → (status ≡ 0) ⊎ (status ≡ 1) }
 {}
 
 /// Completeness of making a file: on a device that tells that it is empty, with no fault of it, the
 /// status is 0.
 pub fn new_files_complete<D: Device>()
-    ensures { (format : Format) (keys block_exp status : ℕ) (device device' : D) → CreateEnds D.Device format keys block_exp device device' status → IsSomeAnd (D.bytes device) (λ bytes. length bytes ≡ 0) → (Rose (D.counts device).faults (D.counts device').faults → ⊥) → status ≡ 0 }
+    ensures { (format : Format) (keys block_exp status : ℕ) (device device' : D) →
+        CreateEnds D.Device format keys block_exp device device' status →
+        IsSomeAnd (D.bytes device) (λ bytes. length bytes ≡ 0) →
+        (Rose (D.counts device).faults (D.counts device').faults → ⊥) → status ≡ 0 }
 {}
 
 /// The numbers that the contracts of a session name: 2^40 bytes of input, and 160 bytes of a line before

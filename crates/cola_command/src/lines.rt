@@ -94,7 +94,8 @@ impl<D: Device> Session<D> {
         sink: &mut K,
         steps: &mut Steps<L>,
     ) -> (Session<D>, Result<(), SinkFault>)
-        ensures line { Leads (store_table D.Device) (file_home D.Device) K.Sink (line_read (option_copied text.entry)) result.1 self result.0 sink.old sink.new steps.old steps.new }
+        ensures line { Leads (store_table D.Device) (file_home D.Device) K.Sink
+            (line_read (option_copied text.entry)) result.1 self result.0 sink.old sink.new steps.old steps.new }
         ensures faults_counted { CountsFaults result.1 (K.faults sink.old) (K.faults sink.new) }
         ensures faults_kept { K.faults sink.old ≤ K.faults sink.new }
     {

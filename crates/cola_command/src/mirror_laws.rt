@@ -22,7 +22,8 @@ pub fn mirrors_have_statuses()
     ensures both { mirrored_status 0 Both ≡ 0 }
     ensures first_lost { mirrored_status 0 Second ≡ 17 }
     ensures second_lost { mirrored_status 0 First ≡ 18 }
-    ensures others { (status : ℕ) (sides : Sides) → mirrored_status (status + 1) sides ≡ status + 1 }
+    ensures others { (status : ℕ) (sides : Sides) →
+        mirrored_status (status + 1) sides ≡ status + 1 }
     ensures rebuilt { rebuild_status (Ok tt) ≡ 0 }
     ensures small { rebuild_status (Err rebuild.Small) ≡ 6 }
     ensures no_store { rebuild_status (Err rebuild.NotStore) ≡ 6 }
@@ -53,8 +54,12 @@ pub fn mirrored_files_are_left<S: Source, K: Sink, D: Device>()
 /// Over a mirror there are at most as many faulted turns as the count of faults of each side that is in use at the end rose
 /// since the mirror was made, unless that count stands at its last value.
 pub fn mirrored_turns_count_faults<D: Device>()
-    ensures first { (turns : List Turn) (last : Pair D D) → IsSound D.Device D.Device last → FaultsOver turns 0 last.counts.faults → has_first last.sides ≡ true → RoseBy (faulted_steps turns) last.first_faults (D.counts last.first).faults }
-    ensures second { (turns : List Turn) (last : Pair D D) → IsSound D.Device D.Device last → FaultsOver turns 0 last.counts.faults → has_second last.sides ≡ true → RoseBy (faulted_steps turns) last.second_faults (D.counts last.second).faults }
+    ensures first { (turns : List Turn) (last : Pair D D) → IsSound D.Device D.Device last →
+        FaultsOver turns 0 last.counts.faults → has_first last.sides ≡ true →
+        RoseBy (faulted_steps turns) last.first_faults (D.counts last.first).faults }
+    ensures second { (turns : List Turn) (last : Pair D D) → IsSound D.Device D.Device last →
+        FaultsOver turns 0 last.counts.faults → has_second last.sides ≡ true →
+        RoseBy (faulted_steps turns) last.second_faults (D.counts last.second).faults }
 {}
 
 /// Completeness: over two files with the same bytes, which stand for a map, where fewer than 2^40 bytes were read, with no

@@ -4,6 +4,8 @@ ghost use Rattle.cola_line.specs.Replied.{reply_of};
 ghost use Rattle.cola_command.specs.File.{device_of};
 ghost use Rattle.cola_command.specs.Turns.{refused_reply, CloseCause, OpenCause};
 ghost use Rattle.cola_command.specs.declared.place.Place.TheVariants as place;
+ghost use Rattle.cola_store.specs.Store.{device_in};
+ghost use Rattle.cola_run.specs.Store as run;
 
 use cola_device::Device;
 use cola_line::{Failure, Refusal, Reply};
@@ -38,7 +40,7 @@ fn refused(fault: OpenFault) -> Reply
 /// Closes an open store.
 fn close_store<D: Device>(store: Store<D>) -> (Place<D>, Reply)
     ensures cause { CloseCause D.Device (place.Open store) (reply_of result.1) result.0 }
-    ensures kept { D.kept (device_of result.0) ≡ D.kept store.chain.store.buffers.cache.device }
+    ensures kept { D.kept (device_of result.0) ≡ D.kept (device_in store) }
 {
     match store.close() {
         Ok(device) => (Place::Closed(device), Reply::Closed),
@@ -49,7 +51,7 @@ fn close_store<D: Device>(store: Store<D>) -> (Place<D>, Reply)
 /// Tries again to close a store.
 fn close_again<D: Device>(closing: Closing<D>) -> (Place<D>, Reply)
     ensures cause { CloseCause D.Device (place.Closing closing) (reply_of result.1) result.0 }
-    ensures kept { D.kept (device_of result.0) ≡ D.kept closing.runs.buffers.cache.device }
+    ensures kept { D.kept (device_of result.0) ≡ D.kept (run.device_of closing.runs) }
 {
     match closing.close() {
         Ok(device) => (Place::Closed(device), Reply::Closed),

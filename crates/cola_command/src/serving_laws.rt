@@ -53,21 +53,28 @@ pub fn stores_of_turns()
 /// Of the faults over turns: there are at most as many faulted turns as the count of faults rose, unless it stands at its
 /// last value; and where it did not rise no turn is faulted.
 pub fn turns_count_faults()
-    ensures at_most { (turns : List Turn) (before now : ℕ) → FaultsOver turns before now → RoseBy (faulted_steps turns) before now }
-    ensures none { (turns : List Turn) (before now : ℕ) → FaultsOver turns before now → (Rose before now → ⊥) → NoneFaulted turns }
+    ensures at_most { (turns : List Turn) (before now : ℕ) → FaultsOver turns before now →
+        RoseBy (faulted_steps turns) before now }
+    ensures none { (turns : List Turn) (before now : ℕ) → FaultsOver turns before now →
+        (Rose before now → ⊥) → NoneFaulted turns }
 {}
 
 /// Of turns within their bounds: their cell accesses are at most the sum of the bounds. Where costs are printed, each number
 /// is within the bound of its line; the sum of the numbers is at most all cell accesses, and these are at most that sum and
 /// the bounds of the turns that print none.
 pub fn turns_keep_bounds()
-    ensures ticks { (levels : ℕ) (turns : List Turn) → AreWithin levels turns → ticks_of turns ≤ requests_bound levels (asked turns) }
-    ensures printed { (cost : Bool) (levels : ℕ) (turns : List Turn) → AreWithin levels turns → All (λ (turn : Turn). printed_cost cost turn ≤ request_bound levels turn.request) turns }
-    ensures sum_at_most { (cost : Bool) (turns : List Turn) → printed_sum cost turns ≤ ticks_of turns }
-    ensures sum_at_least { (cost : Bool) (levels : ℕ) (turns : List Turn) → AreWithin levels turns → ticks_of turns ≤ printed_sum cost turns + unprinted_bound cost levels turns }
+    ensures ticks { (levels : ℕ) (turns : List Turn) → AreWithin levels turns →
+        ticks_of turns ≤ requests_bound levels (asked turns) }
+    ensures printed { (cost : Bool) (levels : ℕ) (turns : List Turn) → AreWithin levels turns →
+        All (λ (turn : Turn). printed_cost cost turn ≤ request_bound levels turn.request) turns }
+    ensures sum_at_most { (cost : Bool) (turns : List Turn) →
+        printed_sum cost turns ≤ ticks_of turns }
+    ensures sum_at_least { (cost : Bool) (levels : ℕ) (turns : List Turn) → AreWithin levels turns →
+        ticks_of turns ≤ printed_sum cost turns + unprinted_bound cost levels turns }
 {}
 
 /// A file with a header of its sizes that stands for a map is a file that stands for it.
 pub fn files_stand()
-    ensures { (sizes : Sizes) (m : Map) (bytes : List ℕ) → StandsAs sizes m bytes → FileStandsFor bytes m }
+    ensures { (sizes : Sizes) (m : Map) (bytes : List ℕ) → StandsAs sizes m bytes →
+        FileStandsFor bytes m }
 {}

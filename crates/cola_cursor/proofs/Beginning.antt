@@ -1,18 +1,18 @@
 -- Lines where searches stop.
-use Rattle.std.proofs.Common.{◌≡◌, inl, inr, ℕ, zero, suc, ◌+◌, ◌*◌, ◌≤◌, ◌<◌, List, [], ◌∷◌, ◌++◌, map, length, take, drop, get_or, None, Ok, refl, sym, ap, subst, ◌∙◌, arith, append_assoc}
+use Rattle.std.proofs.Common.{◌≡◌, inl, inr, ℕ, zero, suc, ◌+◌, ◌*◌, ◌≤◌, ◌<◌, List, [], ◌∷◌, ◌++◌, map, length, take, drop, get_or, None, Result, Ok, refl, sym, ap, subst, ◌∙◌, arith, append_assoc}
 use Rattle.std.specs.List.{AllByRecursion}
 use Rattle.cola_runs.specs.Search as laws
 use Rattle.cola_cell.specs.declared.cell.Run.{Run}
 use Rattle.cola_cell.specs.declared.fault.ReadFault.{ReadFault}
 use Rattle.cola_cell.specs.declared.fault.ReadFault.TheVariants.{Device, BadCell}
 use Rattle.cola_cell.specs.Held.{Held, LawCell, Stamped}
-use Rattle.cola_cell.specs.Spent.{Buffer, Search, Spent}
+use Rattle.cola_cell.specs.State.{State}
 use Rattle.cola_cell.specs.Listed.{IsRun}
-use Rattle.cola_cell.specs.Costs.{Costs}
 use Rattle.cola_look.specs.declared.seeking.Seat.{Seat}
 use Rattle.cola_cell.specs.Order.{key_cmp}
 use Rattle.cola_look.specs.Outcome.{Found, Answers}
 use Rattle.cola_look.specs.Runs.{HasRun, AreRuns}
+use Rattle.cola_look.specs.Seeks.{Seeks}
 use Rattle.cola_look.specs.Seek.{as_seat, SeekCause}
 use Rattle.cola_cursor.specs.declared.line.Line.{Line}
 use Rattle.cola_cursor.specs.Lines.{LineFits, Reading, left_of, all_left}
@@ -20,9 +20,9 @@ use Rattle.cola_cursor.specs.Seeking.{places_from, cells_of, length_of_first, Ha
 use Rattle.cola_cursor.proofs.Lists.{left_append}
 
 -- what a search spends
-pub reading_of : {old new : Spent} {before after ticks turns : ℕ} → Costs old new before after ticks turns → new.turned + before ≤ old.turned + after →
-    ((buffer : Buffer) → (buffer ≡ Search → ⊥) → new.lasts buffer ≡ old.lasts buffer) → Reading old new before after
-reading_of c e o = record {
+pub reading_of : {run : Run} {next_len start : ℕ} {key : List ℕ} {old new : State} {before after : ℕ} {result : Result Seat ReadFault} →
+    Seeks run next_len start key old new before after result → Reading old new before after
+reading_of s = let c = s.costs in let e = s.each_turn in record {
   costs = record {
     steps_stay = c.steps_stay;
     steps_rise = (let s = c.steps_stay in omega arith);
@@ -32,7 +32,7 @@ reading_of c e o = record {
     written_is = c.written_is;
     faults_stay = c.faults_stay;
   };
-  others_stay = o;
+  others_stay = s.others_stay;
 }
 
 -- a line where a search stops

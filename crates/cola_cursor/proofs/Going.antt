@@ -1,7 +1,6 @@
 -- A cursor on its way to its next pair.
 use Rattle.std.proofs.Common.{◌≡◌, ◌⊎◌, inl, inr, ℕ, ◌+◌, ◌≤◌, true, List, [], ◌∷◌, Option, None, Some, Result, Ok, Err, option_map, sym, ap, subst, ◌∙◌, arith}
 use Rattle.std.specs.List.{AllByRecursion}
-use Rattle.std.specs.Result.{IsErrAnd}
 use Rattle.cola_runs.specs.Cells as laws
 use Rattle.cola_cell.specs.declared.cell.Cell.{Cell}
 use Rattle.cola_cell.specs.declared.cell.Item.{Item}
@@ -11,7 +10,7 @@ use Rattle.cola_cell.specs.declared.fault.ReadFault.{ReadFault}
 use Rattle.cola_cell.specs.declared.fault.ReadFault.TheVariants.{Device, BadCell}
 use Rattle.cola_cell.specs.declared.source.CellSource as source
 use Rattle.cola_cell.specs.Held.{Held, LawCell, Stamped, as_item}
-use Rattle.cola_cell.specs.Spent.{ReadCalm}
+use Rattle.cola_cell.specs.Looks.{OnlyLooks}
 use Rattle.cola_cell.specs.Order.{key_cmp}
 use Rattle.cola_look.specs.Runs.{AreRuns}
 use Rattle.cola_look.proofs.RunLists.{sampled_rise}
@@ -188,79 +187,57 @@ cause_on_way before now (BadCell number) g c = g.bad number c
 
 -- ---- the same over an equal object, list and end
 
-pub same_pass : {held object : Held} (key : List ℕ) {xs ys : List Line} (news : List Line) (item : Option Item) → held ≡ object → xs ≡ ys → PassAll held key xs news item → PassAll object key ys news item
-same_pass {held} {object} key {xs} {ys} news item e f h =
-    subst (λ (x : Held). PassAll x key ys news item) e (subst (λ (z : List Line). PassAll held key z news item) f h)
-
-pub same_least : (old now : Cursor) (xs ys : List Line) (answer wanted : Option (List ℕ)) → now ≡ old → xs ≡ ys → answer ≡ least_from now.end None xs → answer ≡ wanted → least_from old.end None ys ≡ wanted
-same_least old now xs ys answer wanted e f g h =
-    sym (ap (λ (x : Cursor). least_from x.end None ys) e) ∙ sym (ap (least_from now.end None) f) ∙ sym g ∙ h
+pub same_pass : {held object : Held} (key : List ℕ) (olds news : List Line) (item : Option Item) → held ≡ object → PassAll held key olds news item → PassAll object key olds news item
+same_pass key olds news item e h = subst (λ (x : Held). PassAll x key olds news item) e h
 
 pub value_there : (item : Option Item) (i : Item) (value : List ℕ) (stamp : ℕ) → item ≡ Some i → i ≡ Value value stamp → item ≡ Some (Value value stamp)
 value_there item i value stamp e f = e ∙ ap Some f
 
-pub same_end : (old now : Cursor) → now ≡ old → now.end ≡ old.end
-same_end old now e = ap (λ (x : Cursor). x.end) e
-
 -- what a refused step says of the lines of the cursor
-pub step_cause : {held object : Held} {end : Option (List ℕ)} {olds news xs : List Line} (before between now : ℕ) (fault : ReadFault) → held ≡ object → xs ≡ news → between ≡ before → Quiet object end olds news →
-    LinesCause held xs between now fault → LinesCause object olds before now fault
-step_cause {held} {object} {end} {olds} {news} {xs} before between now fault e f c q h =
-    let a : LinesCause object xs between now fault = subst (λ (x : Held). LinesCause x xs between now fault) e h in
-    let b : LinesCause object news between now fault = subst (λ (x : List Line). LinesCause object x between now fault) f a in
-    cause_on_way before now fault q.going (subst (λ n. LinesCause object news n now fault) c b)
-
--- a bound on the lines of an equal list
-pub left_same : (after before whole : ℕ) (xs ys : List Line) → xs ≡ ys → after + before ≤ whole + all_left xs → after + before ≤ whole + all_left ys
-left_same after before whole xs ys e h = subst (λ (z : List Line). after + before ≤ whole + all_left z) e h
+pub step_cause : {held object : Held} {end : Option (List ℕ)} {olds news : List Line} (before between now : ℕ) (fault : ReadFault) → held ≡ object → between ≡ before → Quiet object end olds news →
+    LinesCause held news between now fault → LinesCause object olds before now fault
+step_cause {held} {object} {end} {olds} {news} before between now fault e c q h =
+    let a : LinesCause object news between now fault = subst (λ (x : Held). LinesCause x news between now fault) e h in
+    cause_on_way before now fault q.going (subst (λ n. LinesCause object news n now fault) c a)
 
 -- ---- what a step gives, put together
 
-calm_for : (T U : Type 0) (between before now : ℕ) (fault other : ReadFault) → between ≡ before → other ≡ fault → ReadCalm {T = T} between now (Err fault) → ReadCalm {T = U} before now (Err other)
-calm_for T U between before now fault Device e is calm = tt
-calm_for T U between before now fault (BadCell number) e is calm = subst (λ (f : ReadFault). ReadCalm {T = T} between now (Err f)) (sym is) calm ∙ e
-
-module _ {W : Type 0} (w : source.Ghosts W) (before now : W) (old new : Cursor) (ticks ticks_now : ℕ) (stay : w.held now ≡ w.held before) (kept : w.kept now ≡ w.kept before)
-    (reading : Reading (w.spent before) (w.spent now) ticks ticks_now) where
+module _ {W : Type 0} (w : source.Ghosts W) (before now : W) (old new : Cursor) (ticks ticks_now : ℕ)
+    (reading : Reading (w.state before) (w.state now) ticks ticks_now) where
   -- a step that was carried out
-  pub went : (found : Option (List ℕ × List ℕ × ℕ)) → Stands (w.held before) old → (w.spent now).faults ≡ (w.spent before).faults → ticks_now + all_left new.lines.items ≤ ticks + all_left old.lines.items → new.end ≡ old.end →
-      Going (w.held before) old.end old.lines.items new.lines.items (answered_key found) → AnswerCause new (answered_key found) → IsPassed (w.held before) old.lines.items new.lines.items found →
-      ((pairs : List (List ℕ × Stamped)) → Ahead (w.held before) old pairs → TakesNext (Ahead (w.held before) new) pairs (Ok found)) → NextGives w before now old new ticks ticks_now (Ok found)
-  went found stood calm left end going answers pair takes = record {
-    takes = λ pairs ahead. subst (λ (h : Held). TakesNext (Ahead h new) pairs (Ok found)) (sym stay) (takes pairs ahead);
+  pub went : (found : Option (List ℕ × List ℕ × ℕ)) → OnlyLooks w before now (Ok found) → Stands (w.state before).held old → ticks_now + all_left new.lines.items ≤ ticks + all_left old.lines.items → new.end ≡ old.end →
+      Going (w.state before).held old.end old.lines.items new.lines.items (answered_key found) → AnswerCause new (answered_key found) → IsPassed (w.state before).held old.lines.items new.lines.items found →
+      ((pairs : List (List ℕ × Stamped)) → Ahead (w.state before).held old pairs → TakesNext (Ahead (w.state before).held new) pairs (Ok found)) → NextGives w before now old new ticks ticks_now (Ok found)
+  went found looks stood left end going answers pair takes = record {
+    takes = λ pairs ahead. subst (λ (h : Held). TakesNext (Ahead h new) pairs (Ok found)) (sym looks.cells_stay) (takes pairs ahead);
     answers = answers;
     pair = pair;
     passes = going.passed;
-    stands = subst (λ (h : Held). Stands h new) (sym stay) (stands_then old new stood going);
+    stands = subst (λ (h : Held). Stands h new) (sym looks.cells_stay) (stands_then old new stood going);
     end_stays = end;
     refused = tt;
     left = left;
     at_most = omega (arith, left);
     reading = reading;
     cause = tt;
-    cells_stay = stay;
-    kept = kept;
-    calm = calm;
+    looks = looks;
   }
 
   -- a step that was refused
-  pub stayed : (T : Type 0) (result : Result (Option (List ℕ × List ℕ × ℕ)) ReadFault) (fault : ReadFault) (faults : ℕ) → IsErrAnd result (λ e. e ≡ fault) → new ≡ old → Stands (w.held before) old →
-      ticks_now + 0 ≤ ticks + all_left old.lines.items → LinesCause (w.held before) old.lines.items (w.spent before).faults (w.spent now).faults fault →
-      faults ≡ (w.spent before).faults → ReadCalm {T = T} faults (w.spent now).faults (Err fault) → NextGives w before now old new ticks ticks_now result
-  stayed T (Ok found) fault faults is same stands most cause none calm = absurd is
-  stayed T (Err other) fault faults is same stands most cause none calm = record {
-    takes = λ pairs ahead. subst (λ (c : Cursor). Ahead (w.held now) c pairs) (sym same) (subst (λ (h : Held). Ahead h old pairs) (sym stay) ahead);
+  pub stayed : (result : Result (Option (List ℕ × List ℕ × ℕ)) ReadFault) (fault : ReadFault) → OnlyLooks w before now result → result ≡ Err fault → new ≡ old → Stands (w.state before).held old →
+      ticks_now + 0 ≤ ticks + all_left old.lines.items → LinesCause (w.state before).held old.lines.items (w.state before).spent.faults (w.state now).spent.faults fault →
+      NextGives w before now old new ticks ticks_now result
+  stayed result fault looks is same stands most cause = subst (λ x. OnlyLooks w before now x → NextGives w before now old new ticks ticks_now x) (sym is) (λ looks. record {
+    takes = λ pairs ahead. subst (λ (c : Cursor). Ahead (w.state now).held c pairs) (sym same) (subst (λ (h : Held). Ahead h old pairs) (sym looks.cells_stay) ahead);
     answers = tt;
     pair = tt;
     passes = tt;
-    stands = subst (λ (c : Cursor). Stands (w.held now) c) (sym same) (subst (λ (h : Held). Stands h old) (sym stay) stands);
+    stands = subst (λ (c : Cursor). Stands (w.state now).held c) (sym same) (subst (λ (h : Held). Stands h old) (sym looks.cells_stay) stands);
     end_stays = ap (λ (c : Cursor). c.end) same;
     refused = same;
     left = tt;
     at_most = omega (arith, most);
     reading = reading;
-    cause = subst (LinesCause (w.held before) old.lines.items (w.spent before).faults (w.spent now).faults) (sym is) cause;
-    cells_stay = stay;
-    kept = kept;
-    calm = calm_for T (Option (List ℕ × List ℕ × ℕ)) faults (w.spent before).faults (w.spent now).faults fault other none is calm;
-  }
+    cause = cause;
+    looks = looks;
+  }) looks

@@ -159,3 +159,40 @@ least_none end before (line ∷ lines) e =
     let r = least_none end (lowered end before line.head) lines e in
     let l = lowered_none end before line.head r.0 in
     (l.0, (l.1, r.1))
+
+-- ---- the upper end, looked at once
+
+-- a key, where it is below the upper end
+abbrev pub within_end : Option (List ℕ) → Option (List ℕ) → Option (List ℕ)
+within_end end None = None
+within_end end (Some k) = cond (below_end key_cmp end k) (Some k) None
+
+-- what is not below a key past the upper end is past it
+past_then : (end : Option (List ℕ)) (x y : List ℕ) → is_lt (key_cmp x y) ≡ false → below_end key_cmp end y ≡ false → below_end key_cmp end x ≡ false
+past_then None x y e f = f
+past_then (Some hi) x y e f = not_below x y hi e f
+
+lowered_within : (end before : Option (List ℕ)) (head : Option Cell) → lowered end (within_end end before) head ≡ within_end end (lowered None before head)
+lowered_within end before None = refl
+lowered_within end None (Some c) = refl
+lowered_within end (Some l) (Some c) = go (below_end key_cmp end l) (below_end key_cmp end (key_of c)) (is_lt (key_cmp (key_of c) l)) refl refl refl
+  where
+    go : (bl bc lt : Bool) → below_end key_cmp end l ≡ bl → below_end key_cmp end (key_of c) ≡ bc → is_lt (key_cmp (key_of c) l) ≡ lt →
+        cond bc (lesser (cond bl (Some l) None) (key_of c)) (cond bl (Some l) None) ≡ within_end end (cond lt (Some (key_of c)) (Some l))
+    go true true true x y z = ap (λ b. cond b (Some (key_of c)) (Some l)) z ∙ sym (ap (λ b. cond b (Some (key_of c)) None) y)
+    go true true false x y z = ap (λ b. cond b (Some (key_of c)) (Some l)) z ∙ sym (ap (λ b. cond b (Some l) None) x)
+    go true false true x y z = let f = past_within end (key_of c) l y x in let g = sym z ∙ f in cc
+    go true false false x y z = sym (ap (λ b. cond b (Some l) None) x)
+    go false true true x y z = sym (ap (λ b. cond b (Some (key_of c)) None) y)
+    go false true false x y z = let f = past_then end (key_of c) l z x in let g = sym y ∙ f in cc
+    go false false true x y z = sym (ap (λ b. cond b (Some (key_of c)) None) y)
+    go false false false x y z = sym (ap (λ b. cond b (Some l) None) x)
+
+-- the least key below the upper end is the least key, where that is below it
+pub least_within : (end before : Option (List ℕ)) (lines : List Line) → least_from end (within_end end before) lines ≡ within_end end (least_from None before lines)
+least_within end before [] = refl
+least_within end before (line ∷ lines) = ap (λ x. least_from end x lines) (lowered_within end before line.head) ∙ least_within end (lowered None before line.head) lines
+
+-- where all heads were seen, whose least key is this
+pub least_ends : (end before found : Option (List ℕ)) (lines left : List Line) → left ≡ [] → least_from None before left ≡ least_from None None lines → before ≡ found → within_end end found ≡ least_from end None lines
+least_ends end before found lines left n h e = ap (within_end end) (sym e ∙ sym (ap (least_from None before) n) ∙ h) ∙ sym (least_within end None lines)

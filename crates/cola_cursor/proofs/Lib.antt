@@ -10,3 +10,5 @@ pub mod Going
 pub mod Beginning
 pub mod Places
 pub mod Staying
+pub mod Saving
+pub mod Turns

@@ -89,13 +89,6 @@ bad_at held lines i d before now (BadCell number) l c = go lines i l c
     go (x ∷ lines) zero l c = inl c
     go (x ∷ lines) (suc i) l c = inr (go lines i (omega arith) c)
 
-pub cause_of_same : (held : Held) (line other : Line) (before now : ℕ) (fault : ReadFault) → line ≡ other → LineCause held line before now fault → LineCause held other before now fault
-cause_of_same held line other before now fault e c = subst (λ (x : Line). LineCause held x before now fault) e c
-
--- no fault was counted before
-pub cause_from : (held : Held) (lines : List Line) (before between now : ℕ) (fault : ReadFault) → between ≡ before → LinesCause held lines between now fault → LinesCause held lines before now fault
-cause_from held lines before between now fault e c = subst (λ n. LinesCause held lines n now fault) e c
-
 pub refused : {T : Type 0} (result : Result T ReadFault) (fault : ReadFault) (P : ReadFault → Type 0) → IsErrAnd result (λ e. e ≡ fault) → P fault → IfErr result P
 refused (Ok t) fault P e p = absurd e
 refused (Err f) fault P e p = subst P (sym e) p

@@ -1,5 +1,5 @@
 -- A cursor where it begins: at the places of its lower end.
-use Rattle.std.proofs.Common.{◌≡◌, ℕ, suc, ◌+◌, ◌*◌, ◌^◌, ◌≤◌, true, false, cond, List, [], ◌∷◌, map, length, take, drop, Result, Ok, Err, IsErr, refl, sym, ap, subst, ◌∙◌, arith, All, Less, Equal, Greater, Ordering, pow_mono, pow-suc}
+use Rattle.std.proofs.Common.{◌≡◌, ℕ, suc, ◌+◌, ◌*◌, ◌^◌, ◌≤◌, true, false, cond, List, [], ◌∷◌, map, length, take, drop, Option, Result, Err, refl, sym, ap, subst, ◌∙◌, arith, All, Less, Equal, Greater, Ordering, pow_mono, pow-suc}
 use Rattle.std.specs.Ordering.{is_lt}
 use Rattle.std.specs.Cmp.{alike_right}
 use Rattle.std.specs.Cmp.Lexicographic.{nat_list_cmp_total}
@@ -12,6 +12,7 @@ use Rattle.cola_cell.specs.declared.cell.Run.{Run}
 use Rattle.cola_cell.specs.declared.fault.ReadFault.{ReadFault}
 use Rattle.cola_cell.specs.Held.{Held, LawCell}
 use Rattle.cola_cell.specs.Order.{key_cmp}
+use Rattle.cola_cell.specs.State.{State}
 use Rattle.cola_look.specs.Runs.{HasRun, AreRuns}
 use Rattle.cola_look.specs.Stops.{StopsAtPlaces}
 use Rattle.cola_look.proofs.RunLists.{stops_at_places, sampled_rise}
@@ -19,9 +20,10 @@ use Rattle.cola_pairs.specs.Live.{live, between, below_end, rests_from}
 use Rattle.cola_pairs.proofs.LivePairs.{live_from, none_below}
 use Rattle.cola_cursor.specs.declared.line.Line.{Line}
 use Rattle.cola_cursor.specs.declared.cursor.Cursor.{Cursor}
-use Rattle.cola_cursor.specs.Lines.{LineFits}
+use Rattle.cola_cursor.specs.Giving.{SeekGives}
+use Rattle.cola_cursor.specs.Lines.{LineFits, Reading}
 use Rattle.cola_cursor.specs.Standing.{runs_of, rests, befores, AreSearched, AreApart, Stands, Ahead}
-use Rattle.cola_cursor.specs.Seeking.{LevelsRise, places_from, range_ticks, cells_of, left_sought}
+use Rattle.cola_cursor.specs.Seeking.{LevelsRise, places_from, range_ticks, cells_of, RunsCause}
 use Rattle.cola_cursor.proofs.Least.{by_bool}
 
 -- the search stops at the places of the key
@@ -168,10 +170,10 @@ pub all_by_recursion : {X : Type 0} (P : X → Type 0) (xs : List X) → All P x
 all_by_recursion P [] h = tt
 all_by_recursion P (x ∷ xs) h = (All-head P x xs h, all_by_recursion P xs (All-tail P x xs h))
 
--- a refusal leaves nothing to read
-pub none_sought : (result : Result Cursor ReadFault) (after whole : ℕ) → IsErr result → after + 0 ≤ whole → after + left_sought result ≤ whole
-none_sought (Ok c) after whole e h = absurd (no_err c e)
-  where
-    no_err : (c : Cursor) → IsErr {E = ReadFault} (Ok c) → ⊥
-    no_err c e = cc
-none_sought (Err f) after whole e h = h
+-- what a refused beginning gives
+pub seek_refused : {runs : List Run} {low : List ℕ} {high : Option (List ℕ)} {old new : State} {before after : ℕ} (result : Result Cursor ReadFault) (fault : ReadFault) → result ≡ Err fault →
+    Reading old new before after → RunsCause old.held runs old.spent.faults new.spent.faults fault → after + 0 ≤ before + range_ticks old.held.fixed.levels →
+    SeekGives runs low high old new before after result
+seek_refused {runs} {low} {high} {old} {new} {before} {after} result fault is reading cause left =
+    let E : Result Cursor ReadFault → Type 0 = λ x. SeekGives runs low high old new before after x in
+    subst E (sym is) (record { ahead = λ lists r a. tt; places = λ lists r. tt; begins = tt; stands = tt; left = left; reading = reading; cause = cause })

@@ -4,3 +4,4 @@ pub mod Results
 pub mod Standing
 pub mod Giving
 pub mod Seeking
+pub mod Saving

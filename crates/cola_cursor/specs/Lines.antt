@@ -6,7 +6,8 @@ use Rattle.cola_cell.specs.declared.cell.Run.{Run}
 use Rattle.cola_cell.specs.declared.fault.ReadFault.{ReadFault}
 use Rattle.cola_cell.specs.declared.fault.ReadFault.TheVariants.{Device, BadCell}
 use Rattle.cola_cell.specs.Held.{Held, Told, Tells, as_cell}
-use Rattle.cola_cell.specs.Spent.{Buffer, Search, Spent, IsBad}
+use Rattle.cola_cell.specs.Spent.{Buffer, Search, IsBad}
+use Rattle.cola_cell.specs.State.{State}
 use Rattle.cola_cell.specs.Costs.{Costs}
 use Rattle.cola_look.specs.Runs.{HasRun}
 use Rattle.cola_cursor.specs.declared.line.Line.{Line}
@@ -54,9 +55,10 @@ all_ahead [] = 0
 all_ahead (line ∷ lines) = ahead_of line + all_ahead lines
 
 -- a call that reads spends this: each tick turns to at most one block, by the buffer of searches alone
-pub record Reading (old new : Spent) (before after : ℕ) : Type 0 where
-  pub costs : Costs old new before after (after - before) (after - before)
-  pub others_stay : (buffer : Buffer) → (buffer ≡ Search → ⊥) → new.lasts buffer ≡ old.lasts buffer
+pub record Reading (old new : State) (before after : ℕ) : Type 0 where
+  pub costs : Costs old.spent new.spent before after (after - before) (after - before)
+  pub others_stay : (buffer : Buffer) → (buffer ≡ Search → ⊥) →
+      new.spent.lasts buffer ≡ old.spent.lasts buffer
 
 -- a cell that a line has still to read whose bytes spell none, and its number
 pub record HasBadAhead (held : Held) (line : Line) (number : ℕ) : Type 0 where

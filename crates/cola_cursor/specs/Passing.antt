@@ -32,7 +32,8 @@ pub record FoundItem (held : Held) (line : Line) (key : List ℕ) (place : ℕ) 
   pub before : index < place
   pub young : Bool
   pub link : ℕ
-  pub told : Tells (held.spots line.run.level line.run.slot index) (Told (laws.Entry key (as_item item) young link))
+  pub told : Tells (held.spots line.run.level line.run.slot index)
+      (Told (laws.Entry key (as_item item) young link))
 
 -- a line that passed the cells of a key at its front: where it stands then, and the first item among them, if there is one
 pub record Passes (held : Held) (key : List ℕ) (old new : Line) (item : Option Item) : Type 0 where
@@ -43,8 +44,10 @@ pub record Passes (held : Held) (key : List ℕ) (old new : Line) (item : Option
   pub ready : IsReady new
   pub cells : (j : ℕ) → old.place ≤ j → j < new.place → PassedAt held old key j (is_some item)
   pub found : (i : Item) → item ≡ Some i → FoundItem held old key new.place i
-  pub told : (cells : List LawCell) → IsRun held old.run cells → drop new.place cells ≡ pass_key key_cmp key (drop old.place cells)
-  pub item_is : (cells : List LawCell) → IsRun held old.run cells → option_map as_item item ≡ passed_item key_cmp key (drop old.place cells)
+  pub told : (cells : List LawCell) → IsRun held old.run cells →
+      drop new.place cells ≡ pass_key key_cmp key (drop old.place cells)
+  pub item_is : (cells : List LawCell) → IsRun held old.run cells →
+      option_map as_item item ≡ passed_item key_cmp key (drop old.place cells)
 
 -- lines that passed the cells of a key at their fronts, one by one, and the item of the first of them that has one
 abbrev pub PassAll : Held → List ℕ → List Line → List Line → Option Item → Type 0

@@ -1,20 +1,18 @@
 -- What calls on lines answer, seen as numbers and facts.
-use Rattle.std.specs.Prelude.{◌≡◌, ◌⊎◌, ℕ, cond, List, [], ◌∷◌, Option, None, Some, Result, Ok, Err, ⊤}
+use Rattle.std.specs.Prelude.{◌≡◌, ◌⊎◌, ℕ, cond, List, [], ◌∷◌, Option, None, Some, option_map, Result, Ok, Err, ⊤}
+use Rattle.std.specs.Borrow.{Bor}
 use Rattle.std.specs.Ordering.{is_lt}
-use Rattle.arrayvec.specs.declared.array_vec.ArrayVec.{ArrayVec}
 use Rattle.cola_outside.specs.Faults.{Rose}
 use Rattle.cola_cell.specs.Order.{key_cmp}
 use Rattle.cola_pairs.specs.Live.{below_end}
 use Rattle.cola_cell.specs.Cell.{key_of}
 use Rattle.cola_cell.specs.declared.fault.ReadFault.TheVariants.{Device, BadCell}
-use Rattle.cola_cursor.specs.declared.lines.Step.{Step}
 use Rattle.cola_cell.specs.declared.cell.Cell.{Cell}
 use Rattle.cola_cell.specs.declared.cell.Cell.TheVariants as cell
 use Rattle.cola_cell.specs.declared.cell.Item.{Item}
 use Rattle.cola_cell.specs.declared.fault.ReadFault.{ReadFault}
 use Rattle.cola_cell.specs.Held.{Held}
 use Rattle.cola_cursor.specs.declared.line.Line.{Line}
-use Rattle.cola_cursor.specs.declared.line.Passed.{Passed}
 use Rattle.cola_cursor.specs.Lines.{LineFits, IsReady, left_of, all_left, HasBadAhead}
 
 -- a line with its next cell read
@@ -26,13 +24,9 @@ pub record Fetches (held : Held) (old new : Line) : Type 0 where
   pub ready : IsReady new
 
 -- what a line has still to read after a call: nothing is asked of a refused one
-abbrev pub left_after : Result Line ReadFault → ℕ
-left_after (Ok line) = left_of line
-left_after (Err fault) = 0
-
-abbrev pub left_passed : Result Passed ReadFault → ℕ
-left_passed (Ok passed) = left_of passed.line
-left_passed (Err fault) = 0
+abbrev pub left_after : {T : Type 0} → Result T ReadFault → Line → ℕ
+left_after (Ok answer) line = left_of line
+left_after (Err fault) line = 0
 
 -- the item of a head
 abbrev pub item_of : Option Cell → Option Item
@@ -47,13 +41,10 @@ FetchAll held [] (new ∷ news) = ⊥
 FetchAll held (old ∷ olds) [] = ⊥
 FetchAll held (old ∷ olds) (new ∷ news) = Fetches held old new × FetchAll held olds news
 
-abbrev pub left_fetched : Result (ArrayVec Line 23 Unit) ReadFault → ℕ
-left_fetched (Ok lines) = all_left lines.items
-left_fetched (Err fault) = 0
-
-abbrev pub left_stepped : Result Step ReadFault → ℕ
-left_stepped (Ok step) = all_left step.lines.items
-left_stepped (Err fault) = 0
+-- what lines have still to read after a call: nothing is asked of a refused one
+abbrev pub left_then : {T : Type 0} → Result T ReadFault → List Line → ℕ
+left_then (Ok answer) lines = all_left lines
+left_then (Err fault) lines = 0
 
 -- a cell that one of the lines has still to read whose bytes spell none, and its number
 abbrev pub HasBadLine : Held → ℕ → List Line → Type 0
@@ -64,6 +55,10 @@ HasBadLine held number (line ∷ lines) = HasBadAhead held line number ⊎ HasBa
 abbrev pub LinesCause : Held → List Line → ℕ → ℕ → ReadFault → Type 0
 LinesCause held lines before now Device = Rose before now
 LinesCause held lines before now (BadCell number) = HasBadLine held number lines
+
+-- the key of a cell that is lent, if there is one
+abbrev pub key_in : Option (Bor Cell) → Option (List ℕ)
+key_in = option_map (λ cell. key_of cell.now)
 
 -- the lesser of two keys, where there is a first
 abbrev pub lesser : Option (List ℕ) → List ℕ → Option (List ℕ)

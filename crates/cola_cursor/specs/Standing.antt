@@ -45,8 +45,8 @@ AreApart befores rests =
 -- a cursor over an object: its lines stand in runs of the object, and where these are told to be runs as the search of any key wants them, every key before one of its places is below every key at or after any of them
 pub record Stands (held : Held) (cursor : Cursor) : Type 0 where
   pub fit : AllByRecursion (LineFits held) cursor.lines.items
-  pub apart : (lists : List (List LawCell)) → AreRuns held (runs_of cursor.lines.items) lists → ((key : List ℕ) → AreSearched key lists) →
-      AreApart (befores cursor.lines.items lists) (rests cursor.lines.items lists)
+  pub apart : (lists : List (List LawCell)) → AreRuns held (runs_of cursor.lines.items) lists →
+      ((key : List ℕ) → AreSearched key lists) → AreApart (befores cursor.lines.items lists) (rests cursor.lines.items lists)
 
 -- these pairs, each with its stamp, are ahead of a cursor: its runs are told and in order, every key before one of its places is below every key at or after any of them, and the pairs are the live pairs below its upper end in the rests
 pub record Ahead (held : Held) (cursor : Cursor) (pairs : List (List ℕ × Stamped)) : Type 0 where
@@ -54,7 +54,8 @@ pub record Ahead (held : Held) (cursor : Cursor) (pairs : List (List ℕ × Stam
   pub told : AreRuns held (runs_of cursor.lines.items) lists
   pub rising : AllByRecursion (laws.IsRising key_cmp) lists
   pub apart : AreApart (befores cursor.lines.items lists) (rests cursor.lines.items lists)
-  pub pairs_are : pairs ≡ live key_cmp (below_end key_cmp cursor.end) (rests cursor.lines.items lists)
+  pub pairs_are : pairs ≡
+      live key_cmp (below_end key_cmp cursor.end) (rests cursor.lines.items lists)
 
 -- an answer takes the first of the pairs that were ahead, if there is one, and leaves the others ahead; a refusal takes none
 abbrev pub TakesNext : (List (List ℕ × Stamped) → Type 0) → List (List ℕ × Stamped) → Result (Option (List ℕ × List ℕ × ℕ)) ReadFault → Type 0
@@ -84,13 +85,15 @@ pub record HasTombstone (held : Held) (old new : Line) (key : List ℕ) : Type 0
   pub before : index < new.place
   pub young : Bool
   pub link : ℕ
-  pub told : Tells (held.spots old.run.level old.run.slot index) (Told (laws.Entry key laws.Tombstone young link))
+  pub told : Tells (held.spots old.run.level old.run.slot index)
+      (Told (laws.Entry key laws.Tombstone young link))
 
 -- a cell that a line passed: a lookahead cell, or one of the answered key, or of a key that is hidden or of which the line passed a tombstone
 pub record PassedCell (held : Held) (old new : Line) (answered : Option (List ℕ)) (hidden : List ℕ → Type 0) (j : ℕ) : Type 0 where
   pub cell : LawCell
   pub told : Tells (held.spots old.run.level old.run.slot j) (Told cell)
-  pub reason : IsTrue (laws.is_look cell) ⊎ (answered ≡ Some (laws.key_of cell)) ⊎ hidden (laws.key_of cell) ⊎ HasTombstone held old new (laws.key_of cell)
+  pub reason : IsTrue (laws.is_look cell) ⊎ (answered ≡ Some (laws.key_of cell)) ⊎
+      hidden (laws.key_of cell) ⊎ HasTombstone held old new (laws.key_of cell)
 
 -- a line that went on in its run, and each cell that it passed
 pub record LinePassed (held : Held) (old new : Line) (answered : Option (List ℕ)) (hidden : List ℕ → Type 0) : Type 0 where
@@ -113,7 +116,8 @@ pub record HasValue (held : Held) (old new : Line) (key value : List ℕ) (stamp
   pub before : index < new.place
   pub young : Bool
   pub link : ℕ
-  pub told : Tells (held.spots old.run.level old.run.slot index) (Told (laws.Entry key (laws.Value (record { value = value; stamp = stamp })) young link))
+  pub told : Tells (held.spots old.run.level old.run.slot index)
+      (Told (laws.Entry key (laws.Value (record { value = value; stamp = stamp })) young link))
 
 -- the same of one of the lines
 abbrev pub AnyHasValue : Held → List ℕ → List ℕ → ℕ → List Line → List Line → Type 0

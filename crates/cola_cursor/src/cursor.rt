@@ -1,10 +1,15 @@
 //! Cursors.
+ghost use Rattle.std.specs.Prelude.{◌≡◌, ◌≤◌, [], length};
+ghost use Rattle.cola_cursor.specs.Giving.{NextGives};
+ghost use Rattle.cola_cursor.specs.Saving.{Saves, cursor_at, lines_left};
+ghost use Rattle.cola_cursor.specs.Standing.{Stands};
 
 use crate::line::Line;
-use crate::lines::{Step, least_key, pass_all, with_heads};
+use crate::lines::{least_key, pass_all, read_heads};
+use crate::saved::{Saved, put_back};
 use crate::starts::seek_lines;
 use arrayvec::ArrayVec;
-use cola_cell::{CellSource, Item, Key, ReadFault, Run, Value};
+use cola_cell::{CellSource, Item, Key, MOST_LEVELS, ReadFault, Run, Value};
 use cola_outside::Steps;
 use std::sync::ledger::Ledger;
 
@@ -12,49 +17,33 @@ use std::sync::ledger::Ledger;
 /// itself left out, if there is one.
 #[derive(Drop)]
 pub struct Cursor {
-    pub lines: ArrayVec<Line, 23>,
+    pub lines: ArrayVec<Line, MOST_LEVELS>,
     pub end: Option<Key>,
 }
 
 impl Cursor {
-    ghost use Rattle.std.specs.Prelude.{◌≡◌, ◌+◌, ◌≤◌, List, map, All, IfOk, IfErr, option_copied};
-    ghost use Rattle.cola_cell.specs.Held.{LawCell};
-    ghost use Rattle.cola_cell.specs.Order.{key_cmp};
-    ghost use Rattle.cola_look.specs.Runs.{HasRun, AreRuns};
-    ghost use Rattle.cola_pairs.specs.Live.{live, between};
-    ghost use Rattle.cola_cell.specs.Spent.{ReadCalm};
-    ghost use Rattle.cola_cursor.specs.Giving.{NextGives, NextGivesPair};
-    ghost use Rattle.cola_cursor.specs.Lines.{Reading};
-    ghost use Rattle.cola_cursor.specs.Seeking.{LevelsRise, places_from, range_ticks, left_sought, RunsCause};
-    ghost use Rattle.cola_cursor.specs.Standing.{runs_of, AreSearched, Stands, Ahead};
+    ghost use Rattle.std.specs.Prelude.{All, option_copied};
+    ghost use Rattle.cola_cell.specs.Looks.{OnlyLooks};
+    ghost use Rattle.cola_look.specs.Runs.{HasRun};
+    ghost use Rattle.cola_cursor.specs.Giving.{SeekGives, NextGives, NextGivesPair};
+    ghost use Rattle.cola_cursor.specs.Seeking.{LevelsRise};
+    ghost use Rattle.cola_cursor.specs.Standing.{Stands};
 
     /// A cursor over the runs, the newest first, at the first key that is at least `lo`; its pairs end below `hi`,
     /// where there is one. It searches each run from the link of the run above it, as a look-up does, in at most
     /// 8 ticks for each run.
     pub fn seek<W: CellSource, L: Ledger>(
         work: &mut W,
-        runs: &ArrayVec<Run, 23>,
+        runs: &ArrayVec<Run, MOST_LEVELS>,
         lo: &Key,
         hi: Option<&Key>,
         steps: &mut Steps<L>,
     ) -> Result<Cursor, ReadFault>
-        requires runs { All (HasRun (W.held work.old)) runs.now.items }
+        requires runs { All (HasRun (W.state work.old).held) runs.now.items }
         requires levels { LevelsRise 0 runs.now.items }
-
-        // On runs as the search of `lo` wants them the live pairs of the interval are ahead.
-        ensures ahead { (lists : List (List LawCell)) → AreRuns (W.held work.old) runs.now.items lists → AreSearched lo.now lists →
-            IfOk result (λ cursor. Ahead (W.held work.old) cursor (live key_cmp (between key_cmp lo.now (option_copied hi.entry)) lists)) }
-        // On all told runs, in order or not, each place is where the search of its run stops.
-        ensures places { (lists : List (List LawCell)) → AreRuns (W.held work.old) runs.now.items lists →
-            IfOk result (λ cursor. map (λ line. line.place) cursor.lines.items ≡ places_from lo.now 0 lists) }
-        ensures begins { IfOk result (λ cursor. (runs_of cursor.lines.items ≡ runs.now.items) × (cursor.end ≡ option_copied hi.entry)) }
-        ensures stands { IfOk result (Stands (W.held work.new)) }
-        ensures left { steps.new + left_sought result ≤ steps.old + range_ticks (W.held work.old).fixed.levels }
-        ensures reading { Reading (W.spent work.old) (W.spent work.new) steps.old steps.new }
-        ensures cause { IfErr result (RunsCause (W.held work.old) runs.now.items (W.spent work.old).faults (W.spent work.new).faults) }
-        ensures cells_stay { W.held work.new ≡ W.held work.old }
-        ensures kept { W.kept work.new ≡ W.kept work.old }
-        ensures calm { ReadCalm (W.spent work.old).faults (W.spent work.new).faults result }
+        ensures looks { OnlyLooks W.CellSource work.old work.new result }
+        ensures seeks { SeekGives runs.now.items lo.now (option_copied hi.entry)
+            (W.state work.old) (W.state work.new) steps.old steps.new result }
     {
         let lines = seek_lines(work, runs.as_slice(), lo, steps)?;
         let end = hi.copied();
@@ -68,29 +57,24 @@ impl Cursor {
         work: &mut W,
         steps: &mut Steps<L>,
     ) -> Result<Option<(Key, Value, u64)>, ReadFault>
-        requires { Stands (W.held work.old) self.old }
-        ensures { NextGives W.CellSource work.old work.new self.old self.new steps.old steps.new result }
+        requires { Stands (W.state work.old).held self.old }
+        ensures { NextGives W.CellSource work.old work.new self.old self.new
+            steps.old steps.new result }
     {
-        let mut lines = with_heads(work, self.lines.as_slice(), steps)?;
-        while let Some(key) = least_key(lines.as_slice(), &self.end) {
-            let Step {
-                lines: passed,
-                item,
-            } = pass_all(work, lines.as_slice(), &key, steps)?;
-            lines = passed;
-            match item {
-                Some(item) => match item {
-                    Item::Value { value, stamp } => {
-                        self.lines = lines;
-                        return Ok(Some((key, value, stamp)));
-                    }
-                    Item::Tombstone => {}
-                },
-                None => {}
+        let mut saved = ArrayVec::new();
+        match advance(
+            work,
+            self.lines.as_mut_slice(),
+            &self.end,
+            &mut saved,
+            steps,
+        ) {
+            Ok(answer) => Ok(answer),
+            Err(fault) => {
+                put_back(self.lines.as_mut_slice(), &mut saved);
+                Err(fault)
             }
         }
-        self.lines = lines;
-        Ok(None)
     }
 
     /// The next pair of the interval, as `next_stamped` gives it, without its stamp.
@@ -99,8 +83,9 @@ impl Cursor {
         work: &mut W,
         steps: &mut Steps<L>,
     ) -> Result<Option<(Key, Value)>, ReadFault>
-        requires { Stands (W.held work.old) self.old }
-        ensures { NextGivesPair W.CellSource work.old work.new self.old self.new steps.old steps.new result }
+        requires { Stands (W.state work.old).held self.old }
+        ensures { NextGivesPair W.CellSource work.old work.new self.old self.new
+            steps.old steps.new result }
     {
         match self.next_stamped(work, steps) {
             Ok(Some((key, value, _))) => Ok(Some((key, value))),
@@ -108,4 +93,34 @@ impl Cursor {
             Err(fault) => Err(fault),
         }
     }
+}
+
+/// The next pair of the lines below the upper end, with its stamp: it changes the lines in place, and saves each that it
+/// changes. After a refusal they are somewhere on the way.
+fn advance<W: CellSource, L: Ledger>(
+    work: &mut W,
+    lines: &mut [Line],
+    end: &Option<Key>,
+    saved: &mut ArrayVec<Saved, MOST_LEVELS>,
+    steps: &mut Steps<L>,
+) -> Result<Option<(Key, Value, u64)>, ReadFault>
+    requires stands { Stands (W.state work.old).held (cursor_at lines.old end.now) }
+    requires few { length lines.old ≤ 23 }
+    requires none { saved.old.items ≡ [] }
+    ensures gives { NextGives W.CellSource work.old work.new (cursor_at lines.old end.now)
+        (cursor_at (lines_left result saved.new.items lines.new) end.now) steps.old steps.new result }
+    ensures saves { Saves lines.old lines.new [] saved.new.items }
+{
+    read_heads(work, lines, saved, steps)?;
+    while let Some(key) = least_key(lines, end) {
+        let item = pass_all(work, lines, saved, &key, steps)?;
+        match item {
+            Some(item) => match item {
+                Item::Value { value, stamp } => return Ok(Some((key, value, stamp))),
+                Item::Tombstone => {}
+            },
+            None => {}
+        }
+    }
+    Ok(None)
 }

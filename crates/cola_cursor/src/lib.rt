@@ -9,6 +9,7 @@ mod cursor;
 pub mod laws;
 mod line;
 mod lines;
+mod saved;
 mod starts;
 
 pub use cursor::Cursor;

@@ -1,6 +1,5 @@
 //! A line of a cursor: where it stands in one run.
 ghost use Rattle.std.specs.Prelude.{◌≡◌, ◌+◌, ◌<◌, ◌≤◌, IfOk, IfErr, option_map, IsTrue};
-ghost use Rattle.cola_cell.specs.Spent.{ReadCalm};
 
 use cola_cell::{CellSource, Item, Key, Packed, ReadFault, Run};
 use cola_outside::Steps;
@@ -13,13 +12,6 @@ pub struct Line {
     pub run: Run,
     pub place: u32,
     pub head: Option<Packed>,
-}
-
-/// A line behind the cells of a key, and the first item among them.
-#[derive(Drop)]
-pub(crate) struct Passed {
-    pub line: Line,
-    pub item: Option<Item>,
 }
 
 impl Default for Line {
@@ -48,41 +40,38 @@ fn copy_head(head: &Option<Packed>) -> Option<Packed>
 }
 
 impl Line {
-    ghost use Rattle.std.specs.Prelude.{◌≡◌, ◌+◌, ◌<◌, ◌≤◌, ◌^◌, IfOk, IfErr, IsTrue, Some, None, option_map};
+    ghost use Rattle.std.specs.Prelude.{◌≡◌, ◌+◌, ◌<◌, ◌≤◌, ◌^◌, IfOk, IfErr, OnOk, IsTrue, Some, None, option_map};
     ghost use Rattle.cola_cell.specs.Cell.{key_of};
+    ghost use Rattle.cola_cell.specs.Looks.{OnlyLooks};
     ghost use Rattle.cola_cursor.specs.Lines.{LineFits, IsReady, left_of, Reading, LineCause};
     ghost use Rattle.cola_cursor.specs.Passing.{Passes, has_key};
-    ghost use Rattle.cola_cursor.specs.Results.{Fetches, left_after, item_of, left_passed};
+    ghost use Rattle.cola_cursor.specs.Results.{Fetches, left_after, item_of};
 
-    /// The line with its next cell read, unless it is at the end.
-    pub(crate) fn with_head<W: CellSource, L: Ledger>(
-        &self,
+    /// Reads its next cell, unless that is read, or it is at the end.
+    pub(crate) fn read_head<W: CellSource, L: Ledger>(
+        &mut self,
         work: &mut W,
         steps: &mut Steps<L>,
-    ) -> Result<Line, ReadFault>
-        requires { LineFits (W.held work.old) self.now }
-        ensures fetches { IfOk result (Fetches (W.held work.old) self.now) }
-        ensures left { steps.new + left_after result ≤ steps.old + left_of self.now }
-        ensures reading { Reading (W.spent work.old) (W.spent work.new) steps.old steps.new }
-        ensures cause { IfErr result (LineCause (W.held work.old) self.now (W.spent work.old).faults (W.spent work.new).faults) }
-        ensures cells_stay { W.held work.new ≡ W.held work.old }
-        ensures kept { W.kept work.new ≡ W.kept work.old }
-        ensures calm { ReadCalm (W.spent work.old).faults (W.spent work.new).faults result }
+    ) -> Result<(), ReadFault>
+        requires { LineFits (W.state work.old).held self.old }
+        ensures fetches { OnOk result (Fetches (W.state work.old).held self.old self.new) }
+        ensures left { steps.new + left_after result self.new ≤ steps.old + left_of self.old }
+        ensures reading { Reading (W.state work.old) (W.state work.new) steps.old steps.new }
+        ensures cause { IfErr result (LineCause (W.state work.old).held self.old
+            (W.state work.old).spent.faults (W.state work.new).spent.faults) }
+        ensures looks { OnlyLooks W.CellSource work.old work.new result }
     {
         if self.head.is_some() || self.place == self.run.len {
-            return Ok(self.copy());
+            return Ok(());
         }
         let mut cell = Packed::blank();
         work.read_into(self.run.level, self.run.slot, self.place, &mut cell, steps)?;
-        Ok(Line {
-            run: self.run,
-            place: self.place,
-            head: Some(cell),
-        })
+        self.head = Some(cell);
+        Ok(())
     }
 
     /// A copy.
-    fn copy(&self) -> Line
+    pub(crate) fn copy(&self) -> Line
         ensures { result ≡ self.now }
     {
         Line {
@@ -92,8 +81,17 @@ impl Line {
         }
     }
 
+    /// Whether its next cell is read, or it is at the end.
+    #[inline]
+    pub(crate) fn is_ready(&self) -> bool
+        ensures { IsTrue result → IsReady self.now }
+    {
+        self.head.is_some() || self.place == self.run.len
+    }
+
     /// Whether the next cell has this key.
-    fn has_key(&self, key: &Key) -> bool
+    #[inline]
+    pub(crate) fn has_key(&self, key: &Key) -> bool
         ensures { result ≡ has_key key.now self.now.head }
     {
         match &self.head {
@@ -112,47 +110,41 @@ impl Line {
         }
     }
 
-    /// The line behind its next cell.
-    fn behind(&self) -> Line
-        requires { self.now.place < self.now.run.len }
-        ensures run { result.run ≡ self.now.run }
-        ensures place { result.place ≡ self.now.place + 1 }
-        ensures head { result.head ≡ None }
+    /// Goes behind its next cell.
+    fn go_behind(&mut self)
+        requires { self.old.place < self.old.run.len }
+        ensures run { self.new.run ≡ self.old.run }
+        ensures place { self.new.place ≡ self.old.place + 1 }
+        ensures head { self.new.head ≡ None }
     {
-        let len = self.run.len;
-        let place = self.place;
-        let place = if place < len { place + 1 } else { len };
-        Line {
-            run: self.run,
-            place,
-            head: None,
+        if self.place < self.run.len {
+            self.place += 1;
         }
+        self.head = None;
     }
 
-    /// The line behind the cells at its front that have this key, with its next cell read, and the first item
-    /// among them.
-    pub(crate) fn passed<W: CellSource, L: Ledger>(
-        &self,
+    /// Passes the cells at its front that have this key, reads its next cell, and gives the first item among those.
+    pub(crate) fn pass<W: CellSource, L: Ledger>(
+        &mut self,
         work: &mut W,
         key: &Key,
         steps: &mut Steps<L>,
-    ) -> Result<Passed, ReadFault>
-        requires fits { LineFits (W.held work.old) self.now }
-        requires ready { IsReady self.now }
-        ensures passes { IfOk result (λ passed. Passes (W.held work.old) key.now self.now passed.line passed.item) }
-        ensures left { steps.new + left_passed result ≤ steps.old + left_of self.now }
-        ensures reading { Reading (W.spent work.old) (W.spent work.new) steps.old steps.new }
-        ensures cause { IfErr result (LineCause (W.held work.old) self.now (W.spent work.old).faults (W.spent work.new).faults) }
-        ensures cells_stay { W.held work.new ≡ W.held work.old }
-        ensures kept { W.kept work.new ≡ W.kept work.old }
-        ensures calm { ReadCalm (W.spent work.old).faults (W.spent work.new).faults result }
+    ) -> Result<Option<Item>, ReadFault>
+        requires fits { LineFits (W.state work.old).held self.old }
+        requires ready { IsReady self.old }
+        ensures passes { IfOk result (Passes (W.state work.old).held key.now self.old self.new) }
+        ensures left { steps.new + left_after result self.new ≤ steps.old + left_of self.old }
+        ensures reading { Reading (W.state work.old) (W.state work.new) steps.old steps.new }
+        ensures cause { IfErr result (LineCause (W.state work.old).held self.old
+            (W.state work.old).spent.faults (W.state work.new).spent.faults) }
+        ensures looks { OnlyLooks W.CellSource work.old work.new result }
     {
-        let mut line = self.copy();
         let mut item: Option<Item> = None;
-        while line.has_key(key) {
-            item = item.or(line.item());
-            line = line.behind().with_head(work, steps)?;
+        while self.has_key(key) {
+            item = item.or(self.item());
+            self.go_behind();
+            self.read_head(work, steps)?;
         }
-        Ok(Passed { line, item })
+        Ok(item)
     }
 }

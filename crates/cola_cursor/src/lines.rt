@@ -1,49 +1,48 @@
 //! The lines of a cursor: their next cells, the least key among those, and a step over it.
-ghost use Rattle.std.specs.Prelude.{◌≡◌, ◌+◌, ◌≤◌, length, None, IfOk, IfErr};
+ghost use Rattle.std.specs.Prelude.{◌≡◌, ◌+◌, ◌≤◌, length, None, IfOk, IfErr, OnOk};
 ghost use Rattle.std.specs.List.{AllByRecursion};
 ghost use Rattle.cola_cell.specs.Cell.{key_of};
-ghost use Rattle.cola_cell.specs.Spent.{ReadCalm};
+ghost use Rattle.cola_cell.specs.Looks.{OnlyLooks};
 ghost use Rattle.cola_cell.specs.Order.{key_cmp};
 ghost use Rattle.cola_pairs.specs.Live.{below_end};
 ghost use Rattle.cola_cursor.specs.Lines.{LineFits, IsReady, all_left, Reading};
 ghost use Rattle.cola_cursor.specs.Passing.{PassAll};
-ghost use Rattle.cola_cursor.specs.Results.{FetchAll, left_fetched, left_stepped, LinesCause, lesser, lowered, least_from};
+ghost use Rattle.cola_cursor.specs.Saving.{SavedOnce, Saves};
+ghost use Rattle.cola_cursor.specs.Results.{FetchAll, left_then, LinesCause, lowered, least_from, key_in};
 
 use crate::line::Line;
+use crate::saved::{Saved, save};
 use arrayvec::ArrayVec;
-use cola_cell::{CellSource, Item, Key, Packed, ReadFault};
+use cola_cell::{CellSource, Item, Key, MOST_LEVELS, Packed, ReadFault};
 use cola_outside::Steps;
 use std::sync::ledger::Ledger;
 
-/// Lines behind the cells of a key, and the item of the first of them that has one.
-#[derive(Drop)]
-pub(crate) struct Step {
-    pub lines: ArrayVec<Line, 23>,
-    pub item: Option<Item>,
-}
-
-/// The lines with their next cells read.
-pub(crate) fn with_heads<W: CellSource, L: Ledger>(
+/// Reads the next cells of the lines, of those that are not read yet.
+pub(crate) fn read_heads<W: CellSource, L: Ledger>(
     work: &mut W,
-    lines: &[Line],
+    lines: &mut [Line],
+    saved: &mut ArrayVec<Saved, MOST_LEVELS>,
     steps: &mut Steps<L>,
-) -> Result<ArrayVec<Line, 23>, ReadFault>
-    requires fit { AllByRecursion (LineFits (W.held work.old)) lines.now }
-    requires few { length lines.now ≤ 23 }
-    ensures fetches { IfOk result (λ read. FetchAll (W.held work.old) lines.now read.items) }
-    ensures left { steps.new + left_fetched result ≤ steps.old + all_left lines.now }
-    ensures reading { Reading (W.spent work.old) (W.spent work.new) steps.old steps.new }
-    ensures cause { IfErr result (LinesCause (W.held work.old) lines.now (W.spent work.old).faults (W.spent work.new).faults) }
-    ensures cells_stay { W.held work.new ≡ W.held work.old }
-    ensures kept { W.kept work.new ≡ W.kept work.old }
-    ensures calm { ReadCalm (W.spent work.old).faults (W.spent work.new).faults result }
+) -> Result<(), ReadFault>
+    requires fit { AllByRecursion (LineFits (W.state work.old).held) lines.old }
+    requires few { length lines.old ≤ 23 }
+    requires once { SavedOnce (length lines.old) saved.old.items }
+    ensures fetches { OnOk result (FetchAll (W.state work.old).held lines.old lines.new) }
+    ensures saves { Saves lines.old lines.new saved.old.items saved.new.items }
+    ensures left { steps.new + left_then result lines.new ≤ steps.old + all_left lines.old }
+    ensures reading { Reading (W.state work.old) (W.state work.new) steps.old steps.new }
+    ensures cause { IfErr result (LinesCause (W.state work.old).held lines.old
+        (W.state work.old).spent.faults (W.state work.new).spent.faults) }
+    ensures looks { OnlyLooks W.CellSource work.old work.new result }
 {
-    let mut read = ArrayVec::new();
     for i in 0..lines.len() {
-        let line = lines[i].with_head(work, steps)?;
-        read.push(line);
+        if lines[i].is_ready() {
+            continue;
+        }
+        save(lines, saved, i);
+        lines[i].read_head(work, steps)?;
     }
-    Ok(read)
+    Ok(())
 }
 
 /// Whether the key of a cell is below the upper end, where there is one.
@@ -56,34 +55,22 @@ fn is_below(cell: &Packed, end: &Option<Key>) -> bool
     }
 }
 
-/// The lesser of a key, where there is one, and the key of a cell.
-fn lesser(least: Option<Key>, cell: &Packed) -> Option<Key>
-    ensures { result ≡ lesser least (key_of cell.now) }
+/// The cell with the lesser key, of one, where there is one, and the next cell of a line: the first where the keys are equal.
+#[inline]
+fn lesser<'a>(least: Option<&'a Packed>, head: &'a Option<Packed>) -> Option<&'a Packed>
+    ensures { key_in result ≡ lowered None (key_in least.entry) head.now }
 {
-    match least {
-        Some(least) => {
-            if cell.key_cmp(&least).is_lt() {
-                Some(cell.key())
-            } else {
-                Some(least)
+    match head {
+        Some(cell) => match least {
+            Some(least) => {
+                if cell.cmp_keys(least).is_lt() {
+                    Some(cell)
+                } else {
+                    Some(least)
+                }
             }
-        }
-        None => Some(cell.key()),
-    }
-}
-
-/// The same with the next key of a line, where that is below the upper end.
-fn lowered(least: Option<Key>, line: &Line, end: &Option<Key>) -> Option<Key>
-    ensures { result ≡ lowered end.now least line.now.head }
-{
-    match &line.head {
-        Some(cell) => {
-            if is_below(cell, end) {
-                lesser(least, cell)
-            } else {
-                least
-            }
-        }
+            None => Some(cell),
+        },
         None => least,
     }
 }
@@ -92,37 +79,50 @@ fn lowered(least: Option<Key>, line: &Line, end: &Option<Key>) -> Option<Key>
 pub(crate) fn least_key(lines: &[Line], end: &Option<Key>) -> Option<Key>
     ensures { result ≡ least_from end.now None lines.now }
 {
-    let mut least: Option<Key> = None;
+    let mut least: Option<&Packed> = None;
     for i in 0..lines.len() {
-        least = lowered(least, &lines[i], end);
+        least = lesser(least, &lines[i].head);
     }
-    least
+    match least {
+        Some(cell) => {
+            if is_below(cell, end) {
+                Some(cell.key())
+            } else {
+                None
+            }
+        }
+        None => None,
+    }
 }
 
-/// The lines behind the cells at their fronts that have this key, and the first item among those.
+/// Passes the cells at the fronts of the lines that have this key, and gives the first item among those.
 pub(crate) fn pass_all<W: CellSource, L: Ledger>(
     work: &mut W,
-    lines: &[Line],
+    lines: &mut [Line],
+    saved: &mut ArrayVec<Saved, MOST_LEVELS>,
     key: &Key,
     steps: &mut Steps<L>,
-) -> Result<Step, ReadFault>
-    requires fit { AllByRecursion (LineFits (W.held work.old)) lines.now }
-    requires ready { AllByRecursion IsReady lines.now }
-    requires few { length lines.now ≤ 23 }
-    ensures passes { IfOk result (λ step. PassAll (W.held work.old) key.now lines.now step.lines.items step.item) }
-    ensures left { steps.new + left_stepped result ≤ steps.old + all_left lines.now }
-    ensures reading { Reading (W.spent work.old) (W.spent work.new) steps.old steps.new }
-    ensures cause { IfErr result (LinesCause (W.held work.old) lines.now (W.spent work.old).faults (W.spent work.new).faults) }
-    ensures cells_stay { W.held work.new ≡ W.held work.old }
-    ensures kept { W.kept work.new ≡ W.kept work.old }
-    ensures calm { ReadCalm (W.spent work.old).faults (W.spent work.new).faults result }
+) -> Result<Option<Item>, ReadFault>
+    requires fit { AllByRecursion (LineFits (W.state work.old).held) lines.old }
+    requires ready { AllByRecursion IsReady lines.old }
+    requires few { length lines.old ≤ 23 }
+    requires once { SavedOnce (length lines.old) saved.old.items }
+    ensures passes { IfOk result (PassAll (W.state work.old).held key.now lines.old lines.new) }
+    ensures saves { Saves lines.old lines.new saved.old.items saved.new.items }
+    ensures left { steps.new + left_then result lines.new ≤ steps.old + all_left lines.old }
+    ensures reading { Reading (W.state work.old) (W.state work.new) steps.old steps.new }
+    ensures cause { IfErr result (LinesCause (W.state work.old).held lines.old
+        (W.state work.old).spent.faults (W.state work.new).spent.faults) }
+    ensures looks { OnlyLooks W.CellSource work.old work.new result }
 {
-    let mut done = ArrayVec::new();
     let mut item: Option<Item> = None;
     for i in 0..lines.len() {
-        let passed = lines[i].passed(work, key, steps)?;
-        done.push(passed.line);
-        item = item.or(passed.item);
+        if !lines[i].has_key(key) {
+            continue;
+        }
+        save(lines, saved, i);
+        let passed = lines[i].pass(work, key, steps)?;
+        item = item.or(passed);
     }
-    Ok(Step { lines: done, item })
+    Ok(item)
 }

@@ -2,7 +2,7 @@
 ghost use Rattle.std.specs.Prelude.{◌≡◌, ◌+◌, ◌*◌, ◌≤◌, List, map, drop, length, All, IfOk, IfErr};
 ghost use Rattle.std.specs.List.{AllByRecursion};
 ghost use Rattle.cola_cell.specs.Held.{LawCell};
-ghost use Rattle.cola_cell.specs.Spent.{ReadCalm};
+ghost use Rattle.cola_cell.specs.Looks.{OnlyLooks};
 ghost use Rattle.cola_look.specs.Runs.{HasRun, AreRuns};
 ghost use Rattle.cola_cursor.specs.Lines.{LineFits, Reading};
 ghost use Rattle.cola_cursor.specs.Seeking.{places_from, cells_of, left_lines, length_of_first, RunsCause};
@@ -10,7 +10,7 @@ ghost use Rattle.cola_cursor.specs.Standing.{runs_of};
 
 use crate::line::Line;
 use arrayvec::ArrayVec;
-use cola_cell::{CellSource, Key, ReadFault, Run};
+use cola_cell::{CellSource, Key, MOST_LEVELS, ReadFault, Run};
 use cola_look::seek;
 use cola_outside::Steps;
 use std::sync::ledger::Ledger;
@@ -31,19 +31,20 @@ pub(crate) fn seek_lines<W: CellSource, L: Ledger>(
     runs: &[Run],
     key: &Key,
     steps: &mut Steps<L>,
-) -> Result<ArrayVec<Line, 23>, ReadFault>
-    requires runs { AllByRecursion (HasRun (W.held work.old)) runs.now }
+) -> Result<ArrayVec<Line, MOST_LEVELS>, ReadFault>
+    requires runs { AllByRecursion (HasRun (W.state work.old).held) runs.now }
     requires few { length runs.now ≤ 23 }
-    ensures places { (lists : List (List LawCell)) → AreRuns (W.held work.old) runs.now lists →
+    ensures places { (lists : List (List LawCell)) → AreRuns (W.state work.old).held runs.now lists →
         IfOk result (λ lines. map (λ line. line.place) lines.items ≡ places_from key.now 0 lists) }
     ensures begins { IfOk result (λ lines. runs_of lines.items ≡ runs.now) }
-    ensures fit { IfOk result (λ lines. AllByRecursion (LineFits (W.held work.old)) lines.items) }
-    ensures left { steps.new + left_lines result ≤ steps.old + 8 * length runs.now + cells_of runs.now }
-    ensures reading { Reading (W.spent work.old) (W.spent work.new) steps.old steps.new }
-    ensures cause { IfErr result (RunsCause (W.held work.old) runs.now (W.spent work.old).faults (W.spent work.new).faults) }
-    ensures cells_stay { W.held work.new ≡ W.held work.old }
-    ensures kept { W.kept work.new ≡ W.kept work.old }
-    ensures calm { ReadCalm (W.spent work.old).faults (W.spent work.new).faults result }
+    ensures fit { IfOk result (λ lines.
+        AllByRecursion (LineFits (W.state work.old).held) lines.items) }
+    ensures left { steps.new + left_lines result
+        ≤ steps.old + 8 * length runs.now + cells_of runs.now }
+    ensures reading { Reading (W.state work.old) (W.state work.new) steps.old steps.new }
+    ensures cause { IfErr result (RunsCause (W.state work.old).held runs.now
+        (W.state work.old).spent.faults (W.state work.new).spent.faults) }
+    ensures looks { OnlyLooks W.CellSource work.old work.new result }
 {
     let mut lines = ArrayVec::new();
     let mut start = 0;

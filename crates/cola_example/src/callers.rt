@@ -1,10 +1,10 @@
 //! What a caller of a search over a file knows afterwards, by the contracts alone.
 ghost use Rattle.std.specs.Prelude.{◌≡◌, All, option_map};
 ghost use Rattle.cola_look.specs.Runs.{HasRun};
-ghost use Rattle.cola_run.specs.Store.{held_of, beside};
+ghost use Rattle.cola_run.specs.Store.{held_of, beside, device_of};
 
 use arrayvec::ArrayVec;
-use cola_cell::{Item, Key, ReadFault, Run};
+use cola_cell::{Item, Key, MOST_LEVELS, ReadFault, Run};
 use cola_device::Device;
 use cola_outside::Steps;
 use cola_run::RunStore;
@@ -15,13 +15,15 @@ use std::sync::ledger::Ledger;
 /// it had: the blocks of the front, and the bytes behind the store's cells.
 pub fn found_in_store<D: Device, L: Ledger>(
     store: &mut RunStore<D>,
-    runs: &ArrayVec<Run, 23>,
+    runs: &ArrayVec<Run, MOST_LEVELS>,
     key: &Key,
     steps: &mut Steps<L>,
 ) -> Result<Option<Item>, ReadFault>
     requires { All (HasRun (held_of D.bytes store.old)) runs.now.items }
     ensures geometry { store.new.geometry ≡ store.old.geometry }
-    ensures beside { option_map (beside store.new.geometry) (D.bytes store.new.buffers.cache.device) ≡ option_map (beside store.old.geometry) (D.bytes store.old.buffers.cache.device) }
+    ensures beside { option_map (beside store.new.geometry)
+        (D.bytes (device_of store.new)) ≡ option_map (beside store.old.geometry)
+        (D.bytes (device_of store.old)) }
 {
     find(store, runs, key, steps)
 }

@@ -18,7 +18,8 @@ use std::alloc::Global;
 /// The first pair from a key on.
 fn first_pair<D: Device>(kv: &mut Kv<D>, low: &[u8]) -> Result<Option<(Key, Value)>, Error>
     ensures stays { (m : Map) → Holds D.Device kv.old m → Holds D.Device kv.new m }
-    ensures first { (m : Map) → Holds D.Device kv.old m → IfOk result (λ pair. pair ≡ first_of (pairs_between m low.now None)) }
+    ensures first { (m : Map) → Holds D.Device kv.old m →
+        IfOk result (λ pair. pair ≡ first_of (pairs_between m low.now None)) }
 {
     let mut range = kv.range(low, None)?;
     range.try_next()
@@ -26,7 +27,8 @@ fn first_pair<D: Device>(kv: &mut Kv<D>, low: &[u8]) -> Result<Option<(Key, Valu
 
 /// Closes a store. An engine would try again what the device refused, by `close` of what is owed.
 fn closed<D: Device + Drop>(kv: Kv<D>) -> Result<D, Error>
-    ensures { (m : Map) → Holds D.Device kv m → IfOk result (λ device. StandsFor D.Device device m) }
+    ensures { (m : Map) → Holds D.Device kv m →
+        IfOk result (λ device. StandsFor D.Device device m) }
 {
     match kv.close() {
         Ok(device) => Ok(device),
@@ -51,7 +53,8 @@ pub fn read_first<D: Device + Drop>(
     device: D,
     low: &[u8],
 ) -> Result<(D, Option<(Key, Value)>), Error>
-    ensures { (m : Map) → StandsFor D.Device device m → IfOk result (λ done. Reads (D.bytes done.0) m low.now done.1) }
+    ensures { (m : Map) → StandsFor D.Device device m →
+        IfOk result (λ done. Reads (D.bytes done.0) m low.now done.1) }
 {
     let mut kv = opened(alloc, device)?;
     let pair = first_pair(&mut kv, low)?;
@@ -65,7 +68,8 @@ pub fn write_one<D: Device + Drop>(
     key: &[u8],
     value: &[u8],
 ) -> Result<(D, Option<(Key, Value)>), Error>
-    ensures { (m : Map) → StandsFor D.Device device m → IfOk result (λ done. Writes (D.bytes done.0) m key.now value.now done.1) }
+    ensures { (m : Map) → StandsFor D.Device device m →
+        IfOk result (λ done. Writes (D.bytes done.0) m key.now value.now done.1) }
 {
     let mut kv = opened(alloc, device)?;
     kv.put(key, value)?;
@@ -82,7 +86,8 @@ pub fn round_trip<D: Device + Drop>(
     value: &[u8],
 ) -> Result<(D, Option<(Key, Value)>, Option<(Key, Value)>), Error>
     // on a device that tells that it is empty, both readings answer the map with the put, and the file stands for it
-    ensures { IsSomeAnd (D.bytes device) (λ bytes. length bytes ≡ 0) → IfOk result (λ done. IsNewWithPut (D.bytes done.0) key.now value.now done.1 done.2) }
+    ensures { IsSomeAnd (D.bytes device) (λ bytes. length bytes ≡ 0) →
+        IfOk result (λ done. IsNewWithPut (D.bytes done.0) key.now value.now done.1 done.2) }
 {
     let mut device = device;
     create(&mut device, &Options::new(100))?;

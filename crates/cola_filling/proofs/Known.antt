@@ -14,7 +14,7 @@ use Rattle.cola_report.specs.Line.{LineEnds}
 use Rattle.cola_status.specs.declared.status.Status.TheVariants as known
 use Rattle.cola_status.specs.Statuses.{IsStatus}
 use Rattle.cola_status.proofs.Known.{one}
-use Rattle.cola_table.specs.Terms.{shape_of}
+use Rattle.cola_cell.specs.Shapes.{shape_of}
 use Rattle.cola_filling.specs.Loads as loads
 use Rattle.cola_filling.specs.Loads.{LoadEnds, LoadEndsBy, StopsBefore, load_status, loaded_line, word_line}
 use Rattle.cola_filling.specs.Grows.{GrowEnds, Grown, NotGrown, grow_status}

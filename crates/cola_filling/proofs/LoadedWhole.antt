@@ -9,7 +9,7 @@ use Rattle.cola_layout.specs.declared.geometry.Geometry.{Geometry}
 use Rattle.cola_report.specs.Line.{LineEnds}
 use Rattle.cola_run.specs.Cells.{file_bytes, device_levels}
 use Rattle.cola_session.specs.Ends.{ReadToEnd}
-use Rattle.cola_table.specs.Terms.{shape_of}
+use Rattle.cola_cell.specs.Shapes.{shape_of}
 use Rattle.cola_load.specs.Loading.{Loading, HoldsRows, IsUnfinished, HasBegun, full_blocks}
 use Rattle.cola_filling.specs.Lines.{IsFresh, AreLoaded, LoadFinishes}
 use Rattle.cola_filling.specs.Loads as ends

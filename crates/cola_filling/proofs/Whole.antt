@@ -21,7 +21,7 @@ use Rattle.cola_report.specs.Line.{LineEnds}
 use Rattle.cola_report.specs.Line.LineEnds.{WroteLine, WroteFront}
 use Rattle.cola_session.specs.Ends.{ReadToEnd}
 use Rattle.cola_spec.specs.Map.{Shape}
-use Rattle.cola_table.specs.Terms.{shape_of}
+use Rattle.cola_cell.specs.Shapes.{shape_of}
 use Rattle.cola_filling.specs.Loads as loads
 use Rattle.cola_filling.specs.Loads.{HaveNoWord, HasNotBegun, loaded_rows, loaded_line, load_status, LoadEndsBy, WasLoaded, IsFilledWith, StopsBefore, StandsForLines, CanBeLoaded}
 

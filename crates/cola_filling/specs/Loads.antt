@@ -25,7 +25,7 @@ use Rattle.cola_session.specs.Reading.{ReadFor, AreFirstLines}
 use Rattle.cola_spec.specs.Lines.{Line}
 use Rattle.cola_spec.specs.Map.{Shape}
 use Rattle.cola_spec.specs.Reply.{line}
-use Rattle.cola_table.specs.Terms.{shape_of}
+use Rattle.cola_cell.specs.Shapes.{shape_of}
 
 -- the line of so many rows that were loaded
 abbrev pub loaded_line : ℕ → List ℕ

@@ -2,7 +2,7 @@
 ghost use Rattle.std.specs.Prelude.{◌≡◌, ◌⊎◌, ℕ, List, Some};
 ghost use Rattle.cola_cell.specs.declared.format.Format.{Format};
 ghost use Rattle.cola_session.specs.Ends.{ReadToEnd};
-ghost use Rattle.cola_table.specs.Terms.{shape_of};
+ghost use Rattle.cola_cell.specs.Shapes.{shape_of};
 ghost use Rattle.cola_filling.specs.Loads.{LoadEnds, StandsForLines, CanBeLoaded};
 
 use cola_device::Device;

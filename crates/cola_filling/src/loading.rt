@@ -75,7 +75,8 @@ fn load_lines<S: Source, K: Sink, D: Device>(
     requires fresh { IsFresh (D.bytes device.old) loader.old }
     requires same { geometry.now ≡ loader.old.geometry }
     ensures ends { LinesLoad S.Source K.Sink D.Device loader.old loader.new source.old source.new sink.old sink.new device.old device.new result }
-    ensures spends { Spends (D.counts device.old) (D.counts device.new) 0 (full_blocks geometry.now geometry.now.keys) 0 }
+    ensures spends { Spends (D.counts device.old) (D.counts device.new) 0
+        (full_blocks geometry.now geometry.now.keys) 0 }
     ensures kept { D.kept device.new ≡ D.kept device.old }
 {
     let mut rows = Rows::begin(geometry.keys, geometry.format);
@@ -105,7 +106,8 @@ fn load_lines<S: Source, K: Sink, D: Device>(
 fn finish_load<K: Sink, D: Device>(loader: Loader, sink: &mut K, device: &mut D) -> u8
     requires { HasRange (D.bytes device.old) 0 (file_bytes loader.geometry) }
     ensures finishes { LoadFinishes K.Sink D.Device loader sink.old sink.new device.old device.new result }
-    ensures spends { Spends (D.counts device.old) (D.counts device.new) 0 (device_levels loader.geometry + 2) 2 }
+    ensures spends { Spends (D.counts device.old) (D.counts device.new) 0
+        (device_levels loader.geometry + 2) 2 }
     ensures kept { D.kept device.new ≡ D.kept device.old }
 {
     match loader.finish(device) {
@@ -134,7 +136,8 @@ fn load_into<S: Source, K: Sink, D: Device>(
     device: &mut D,
 ) -> u8
     ensures ends { LoadEndsBy S.Source K.Sink D.Device geometry source.old source.new sink.old sink.new device.old device.new result }
-    ensures spends { Spends (D.counts device.old) (D.counts device.new) 0 (most_writes geometry geometry.keys) 4 }
+    ensures spends { Spends (D.counts device.old) (D.counts device.new) 0
+        (most_writes geometry geometry.keys) 4 }
     ensures kept { D.kept device.new ≡ D.kept device.old }
 {
     let mut loader = match Loader::begin(alloc, device, geometry, 0) {

@@ -1,8 +1,9 @@
 -- Blocks 0 and 1 in memory: what contracts see of them, and their bytes on a device.
-use Rattle.std.specs.Prelude.{◌≡◌, ℕ, ◌*◌, ◌^◌, ◌≤◌, ◌<◌, List, [], ◌∷◌, ◌++◌, drop, length, replicate, Option, None, Some, Result, OnErr, ◌⊎◌, slice_index_or}
+use Rattle.std.specs.Prelude.{◌≡◌, ℕ, ◌*◌, ◌^◌, ◌≤◌, ◌<◌, List, [], ◌∷◌, ◌++◌, take, drop, length, replicate, Option, None, Some, Result, OnErr, ◌⊎◌, slice_index_or, slice_set}
 use Rattle.cola_cell.specs.declared.format.Format.{Format}
 use Rattle.cola_cell.specs.declared.cell.Cell.{Cell}
 use Rattle.cola_cell.specs.Format.{width}
+use Rattle.cola_cell.specs.Spelling.{IsSpelling}
 use Rattle.cola_cell.specs.Decoded.{decoded, spelling}
 use Rattle.cola_device.specs.Bytes.{part}
 
@@ -25,10 +26,18 @@ block_size front = width front.format * front.block
 abbrev pub cell_bytes : Format → List ℕ → ℕ → List ℕ
 cell_bytes format bytes number = part bytes (width format * number) (width format)
 
+-- the cell that bytes spell at the place of this number, or none
+abbrev pub spelled_at : Format → List ℕ → ℕ → Option Cell
+spelled_at format bytes number = decoded format (cell_bytes format bytes number)
+
 -- the bytes as which a place is stored: zeros where no cell stands
 abbrev pub stored : Format → Option Cell → List ℕ
 stored format None = replicate (width format) 0
 stored format (Some cell) = spelling format cell
+
+-- a cell whose bytes spell it
+abbrev pub IsSpelled : Format → Cell → Type 0
+IsSpelled format cell = IsSpelling format cell (spelling format cell)
 
 -- the bytes of places, one behind the other
 abbrev pub stored_all : Format → List (Option Cell) → List ℕ
@@ -53,14 +62,22 @@ pub record IsFront (front : FrontCells) : Type 0 where
 abbrev pub new_front : ℕ → Format → FrontCells
 new_front block_exp format = record { format = format; block = 2 ^ block_exp; cells = replicate (2 * 2 ^ block_exp) None }
 
+-- a front with this cell at a place
+abbrev pub front_with : FrontCells → ℕ → Cell → FrontCells
+front_with front place cell = record front { cells = slice_set front.cells place (Some cell) }
+
 -- each place behind the header has what a file's bytes spell there
 abbrev pub IsLoaded : List ℕ → FrontCells → Type 0
-IsLoaded bytes front = (place : ℕ) → 8 ≤ place → place < 2 * front.block → cell_at front place ≡ decoded front.format (cell_bytes front.format bytes place)
+IsLoaded bytes front = (place : ℕ) → 8 ≤ place → place < 2 * front.block → cell_at front place ≡ spelled_at front.format bytes place
 
 -- the format and the size of a block stay
 pub record SameShape (before now : FrontCells) : Type 0 where
   pub format : now.format ≡ before.format
   pub block : now.block ≡ before.block
+
+-- the bytes of block 0: the header, zeros up to the end of its eight cells, and the cells behind them
+abbrev pub first_block : FrontCells → List ℕ → List ℕ
+first_block front header = header ++ drop 512 (stored_all front.format (take front.block front.cells))
 
 -- the bytes of block 1
 abbrev pub second_block : FrontCells → List ℕ

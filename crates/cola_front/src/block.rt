@@ -1,31 +1,17 @@
 //! The cells of one block as its bytes.
 ghost use Rattle.std.specs.Prelude.{◌≡◌, ℕ, ◌+◌, ◌-◌, ◌*◌, ◌≤◌, ◌<◌, ◌++◌, Option, None, Some, if◌then◌else◌, length, take, drop, slice_index_or};
 ghost use Rattle.cola_cell.specs.Format.{width, CellFits};
-ghost use Rattle.cola_cell.specs.Spelling.{IsSpelling};
-ghost use Rattle.cola_cell.specs.Decoded.{decoded, spelling};
 ghost use Rattle.cola_cell.specs.Packed.{passed, MayPass};
 ghost use Rattle.cola_device.specs.Bytes.{splice};
-ghost use Rattle.cola_front.specs.Front.{cell_bytes, stored, stored_all, ComesBack};
+ghost use Rattle.cola_front.specs.Front.{IsSpelled, spelled_at, stored, stored_all, ComesBack};
 
-use cola_cell::{Cell, Format, Packed, Pass, decode, decode_wide};
+use cola_cell::{Cell, Format, Packed, Pass};
 
-/// The cell at a place of a block, which is counted in cells, or none where its bytes spell none.
-#[inline]
-pub fn cell_in(format: Format, block: &[u8], place: usize) -> Option<Cell>
-    requires { width format * place + width format ≤ length block.now }
-    ensures { result ≡ decoded format (cell_bytes format block.now place) }
-{
-    match format {
-        Format::One => decode(block[64 * place..64 * place + 64].first_chunk()?),
-        Format::Two => decode_wide(block[128 * place..128 * place + 128].first_chunk()?),
-    }
-}
-
-/// The same, packed.
+/// The cell at a place of a block, which is counted in cells, packed; or none where its bytes spell none.
 #[inline]
 pub(crate) fn packed_in(format: Format, block: &[u8], place: usize) -> Option<Packed>
     requires { width format * place + width format ≤ length block.now }
-    ensures { result ≡ decoded format (cell_bytes format block.now place) }
+    ensures { result ≡ spelled_at format block.now place }
 {
     match format {
         Format::One => Packed::of(format, &block[64 * place..64 * place + 64]),
@@ -38,7 +24,7 @@ pub(crate) fn packed_in(format: Format, block: &[u8], place: usize) -> Option<Pa
 #[inline]
 pub fn refill_from(format: Format, block: &[u8], place: usize, into: &mut Packed) -> bool
     requires { width format * place + width format ≤ length block.now }
-    ensures { (if result then Some into.new else None) ≡ decoded format (cell_bytes format block.now place) }
+    ensures { (if result then Some into.new else None) ≡ spelled_at format block.now place }
 {
     match format {
         Format::One => into.refill(format, &block[64 * place..64 * place + 64]),
@@ -78,7 +64,7 @@ fn fill_as(format: Format, cell: &Packed, pass: Pass, into: &mut [u8])
     requires may { MayPass pass cell.now }
     requires fits { CellFits format cell.now }
     ensures put { into.new ≡ stored format (Some (passed pass cell.now)) }
-    ensures spelled { IsSpelling format (passed pass cell.now) (spelling format (passed pass cell.now)) }
+    ensures spelled { IsSpelled format (passed pass cell.now) }
 {
     cell.write_as(format, pass, into);
 }
@@ -89,8 +75,9 @@ pub fn put_as(format: Format, block: &mut [u8], place: usize, cell: &Packed, pas
     requires inside { width format * place + width format ≤ length block.old }
     requires may { MayPass pass cell.now }
     requires fits { CellFits format cell.now }
-    ensures put { block.new ≡ splice block.old (width format * place) (stored format (Some (passed pass cell.now))) }
-    ensures spelled { IsSpelling format (passed pass cell.now) (spelling format (passed pass cell.now)) }
+    ensures put { block.new ≡
+        splice block.old (width format * place) (stored format (Some (passed pass cell.now))) }
+    ensures spelled { IsSpelled format (passed pass cell.now) }
 {
     match format {
         Format::One => fill_as(format, cell, pass, &mut block[64 * place..64 * place + 64]),
@@ -107,8 +94,9 @@ pub fn put_as(format: Format, block: &mut [u8], place: usize, cell: &Packed, pas
 pub fn put_cell(format: Format, block: &mut [u8], place: usize, cell: &Cell)
     requires inside { width format * place + width format ≤ length block.old }
     requires fits { CellFits format cell.now }
-    ensures put { block.new ≡ splice block.old (width format * place) (stored format (Some cell.now)) }
-    ensures spelled { IsSpelling format cell.now (spelling format cell.now) }
+    ensures put { block.new ≡
+        splice block.old (width format * place) (stored format (Some cell.now)) }
+    ensures spelled { IsSpelled format cell.now }
 {
     let packed = Packed::of_cell(format, cell);
     put_as(format, block, place, &packed, Pass::keeping(cell));
@@ -135,9 +123,12 @@ pub(crate) fn take_cells(
     requires order { from ≤ to }
     requires end { to ≤ length cells.old }
     requires whole { width format * (to - first) ≤ length block.now }
-    ensures taken { (place : ℕ) → from ≤ place → place < to → slice_index_or cells.new place None ≡ decoded format (cell_bytes format block.now (place - first)) }
-    ensures below { (place : ℕ) → place < from → slice_index_or cells.new place None ≡ slice_index_or cells.old place None }
-    ensures above { (place : ℕ) → from ≤ place → to ≤ place → slice_index_or cells.new place None ≡ slice_index_or cells.old place None }
+    ensures taken { (place : ℕ) → from ≤ place → place < to →
+        slice_index_or cells.new place None ≡ spelled_at format block.now (place - first) }
+    ensures below { (place : ℕ) → place < from →
+        slice_index_or cells.new place None ≡ slice_index_or cells.old place None }
+    ensures above { (place : ℕ) → from ≤ place → to ≤ place →
+        slice_index_or cells.new place None ≡ slice_index_or cells.old place None }
     ensures many { length cells.new ≡ length cells.old }
     ensures whole { width format * (to - first) ≤ length block.now }
 {

@@ -1,13 +1,12 @@
 //! The front of a store: its blocks 0 and 1 in memory.
-ghost use Rattle.std.specs.Prelude.{◌≡◌, ◌⊎◌, ℕ, ◌+◌, ◌-◌, ◌*◌, ◌^◌, ◌≤◌, ◌<◌, Option, None, Some, is_some, if◌then◌else◌, IfOk, IfSome, OnOk, OnErr, slice_set, length, take, drop, replicate, ◌++◌};
+ghost use Rattle.std.specs.Prelude.{◌≡◌, ◌⊎◌, ℕ, ◌+◌, ◌-◌, ◌*◌, ◌^◌, ◌≤◌, ◌<◌, Option, None, Some, is_some, if◌then◌else◌, IfOk, IfSome, OnOk, OnErr, length, replicate};
 ghost use Rattle.std.specs.Box.{boxed_slice_items};
 ghost use Rattle.cola_outside.specs.Told.{Both};
 ghost use Rattle.cola_cell.specs.Format.{CellFits};
-ghost use Rattle.cola_cell.specs.Decoded.{decoded};
 ghost use Rattle.cola_cell.specs.Packed.{passed, MayPass};
 ghost use Rattle.cola_device.specs.Bytes.{HasRange, Wrote};
 ghost use Rattle.cola_device.specs.Counts.{Called};
-ghost use Rattle.cola_front.specs.Front.{FrontCells, IsFront, SameShape, IsLoaded, cell_at, cell_bytes, block_size, image, InOrder, new_front, stored_all, second_block};
+ghost use Rattle.cola_front.specs.Front.{FrontCells, IsFront, SameShape, IsLoaded, cell_at, spelled_at, front_with, block_size, image, InOrder, new_front, first_block, second_block};
 
 use crate::block::{put_cells, put_header, take_cells};
 use cola_cell::{Cell, Format, Packed, Pass};
@@ -100,9 +99,12 @@ impl Front {
         requires number { first ≡ 0 ⊎ first ≡ self.old.block }
         requires end { from ≤ first + self.old.block }
         requires whole { length block.now ≡ block_size self.old }
-        ensures taken { (place : ℕ) → from ≤ place → place < first + self.old.block → cell_at self.new place ≡ decoded self.old.format (cell_bytes self.old.format block.now (place - first)) }
-        ensures below { (place : ℕ) → place < from → cell_at self.new place ≡ cell_at self.old place }
-        ensures above { (place : ℕ) → first + self.old.block ≤ place → cell_at self.new place ≡ cell_at self.old place }
+        ensures taken { (place : ℕ) → from ≤ place → place < first + self.old.block →
+            cell_at self.new place ≡ spelled_at self.old.format block.now (place - first) }
+        ensures below { (place : ℕ) → place < from →
+            cell_at self.new place ≡ cell_at self.old place }
+        ensures above { (place : ℕ) → first + self.old.block ≤ place →
+            cell_at self.new place ≡ cell_at self.old place }
         ensures shape { SameShape self.old self.new }
         ensures whole { length block.now ≡ block_size self.old }
     {
@@ -113,8 +115,10 @@ impl Front {
     /// Gives the places behind the header what the bytes of block 0 spell.
     pub fn take_first(&mut self, block: &[u8])
         requires whole { length block.now ≡ block_size self.old }
-        ensures taken { (place : ℕ) → 8 ≤ place → place < self.old.block → cell_at self.new place ≡ decoded self.old.format (cell_bytes self.old.format block.now place) }
-        ensures above { (place : ℕ) → self.old.block ≤ place → cell_at self.new place ≡ cell_at self.old place }
+        ensures taken { (place : ℕ) → 8 ≤ place → place < self.old.block →
+            cell_at self.new place ≡ spelled_at self.old.format block.now place }
+        ensures above { (place : ℕ) → self.old.block ≤ place →
+            cell_at self.new place ≡ cell_at self.old place }
         ensures shape { SameShape self.old self.new }
     {
         // It says that a block has the header's eight cells at least.
@@ -125,8 +129,10 @@ impl Front {
     /// Gives the places of block 1 what its bytes spell.
     pub fn take_second(&mut self, block: &[u8])
         requires whole { length block.now ≡ block_size self.old }
-        ensures taken { (place : ℕ) → self.old.block ≤ place → place < 2 * self.old.block → cell_at self.new place ≡ decoded self.old.format (cell_bytes self.old.format block.now (place - self.old.block)) }
-        ensures below { (place : ℕ) → place < self.old.block → cell_at self.new place ≡ cell_at self.old place }
+        ensures taken { (place : ℕ) → self.old.block ≤ place → place < 2 * self.old.block →
+            cell_at self.new place ≡ spelled_at self.old.format block.now (place - self.old.block) }
+        ensures below { (place : ℕ) → place < self.old.block →
+            cell_at self.new place ≡ cell_at self.old place }
         ensures shape { SameShape self.old self.new }
     {
         let _ = self.block_bytes();
@@ -146,8 +152,10 @@ impl Front {
         requires behind { 8 ≤ from }
         requires number { first ≡ 0 ⊎ first ≡ self.old.block }
         requires end { from ≤ first + self.old.block }
-        ensures taken { OnOk result (IfSome (D.bytes device.old) (λ bytes. (place : ℕ) → from ≤ place → place < first + self.old.block → cell_at self.new place ≡ decoded self.old.format (cell_bytes self.old.format bytes place))) }
-        ensures below { (place : ℕ) → place < from → cell_at self.new place ≡ cell_at self.old place }
+        ensures taken { OnOk result (IfSome (D.bytes device.old) (λ bytes. (place : ℕ) →
+            from ≤ place → place < first + self.old.block → cell_at self.new place ≡ spelled_at self.old.format bytes place)) }
+        ensures below { (place : ℕ) → place < from →
+            cell_at self.new place ≡ cell_at self.old place }
         ensures stays { OnErr result (self.new ≡ self.old) }
         ensures shape { SameShape self.old self.new }
         ensures bytes_stay { D.bytes device.new ≡ D.bytes device.old }
@@ -171,7 +179,8 @@ impl Front {
     /// they spell none. After a refusal nothing is said of the cells.
     pub fn load<D: Device>(&mut self, device: &mut D) -> Result<(), DeviceFault>
         requires { HasRange (D.bytes device.old) 0 (2 * block_size self.old) }
-        ensures loaded { OnOk result (IfSome (D.bytes device.old) (λ bytes. IsLoaded bytes self.new)) }
+        ensures loaded { OnOk result
+            (IfSome (D.bytes device.old) (λ bytes. IsLoaded bytes self.new)) }
         ensures shape { SameShape self.old self.new }
         ensures bytes_stay { D.bytes device.new ≡ D.bytes device.old }
         ensures kept { D.kept device.new ≡ D.kept device.old }
@@ -236,7 +245,7 @@ impl Front {
         requires within { place < 2 * self.old.block }
         requires may { MayPass pass cell.now }
         requires fits { CellFits self.old.format cell.now }
-        ensures after { self.new ≡ record self.old { cells = slice_set self.old.cells place (Some (passed pass cell.now)) } }
+        ensures after { self.new ≡ front_with self.old place (passed pass cell.now) }
         ensures sound { IsFront self.old }
     {
         let cell = cell.copy_as(pass);
@@ -249,7 +258,7 @@ impl Front {
         requires behind_header { 8 ≤ place }
         requires within { place < 2 * self.old.block }
         requires fits { CellFits self.old.format cell.now }
-        ensures after { self.new ≡ record self.old { cells = slice_set self.old.cells place (Some cell.now) } }
+        ensures after { self.new ≡ front_with self.old place cell.now }
         ensures sound { IsFront self.old }
     {
         let packed = Packed::of_cell(self.format, cell);
@@ -269,7 +278,7 @@ impl Front {
     /// Fills a block with the bytes of block 0: the header, zeros up to cell 8, and what stands behind it.
     pub fn put_first(&self, header: &[u8; 512], block: &mut [u8])
         requires { length block.old ≡ block_size self.now }
-        ensures put { block.new ≡ header.now ++ drop 512 (stored_all self.now.format (take self.now.block self.now.cells)) }
+        ensures put { block.new ≡ first_block self.now header.now }
         ensures many { length block.new ≡ block_size self.now }
     {
         put_cells(self.format, block, &self.cells, 0, self.block);
@@ -281,8 +290,10 @@ impl Front {
     /// stays where block 1 was not written.
     pub fn store<D: Device>(&self, device: &mut D, header: &[u8; 512]) -> Result<(), DeviceFault>
         requires { HasRange (D.bytes device.old) 0 (2 * block_size self.now) }
-        ensures wrote { Wrote result 0 (image self.now header.now) (D.bytes device.old) (D.bytes device.new) }
-        ensures in_order { Both (D.bytes device.old) (D.bytes device.new) (InOrder result self.now) }
+        ensures wrote { Wrote result 0 (image self.now header.now)
+            (D.bytes device.old) (D.bytes device.new) }
+        ensures in_order { Both (D.bytes device.old) (D.bytes device.new)
+            (InOrder result self.now) }
         ensures kept { D.kept device.new ≡ D.kept device.old }
         ensures counts { Called (D.counts device.old) (D.counts device.new) 0 2 0 result }
         ensures sound { IsFront self.now }

@@ -1,11 +1,10 @@
 //! The calls of the workload, each with what it adds to the tally.
 ghost use Rattle.std.specs.Prelude.{◌≡◌, ◌+◌, ◌*◌, ◌<◌, MatchResult};
 ghost use Rattle.cola_cell.specs.declared.fault.ReadFault.{ReadFault};
-ghost use Rattle.cola_cell.specs.declared.fault.StepFault.{StepFault};
 ghost use Rattle.cola_spec.specs.Reply.{Failed, Deleted, Put as Answer};
 ghost use Rattle.cola_spec.specs.Bounds.{put_bound, get_bound};
 ghost use Rattle.cola_table.specs.Answers.{put_answer, PutFaults, ReadFaults};
-ghost use Rattle.cola_table.specs.Replies.{put_refused, step_failure, read_failure};
+ghost use Rattle.cola_table.specs.Replies.{put_refused, read_failure};
 ghost use Rattle.cola_gen.specs.Commands.{puts, deletes, gets};
 ghost use Rattle.cola_gen.specs.Turns as turns;
 ghost use Rattle.cola_gen.specs.Turns.{HasOneMore, one};
@@ -13,7 +12,7 @@ ghost use Rattle.cola_gen.specs.Answered.{Accepted, Refused, at};
 
 use crate::Tally;
 use crate::keys::{expected, key_of, value_of};
-use cola_cell::{ReadFault, StepFault, Value};
+use cola_cell::{ReadFault, Value};
 use cola_outside::Steps;
 use cola_table::{Put, PutFault, Table};
 use std::sync::ledger::Ledger;
@@ -51,17 +50,6 @@ fn is_same(found: Option<Value>, wanted: Option<Value>) -> bool
     }
 }
 
-/// The refusal of a delete, as one of a put.
-fn refused_delete(fault: StepFault) -> PutFault
-    ensures { put_refused result ≡ Failed (step_failure fault) }
-{
-    match fault {
-        StepFault::Device => PutFault::Device,
-        StepFault::BadCell(cell) => PutFault::BadCell(cell),
-        StepFault::Overfull(level) => PutFault::Overfull(level),
-    }
-}
-
 /// Puts the key of a place with its value.
 pub fn put_key<T: Table, L: Ledger>(
     table: &mut T,
@@ -71,7 +59,11 @@ pub fn put_key<T: Table, L: Ledger>(
     steps: &mut Steps<L>,
 ) -> Result<(), PutFault>
     requires { HasOneMore tally.old }
-    ensures call { MatchResult result (λ _. Accepted T.Table (puts place) (put_bound (T.terms table.old).depth) levels place (at table.old tally.old steps.old) (at table.new tally.new steps.new)) (λ fault. Refused T.Table (puts place) (put_refused fault) (at table.old tally.old steps.old) (at table.new tally.new steps.new)) }
+    ensures call { MatchResult result
+        (λ _. Accepted T.Table (puts place) (put_bound (T.terms table.old).depth) levels place
+        (at table.old tally.old steps.old) (at table.new tally.new steps.new))
+        (λ fault. Refused T.Table (puts place) (put_refused fault)
+        (at table.old tally.old steps.old) (at table.new tally.new steps.new)) }
     ensures faults { PutFaults result (T.faults table.old) (T.faults table.new) }
 {
     let (put, cost) = table.put(&key_of(place), &value_of(place), steps)?;
@@ -90,7 +82,11 @@ pub fn delete_key<T: Table, L: Ledger>(
 ) -> Result<(), PutFault>
     requires in_range { half < 2147483648 }
     requires room { HasOneMore tally.old }
-    ensures call { MatchResult result (λ _. Accepted T.Table (deletes half) (put_bound (T.terms table.old).depth) levels half (at table.old tally.old steps.old) (at table.new tally.new steps.new)) (λ fault. Refused T.Table (deletes half) (put_refused fault) (at table.old tally.old steps.old) (at table.new tally.new steps.new)) }
+    ensures call { MatchResult result
+        (λ _. Accepted T.Table (deletes half) (put_bound (T.terms table.old).depth) levels half
+        (at table.old tally.old steps.old) (at table.new tally.new steps.new))
+        (λ fault. Refused T.Table (deletes half) (put_refused fault)
+        (at table.old tally.old steps.old) (at table.new tally.new steps.new)) }
     ensures faults { PutFaults result (T.faults table.old) (T.faults table.new) }
 {
     match table.delete(&key_of(2 * half), steps) {
@@ -99,7 +95,7 @@ pub fn delete_key<T: Table, L: Ledger>(
             tally.over = counted(tally.over, cost > 40 * u32::from(levels));
             Ok(())
         }
-        Err(fault) => Err(refused_delete(fault)),
+        Err(fault) => Err(PutFault::from(fault)),
     }
 }
 
@@ -112,7 +108,11 @@ pub fn get_key<T: Table, L: Ledger>(
     steps: &mut Steps<L>,
 ) -> Result<(), ReadFault>
     requires { HasOneMore tally.old }
-    ensures call { MatchResult result (λ _. Accepted T.Table (gets place) (get_bound (T.terms table.old).depth) levels place (at table.old tally.old steps.old) (at table.new tally.new steps.new)) (λ fault. Refused T.Table (gets place) (Failed (read_failure fault)) (at table.old tally.old steps.old) (at table.new tally.new steps.new)) }
+    ensures call { MatchResult result
+        (λ _. Accepted T.Table (gets place) (get_bound (T.terms table.old).depth) levels place
+        (at table.old tally.old steps.old) (at table.new tally.new steps.new))
+        (λ fault. Refused T.Table (gets place) (Failed (read_failure fault))
+        (at table.old tally.old steps.old) (at table.new tally.new steps.new)) }
     ensures faults { ReadFaults result (T.faults table.old) (T.faults table.new) }
 {
     let (found, cost) = table.get(&key_of(place), steps)?;

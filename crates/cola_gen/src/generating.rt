@@ -28,7 +28,9 @@ fn put_keys<T: Table, L: Ledger>(
     steps: &mut Steps<L>,
 ) -> Result<(), PutFault>
     requires { HasCounted 0 tally.old }
-    ensures ran { Ran T.Table puts put_refused (put_bound (T.terms table.old).depth) levels number result (at table.old tally.old steps.old) (at table.new tally.new steps.new) }
+    ensures ran { Ran T.Table puts put_refused
+        (put_bound (T.terms table.old).depth) levels number result
+        (at table.old tally.old steps.old) (at table.new tally.new steps.new) }
     ensures faults { PutFaults result (T.faults table.old) (T.faults table.new) }
     ensures counted { HasCounted number tally.new }
 {
@@ -47,7 +49,9 @@ fn delete_keys<T: Table, L: Ledger>(
     steps: &mut Steps<L>,
 ) -> Result<(), PutFault>
     requires { HasCounted number tally.old }
-    ensures ran { Ran T.Table deletes put_refused (put_bound (T.terms table.old).depth) levels (evens number) result (at table.old tally.old steps.old) (at table.new tally.new steps.new) }
+    ensures ran { Ran T.Table deletes put_refused (put_bound (T.terms table.old).depth) levels
+        (evens number) result (at table.old tally.old steps.old)
+        (at table.new tally.new steps.new) }
     ensures faults { PutFaults result (T.faults table.old) (T.faults table.new) }
 {
     for half in 0..number - number / 2 {
@@ -69,12 +73,21 @@ pub fn generate<T: Table, L: Ledger>(
     steps: &mut Steps<L>,
 ) -> Result<(), PutFault>
     requires { HasCounted 0 tally.old }
-    ensures given { Generated T.Table (put_bound (T.terms table.old).depth) levels (spec.made keys) result (at table.old tally.old steps.old) (at table.new tally.new steps.new) }
-    ensures left { (m : Map) → T.holds table.old m → OnOk result (T.holds table.new (left_by (shape (T.terms table.old)) m (spec.made keys))) }
-    ensures from_empty { T.holds table.old empty_map → spec.made keys ≤ (T.terms table.old).limit → MatchResult result (λ _. MadeOdd T.Table (spec.made keys) (at table.old tally.old steps.old) (at table.new tally.new steps.new)) (λ refusal. refusal ≡ fault.Device) }
+    ensures given { Generated T.Table (put_bound (T.terms table.old).depth) levels
+        (spec.made keys) result (at table.old tally.old steps.old)
+        (at table.new tally.new steps.new) }
+    ensures left { (m : Map) → T.holds table.old m →
+        OnOk result (T.holds table.new (left_by (shape (T.terms table.old)) m (spec.made keys))) }
+    ensures from_empty { T.holds table.old empty_map → spec.made keys ≤ (T.terms table.old).limit →
+        MatchResult result
+        (λ _. MadeOdd T.Table (spec.made keys) (at table.old tally.old steps.old)
+        (at table.new tally.new steps.new)) (λ refusal. refusal ≡ fault.Device) }
     ensures not_over { (T.terms table.old).depth ≤ levels → tally.new.over ≡ tally.old.over }
-    ensures tallied { RisesBy (spec.made keys) (evens (spec.made keys)) 0 (spec.made keys + evens (spec.made keys)) tally.old tally.new }
-    ensures spent { Spent T.Table ((spec.made keys + evens (spec.made keys)) * put_bound (T.terms table.old).depth) (at table.old tally.old steps.old) (at table.new tally.new steps.new) }
+    ensures tallied { RisesBy (spec.made keys) (evens (spec.made keys)) 0
+        (spec.made keys + evens (spec.made keys)) tally.old tally.new }
+    ensures spent { Spent T.Table
+        ((spec.made keys + evens (spec.made keys)) * put_bound (T.terms table.old).depth)
+        (at table.old tally.old steps.old) (at table.new tally.new steps.new) }
     ensures faults { PutFaults result (T.faults table.old) (T.faults table.new) }
 {
     let number = made(keys);

@@ -31,13 +31,19 @@ pub fn verify<T: Table, L: Ledger>(
     steps: &mut Steps<L>,
 ) -> Result<(), ReadFault>
     requires { HasCounted 0 tally.old }
-    ensures given { Ran T.Table gets read_refused (get_bound (T.terms table.old).depth) levels (spec.made keys) result (at table.old tally.old steps.old) (at table.new tally.new steps.new) }
+    ensures given { Ran T.Table gets read_refused (get_bound (T.terms table.old).depth) levels
+        (spec.made keys) result (at table.old tally.old steps.old)
+        (at table.new tally.new steps.new) }
     ensures sound { (m : Map) → T.holds table.old m → T.holds table.new m }
-    ensures wrong { (m : Map) → T.holds table.old m → MatchResult result (λ _. tally.new.wrong ≡ tally.old.wrong + wrong_in m (spec.made keys)) (λ refusal. refusal ≡ fault.Device) }
-    ensures none_wrong { (m : Map) → T.holds table.old m → HasOdd (spec.made keys) m → OnOk result (tally.new.wrong ≡ tally.old.wrong) }
+    ensures wrong { (m : Map) → T.holds table.old m →
+        MatchResult result (λ _. tally.new.wrong ≡ tally.old.wrong + wrong_in m (spec.made keys))
+        (λ refusal. refusal ≡ fault.Device) }
+    ensures none_wrong { (m : Map) → T.holds table.old m → HasOdd (spec.made keys) m →
+        OnOk result (tally.new.wrong ≡ tally.old.wrong) }
     ensures not_over { (T.terms table.old).depth ≤ levels → tally.new.over ≡ tally.old.over }
     ensures tallied { RisesBy 0 0 (spec.made keys) (spec.made keys) tally.old tally.new }
-    ensures spent { Spent T.Table (spec.made keys * get_bound (T.terms table.old).depth) (at table.old tally.old steps.old) (at table.new tally.new steps.new) }
+    ensures spent { Spent T.Table (spec.made keys * get_bound (T.terms table.old).depth)
+        (at table.old tally.old steps.old) (at table.new tally.new steps.new) }
     ensures faults { ReadFaults result (T.faults table.old) (T.faults table.new) }
 {
     for place in 0..made(keys) {

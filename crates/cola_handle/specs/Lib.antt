@@ -5,3 +5,4 @@ pub mod Calls
 pub mod Cursors
 pub mod Lent
 pub mod Created
+pub mod Reading

@@ -1,5 +1,5 @@
 -- The numbers of the answers in C, which are those of include/cola.h, and the answer of each call.
-use Rattle.std.specs.Prelude.{ℕ, Bool, true, false, Option, Some, None, Result, Ok, Err}
+use Rattle.std.specs.Prelude.{ℕ, Bool, true, false, List, ◌++◌, length, drop, Option, Some, None, Result, Ok, Err}
 use Rattle.cola_handle.specs.declared.answer.Answer.{Answer}
 use Rattle.cola_handle.specs.declared.answer.Answer.TheVariants.{Done, Absent, Other, Full, Worn, Closed, InUse, Length, Options, NotEmpty, NotStore, Small, NotClosed, BadCell, Overfull, Memory}
 use Rattle.cola_handle.specs.declared.answer.Refusal.{Refusal}
@@ -54,7 +54,35 @@ made_if (Ok (put_if.Old value)) = Done
 made_if (Ok (put_if.Other stamp)) = Other
 made_if (Err why) = refused why
 
--- whether an accepted put replaced a value
-abbrev pub replaced : Put → Bool
-replaced put.New = false
-replaced (put.Old value) = true
+-- What a call leaves in a caller's place, which had this: a refused call leaves it as it was
+
+-- whether a put replaced a value
+abbrev pub was_told : Result Put Refusal → Bool → Bool
+was_told (Ok put.New) old = false
+was_told (Ok (put.Old value)) old = true
+was_told (Err why) old = old
+
+-- the stamp that a key has, where it is another than the one seen
+abbrev pub other_told : Result PutIf Refusal → ℕ → ℕ
+other_told (Ok put_if.New) old = old
+other_told (Ok (put_if.Old value)) old = old
+other_told (Ok (put_if.Other stamp)) old = stamp
+other_told (Err why) old = old
+
+-- a value that was found, in front of what stood there
+abbrev pub value_told : Result (Option (List ℕ)) Refusal → List ℕ → List ℕ
+value_told (Ok (Some value)) old = value ++ drop (length value) old
+value_told (Ok None) old = old
+value_told (Err why) old = old
+
+-- the length of a value that was found
+abbrev pub length_told : Result (Option (List ℕ)) Refusal → ℕ → ℕ
+length_told (Ok (Some value)) old = length value
+length_told (Ok None) old = old
+length_told (Err why) old = old
+
+-- a stamp that was found
+abbrev pub stamp_told : Result (Option ℕ) Refusal → ℕ → ℕ
+stamp_told (Ok (Some stamp)) old = stamp
+stamp_told (Ok None) old = old
+stamp_told (Err why) old = old

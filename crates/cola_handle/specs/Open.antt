@@ -3,7 +3,7 @@ use Rattle.std.specs.Prelude.{◌≡◌, ℕ, List, Option, Some}
 use denote.RawPtr.{Ptr}
 use Rattle.cola_spec.specs.Map.{Shape, Map}
 use Rattle.cola_store.specs.Store as store
-use Rattle.cola_store.specs.Store.{Holds, terms_of}
+use Rattle.cola_store.specs.Store.{Holds, terms_of, device_in}
 use Rattle.cola_table.specs.Terms.{shape}
 use Rattle.cola_mapped.specs.Mapped.{Mapped}
 use Rattle.cola_handle.specs.declared.session.Session.{Session}
@@ -26,7 +26,7 @@ levels_of session = store.levels_of session.store
 
 -- its device
 abbrev pub device_of : Session → Mapped
-device_of session = session.store.chain.store.buffers.cache.device
+device_of session = device_in session.store
 
 -- where its bytes lie, and how many there are
 abbrev pub place_of : Session → Ptr × ℕ

@@ -9,6 +9,7 @@ ghost use Rattle.cola_table.specs.Terms.{shape};
 ghost use Rattle.cola_mapped.specs.Mapped.{counts_of};
 ghost use Rattle.cola_handle.specs.declared.answer.Refusal.TheVariants.{Length};
 ghost use Rattle.cola_handle.specs.Open.{bytes_of, HoldsMap, shape_of, levels_of, place_of};
+ghost use Rattle.cola_handle.specs.Reading.{ReadsFew};
 ghost use Rattle.cola_handle.specs.Calls.{both_fit, ByLength, GetSays, StampSays, DeleteSays, PutSays, PutIfSays};
 
 use crate::answer::Refusal;
@@ -24,7 +25,8 @@ use std::sync::ledger::{Blank, Ledger};
 fn key_of(store: &Store<MappedDevice>, bytes: &[u8]) -> Result<Key, Refusal>
     ensures value { IfOk result (λ key. key ≡ bytes.now) }
     ensures fits { IfOk result (KeyFits (terms_of store.now).format) }
-    ensures exact { MatchResult result (λ _. is_key (shape (terms_of store.now)) bytes.now ≡ true) (λ why. (why ≡ Length) × (is_key (shape (terms_of store.now)) bytes.now ≡ false)) }
+    ensures exact { MatchResult result (λ _. is_key (shape (terms_of store.now)) bytes.now ≡ true)
+        (λ why. (why ≡ Length) × (is_key (shape (terms_of store.now)) bytes.now ≡ false)) }
 {
     match Key::of(bytes) {
         Some(key) if key.fits(store.format()) => Ok(key),
@@ -36,8 +38,13 @@ fn key_of(store: &Store<MappedDevice>, bytes: &[u8]) -> Result<Key, Refusal>
 fn pair_of(store: &Store<MappedDevice>, key: &[u8], value: &[u8]) -> Result<(Key, Value), Refusal>
     ensures key { IfOk result (λ pair. pair.0 ≡ key.now) }
     ensures value { IfOk result (λ pair. pair.1 ≡ value.now) }
-    ensures fits { IfOk result (λ pair. KeyFits (terms_of store.now).format pair.0 × ValueFits (terms_of store.now).format pair.1) }
-    ensures exact { MatchResult result (λ _. both_fit (shape (terms_of store.now)) key.now value.now ≡ true) (λ why. (why ≡ Length) × (both_fit (shape (terms_of store.now)) key.now value.now ≡ false)) }
+    ensures fits { IfOk result
+        (λ pair. KeyFits (terms_of store.now).format pair.0
+        × ValueFits (terms_of store.now).format pair.1) }
+    ensures exact { MatchResult result
+        (λ _. both_fit (shape (terms_of store.now)) key.now value.now ≡ true)
+        (λ why. (why ≡ Length)
+        × (both_fit (shape (terms_of store.now)) key.now value.now ≡ false)) }
 {
     let key = key_of(store, key)?;
     match Value::of(value) {
@@ -55,9 +62,12 @@ pub fn get<L: Ledger>(
     requires name { blank.name ≡ L.name }
     requires parts { blank.parts ≡ L.parts }
     requires some { 0 < L.parts }
-    ensures answer { (m : Map) → HoldsMap session.old m → GetSays m key.now (HoldsMap session.new) result }
-    ensures length { ByLength (is_key (shape_of session.old) key.now) (session.new ≡ session.old) result }
+    ensures answer { (m : Map) → HoldsMap session.old m →
+        GetSays m key.now (HoldsMap session.new) result }
+    ensures length { ByLength (is_key (shape_of session.old) key.now)
+        (session.new ≡ session.old) result }
     ensures ticks { OnOk result (session.new.ticks ≤ get_bound (levels_of session.old)) }
+    ensures reads { ReadsFew session.old session.new }
     ensures terms { terms_of session.new.store ≡ terms_of session.old.store }
     ensures place { place_of session.new ≡ place_of session.old }
 {
@@ -82,9 +92,12 @@ pub fn stamp<L: Ledger>(
     requires name { blank.name ≡ L.name }
     requires parts { blank.parts ≡ L.parts }
     requires some { 0 < L.parts }
-    ensures answer { (m : Map) → HoldsMap session.old m → StampSays m key.now (HoldsMap session.new) result }
-    ensures length { ByLength (is_key (shape_of session.old) key.now) (session.new ≡ session.old) result }
+    ensures answer { (m : Map) → HoldsMap session.old m →
+        StampSays m key.now (HoldsMap session.new) result }
+    ensures length { ByLength (is_key (shape_of session.old) key.now)
+        (session.new ≡ session.old) result }
     ensures ticks { OnOk result (session.new.ticks ≤ get_bound (levels_of session.old)) }
+    ensures reads { ReadsFew session.old session.new }
     ensures terms { terms_of session.new.store ≡ terms_of session.old.store }
     ensures place { place_of session.new ≡ place_of session.old }
 {
@@ -109,8 +122,10 @@ pub fn delete<L: Ledger>(
     requires name { blank.name ≡ L.name }
     requires parts { blank.parts ≡ L.parts }
     requires some { 0 < L.parts }
-    ensures answer { (m : Map) → HoldsMap session.old m → DeleteSays m key.now (HoldsMap session.new) result }
-    ensures length { ByLength (is_key (shape_of session.old) key.now) (session.new ≡ session.old) result }
+    ensures answer { (m : Map) → HoldsMap session.old m →
+        DeleteSays m key.now (HoldsMap session.new) result }
+    ensures length { ByLength (is_key (shape_of session.old) key.now)
+        (session.new ≡ session.old) result }
     ensures ticks { OnOk result (session.new.ticks ≤ put_bound (levels_of session.old)) }
     ensures transfers { TransfersWithin bytes_of counts_of session.old.store session.new.store }
     ensures terms { terms_of session.new.store ≡ terms_of session.old.store }
@@ -139,8 +154,10 @@ pub fn put<L: Ledger>(
     requires name { blank.name ≡ L.name }
     requires parts { blank.parts ≡ L.parts }
     requires some { 0 < L.parts }
-    ensures answer { (m : Map) → HoldsMap session.old m → PutSays (shape_of session.old) m key.now value.now (HoldsMap session.new) result }
-    ensures length { ByLength (both_fit (shape_of session.old) key.now value.now) (session.new ≡ session.old) result }
+    ensures answer { (m : Map) → HoldsMap session.old m →
+        PutSays (shape_of session.old) m key.now value.now (HoldsMap session.new) result }
+    ensures length { ByLength (both_fit (shape_of session.old) key.now value.now)
+        (session.new ≡ session.old) result }
     ensures ticks { OnOk result (session.new.ticks ≤ put_bound (levels_of session.old)) }
     ensures transfers { TransfersWithin bytes_of counts_of session.old.store session.new.store }
     ensures terms { terms_of session.new.store ≡ terms_of session.old.store }
@@ -172,8 +189,10 @@ pub fn put_if<L: Ledger>(
     requires name { blank.name ≡ L.name }
     requires parts { blank.parts ≡ L.parts }
     requires some { 0 < L.parts }
-    ensures answer { (m : Map) → HoldsMap session.old m → PutIfSays (shape_of session.old) m key.now seen value.now (HoldsMap session.new) result }
-    ensures length { ByLength (both_fit (shape_of session.old) key.now value.now) (session.new ≡ session.old) result }
+    ensures answer { (m : Map) → HoldsMap session.old m →
+        PutIfSays (shape_of session.old) m key.now seen value.now (HoldsMap session.new) result }
+    ensures length { ByLength (both_fit (shape_of session.old) key.now value.now)
+        (session.new ≡ session.old) result }
     ensures ticks { OnOk result (session.new.ticks ≤ put_bound (levels_of session.old)) }
     ensures transfers { TransfersWithin bytes_of counts_of session.old.store session.new.store }
     ensures terms { terms_of session.new.store ≡ terms_of session.old.store }

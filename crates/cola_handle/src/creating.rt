@@ -12,7 +12,8 @@ use cola_opening::size_of;
 
 /// The sizes of a store for so many keys, with blocks of `2^block_exp` cells, in a version.
 fn geometry_of(keys: u64, block_exp: u8, version: u8) -> Option<Geometry>
-    ensures sizes { IfSome result (λ geometry. HasSizes keys block_exp version geometry.format geometry.bottom) }
+    ensures sizes { IfSome result
+        (λ geometry. HasSizes keys block_exp version geometry.format geometry.bottom) }
     ensures keys { IfSome result (λ geometry. geometry.keys ≡ keys) }
     ensures block { IfSome result (λ geometry. geometry.block_exp ≡ block_exp) }
     ensures refused { IfNone result (LacksSizes keys block_exp version) }
@@ -44,7 +45,8 @@ fn is_zero(bytes: &[u8]) -> bool
 
 /// The spelling of the header of a closed store with no keys.
 fn first_bytes(geometry: Geometry) -> [u8; 512]
-    ensures spelled { IsSpelling (new_header geometry.format geometry.keys geometry.block_exp geometry.bottom) result }
+    ensures spelled { IsSpelling
+        (new_header geometry.format geometry.keys geometry.block_exp geometry.bottom) result }
     ensures size { length result ≡ 512 }
 {
     let mut bytes = [0u8; 512];

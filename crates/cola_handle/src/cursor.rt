@@ -58,7 +58,9 @@ impl Cursor {
     /// than 40 bytes.
     pub fn seek(low: &[u8], high: &[u8], bounded: bool) -> Result<Cursor, Refusal>
         ensures says { SeekSays low.now high.now bounded result }
-        ensures ahead { (m : Map) → IfOk result (λ cursor. ahead m cursor ≡ pairs_between m low.now (end_at bounded high.now)) }
+        ensures ahead { (m : Map) →
+            IfOk result (λ cursor. ahead m cursor ≡ pairs_between m low.now
+            (end_at bounded high.now)) }
     {
         if low.len() > 40 || high.len() > 40 {
             return Err(Refusal::Length);

@@ -2,7 +2,7 @@
 ghost use Rattle.std.specs.Prelude.{◌≡◌, ◌<◌, Some, IsSome, IfOk, IfErr};
 ghost use Rattle.cola_image.specs.Standing.{FileStandsFor, with_state};
 ghost use Rattle.cola_spec.specs.Map.{Map};
-ghost use Rattle.cola_store.specs.Store.{Holds, terms_of};
+ghost use Rattle.cola_store.specs.Store.{Holds, terms_of, device_in};
 ghost use Rattle.cola_mapped.specs.Mapped.{IsLent};
 ghost use Rattle.cola_mapped.specs.Region.{bytes_in};
 ghost use Rattle.cola_handle.specs.declared.answer.Answer.TheVariants.{Memory};
@@ -42,13 +42,16 @@ fn open_device<L: Ledger>(
     requires name { blank.name ≡ L.name }
     requires parts { blank.parts ≡ L.parts }
     requires some { 0 < L.parts }
-    ensures holds { (m : Map) → FileStandsFor device.bytes m → IfOk result (λ store. Holds bytes_of store m) }
+    ensures holds { (m : Map) → FileStandsFor device.bytes m →
+        IfOk result (λ store. Holds bytes_of store m) }
     ensures terms { IfOk result (λ store. HasTerms (terms_of store) device.bytes) }
-    ensures marked { IfOk result (λ store. store.chain.store.buffers.cache.device.bytes ≡ with_state 1 device.bytes) }
-    ensures at { IfOk result (λ store. store.chain.store.buffers.cache.device.at ≡ device.at) }
-    ensures len { IfOk result (λ store. store.chain.store.buffers.cache.device.len ≡ device.len) }
+    ensures marked { IfOk result
+        (λ store. (device_in store).bytes ≡ with_state 1 device.bytes) }
+    ensures at { IfOk result (λ store. (device_in store).at ≡ device.at) }
+    ensures len { IfOk result (λ store. (device_in store).len ≡ device.len) }
     ensures cause { IfErr result (λ refusal. OpenCause device.bytes refusal.1) }
-    ensures only { (m : Map) → FileStandsFor device.bytes m → IfErr result (λ refusal. refusal.1 ≡ Memory) }
+    ensures only { (m : Map) → FileStandsFor device.bytes m →
+        IfErr result (λ refusal. refusal.1 ≡ Memory) }
     ensures back { IfErr result (λ refusal. refusal.0.bytes ≡ Some device.bytes) }
     ensures back_at { IfErr result (λ refusal. refusal.0.at ≡ device.at) }
     ensures back_len { IfErr result (λ refusal. refusal.0.len ≡ device.len) }
@@ -70,14 +73,20 @@ fn open_lent<L: Ledger>(
     requires parts { blank.parts ≡ L.parts }
     requires some { 0 < L.parts }
     requires lent { IsLent region.bytes }
-    ensures holds { (m : Map) → StandsFor region.bytes m → IfOk result (λ session. HoldsMap session.value m) }
-    ensures marked { IfOk result (λ session. (device_of session.value).bytes ≡ with_state 1 (bytes_in region.bytes)) }
+    ensures holds { (m : Map) → StandsFor region.bytes m →
+        IfOk result (λ session. HoldsMap session.value m) }
+    ensures marked { IfOk result
+        (λ session. (device_of session.value).bytes ≡ with_state 1 (bytes_in region.bytes)) }
     ensures place { IfOk result (λ session. place_of session.value ≡ (region.at, region.len)) }
-    ensures terms { IfOk result (λ session. HasTerms (terms_of session.value.store) (bytes_in region.bytes)) }
+    ensures terms { IfOk result
+        (λ session. HasTerms (terms_of session.value.store) (bytes_in region.bytes)) }
     ensures cause { IfErr result (λ refusal. OpenCause (bytes_in region.bytes) refusal.1) }
-    ensures only { (m : Map) → StandsFor region.bytes m → IfErr result (λ refusal. refusal.1 ≡ Memory) }
-    ensures left { IfErr result (λ refusal. AreLeft (bytes_in region.bytes) (bytes_in refusal.0.bytes) refusal.1) }
-    ensures stands { (m : Map) → StandsFor region.bytes m → IfErr result (λ refusal. StandsFor refusal.0.bytes m) }
+    ensures only { (m : Map) → StandsFor region.bytes m →
+        IfErr result (λ refusal. refusal.1 ≡ Memory) }
+    ensures left { IfErr result
+        (λ refusal. AreLeft (bytes_in region.bytes) (bytes_in refusal.0.bytes) refusal.1) }
+    ensures stands { (m : Map) → StandsFor region.bytes m →
+        IfErr result (λ refusal. StandsFor refusal.0.bytes m) }
     ensures back { IfErr result (λ refusal. IsSome refusal.0.bytes) }
     ensures back_at { IfErr result (λ refusal. refusal.0.at ≡ region.at) }
     ensures back_len { IfErr result (λ refusal. refusal.0.len ≡ region.len) }
@@ -106,14 +115,20 @@ pub fn open<L: Ledger>(
     requires parts { blank.parts ≡ L.parts }
     requires some { 0 < L.parts }
     requires bytes { IsSome region.bytes }
-    ensures holds { (m : Map) → StandsFor region.bytes m → IfOk result (λ session. HoldsMap session.value m) }
-    ensures marked { IfOk result (λ session. (device_of session.value).bytes ≡ with_state 1 (bytes_in region.bytes)) }
+    ensures holds { (m : Map) → StandsFor region.bytes m →
+        IfOk result (λ session. HoldsMap session.value m) }
+    ensures marked { IfOk result
+        (λ session. (device_of session.value).bytes ≡ with_state 1 (bytes_in region.bytes)) }
     ensures place { IfOk result (λ session. place_of session.value ≡ (region.at, region.len)) }
-    ensures terms { IfOk result (λ session. HasTerms (terms_of session.value.store) (bytes_in region.bytes)) }
+    ensures terms { IfOk result
+        (λ session. HasTerms (terms_of session.value.store) (bytes_in region.bytes)) }
     ensures cause { IfErr result (λ refusal. OpenCause (bytes_in region.bytes) refusal.1) }
-    ensures only { (m : Map) → StandsFor region.bytes m → IfErr result (λ refusal. refusal.1 ≡ Memory) }
-    ensures left { IfErr result (λ refusal. AreLeft (bytes_in region.bytes) (bytes_in refusal.0.bytes) refusal.1) }
-    ensures stands { (m : Map) → StandsFor region.bytes m → IfErr result (λ refusal. StandsFor refusal.0.bytes m) }
+    ensures only { (m : Map) → StandsFor region.bytes m →
+        IfErr result (λ refusal. refusal.1 ≡ Memory) }
+    ensures left { IfErr result
+        (λ refusal. AreLeft (bytes_in region.bytes) (bytes_in refusal.0.bytes) refusal.1) }
+    ensures stands { (m : Map) → StandsFor region.bytes m →
+        IfErr result (λ refusal. StandsFor refusal.0.bytes m) }
     ensures back { IfErr result (λ refusal. IsSome refusal.0.bytes) }
     ensures back_at { IfErr result (λ refusal. refusal.0.at ≡ region.at) }
     ensures back_len { IfErr result (λ refusal. refusal.0.len ≡ region.len) }

@@ -1,7 +1,6 @@
 //! What a call answers to C: its number, and what it writes behind the pointers.
-ghost use Rattle.std.specs.Prelude.{◌≡◌, ◌≤◌, ℕ, pos, List, length, take, Ok, Some, IfOk};
-ghost use Rattle.cola_table.specs.declared.PutIf.TheVariants.{Other};
-ghost use Rattle.cola_handle.specs.Numbers.{number, found, made, made_if, replaced};
+ghost use Rattle.std.specs.Prelude.{◌≡◌, ◌≤◌, pos, length};
+ghost use Rattle.cola_handle.specs.Numbers.{number, found, made, made_if, was_told, other_told, value_told, length_told, stamp_told};
 
 use crate::answer::{Answer, Refusal};
 use cola_cell::Value;
@@ -10,7 +9,7 @@ use cola_table::{Put, PutIf};
 /// Of a put: whether a value was replaced.
 pub fn tell_put(put: Result<Put, Refusal>, was: &mut bool) -> i32
     ensures number { result ≡ pos (number (made put)) }
-    ensures was { IfOk put (λ done. was.new ≡ replaced done) }
+    ensures was { was.new ≡ was_told put was.old }
 {
     match put {
         Ok(Put::New) => {
@@ -28,7 +27,7 @@ pub fn tell_put(put: Result<Put, Refusal>, was: &mut bool) -> i32
 /// Of a put that depends on the stamp seen: the stamp that the key has, where it is another.
 pub fn tell_put_if(put: Result<PutIf, Refusal>, stamp: &mut u64) -> i32
     ensures number { result ≡ pos (number (made_if put)) }
-    ensures stamp { (other : ℕ) → put ≡ Ok (Other other) → stamp.new ≡ other }
+    ensures stamp { stamp.new ≡ other_told put stamp.old }
 {
     match put {
         Ok(PutIf::Other(other)) => {
@@ -45,8 +44,8 @@ pub fn tell_put_if(put: Result<PutIf, Refusal>, stamp: &mut u64) -> i32
 pub fn tell_value(value: Result<Option<Value>, Refusal>, into: &mut [u8], len: &mut usize) -> i32
     requires { 72 ≤ length into.old }
     ensures number { result ≡ pos (number (found value)) }
-    ensures value { (bytes : List ℕ) → value ≡ Ok (Some bytes) → take (length bytes) into.new ≡ bytes }
-    ensures len { (bytes : List ℕ) → value ≡ Ok (Some bytes) → len.new ≡ length bytes }
+    ensures value { into.new ≡ value_told value into.old }
+    ensures len { len.new ≡ length_told value len.old }
 {
     match value {
         Ok(Some(value)) => {
@@ -63,7 +62,7 @@ pub fn tell_value(value: Result<Option<Value>, Refusal>, into: &mut [u8], len: &
 /// Of a stamp: the stamp.
 pub fn tell_stamp(got: Result<Option<u64>, Refusal>, stamp: &mut u64) -> i32
     ensures number { result ≡ pos (number (found got)) }
-    ensures stamp { (given : ℕ) → got ≡ Ok (Some given) → stamp.new ≡ given }
+    ensures stamp { stamp.new ≡ stamp_told got stamp.old }
 {
     match got {
         Ok(Some(given)) => {

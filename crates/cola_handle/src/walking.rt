@@ -23,7 +23,8 @@ fn give(cursor: &Cursor, pair: &(Key, Value), rows: &mut [Row], given: usize) ->
     requires room { given < length rows.old }
     ensures few { result ≤ length rows.old }
     ensures grows { given ≤ result }
-    ensures pairs { map row_pair (take result rows.new) ≡ map row_pair (take given rows.old) ++ not_given cursor.now (pair.now ∷ []) }
+    ensures pairs { map row_pair (take result rows.new) ≡ map row_pair
+        (take given rows.old) ++ not_given cursor.now (pair.now ∷ []) }
     ensures good_rows { All IsGoodRow (take given rows.old) → All IsGoodRow (take result rows.new) }
     ensures others { drop result rows.new ≡ drop result rows.old }
 {
@@ -46,9 +47,14 @@ fn fill<T: Table, L: Ledger>(
     steps: &mut Steps<L>,
 ) -> Result<usize, ReadFault>
     requires { is_good cursor.now ≡ true }
-    ensures rows { (m : Map) → T.holds table.old m → MatchResult result (λ given. HaveFirst (not_given cursor.now (pairs_between m low.now (option_copied high.entry))) rows.new given × T.holds table.new m) OnlyDeviceRead }
+    ensures rows { (m : Map) → T.holds table.old m →
+        MatchResult result
+        (λ given. HaveFirst
+        (not_given cursor.now (pairs_between m low.now (option_copied high.entry))) rows.new given
+        × T.holds table.new m) OnlyDeviceRead }
     ensures writes { IfOk result (λ given. Writes rows.old rows.new given) }
-    ensures call { Call (T.terms table.old) (T.terms table.new) (T.faults table.old) (T.faults table.new) steps.old steps.new (range_bound (T.terms table.old).depth) }
+    ensures call { Call (T.terms table.old) (T.terms table.new) (T.faults table.old)
+        (T.faults table.new) steps.old steps.new (range_bound (T.terms table.old).depth) }
     ensures faults { ReadFaults result (T.faults table.old) (T.faults table.new) }
     ensures kept { T.kept table.new ≡ T.kept table.old }
 {
@@ -78,7 +84,8 @@ pub fn next<L: Ledger>(
     rows: &mut [Row],
     steps: &mut Steps<L>,
 ) -> Result<usize, Refusal>
-    ensures answer { (m : Map) → HoldsMap session.old m → NextSays m cursor.old cursor.new rows.new (HoldsMap session.new) result }
+    ensures answer { (m : Map) → HoldsMap session.old m →
+        NextSays m cursor.old cursor.new rows.new (HoldsMap session.new) result }
     ensures length { ByLength (is_good cursor.old) (session.new ≡ session.old) result }
     ensures writes { IfOk result (Writes rows.old rows.new) }
     ensures moves { IfOk result (Moves cursor.old cursor.new rows.new) }

@@ -5,8 +5,8 @@ use Rattle.cola_clock.specs.Clock.{visible_slot}
 use Rattle.cola_clock.specs.Marks.{Marks}
 use Rattle.cola_laws.specs.Chain.{Level}
 use Rattle.cola_laws.specs.Slots.{levels_of}
-use Rattle.cola_told.specs.Cells.{IsTold, AreTold}
-use Rattle.cola_told.proofs.CellLists.{cells-same}
+use Rattle.cola_cell.specs.ToldCells.{IsTold, AreTold}
+use Rattle.cola_cell.proofs.CellLists.{cells-same}
 use Rattle.cola_image.specs.Cells.{slot_cells}
 use Rattle.cola_image.specs.Standing.{AreRunsTold, IsSlotAlike, AreRunsAlike}
 

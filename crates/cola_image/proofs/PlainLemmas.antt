@@ -11,7 +11,7 @@ use Rattle.cola_cell.specs.Flat.{spot_of}
 use Rattle.cola_cell.specs.Format.{width}
 use Rattle.cola_cell.specs.Held.{LawCell, Spot}
 use Rattle.cola_cell.proofs.DecodedLemmas.{decoded_spells}
-use Rattle.cola_told.specs.Cells.{cell_at, cells}
+use Rattle.cola_cell.specs.ToldCells.{cell_at, cells}
 use Rattle.cola_image.specs.Cells.{cell_bytes, law_cell_of}
 
 -- the bytes of the cell with this number, where a cell has so many

@@ -7,7 +7,7 @@ use Rattle.cola_cell.specs.Flat.{spot_of}
 use Rattle.cola_cell.specs.Format.{width}
 use Rattle.cola_cell.specs.Held.{LawCell, Spot, Spots}
 use Rattle.cola_cell.specs.Places.{number_of}
-use Rattle.cola_told.specs.Cells.{cell_at, cells}
+use Rattle.cola_cell.specs.ToldCells.{cell_at, cells}
 
 -- the bytes of the cell with this number
 abbrev pub cell_bytes : Format → List ℕ → ℕ → List ℕ

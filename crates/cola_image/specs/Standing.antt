@@ -10,9 +10,9 @@ use Rattle.cola_laws.specs.Slots.{levels_of}
 use Rattle.cola_layout.specs.Header.{Fields, IsSpelling}
 use Rattle.cola_layout.specs.Marks.{all_numbers}
 use Rattle.cola_spec.specs.Map.{Map, IsMap, key_cmp, count}
-use Rattle.cola_table.specs.Stamps.{stamped_of}
-use Rattle.cola_table.specs.Terms.{shape_of}
-use Rattle.cola_told.specs.Cells.{AreTold}
+use Rattle.cola_cell.specs.Shapes.{stamped_of}
+use Rattle.cola_cell.specs.Shapes.{shape_of}
+use Rattle.cola_cell.specs.ToldCells.{AreTold}
 use Rattle.cola_image.specs.Cells.{slot_cells, file_spots}
 
 -- what a map has of a key, as the laws of levels have it

@@ -28,7 +28,8 @@ pub fn levels_stand_by_their_cells()
 /// A closed file of a store with no keys, at clock 0 and with no runs, stands for the empty map, whatever the bytes
 /// behind its header are.
 pub fn empty_file_stands()
-    ensures { (header : Fields) (bytes : List ℕ) → IsSpelling header (take 512 bytes) → header.closed ≡ true →
+    ensures { (header : Fields) (bytes : List ℕ) → IsSpelling header (take 512 bytes) →
+        header.closed ≡ true →
         header.count ≡ 0 → header.clock ≡ 0 → header.last ≡ 0 → header.levels ≡ replicate (header.bottom + 1) no_marks →
         width header.format * 2 ^ (header.bottom + 4) ≤ length bytes → HeaderStandsFor header bytes empty_map }
 {}
@@ -52,7 +53,10 @@ pub fn worked_files_stand()
 /// as that says: its level 0 is full of old items at clock 0.
 pub fn full_top_stands_for_nothing()
     ensures spelled { IsSpelling crowded_header (take 512 crowded_file) }
-    ensures whole { width crowded_header.format * 2 ^ (crowded_header.bottom + 4) ≤ length crowded_file }
-    ensures told { AreRunsTold (file_spots crowded_header.format crowded_file) crowded_header.clock 0 (all_numbers crowded_header.levels) }
+    ensures whole { width crowded_header.format * 2 ^
+        (crowded_header.bottom + 4) ≤ length crowded_file }
+    ensures told { AreRunsTold
+        (file_spots crowded_header.format crowded_file) crowded_header.clock 0
+        (all_numbers crowded_header.levels) }
     ensures none { (m : Map) → ¬ FileStandsFor crowded_file m }
 {}

@@ -70,8 +70,13 @@ pub fn run_of_file(
     requires level_exists { level ≤ 22 }
     requires slot_exists { slot ≤ 1 }
     ensures many { IfOk result (λ cells. length cells.items ≡ len) }
-    ensures each { IfOk result (λ cells. (index : ℕ) → index < len → spot_of (slice_index_or cells.items index None) ≡ file_spots format bytes.now level slot index) }
-    ensures listed { IfOk result (λ cells. map law_cell_of cells.items ≡ slot_cells (file_spots format bytes.now) level slot len) }
+    ensures each { IfOk result
+        (λ cells. (index : ℕ) → index < len →
+        spot_of (slice_index_or cells.items index None)
+        ≡ file_spots format bytes.now level slot index) }
+    ensures listed { IfOk result
+        (λ cells. map law_cell_of cells.items ≡ slot_cells
+        (file_spots format bytes.now) level slot len) }
 {
     let _item: Option<Item> = None;
     let mut cells = Vec::new(alloc);

@@ -54,7 +54,8 @@ fn hold(
     requires line { line_held held bytes.old.items ≡ None }
     requires fits { length bytes.old.items ≤ 160 }
     ensures line { line_held result bytes.new.items ≡ None }
-    ensures part { part_held result bytes.new.items ≡ kept_part (part_held held bytes.old.items ++ take (end - from) (drop from chunk.now)) }
+    ensures part { part_held result bytes.new.items ≡ kept_part
+        (part_held held bytes.old.items ++ take (end - from) (drop from chunk.now)) }
     ensures fits { length bytes.new.items ≤ 160 }
 {
     match held {
@@ -131,7 +132,12 @@ impl Buffer {
     fn gather(&mut self, count: usize)
         requires line { self.old.line ≡ None }
         requires there { count ≤ length self.old.rest }
-        ensures { self.new ≡ record self.old { begun = kept_part (self.old.begun ++ take count self.old.rest); rest = drop count self.old.rest } }
+        ensures { self.new
+            ≡ record self.old {
+              begun = kept_part
+                  (self.old.begun ++ take count self.old.rest);
+              rest = drop count self.old.rest;
+            } }
     {
         let end = self.from + count;
         self.held = hold(&mut self.bytes, self.held, &self.chunk, self.from, end);
@@ -162,7 +168,13 @@ impl Buffer {
         requires no_feed { HasNoFeed self.old.begun }
         ensures found { IfSome result (λ next. CutOff self.old next self.new) }
         ensures none { IfNone result (HasNoFeed self.old.rest) }
-        ensures kept { IfNone result (self.new ≡ record { line = None; begun = kept_part (self.old.begun ++ self.old.rest); rest = [] }) }
+        ensures kept { IfNone result
+            (self.new ≡ record {
+              line = None;
+              begun = kept_part
+                  (self.old.begun ++ self.old.rest);
+              rest = [];
+            }) }
     {
         match feed_at(&self.chunk[self.from..self.to]) {
             Some(at) => {
@@ -210,9 +222,11 @@ impl Buffer {
         ensures kept { self.new ≡ record self.old { rest = self.new.rest } }
         ensures once { S.reads source.old (min 512 most) (given result self.new.rest) source.new }
         ensures bytes { IfOk result (λ n. (length self.new.rest ≡ n) × (n ≤ most)) }
-        ensures taken { IfOk result (λ n. Taken self.new.rest (S.left source.old) (S.left source.new)) }
+        ensures taken { IfOk result
+            (λ n. Taken self.new.rest (S.left source.old) (S.left source.new)) }
         ensures end { IfOk result (λ n. n ≡ 0 → IsAtEnd (S.left source.new)) }
-        ensures err { OnErr result ((self.new.rest ≡ []) × (S.left source.new ≡ S.left source.old)) }
+        ensures err { OnErr result
+            ((self.new.rest ≡ []) × (S.left source.new ≡ S.left source.old)) }
         ensures faults_counted { CountsFaults result (S.faults source.old) (S.faults source.new) }
         ensures faults_kept { S.faults source.old ≤ S.faults source.new }
     {

@@ -37,7 +37,9 @@ pub trait Sink {
 /// The sink's count of faults stays at `Ok`, and is one more at `Err`.
 pub fn put_all<K: Sink>(sink: &mut K, bytes: &[u8]) -> Result<(), SinkFault>
     ensures all { OnOk result (Appended bytes.now (K.written sink.old) (K.written sink.new)) }
-    ensures front { OnErr result ((n : ℕ) × (n ≤ length bytes.now) × Appended (take n bytes.now) (K.written sink.old) (K.written sink.new)) }
+    ensures front { OnErr result
+        ((n : ℕ) × (n ≤ length bytes.now)
+        × Appended (take n bytes.now) (K.written sink.old) (K.written sink.new)) }
     ensures faults_counted { CountsFaults result (K.faults sink.old) (K.faults sink.new) }
     ensures faults_kept { K.faults sink.old ≤ K.faults sink.new }
 {

@@ -70,12 +70,15 @@ impl Sink for MemorySink {
         requires { 0 < length from.now }
         ensures some { IfOk result (λ n. 0 < n) }
         ensures bound { IfOk result (λ n. n ≤ length from.now) }
-        ensures bytes { WriteAppends result from.now (Some self.old.bytes.items) (Some self.new.bytes.items) }
+        ensures bytes { WriteAppends result from.now (Some self.old.bytes.items)
+            (Some self.new.bytes.items) }
         ensures faults_counted { CountsFaults result self.old.faults self.new.faults }
         ensures faults_kept { self.old.faults ≤ self.new.faults }
-        ensures fails { IsErr result ↔ ((self.old.room ≡ 0) ⊎ (is_listed self.old.failing.items self.new.calls ≡ true)) }
+        ensures fails { IsErr result
+            ↔ ((self.old.room ≡ 0) ⊎ (is_listed self.old.failing.items self.new.calls ≡ true)) }
         ensures amount { IfOk result (λ n. n ≡ min (length from.now) self.old.room) }
-        ensures room { MatchResult result (λ n. self.new.room + n ≡ self.old.room) (λ _. self.new.room ≡ self.old.room) }
+        ensures room { MatchResult result (λ n. self.new.room + n ≡ self.old.room)
+            (λ _. self.new.room ≡ self.old.room) }
         ensures counted { self.new.calls ≡ min (self.old.calls + 1) (2 ^ 64 - 1) }
         ensures same { self.new.failing ≡ self.old.failing }
     {

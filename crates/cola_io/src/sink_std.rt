@@ -38,7 +38,8 @@ impl<W: Write> Sink for StdSink<W> {
         ensures faults_counted { CountsFaults result self.old.faults self.new.faults }
         ensures faults_kept { self.old.faults ≤ self.new.faults }
         ensures bytes { streams.WriteAppends result from.now None None }
-        ensures inner { WriteAppends (W.contents self.old.inner) (W.contents self.new.inner) result from.now }
+        ensures inner { WriteAppends (W.contents self.old.inner)
+            (W.contents self.new.inner) result from.now }
     {
         match self.inner.write(from) {
             Ok(0) | Err(_) => {

@@ -22,8 +22,11 @@ pub struct MemorySource {
 impl MemorySource {
     /// Counts a call, and says whether it is to fail. No call fails after the last that a `u64` counts.
     fn is_failing(&mut self) -> bool
-        ensures counted { self.new ≡ record self.old { calls = min (self.old.calls + 1) (2 ^ 64 - 1) } }
-        ensures listed { IsTrue result ↔ ((self.old.calls < 2 ^ 64 - 1) × (is_listed self.old.failing.items (self.old.calls + 1) ≡ true)) }
+        ensures counted { self.new
+            ≡ record self.old { calls = min (self.old.calls + 1) (2 ^ 64 - 1) } }
+        ensures listed { IsTrue result
+            ↔ ((self.old.calls < 2 ^ 64 - 1)
+            × (is_listed self.old.failing.items (self.old.calls + 1) ≡ true)) }
     {
         if self.calls == u64::MAX {
             return false;
@@ -44,12 +47,20 @@ impl Source for MemorySource {
     fn read(&mut self, into: &mut [u8]) -> Result<usize, SourceFault>
         requires { 0 < length into.old }
         ensures bound { IfOk result (λ n. n ≤ length into.new) }
-        ensures bytes { ReadTakes result into.new (Some (drop self.old.at self.old.bytes.items)) (Some (drop self.new.at self.new.bytes.items)) }
-        ensures end { IfOk result (λ n. n ≡ 0 → IsAtEnd (Some (drop self.new.at self.new.bytes.items))) }
-        ensures faults_counted { CountsFaults result (failed_calls self.old.failing.items self.old.calls) (failed_calls self.new.failing.items self.new.calls) }
-        ensures faults_kept { failed_calls self.old.failing.items self.old.calls ≤ failed_calls self.new.failing.items self.new.calls }
-        ensures fails { IsErr result ↔ ((self.old.calls < 2 ^ 64 - 1) × (is_listed self.old.failing.items (self.old.calls + 1) ≡ true)) }
-        ensures amount { IfOk result (λ n. n ≡ min (length into.old) (vec_len self.old.bytes - self.old.at)) }
+        ensures bytes { ReadTakes result into.new (Some (drop self.old.at self.old.bytes.items))
+            (Some (drop self.new.at self.new.bytes.items)) }
+        ensures end { IfOk result
+            (λ n. n ≡ 0 → IsAtEnd (Some (drop self.new.at self.new.bytes.items))) }
+        ensures faults_counted { CountsFaults result
+            (failed_calls self.old.failing.items self.old.calls)
+            (failed_calls self.new.failing.items self.new.calls) }
+        ensures faults_kept { failed_calls self.old.failing.items self.old.calls
+            ≤ failed_calls self.new.failing.items self.new.calls }
+        ensures fails { IsErr result
+            ↔ ((self.old.calls < 2 ^ 64 - 1)
+            × (is_listed self.old.failing.items (self.old.calls + 1) ≡ true)) }
+        ensures amount { IfOk result
+            (λ n. n ≡ min (length into.old) (vec_len self.old.bytes - self.old.at)) }
         ensures counted { self.new.calls ≡ min (self.old.calls + 1) (2 ^ 64 - 1) }
         ensures at { OnErr result (self.new.at ≡ self.old.at) }
         ensures same { (self.new.bytes ≡ self.old.bytes) × (self.new.failing ≡ self.old.failing) }

@@ -41,7 +41,8 @@ impl<R: Read> Source for StdSource<R> {
         ensures faults_kept { self.old.faults ≤ self.new.faults }
         ensures bytes { ReadTakes result into.new None None }
         ensures end { IfOk result (λ n. n ≡ 0 → IsAtEnd None) }
-        ensures inner { ReadConsumes (R.remaining self.old.inner) (R.remaining self.new.inner) result into.new }
+        ensures inner { ReadConsumes (R.remaining self.old.inner)
+            (R.remaining self.new.inner) result into.new }
     {
         match self.inner.read(into) {
             Ok(count) => Ok(count),

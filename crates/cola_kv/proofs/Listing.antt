@@ -12,7 +12,7 @@ use Rattle.cola_layout.specs.declared.geometry.Geometry.{Geometry}
 use Rattle.cola_run.specs.Cells.{block_cells}
 use Rattle.cola_spec.specs.Bounds.{command_bound}
 use Rattle.cola_spec.specs.Map.{Shape, Map}
-use Rattle.cola_table.specs.Terms as terms
+use Rattle.cola_cell.specs.Shapes as shapes
 use Rattle.cola_kv.specs.declared.error.Error.{Error}
 use Rattle.cola_kv.specs.declared.error.Error.TheVariants.{Device}
 use Rattle.cola_kv.specs.declared.list.Answer.{Answer}
@@ -45,7 +45,7 @@ rose-sooner a b c h rose = omega (arith, h, rose)
 
 module _ {D : Type 0} (d : device.Ghosts D) where
   pub shape-stays : (old new : Kv D d) → Stays d old new → shape_of new ≡ shape_of old
-  shape-stays old new stays = ap (λ (g : Geometry). terms.shape_of g.format g.keys) stays.geometry_is
+  shape-stays old new stays = ap (λ (g : Geometry). shapes.shape_of g.format g.keys) stays.geometry_is
 
   stays-longer : (old mid new : Kv D d) → Stays d old mid → Stays d mid new → Stays d old new
   stays-longer old mid new first second =

@@ -50,24 +50,32 @@ module _ {D : Type 0} (d : device.Ghosts D) (old new : Kv D d) (key : List ℕ) 
 
   -- a put of a value: it is answered as the map answers it, and the map has the value afterwards; a refused one leaves the map
   pub record Puts (value : List ℕ) (result : Result Put Error) : Type 0 where
-    pub answer : (m : Map) → Holds d old m → IfOk result (λ put. put_answer put ≡ put_outcome (shape_of old) m key)
-    pub map_after : (m : Map) → Holds d old m → OnOk result (Holds d new (after_put (shape_of old) m key value))
+    pub answer : (m : Map) → Holds d old m → IfOk result
+        (λ put. put_answer put ≡ put_outcome (shape_of old) m key)
+    pub map_after : (m : Map) → Holds d old m → OnOk result
+        (Holds d new (after_put (shape_of old) m key value))
     pub map_stays : (m : Map) → Holds d old m → IfErr result (λ error. Holds d new m)
-    pub refusal : (m : Map) → Holds d old m → IfErr result (IsPutRefusal (put_outcome (shape_of old) m key))
+    pub refusal : (m : Map) → Holds d old m → IfErr result
+        (IsPutRefusal (put_outcome (shape_of old) m key))
     pub short_key : is_key (shape_of old) key ≡ false → (result ≡ Err KeyLength) × (new ≡ old)
-    pub long_value : is_key (shape_of old) key ≡ true → is_value (shape_of old) value ≡ false → (result ≡ Err ValueLength) × (new ≡ old)
+    pub long_value : is_key (shape_of old) key ≡ true → is_value (shape_of old) value ≡ false →
+        (result ≡ Err ValueLength) × (new ≡ old)
     pub cause : IfErr result (PutCause (shape_of old) key value (faults_of d old) (faults_of d new))
     pub one_step : steps_of new ≤ steps_of old + 1
     pub stays : Stays d old new
 
   -- the same of a put that depends on the stamp seen
   pub record PutsIf (seen : ℕ) (value : List ℕ) (result : Result PutIf Error) : Type 0 where
-    pub answer : (m : Map) → Holds d old m → IfOk result (λ put. put_if_answer put ≡ put_if_outcome (shape_of old) m key seen)
-    pub map_after : (m : Map) → Holds d old m → OnOk result (Holds d new (after_put_if (shape_of old) m key seen value))
+    pub answer : (m : Map) → Holds d old m → IfOk result
+        (λ put. put_if_answer put ≡ put_if_outcome (shape_of old) m key seen)
+    pub map_after : (m : Map) → Holds d old m → OnOk result
+        (Holds d new (after_put_if (shape_of old) m key seen value))
     pub map_stays : (m : Map) → Holds d old m → IfErr result (λ error. Holds d new m)
-    pub refusal : (m : Map) → Holds d old m → IfErr result (IsPutRefusal (put_if_outcome (shape_of old) m key seen))
+    pub refusal : (m : Map) → Holds d old m → IfErr result
+        (IsPutRefusal (put_if_outcome (shape_of old) m key seen))
     pub short_key : is_key (shape_of old) key ≡ false → (result ≡ Err KeyLength) × (new ≡ old)
-    pub long_value : is_key (shape_of old) key ≡ true → is_value (shape_of old) value ≡ false → (result ≡ Err ValueLength) × (new ≡ old)
+    pub long_value : is_key (shape_of old) key ≡ true → is_value (shape_of old) value ≡ false →
+        (result ≡ Err ValueLength) × (new ≡ old)
     pub cause : IfErr result (PutCause (shape_of old) key value (faults_of d old) (faults_of d new))
     pub one_step : steps_of new ≤ steps_of old + 1
     pub stays : Stays d old new

@@ -4,10 +4,10 @@ use Rattle.cola_device.specs.declared.counts.Counts.{Counts}
 use Rattle.cola_device.specs.declared.device.Device as device
 use Rattle.cola_layout.specs.declared.geometry.Geometry.{Geometry}
 use Rattle.cola_run.specs.Cells.{block_cells, file_blocks}
+use Rattle.cola_run.specs.Store as run
 use Rattle.cola_spec.specs.Map.{Shape, Map}
 use Rattle.cola_store.specs.Store as store
-use Rattle.cola_store.specs.Store.{spent_of, terms_of}
-use Rattle.cola_table.specs.Terms.{shape}
+use Rattle.cola_store.specs.Store.{spent_of}
 use Rattle.cola_transfers.specs.Credit.{parts}
 use Rattle.cola_kv.specs.declared.kv.Kv.{Kv}
 
@@ -18,7 +18,7 @@ module _ {D : Type 0} {d : device.Ghosts D} where
 
   -- the maps that it may hold: how many keys, how long keys and values may be, and whether puts give stamps
   abbrev pub shape_of : Kv D d → Shape
-  shape_of kv = shape (terms_of kv.store)
+  shape_of kv = store.map_shape kv.store
 
   -- how many levels it has: 4 to 23
   abbrev pub levels_of : Kv D d → ℕ
@@ -26,7 +26,7 @@ module _ {D : Type 0} {d : device.Ghosts D} where
 
   -- its device
   abbrev pub device_of : Kv D d → D
-  device_of kv = kv.store.chain.store.buffers.cache.device
+  device_of kv = run.device_of kv.store.chain.store
 
   -- how many values were put and keys taken out since its opening, up to the last value of 64 bits
   abbrev pub steps_of : Kv D d → ℕ
@@ -43,7 +43,7 @@ module _ {D : Type 0} (d : device.Ghosts D) where
 
   -- how many faults its device met
   abbrev pub faults_of : Kv D d → ℕ
-  faults_of kv = (spent_of d.counts kv.store).faults
+  faults_of kv = store.faults_of d.counts kv.store
 
   -- how many blocks its device wrote
   abbrev pub writes_of : Kv D d → ℕ
@@ -60,4 +60,5 @@ module _ {D : Type 0} (d : device.Ghosts D) where
   -- with so many steps since the opening, the writes since then: 4 cells for each step and level, in whole blocks, each block of the file once, and 1 more
   abbrev pub WritesWithin : ℕ → Kv D d → Type 0
   WritesWithin steps kv =
-      writes_of kv ≤ (opened_of kv).writes + (parts (4 * (steps * levels_of kv)) (block_cells (geometry_of kv)) + file_blocks (geometry_of kv) + 1)
+      writes_of kv ≤ (opened_of kv).writes
+      + (parts (4 * (steps * levels_of kv)) (block_cells (geometry_of kv)) + file_blocks (geometry_of kv) + 1)

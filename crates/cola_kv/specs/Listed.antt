@@ -69,7 +69,8 @@ abbrev pub AreAnswered : Shape → Map → List Call → List (Result Answer Err
 AreAnswered shape m [] [] = ⊤
 AreAnswered shape m [] (result ∷ results) = ⊥
 AreAnswered shape m (call ∷ calls) [] = ⊥
-AreAnswered shape m (call ∷ calls) (result ∷ results) = IsAnswered shape m call result × AreAnswered shape (map_after shape m call result) calls results
+AreAnswered shape m (call ∷ calls) (result ∷ results) =
+    IsAnswered shape m call result × AreAnswered shape (map_after shape m call result) calls results
 
 -- the map that the last of them left
 abbrev pub last_map : Shape → Map → List Call → List (Result Answer Error) → Map

@@ -13,6 +13,7 @@ use Rattle.cola_opening.specs.Judged.{IsSmall, IsNoStore, IsInUse, IsSeen}
 use Rattle.cola_spec.specs.Map.{Map, empty_map}
 use Rattle.cola_image.specs.Standing.{FileStandsFor, with_state}
 use Rattle.cola_store.specs.Open.{WasClosed, HasBadCell, opening_reads}
+use Rattle.cola_run.specs.Store as run
 use Rattle.cola_store.specs.Sessions.{Owes}
 use Rattle.cola_kv.specs.declared.error.Error.{Error}
 use Rattle.cola_kv.specs.declared.error.Error.TheVariants.{Keys, Block, NotEmpty, NotStore, Small, NotClosed, BadCell, OutOfMemory, Device}
@@ -84,7 +85,7 @@ module _ {D : Type 0} (d : device.Ghosts D) where
 
   -- why a checkpoint was not finished: the device failed in the closing, or what the closing left was not opened
   abbrev pub UnfinishedCause : Kv D d → Unfinished D d → Type 0
-  UnfinishedCause old (Owed closing) = Rose (faults_of d old) (d.counts closing.runs.buffers.cache.device).faults
+  UnfinishedCause old (Owed closing) = Rose (faults_of d old) (d.counts (run.device_of closing.runs)).faults
   UnfinishedCause old (Closed now error) = (saved : D) × IsSettled d saved × OpenCause saved now error
 
   -- what is left of a checkpoint that was not finished: the map is owed to the file, or it is saved and the store was not opened again

@@ -29,18 +29,21 @@ IsNext Ahead pairs (Err error) = IsUndamaged error × Ahead pairs
 module _ {D : Type 0} (d : device.Ghosts D) (old new : Kv D d) where
   -- a range from `low` on and below `high` was begun: on a store that holds a map the map's pairs of that interval are ahead, and the map stays
   pub record Begins (low : List ℕ) (high : Option (List ℕ)) (result : Result Cursor Error) : Type 0 where
-    pub ahead : (m : Map) → Holds d old m → IfOk result (λ walk. Ahead d new walk (pairs_between m low high))
+    pub ahead : (m : Map) → Holds d old m → IfOk result
+        (λ walk. Ahead d new walk (pairs_between m low high))
     pub map_stays : (m : Map) → Holds d old m → Holds d new m
     pub undamaged : (m : Map) → Holds d old m → IfErr result IsUndamaged
     pub stands : IfOk result (Stands d new)
-    pub short_end : (is_key (shape_of old) low ≡ false) ⊎ IsSomeAnd high (λ key. is_key (shape_of old) key ≡ false) → result ≡ Err KeyLength
+    pub short_end : (is_key (shape_of old) low ≡ false) ⊎ IsSomeAnd high (λ key. is_key (shape_of old) key ≡ false) →
+        result ≡ Err KeyLength
     pub cause : IfErr result (RangeCause (shape_of old) low high (faults_of d old) (faults_of d new))
     pub no_step : steps_of new ≡ steps_of old
     pub stays : Stays d old new
 
   -- a step on a range was made
   pub record Nexts (walk after : Cursor) (result : Result (Option (List ℕ × List ℕ)) Error) : Type 0 where
-    pub answer : (m : Map) (pairs : List (List ℕ × List ℕ)) → Holds d old m → Ahead d old walk pairs → IsNext (Ahead d new after) pairs result
+    pub answer : (m : Map) (pairs : List (List ℕ × List ℕ)) → Holds d old m → Ahead d old walk pairs →
+        IsNext (Ahead d new after) pairs result
     pub map_stays : (m : Map) → Holds d old m → Holds d new m
     pub stands : Stands d new after
     pub fewer : IfOk result (λ answer. OnSome answer (walks.cells_ahead after < walks.cells_ahead walk))

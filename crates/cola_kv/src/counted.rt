@@ -20,7 +20,8 @@ impl<D: Device> Kv<D> {
     pub(crate) fn key_of(&self, bytes: &[u8]) -> Result<Key, Error>
         ensures value { IfOk result (λ key. key ≡ bytes.now) }
         ensures fits { IfOk result (λ key. KeyFits (geometry_of self.now).format key) }
-        ensures exact { MatchResult result (λ key. is_key (shape_of self.now) key ≡ true) (λ error. (error ≡ KeyLength) × (is_key (shape_of self.now) bytes.now ≡ false)) }
+        ensures exact { MatchResult result (λ key. is_key (shape_of self.now) key ≡ true)
+            (λ error. (error ≡ KeyLength) × (is_key (shape_of self.now) bytes.now ≡ false)) }
     {
         match Key::of(bytes) {
             Some(key) if key.fits(self.store.format()) => Ok(key),
@@ -32,7 +33,8 @@ impl<D: Device> Kv<D> {
     fn value_of(&self, bytes: &[u8]) -> Result<Value, Error>
         ensures value { IfOk result (λ value. value ≡ bytes.now) }
         ensures fits { IfOk result (λ value. ValueFits (geometry_of self.now).format value) }
-        ensures exact { MatchResult result (λ value. is_value (shape_of self.now) value ≡ true) (λ error. (error ≡ ValueLength) × (is_value (shape_of self.now) bytes.now ≡ false)) }
+        ensures exact { MatchResult result (λ value. is_value (shape_of self.now) value ≡ true)
+            (λ error. (error ≡ ValueLength) × (is_value (shape_of self.now) bytes.now ≡ false)) }
     {
         match Value::of(bytes) {
             Some(value) if value.fits(self.store.format()) => Ok(value),

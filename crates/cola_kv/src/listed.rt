@@ -61,7 +61,8 @@ impl<D: Device> Kv<D> {
     ) -> Result<Vec<Result<Answer, Error>>, AllocError>
         ensures carries { IfOk result (λ results. CarriesAll D.Device self.old self.new calls.now results.items) }
         ensures within { steps.new ≤ steps.old + most_ticks (levels_of self.old) calls.now }
-        ensures writes { IsCounting self.new.store → WritesWithin D.Device (steps_of self.old + length calls.now) self.new }
+        ensures writes { IsCounting self.new.store →
+            WritesWithin D.Device (steps_of self.old + length calls.now) self.new }
         ensures none_made { OnErr result (self.new ≡ self.old) }
     {
         let _before = self.writes();

@@ -3,6 +3,7 @@ ghost use Rattle.std.specs.Prelude.{◌≡◌, ◌<◌, OnOk, IfOk, IfErr, Match
 ghost use Rattle.cola_outside.specs.Faults.{Rose};
 ghost use Rattle.cola_device.specs.Settling.{IsSettled};
 ghost use Rattle.cola_spec.specs.Map.{Map, count};
+ghost use Rattle.cola_run.specs.Store as run;
 ghost use Rattle.cola_store.specs.Sessions.{Owes};
 ghost use Rattle.cola_kv.specs.Kv.{Holds, geometry_of, levels_of, device_of, faults_of};
 ghost use Rattle.cola_kv.specs.Opened.{IsMade, CreateCause, IsOpen, OpenCause, IsOpenRefusal, StandsFor, IsSaved, IsLeft, UnfinishedCause};
@@ -47,7 +48,8 @@ fn open_store<D: Device, L: Ledger>(
     requires some { 0 < L.parts }
     ensures open { IfOk result (IsOpen D.Device device cache) }
     ensures cause { IfErr result (λ refusal. OpenCause D.Device device refusal.0 refusal.1) }
-    ensures sound { (m : Map) → StandsFor D.Device device m → MatchResult result (λ kv. Holds D.Device kv m) (λ refusal. IsOpenRefusal D.Device device refusal.0 refusal.1) }
+    ensures sound { (m : Map) → StandsFor D.Device device m → MatchResult result
+        (λ kv. Holds D.Device kv m) (λ refusal. IsOpenRefusal D.Device device refusal.0 refusal.1) }
 {
     let mut steps = Steps::<L>::begin(blank);
     let cache = cache.min(MOST_CACHED);
@@ -67,7 +69,8 @@ impl<D: Device> Kv<D> {
         ensures open { IfOk result (IsOpen D.Device device cache) }
         ensures cause { IfErr result (λ refusal. OpenCause D.Device device refusal.0 refusal.1) }
         // the file that stands for a map is opened, unless there is no memory or the device fails
-        ensures sound { (m : Map) → StandsFor D.Device device m → MatchResult result (λ kv. Holds D.Device kv m) (λ refusal. IsOpenRefusal D.Device device refusal.0 refusal.1) }
+        ensures sound { (m : Map) → StandsFor D.Device device m → MatchResult result
+            (λ kv. Holds D.Device kv m) (λ refusal. IsOpenRefusal D.Device device refusal.0 refusal.1) }
     {
         open_store::<D, Brand>(Blank::new(1), alloc, device, cache)
     }
@@ -99,7 +102,8 @@ impl<D: Device> Kv<D> {
         ensures stands { (m : Map) → Holds D.Device self m → IfOk result (λ device. StandsFor D.Device device m) }
         ensures settled { IfOk result (IsSettled D.Device) }
         ensures owes { (m : Map) → Holds D.Device self m → IfErr result (λ closing. Owes D.Device closing m) }
-        ensures cause { IfErr result (λ closing. Rose (faults_of D.Device self) (D.counts closing.runs.buffers.cache.device).faults) }
+        ensures cause { IfErr result
+            (λ closing. Rose (faults_of D.Device self) (D.counts (run.device_of closing.runs)).faults) }
         ensures kept { IfOk result (λ device. D.kept device ≡ D.kept (device_of self)) }
     {
         self.store.close()
@@ -109,7 +113,8 @@ impl<D: Device> Kv<D> {
     /// store counted since its opening begins anew.
     pub fn checkpoint(self, alloc: Global) -> Result<Kv<D>, Unfinished<D>>
         ensures map_stays { (m : Map) → Holds D.Device self m → IfOk result (λ kv. Holds D.Device kv m) }
-        ensures saved { (m : Map) → Holds D.Device self m → IfOk result (λ kv. IsSaved D.Device m (device_of kv)) }
+        ensures saved { (m : Map) → Holds D.Device self m →
+            IfOk result (λ kv. IsSaved D.Device m (device_of kv)) }
         ensures left { (m : Map) → Holds D.Device self m → IfErr result (IsLeft D.Device m) }
         ensures cause { IfErr result (UnfinishedCause D.Device self) }
         ensures cache_stays { IfOk result (λ kv. kv.cache ≡ self.cache) }

@@ -76,10 +76,12 @@ impl<'a, D: Device> Range<'a, D> {
 impl<D: Device> Kv<D> {
     /// The pairs from `low` on and below `high`, by rising keys; with no upper end where `high` is absent.
     pub fn range<'a>(&'a mut self, low: &[u8], high: Option<&[u8]>) -> Result<Range<'a, D>, Error>
-        ensures* refused { sem 𝓛 (RestsIfErr (the_row D.row D.Device) self.entry (λ range. range.kv.ghost_name) result (λ last. Begins D.Device self.old last low.now (option_copied high.entry) (walked (λ range. range.walk) result))) }
+        ensures* refused { sem 𝓛 (RestsIfErr (the_row D.row D.Device) self.entry (λ range. range.kv.ghost_name) result
+            (λ last. Begins D.Device self.old last low.now (option_copied high.entry) (walked (λ range. range.walk) result))) }
         ensures same_reference { IfOk result (λ range. range.kv.ghost_name ≡ self.entry.ghost_name) }
         ensures goes_on { IfOk result (λ range. range.ended ≡ false) }
-        ensures begins { IfOk result (λ range. Begins D.Device self.old range.kv.now low.now (option_copied high.entry) (walked (λ range. range.walk) result)) }
+        ensures begins { IfOk result (λ range. Begins D.Device self.old range.kv.now low.now (option_copied high.entry)
+            (walked (λ range. range.walk) result)) }
     {
         let walk = range_on::<D, Brand>(Blank::new(1), self, low, high)?;
         Ok(Range {

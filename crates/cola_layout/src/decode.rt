@@ -13,10 +13,7 @@ use crate::geometry::Geometry;
 use crate::header::Header;
 use crate::marks::{Marks, levels_fit};
 use arrayvec::ArrayVec;
-use cola_cell::Format;
-
-/// The largest last number of format Two.
-const LAST_NUMBER: u64 = 1 << 63;
+use cola_cell::{Format, LAST_STAMP, MOST_LEVELS};
 
 /// The header that the 512 bytes spell, or none where they are no spelling.
 pub(crate) fn read(bytes: &[u8]) -> Option<Header>
@@ -53,7 +50,8 @@ pub(crate) fn read(bytes: &[u8]) -> Option<Header>
 // The format, by the name and the version.
 fn read_format(bytes: &[u8]) -> Option<Format>
     requires { length bytes.now ≡ 512 }
-    ensures { MatchOption result ((format : AnyFormat) → ¬ HasFormat format bytes.now) (λ format. HasFormat format bytes.now) }
+    ensures { MatchOption result ((format : AnyFormat) → ¬ HasFormat format bytes.now)
+        (λ format. HasFormat format bytes.now) }
 {
     if !bytes.starts_with(&NAME) {
         return None;
@@ -68,7 +66,8 @@ fn read_format(bytes: &[u8]) -> Option<Format>
 // The geometry, by the keys, the lowest level, the block and the format.
 fn read_geometry(bytes: &[u8]) -> Option<Geometry>
     requires { length bytes.now ≡ 512 }
-    ensures { MatchOption result (IsNoSpelling bytes.now) (λ g. HasGeometry g.format g.block_exp g.bottom g.keys bytes.now) }
+    ensures { MatchOption result (IsNoSpelling bytes.now)
+        (λ g. HasGeometry g.format g.block_exp g.bottom g.keys bytes.now) }
 {
     let format = read_format(bytes)?;
     let Ok(geometry) = Geometry::of_format(u64_at(bytes, 16), bytes[12], format) else {
@@ -82,7 +81,8 @@ fn read_geometry(bytes: &[u8]) -> Option<Geometry>
 
 // Whether a store is closed, by its state's byte.
 fn read_closed(state: u8) -> Option<bool>
-    ensures { MatchOption result ((closed : Bool) → (if closed then 0 else 1) ≢ state) (λ closed. (if closed then 0 else 1) ≡ state) }
+    ensures { MatchOption result ((closed : Bool) → (if closed then 0 else 1) ≢ state)
+        (λ closed. (if closed then 0 else 1) ≡ state) }
 {
     match state {
         0 => Some(true),
@@ -106,12 +106,12 @@ fn last_limit(format: Format) -> u64
 {
     match format {
         Format::One => 0,
-        Format::Two => LAST_NUMBER,
+        Format::Two => LAST_STAMP,
     }
 }
 
 // The marks of so many levels.
-fn read_levels(bytes: &[u8], levels: u8) -> ArrayVec<Marks, 23>
+fn read_levels(bytes: &[u8], levels: u8) -> ArrayVec<Marks, MOST_LEVELS>
     requires size { length bytes.now ≡ 512 }
     requires few { levels ≤ 23 }
     ensures { result.items ≡ levels_in levels (drop 48 bytes.now) }

@@ -52,7 +52,9 @@ fn write_head(header: &Header, into: &mut [u8])
 fn write_levels(levels: &[Marks], into: &mut [u8])
     requires size { length into.old ≡ 512 }
     requires few { length levels.now ≤ 23 }
-    ensures text { take (48 + 20 * length levels.now) into.new ≡ take 48 into.old ++ flat_map marks_bytes levels.now }
+    ensures text { take
+        (48 + 20 * length levels.now) into.new
+        ≡ take 48 into.old ++ flat_map marks_bytes levels.now }
     ensures size { length into.new ≡ 512 }
 {
     for (level, marks) in levels.iter().enumerate() {

@@ -10,6 +10,7 @@ use crate::encode::write;
 use crate::geometry::Geometry;
 use crate::marks::Marks;
 use arrayvec::ArrayVec;
+use cola_cell::MOST_LEVELS;
 
 /// What a store's file says of the whole store: its geometry, whether it was closed, how many keys it has, its clock, its
 /// last number and the marks of its levels. The invariants are the rules of a header.
@@ -26,7 +27,7 @@ pub struct Header {
     /// The last number that was given to a value: 0 in format One, at most `2^63` in format Two.
     pub last: u64,
     /// The marks of the levels 0 to bottom.
-    pub levels: ArrayVec<Marks, 23>,
+    pub levels: ArrayVec<Marks, MOST_LEVELS>,
     pub ghost count_fits: { count ≤ geometry.keys },
     pub ghost clock_fits: { clock < 2 ^ (geometry.bottom + 1) },
     pub ghost last_fits: { last ≤ stamp_limit geometry.format },
@@ -75,7 +76,7 @@ impl Header {
 }
 
 // The marks of so many levels with nothing in them.
-fn empty_levels(levels: u8) -> ArrayVec<Marks, 23>
+fn empty_levels(levels: u8) -> ArrayVec<Marks, MOST_LEVELS>
     requires { levels ≤ 23 }
     ensures { result.items ≡ replicate levels no_marks }
 {

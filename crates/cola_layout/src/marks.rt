@@ -59,7 +59,8 @@ fn sampled(clock: u64, bottom: u8, levels: &[Marks], level: u8) -> u32
     requires level_exists { level ≤ bottom }
     requires clock_in_range { clock < 2 ^ 23 }
     requires one_each { length levels.now ≡ bottom + 1 }
-    ensures { result ≡ sample_end (is_odd (period clock level)) (drop (suc level) (all_numbers levels.now)) }
+    ensures { result ≡ sample_end (is_odd (period clock level))
+        (drop (suc level) (all_numbers levels.now)) }
 {
     match next_of(clock, level, bottom) {
         Below::Visible => levels[level as usize + 1].visible / 8,

@@ -10,7 +10,7 @@ use Rattle.cola_laws.specs.Chain as chain
 use Rattle.cola_laws.specs.Chain.{upper_part, part_of, next_runs, first_keys}
 use Rattle.cola_laws.proofs.Facts.{sampled-nothing, sampled-run}
 use Rattle.cola_cell.specs.Held.{Held, LawCell, Stamped}
-use Rattle.cola_told.proofs.CellLists.{cells-same}
+use Rattle.cola_cell.proofs.CellLists.{cells-same}
 use Rattle.cola_merge.specs.declared.aims.Aim.{Aim}
 use Rattle.cola_merge.specs.declared.aims.Feed.{Feed}
 use Rattle.cola_merge.specs.Feeds as merge

@@ -9,7 +9,7 @@ use Rattle.cola_merge.specs.declared.aims.Progress.TheVariants.{Done, More}
 use Rattle.cola_merge.specs.declared.merging.Merger.{Merger}
 use Rattle.cola_merge.specs.Feeds.{feed_len}
 use Rattle.cola_merge.specs.Heads.{consumed}
-use Rattle.cola_merge.specs.States.{State, StepCause}
+use Rattle.cola_merge.specs.States.{MergeState, StepCause}
 use Rattle.cola_merge.specs.Advance as merge
 use Rattle.cola_merge.specs.Advance.{Consumes, Gone, IsWhole, HasStepCause, IsDeviceFault}
 use Rattle.cola_level.specs.Work.{Takes, GoesFurther, GoesOn, IsWholeAtEnd, IsCalm, IsDevice}
@@ -46,7 +46,7 @@ module _ (aim : Aim) (m n : Merger) where
     whole_of (Ok Done) c w = λ u. w
     whole_of (Err fault) c w = tt
 
-pub cause_of : (aim : Aim) (before : ℕ) (t : State) (result : Result Progress StepFault) → HasStepCause aim before t result → IfErr result (StepCause aim before t)
+pub cause_of : (aim : Aim) (before : ℕ) (t : MergeState) (result : Result Progress StepFault) → HasStepCause aim before t result → IfErr result (StepCause aim before t)
 cause_of aim before t (Ok progress) c = tt
 cause_of aim before t (Err fault) c = c
 
@@ -61,7 +61,7 @@ only_of (Err (BadCell number)) d = absurd d
 only_of (Err (Overfull level)) d = absurd d
 
 -- what was refused, under another type of answers
-pub refused_as : {A B : Type 0} {aim : Aim} {s t : State} {fault : StepFault} → Moves {A = A} aim s t (Err fault) → Moves {A = B} aim s t (Err fault)
+pub refused_as : {A B : Type 0} {aim : Aim} {s t : MergeState} {fault : StepFault} → Moves {A = A} aim s t (Err fault) → Moves {A = B} aim s t (Err fault)
 refused_as m = record {
   ready = m.ready;
   grows = m.grows;
@@ -70,6 +70,7 @@ refused_as m = record {
   rises = m.rises;
   emits = m.emits;
   samples = m.samples;
+  builds = m.builds;
   told = m.told;
   cut = λ going. let g = m.cut going in record { going = g.going; own_stays = g.own_stays; incoming_stays = g.incoming_stays; keys_stay = g.keys_stay; further = g.further };
   whole = m.whole;
@@ -80,7 +81,7 @@ refused_as m = record {
 }
 
 -- what was accepted, with another answer
-pub accepted_as : {A B : Type 0} {aim : Aim} {s t : State} {a : A} {b : B} → Moves {A = A} aim s t (Ok a) → Moves {A = B} aim s t (Ok b)
+pub accepted_as : {A B : Type 0} {aim : Aim} {s t : MergeState} {a : A} {b : B} → Moves {A = A} aim s t (Ok a) → Moves {A = B} aim s t (Ok b)
 accepted_as m = record {
   ready = m.ready;
   grows = m.grows;
@@ -89,6 +90,7 @@ accepted_as m = record {
   rises = m.rises;
   emits = m.emits;
   samples = m.samples;
+  builds = m.builds;
   told = m.told;
   cut = λ going. let g = m.cut going in record { going = g.going; own_stays = g.own_stays; incoming_stays = g.incoming_stays; keys_stay = g.keys_stay; further = g.further };
   whole = m.whole;

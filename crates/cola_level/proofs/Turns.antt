@@ -16,7 +16,8 @@ use Rattle.cola_laws.proofs.Mutations.{fewer-advanced}
 use Rattle.cola_cell.specs.declared.cell.Reader.{Reader}
 use Rattle.cola_cell.specs.declared.cell.Reader.TheVariants.{Own, Incoming, Sample}
 use Rattle.cola_cell.specs.Spent.{Buffer, By, Spent}
-use Rattle.cola_merge.specs.Blocks.{feed_left, blocks_left}
+use Rattle.cola_cell.specs.State.{State}
+use Rattle.cola_merge.specs.Blocks.{feed_left}
 use Rattle.cola_transfers.specs.Blocks.{IsWrittenDown}
 use Rattle.cola_transfers.specs.Chain.{sample_left, has_ended, StaysBeside, IsLevelWorked}
 use Rattle.cola_cell.specs.declared.fault.StepFault.{StepFault}
@@ -29,7 +30,7 @@ use Rattle.cola_merge.specs.Feeds as merge
 use Rattle.cola_merge.specs.Feeds.{feed_len, feed_cells, feed_keys}
 use Rattle.cola_merge.specs.Heads.{consumed, IsReady}
 use Rattle.cola_merge.specs.Heads as heads
-use Rattle.cola_merge.specs.States.{state, IsOther}
+use Rattle.cola_merge.specs.States.{state, IsOther, TurnsWithin}
 use Rattle.cola_merge.specs.Advance.{IsGoing, GoesBy, whole_run}
 use Rattle.cola_merge.specs.declared.aims.Feed.TheVariants as feed
 use Rattle.cola_level.specs.declared.level.Level.{Level}
@@ -38,6 +39,7 @@ use Rattle.cola_level.specs.Marks.{marks_of}
 use Rattle.cola_level.specs.Standing.{slot_cells, visible_cells, stood, all_stood, CanAdvance, is_kept, transfers_of}
 use Rattle.cola_level.specs.Work.{taken, sources, GoesFurther, is_ended, WritesDown, Advances}
 use Rattle.cola_level.specs.Built.{Moves, Built}
+use Rattle.cola_level.specs.Works.{Works}
 use Rattle.cola_level.proofs.Sources.{keys_of_next, part_of_aim, sample_len}
 use Rattle.cola_level.proofs.Writing.{kept_same}
 
@@ -98,26 +100,30 @@ left_of_sample doublings held spent t j (next ∷ under) at = refl
 other_sample : (x y a b c p q r d s : ℕ) → c ≡ d → r ≡ s → x + (a + b + c) ≤ y + (p + q + r) → x + (a + b + d) ≤ y + (p + q + s)
 other_sample x y a b c p q r d s e f h = omega (arith, e, f, h)
 
-module _ {A : Type 0} (t i above : ℕ) (below : List Marks) (l : Level) (shadow : ℕ) (n : Merger) (old new : Held) (before now : Spent) (from to : ℕ) (result : Result A StepFault)
-    (moves : Moves (aim_at t i l.visible above below) (state old before l.merger from) (state new now n to) result)
-    (length_was : l.shadow ≡ (old.shadows (suc i)).len) (length_is : shadow ≡ (new.shadows (suc i)).len) where
+-- a level after its work
+abbrev pub worked_level : Level → ℕ → Merger → Level
+worked_level l shadow n = record { visible = l.visible; shadow = shadow; merger = n }
+
+module _ {A : Type 0} (t i above : ℕ) (below : List Marks) (l : Level) (shadow : ℕ) (n : Merger) (old new : State) (from to : ℕ) (result : Result A StepFault)
+    (moves : Moves (aim_at t i l.visible above below) (state old l.merger from) (state new n to) result)
+    (length_was : l.shadow ≡ (old.held.shadows (suc i)).len) (length_is : shadow ≡ (new.held.shadows (suc i)).len) where
   all_sources : l.visible + above + sample_end (is_odd (period t (suc i))) below ≡ sources (aim_at t i l.visible above below)
   all_sources = ap (λ (n : ℕ). l.visible + above + n) (sym (sample_len t (suc i) below))
 
   inside : (due : ℕ) → AreMarksInside (0 + due) above (sample_end (is_odd (period t (suc i))) below) (marks_of l) →
-      AreMarksInside (taken result + due) above (sample_end (is_odd (period t (suc i))) below) (marks_of (record { visible = l.visible; shadow = shadow; merger = n }))
+      AreMarksInside (taken result + due) above (sample_end (is_odd (period t (suc i))) below) (marks_of (worked_level l shadow n))
   inside due h = record {
     own_within = moves.ready.own.within;
     incoming_within = moves.ready.incoming.within;
     sampled_within = subst (λ (x : ℕ). n.sample.at ≤ x) (sample_len t (suc i) below) moves.ready.sample.within;
     enough = pace (l.visible + above + sample_end (is_odd (period t (suc i))) below) (sources (aim_at t i l.visible above below)) due (taken result) (consumed l.merger) (consumed n) all_sources h.enough moves.takes.rises moves.takes.enough;
-    sampled_done = samples_under l.merger.sample.at n.sample.at l.shadow shadow (old.shadows (suc i)).len (new.shadows (suc i)).len length_was length_is moves.samples h.sampled_done;
-    done_consumed = emits_under (consumed l.merger) (consumed n) l.shadow shadow (old.shadows (suc i)).len (new.shadows (suc i)).len length_was length_is moves.emits h.done_consumed;
+    sampled_done = samples_under l.merger.sample.at n.sample.at l.shadow shadow (old.held.shadows (suc i)).len (new.held.shadows (suc i)).len length_was length_is moves.samples h.sampled_done;
+    done_consumed = emits_under (consumed l.merger) (consumed n) l.shadow shadow (old.held.shadows (suc i)).len (new.held.shadows (suc i)).len length_was length_is moves.emits h.done_consumed;
   }
 
   -- the level has marks that it may have, so many steps further
-  pub marked : works t (suc i) ≡ true → shadow ≤ slot_size (suc i) → AreLevelMarks 0 t (suc i) above (marks_of l) below →
-      AreLevelMarks (taken result) t (suc i) above (marks_of (record { visible = l.visible; shadow = shadow; merger = n })) below
+  marked : works t (suc i) ≡ true → shadow ≤ slot_size (suc i) → AreLevelMarks 0 t (suc i) above (marks_of l) below →
+      AreLevelMarks (taken result) t (suc i) above (marks_of (worked_level l shadow n)) below
   marked w within m = record {
     visible_fits = m.visible_fits;
     shadow_fits = within;
@@ -129,27 +135,27 @@ module _ {A : Type 0} (t i above : ℕ) (below : List Marks) (l : Level) (shadow
 
   -- ---- the laws of levels
 
-  old_slot : (old.shadows (suc i)).slot ≡ 1 - visible_slot t (suc i)
+  old_slot : (old.held.shadows (suc i)).slot ≡ 1 - visible_slot t (suc i)
   old_slot = sym moves.grows.slot_is ∙ sym moves.ready.slot_is
 
-  old_build : heads.build_of old (aim_at t i l.visible above below) l.merger ≡ build_of (stood old t (suc i) (marks_of l))
+  old_build : heads.build_of old.held (aim_at t i l.visible above below) l.merger ≡ build_of (stood old.held t (suc i) (marks_of l))
   old_build =
-      ap (λ (s : ℕ). record { own = l.merger.own.at; incoming = l.merger.incoming.at; sampled = l.merger.sample.at; done = slot_cells old (suc i) s (old.shadows (suc i)).len }) old_slot
-      ∙ ap (λ (x : ℕ). record { own = l.merger.own.at; incoming = l.merger.incoming.at; sampled = l.merger.sample.at; done = slot_cells old (suc i) (1 - visible_slot t (suc i)) x }) (sym length_was)
+      ap (λ (s : ℕ). record { own = l.merger.own.at; incoming = l.merger.incoming.at; sampled = l.merger.sample.at; done = slot_cells old.held (suc i) s (old.held.shadows (suc i)).len }) old_slot
+      ∙ ap (λ (x : ℕ). record { own = l.merger.own.at; incoming = l.merger.incoming.at; sampled = l.merger.sample.at; done = slot_cells old.held (suc i) (1 - visible_slot t (suc i)) x }) (sym length_was)
 
-  new_build : heads.build_of new (aim_at t i l.visible above below) n ≡ build_of (stood new t (suc i) (marks_of (record { visible = l.visible; shadow = shadow; merger = n })))
+  new_build : heads.build_of new.held (aim_at t i l.visible above below) n ≡ build_of (stood new.held t (suc i) (marks_of (worked_level l shadow n)))
   new_build =
-      ap (λ (s : ℕ). record { own = n.own.at; incoming = n.incoming.at; sampled = n.sample.at; done = slot_cells new (suc i) s (new.shadows (suc i)).len }) (sym moves.ready.slot_is)
-      ∙ ap (λ (x : ℕ). record { own = n.own.at; incoming = n.incoming.at; sampled = n.sample.at; done = slot_cells new (suc i) (1 - visible_slot t (suc i)) x }) (sym length_is)
+      ap (λ (s : ℕ). record { own = n.own.at; incoming = n.incoming.at; sampled = n.sample.at; done = slot_cells new.held (suc i) s (new.held.shadows (suc i)).len }) (sym moves.ready.slot_is)
+      ∙ ap (λ (x : ℕ). record { own = n.own.at; incoming = n.incoming.at; sampled = n.sample.at; done = slot_cells new.held (suc i) (1 - visible_slot t (suc i)) x }) (sym length_is)
 
-  part_is : merge.part_of (aim_at t i l.visible above below) ≡ part_of (is_odd (period t (suc i))) (all_stood old t (suc (suc i)) below)
-  part_is = part_of_aim old t (suc i) l.visible (feed.Run (visible_run t i above)) below
+  part_is : merge.part_of (aim_at t i l.visible above below) ≡ part_of (is_odd (period t (suc i))) (all_stood old.held t (suc (suc i)) below)
+  part_is = part_of_aim old.held t (suc i) l.visible (feed.Run (visible_run t i above)) below
 
-  keys_are : feed_keys old (aim_at t i l.visible above below).sample ≡ first_keys (next_runs t (suc i) (all_stood old t (suc (suc i)) below))
-  keys_are = keys_of_next old t (suc i) below
+  keys_are : feed_keys old.held (aim_at t i l.visible above below).sample ≡ first_keys (next_runs t (suc i) (all_stood old.held t (suc (suc i)) below))
+  keys_are = keys_of_next old.held t (suc i) below
 
-  module _ (can : CanAdvance old (aim_at t i l.visible above below) t i above (marks_of l) below) where
-    going : IsGoing old (aim_at t i l.visible above below) l.merger
+  module _ (can : CanAdvance old.held (aim_at t i l.visible above below) t i above (marks_of l) below) where
+    going : IsGoing old.held (aim_at t i l.visible above below) l.merger
     going = record {
       tells = can.tells;
       feeds = can.feeds;
@@ -158,72 +164,72 @@ module _ {A : Type 0} (t i above : ℕ) (below : List Marks) (l : Level) (shadow
       incoming_rises = can.workable.buildable.incoming_rising;
       keys_rise = subst (IsStrictlySortedBy key_cmp) (sym keys_are) can.workable.buildable.keys_rising;
       under_way =
-          subst (λ (x : Part). IsUnderWay key_cmp x (visible_cells old t (suc i) l.visible) (visible_cells old t i above) (feed_keys old (aim_at t i l.visible above below).sample) (heads.build_of old (aim_at t i l.visible above below) l.merger)) (sym part_is)
-          (subst (λ (x : List (List ℕ)). IsUnderWay key_cmp (part_of (is_odd (period t (suc i))) (all_stood old t (suc (suc i)) below)) (visible_cells old t (suc i) l.visible) (visible_cells old t i above) x (heads.build_of old (aim_at t i l.visible above below) l.merger)) (sym keys_are)
-          (subst (λ (x : Build (List ℕ) Stamped). IsUnderWay key_cmp (part_of (is_odd (period t (suc i))) (all_stood old t (suc (suc i)) below)) (visible_cells old t (suc i) l.visible) (visible_cells old t i above) (first_keys (next_runs t (suc i) (all_stood old t (suc (suc i)) below))) x) (sym old_build)
+          subst (λ (x : Part). IsUnderWay key_cmp x (visible_cells old.held t (suc i) l.visible) (visible_cells old.held t i above) (feed_keys old.held (aim_at t i l.visible above below).sample) (heads.build_of old.held (aim_at t i l.visible above below) l.merger)) (sym part_is)
+          (subst (λ (x : List (List ℕ)). IsUnderWay key_cmp (part_of (is_odd (period t (suc i))) (all_stood old.held t (suc (suc i)) below)) (visible_cells old.held t (suc i) l.visible) (visible_cells old.held t i above) x (heads.build_of old.held (aim_at t i l.visible above below) l.merger)) (sym keys_are)
+          (subst (λ (x : Build (List ℕ) Stamped). IsUnderWay key_cmp (part_of (is_odd (period t (suc i))) (all_stood old.held t (suc (suc i)) below)) (visible_cells old.held t (suc i) l.visible) (visible_cells old.held t i above) (first_keys (next_runs t (suc i) (all_stood old.held t (suc (suc i)) below))) x) (sym old_build)
           (can.paced.inside can.works).under_way));
     }
 
-    by_laws : (count : ℕ) → GoesBy old new (aim_at t i l.visible above below) l.merger n count →
-        steps.IsAdvanced key_cmp (part_of (is_odd (period t (suc i))) (all_stood old t (suc (suc i)) below)) (visible_cells old t (suc i) l.visible) (visible_cells old t i above) (first_keys (next_runs t (suc i) (all_stood old t (suc (suc i)) below)))
-        count (build_of (stood old t (suc i) (marks_of l))) (build_of (stood new t (suc i) (marks_of (record { visible = l.visible; shadow = shadow; merger = n }))))
+    by_laws : (count : ℕ) → GoesBy old.held new.held (aim_at t i l.visible above below) l.merger n count →
+        steps.IsAdvanced key_cmp (part_of (is_odd (period t (suc i))) (all_stood old.held t (suc (suc i)) below)) (visible_cells old.held t (suc i) l.visible) (visible_cells old.held t i above) (first_keys (next_runs t (suc i) (all_stood old.held t (suc (suc i)) below)))
+        count (build_of (stood old.held t (suc i) (marks_of l))) (build_of (stood new.held t (suc i) (marks_of (worked_level l shadow n))))
     by_laws count g =
-        subst (λ (x : Part). steps.IsAdvanced key_cmp x (visible_cells old t (suc i) l.visible) (visible_cells old t i above) (first_keys (next_runs t (suc i) (all_stood old t (suc (suc i)) below))) count (build_of (stood old t (suc i) (marks_of l))) (build_of (stood new t (suc i) (marks_of (record { visible = l.visible; shadow = shadow; merger = n }))))) part_is
-        (subst (λ (x : List (List ℕ)). steps.IsAdvanced key_cmp (merge.part_of (aim_at t i l.visible above below)) (visible_cells old t (suc i) l.visible) (visible_cells old t i above) x count (build_of (stood old t (suc i) (marks_of l))) (build_of (stood new t (suc i) (marks_of (record { visible = l.visible; shadow = shadow; merger = n }))))) keys_are
-        (subst (λ (x : Build (List ℕ) Stamped). steps.IsAdvanced key_cmp (merge.part_of (aim_at t i l.visible above below)) (visible_cells old t (suc i) l.visible) (visible_cells old t i above) (feed_keys old (aim_at t i l.visible above below).sample) count x (build_of (stood new t (suc i) (marks_of (record { visible = l.visible; shadow = shadow; merger = n }))))) old_build
-        (subst (λ (x : Build (List ℕ) Stamped). steps.IsAdvanced key_cmp (merge.part_of (aim_at t i l.visible above below)) (visible_cells old t (suc i) l.visible) (visible_cells old t i above) (feed_keys old (aim_at t i l.visible above below).sample) count (heads.build_of old (aim_at t i l.visible above below) l.merger) x) new_build g)))
+        subst (λ (x : Part). steps.IsAdvanced key_cmp x (visible_cells old.held t (suc i) l.visible) (visible_cells old.held t i above) (first_keys (next_runs t (suc i) (all_stood old.held t (suc (suc i)) below))) count (build_of (stood old.held t (suc i) (marks_of l))) (build_of (stood new.held t (suc i) (marks_of (worked_level l shadow n))))) part_is
+        (subst (λ (x : List (List ℕ)). steps.IsAdvanced key_cmp (merge.part_of (aim_at t i l.visible above below)) (visible_cells old.held t (suc i) l.visible) (visible_cells old.held t i above) x count (build_of (stood old.held t (suc i) (marks_of l))) (build_of (stood new.held t (suc i) (marks_of (worked_level l shadow n))))) keys_are
+        (subst (λ (x : Build (List ℕ) Stamped). steps.IsAdvanced key_cmp (merge.part_of (aim_at t i l.visible above below)) (visible_cells old.held t (suc i) l.visible) (visible_cells old.held t i above) (feed_keys old.held (aim_at t i l.visible above below).sample) count x (build_of (stood new.held t (suc i) (marks_of (worked_level l shadow n))))) old_build
+        (subst (λ (x : Build (List ℕ) Stamped). steps.IsAdvanced key_cmp (merge.part_of (aim_at t i l.visible above below)) (visible_cells old.held t (suc i) l.visible) (visible_cells old.held t i above) (feed_keys old.held (aim_at t i l.visible above below).sample) count (heads.build_of old.held (aim_at t i l.visible above below) l.merger) x) new_build g)))
 
-    advanced_by : (count : ℕ) → GoesBy old new (aim_at t i l.visible above below) l.merger n count →
-        IsAdvanced key_cmp count t (suc i) (visible_cells old t i above) (stood old t (suc i) (marks_of l)) (all_stood old t (suc (suc i)) below) (stood new t (suc i) (marks_of (record { visible = l.visible; shadow = shadow; merger = n })))
+    advanced_by : (count : ℕ) → GoesBy old.held new.held (aim_at t i l.visible above below) l.merger n count →
+        IsAdvanced key_cmp count t (suc i) (visible_cells old.held t i above) (stood old.held t (suc i) (marks_of l)) (all_stood old.held t (suc (suc i)) below) (stood new.held t (suc i) (marks_of (worked_level l shadow n)))
     advanced_by count g =
-        works-advanced nat_list_cmp_total count t (suc i) (visible_cells old t i above) (stood old t (suc i) (marks_of l)) (stood new t (suc i) (marks_of (record { visible = l.visible; shadow = shadow; merger = n }))) (all_stood old t (suc (suc i)) below)
+        works-advanced nat_list_cmp_total count t (suc i) (visible_cells old.held t i above) (stood old.held t (suc i) (marks_of l)) (stood new.held t (suc i) (marks_of (worked_level l shadow n))) (all_stood old.held t (suc (suc i)) below)
         can.works can.paced can.workable (moves.cut going).own_stays (by_laws count g)
 
-    advanced : (answer : Result A StepFault) → GoesFurther old new (aim_at t i l.visible above below) l.merger n answer →
-        IsAdvanced key_cmp (taken answer) t (suc i) (visible_cells old t i above) (stood old t (suc i) (marks_of l)) (all_stood old t (suc (suc i)) below) (stood new t (suc i) (marks_of (record { visible = l.visible; shadow = shadow; merger = n })))
+    advanced : (answer : Result A StepFault) → GoesFurther old.held new.held (aim_at t i l.visible above below) l.merger n answer →
+        IsAdvanced key_cmp (taken answer) t (suc i) (visible_cells old.held t i above) (stood old.held t (suc i) (marks_of l)) (all_stood old.held t (suc (suc i)) below) (stood new.held t (suc i) (marks_of (worked_level l shadow n)))
     advanced (Ok a) g = advanced_by merge_steps g
     advanced (Err fault) g =
-        fewer-advanced key_cmp g.0 0 t (suc i) (visible_cells old t i above) (stood old t (suc i) (marks_of l)) (stood new t (suc i) (marks_of (record { visible = l.visible; shadow = shadow; merger = n }))) (all_stood old t (suc (suc i)) below)
+        fewer-advanced key_cmp g.0 0 t (suc i) (visible_cells old.held t i above) (stood old.held t (suc i) (marks_of l)) (stood new.held t (suc i) (marks_of (worked_level l shadow n))) (all_stood old.held t (suc (suc i)) below)
         (omega arith) (advanced_by g.0 g.2)
 
-    fits : length (whole_run old (aim_at t i l.visible above below)) ≤ slot_size (suc i)
+    fits : length (whole_run old.held (aim_at t i l.visible above below)) ≤ slot_size (suc i)
     fits =
-        subst (λ (x : Part). length (weave key_cmp x (visible_cells old t (suc i) l.visible) (visible_cells old t i above) (feed_keys old (aim_at t i l.visible above below).sample)) ≤ slot_size (suc i)) (sym part_is)
-        (subst (λ (x : List (List ℕ)). length (weave key_cmp (part_of (is_odd (period t (suc i))) (all_stood old t (suc (suc i)) below)) (visible_cells old t (suc i) l.visible) (visible_cells old t i above) x) ≤ slot_size (suc i)) (sym keys_are)
+        subst (λ (x : Part). length (weave key_cmp x (visible_cells old.held t (suc i) l.visible) (visible_cells old.held t i above) (feed_keys old.held (aim_at t i l.visible above below).sample)) ≤ slot_size (suc i)) (sym part_is)
+        (subst (λ (x : List (List ℕ)). length (weave key_cmp (part_of (is_odd (period t (suc i))) (all_stood old.held t (suc (suc i)) below)) (visible_cells old.held t (suc i) l.visible) (visible_cells old.held t i above) x) ≤ slot_size (suc i)) (sym keys_are)
         can.workable.buildable.fits)
 
     -- the level is so many steps further
-    pub advances : Advances old new t i above (marks_of l) (marks_of (record { visible = l.visible; shadow = shadow; merger = n })) below result
+    advances : Advances old.held new.held t i above (marks_of l) (marks_of (worked_level l shadow n)) below result
     advances = record { advanced = advanced result (moves.cut going).further; told = (moves.cut going).going.shadow; only = moves.only going fits }
 
   -- ---- transfers
 
-  beside : StaysBeside i (transfers_of old before) (transfers_of new now)
+  beside : StaysBeside i (transfers_of old.held old.spent) (transfers_of new.held new.spent)
   beside = record {
     own = λ k s b d. moves.lasts (By Own k) (record { own = other_level Own k (suc i) d; incoming = other_reader Own Incoming k i own≢incoming; sample = not_sampled t (suc i) below Own k own≢sample }) k s b (inl d);
     incoming = λ k s b d e. moves.lasts (By Incoming k) (record { own = other_reader Incoming Own k (suc i) (λ f. own≢incoming (sym f)); incoming = other_level Incoming k i e; sample = not_sampled t (suc i) below Incoming k incoming≢sample }) k s b (inl d);
     sample = λ k s b d e. moves.lasts (By Sample k) (record { own = other_reader Sample Own k (suc i) (λ f. own≢sample (sym f)); incoming = other_reader Sample Incoming k i (λ f. incoming≢sample (sym f)); sample = elsewhere_sampled t (suc i) below k e }) k s b (inl d);
-    kept = λ k d. kept_same old new k moves.grows.around.fixed_is (moves.grows.around.shadows_stay k d);
+    kept = λ k d. kept_same old.held new.held k moves.grows.around.fixed_is (moves.grows.around.shadows_stay k d);
   }
 
-  ended_is : is_ended (aim_at t i l.visible above below) n ≡ has_ended t i above (marks_of (record { visible = l.visible; shadow = shadow; merger = n })) below
+  ended_is : is_ended (aim_at t i l.visible above below) n ≡ has_ended t i above (marks_of (worked_level l shadow n)) below
   ended_is = ap (λ (x : ℕ). nat_le x (consumed n)) (sym all_sources)
 
   -- the work of the level, as the account of transfers has it
-  pub worked : before.turned ≤ now.turned → before.written ≤ now.written → now.turned + blocks_left old.fixed.doublings now.lasts (aim_at t i l.visible above below) n ≤ before.turned + blocks_left old.fixed.doublings before.lasts (aim_at t i l.visible above below) l.merger →
-      WritesDown old new (aim_at t i l.visible above below) n before now →
-      IsLevelWorked old.fixed.doublings t i above (marks_of l) (marks_of (record { visible = l.visible; shadow = shadow; merger = n })) below (transfers_of old before) (transfers_of new now)
+  worked : old.spent.turned ≤ new.spent.turned → old.spent.written ≤ new.spent.written → TurnsWithin (aim_at t i l.visible above below) (state old l.merger from) (state new n to) →
+      WritesDown old new (aim_at t i l.visible above below) n →
+      IsLevelWorked old.held.fixed.doublings t i above (marks_of l) (marks_of (worked_level l shadow n)) below (transfers_of old.held old.spent) (transfers_of new.held new.spent)
   worked turned_stays written_stays turned written = record {
     visible = refl;
     goes_on = moves.takes.rises;
-    emits = emits_so (consumed l.merger) (consumed n) l.shadow shadow (old.shadows (suc i)).len (new.shadows (suc i)).len length_was length_is moves.emits;
+    emits = emits_so (consumed l.merger) (consumed n) l.shadow shadow (old.held.shadows (suc i)).len (new.held.shadows (suc i)).len length_was length_is moves.emits;
     reads_stay = turned_stays;
     writes_stay = written_stays;
-    reads = other_sample _ _ _ _ _ _ _ _ _ _ (left_of_sample old.fixed.doublings new now t (suc i) below n.sample.at) (left_of_sample old.fixed.doublings old before t (suc i) below l.merger.sample.at) turned;
+    reads = other_sample _ _ _ _ _ _ _ _ _ _ (left_of_sample old.held.fixed.doublings new.held new.spent t (suc i) below n.sample.at) (left_of_sample old.held.fixed.doublings old.held old.spent t (suc i) below l.merger.sample.at) turned;
     writes =
-        subst (λ (x : ℕ). IsWrittenDown (slot_size (suc i)) (span old) x shadow (has_ended t i above (marks_of (record { visible = l.visible; shadow = shadow; merger = n })) below) (is_kept old (suc i)) (is_kept new (suc i)) before.written now.written) (sym length_was)
-        (subst (λ (x : ℕ). IsWrittenDown (slot_size (suc i)) (span old) (old.shadows (suc i)).len x (has_ended t i above (marks_of (record { visible = l.visible; shadow = shadow; merger = n })) below) (is_kept old (suc i)) (is_kept new (suc i)) before.written now.written) (sym length_is)
-        (subst (λ (x : Bool). IsWrittenDown (slot_size (suc i)) (span old) (old.shadows (suc i)).len (new.shadows (suc i)).len x (is_kept old (suc i)) (is_kept new (suc i)) before.written now.written) ended_is
+        subst (λ (x : ℕ). IsWrittenDown (slot_size (suc i)) (span old.held) x shadow (has_ended t i above (marks_of (worked_level l shadow n)) below) (is_kept old.held (suc i)) (is_kept new.held (suc i)) old.spent.written new.spent.written) (sym length_was)
+        (subst (λ (x : ℕ). IsWrittenDown (slot_size (suc i)) (span old.held) (old.held.shadows (suc i)).len x (has_ended t i above (marks_of (worked_level l shadow n)) below) (is_kept old.held (suc i)) (is_kept new.held (suc i)) old.spent.written new.spent.written) (sym length_is)
+        (subst (λ (x : Bool). IsWrittenDown (slot_size (suc i)) (span old.held) (old.held.shadows (suc i)).len (new.held.shadows (suc i)).len x (is_kept old.held (suc i)) (is_kept new.held (suc i)) old.spent.written new.spent.written) ended_is
         written));
     beside = beside;
   }
@@ -234,30 +240,62 @@ on_ok : {A : Type 0} (P Q R : Type 0) (result : Result A StepFault) → OnOk res
 on_ok P Q R (Ok a) p q f = f p q
 on_ok P Q R (Err fault) p q f = tt
 
-pub written_of : {A : Type 0} (P Q : Type 0) (result : Result A StepFault) → OnOk result (P → Q) → P → OnOk result Q
+written_of : {A : Type 0} (P Q : Type 0) (result : Result A StepFault) → OnOk result (P → Q) → P → OnOk result Q
 written_of P Q (Ok a) h p = h p
 written_of P Q (Err fault) h p = tt
 
-module _ {A : Type 0} (t i above : ℕ) (below : List Marks) (l : Level) (shadow : ℕ) (n : Merger) (old new : Held) (before now : Spent) (from to : ℕ) (result : Result A StepFault) (aim : Aim) (aimed : aim ≡ aim_at t i l.visible above below) where
-  pub marked_at : Moves aim (state old before l.merger from) (state new now n to) result → l.shadow ≡ (old.shadows (suc i)).len → shadow ≡ (new.shadows aim.level).len → shadow ≤ slot_size aim.level →
-      works t (suc i) ≡ true → AreLevelMarks 0 t (suc i) above (marks_of l) below → AreLevelMarks (taken result) t (suc i) above (marks_of (record { visible = l.visible; shadow = shadow; merger = n })) below
+module _ {A : Type 0} (t i above : ℕ) (below : List Marks) (l : Level) (shadow : ℕ) (n : Merger) (old new : State) (from to : ℕ) (result : Result A StepFault) (aim : Aim) (aimed : aim ≡ aim_at t i l.visible above below) where
+  marked_at : Moves aim (state old l.merger from) (state new n to) result → l.shadow ≡ (old.held.shadows (suc i)).len → shadow ≡ (new.held.shadows aim.level).len → shadow ≤ slot_size aim.level →
+      works t (suc i) ≡ true → AreLevelMarks 0 t (suc i) above (marks_of l) below → AreLevelMarks (taken result) t (suc i) above (marks_of (worked_level l shadow n)) below
   marked_at moves was is within w m =
-      marked t i above below l shadow n old new before now from to result (subst (λ (a : Aim). Moves a (state old before l.merger from) (state new now n to) result) aimed moves) was
-      (subst (λ (a : Aim). shadow ≡ (new.shadows a.level).len) aimed is) w (subst (λ (a : Aim). shadow ≤ slot_size a.level) aimed within) m
+      marked t i above below l shadow n old new from to result (subst (λ (a : Aim). Moves a (state old l.merger from) (state new n to) result) aimed moves) was
+      (subst (λ (a : Aim). shadow ≡ (new.held.shadows a.level).len) aimed is) w (subst (λ (a : Aim). shadow ≤ slot_size a.level) aimed within) m
 
-  pub advances_at : Moves aim (state old before l.merger from) (state new now n to) result → shadow ≡ (new.shadows aim.level).len →
-      CanAdvance old aim t i above (marks_of l) below → Advances old new t i above (marks_of l) (marks_of (record { visible = l.visible; shadow = shadow; merger = n })) below result
+  advances_at : Moves aim (state old l.merger from) (state new n to) result → shadow ≡ (new.held.shadows aim.level).len →
+      CanAdvance old.held aim t i above (marks_of l) below → Advances old.held new.held t i above (marks_of l) (marks_of (worked_level l shadow n)) below result
   advances_at moves is can =
-      advances t i above below l shadow n old new before now from to result (subst (λ (a : Aim). Moves a (state old before l.merger from) (state new now n to) result) aimed moves) can.shadow_is
-      (subst (λ (a : Aim). shadow ≡ (new.shadows a.level).len) aimed is) (subst (λ (a : Aim). CanAdvance old a t i above (marks_of l) below) aimed can)
+      advances t i above below l shadow n old new from to result (subst (λ (a : Aim). Moves a (state old l.merger from) (state new n to) result) aimed moves) can.shadow_is
+      (subst (λ (a : Aim). shadow ≡ (new.held.shadows a.level).len) aimed is) (subst (λ (a : Aim). CanAdvance old.held a t i above (marks_of l) below) aimed can)
 
-  pub worked_at : Built aim (state old before l.merger from) (state new now n to) result → l.shadow ≡ (old.shadows (suc i)).len → shadow ≡ (new.shadows aim.level).len → shadow ≤ slot_size aim.level →
-      OnOk result (IsLevelWorked old.fixed.doublings t i above (marks_of l) (marks_of (record { visible = l.visible; shadow = shadow; merger = n })) below (transfers_of old before) (transfers_of new now))
+  worked_at : Built aim (state old l.merger from) (state new n to) result → l.shadow ≡ (old.held.shadows (suc i)).len → shadow ≡ (new.held.shadows aim.level).len → shadow ≤ slot_size aim.level →
+      OnOk result (IsLevelWorked old.held.fixed.doublings t i above (marks_of l) (marks_of (worked_level l shadow n)) below (transfers_of old.held old.spent) (transfers_of new.held new.spent))
   worked_at built was is within =
       on_ok _ _ _ result built.moves.turned (written_of _ _ result built.written (subst (λ (x : ℕ). x ≤ slot_size aim.level) is within))
       (λ turned written.
-      worked t i above below l shadow n old new before now from to result (subst (λ (a : Aim). Moves a (state old before l.merger from) (state new now n to) result) aimed built.moves) was
-      (subst (λ (a : Aim). shadow ≡ (new.shadows a.level).len) aimed is)
+      worked t i above below l shadow n old new from to result (subst (λ (a : Aim). Moves a (state old l.merger from) (state new n to) result) aimed built.moves) was
+      (subst (λ (a : Aim). shadow ≡ (new.held.shadows a.level).len) aimed is)
       built.spends.turned_stays built.spends.written_stays
-      (subst (λ (a : Aim). now.turned + blocks_left old.fixed.doublings now.lasts a n ≤ before.turned + blocks_left old.fixed.doublings before.lasts a l.merger) aimed turned)
-      (subst (λ (a : Aim). WritesDown old new a n before now) aimed written))
+      (subst (λ (a : Aim). TurnsWithin a (state old l.merger from) (state new n to)) aimed turned)
+      (subst (λ (a : Aim). WritesDown old new a n) aimed written))
+
+-- ---- what a call says
+
+pub works_of : {A : Type 0} (aim : Aim) (l : Level) (shadow : ℕ) (n : Merger) (old new : State) (from to : ℕ) (result : Result A StepFault) → Built aim (state old l.merger from) (state new n to) result →
+    shadow ≡ (new.held.shadows aim.level).len → shadow ≤ slot_size aim.level → Works aim old new l (worked_level l shadow n) from to result
+works_of aim l shadow n old new from to result built is within =
+    let moves = built.moves in
+    record {
+      ready = moves.ready;
+      frames = moves.grows;
+      lasts = moves.lasts;
+      visible = refl;
+      length = is;
+      takes = moves.takes;
+      rises = moves.rises;
+      emits = moves.emits;
+      samples = moves.samples;
+      builds = moves.builds;
+      told = moves.told;
+      cut = moves.cut;
+      whole = moves.whole;
+      saved = built.saved;
+      cause = moves.cause;
+      calm = moves.calm;
+      only = moves.only;
+      spends = built.spends;
+      turned = moves.turned;
+      written = written_of _ _ result built.written (subst (λ (x : ℕ). x ≤ slot_size aim.level) is within);
+      marked = λ t i above below aimed was w marks. marked_at t i above below l shadow n old new from to result aim aimed moves was is within w marks;
+      advances = λ t i above below aimed can. advances_at t i above below l shadow n old new from to result aim aimed moves is can;
+      worked = λ t i above below aimed was. worked_at t i above below l shadow n old new from to result aim aimed built was is within;
+    }

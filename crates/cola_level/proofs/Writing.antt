@@ -6,15 +6,16 @@ use Rattle.cola_cell.specs.declared.sink.Shadow.{Shadow}
 use Rattle.cola_cell.specs.Held.{Held, Fixed, span}
 use Rattle.cola_cell.specs.Places.{slot_size}
 use Rattle.cola_cell.specs.Spent.{Spent}
+use Rattle.cola_cell.specs.State.{State}
 use Rattle.cola_cell.specs.Shadows.{IsKept, Finishes, FinishSpends}
 use Rattle.cola_merge.specs.declared.aims.Aim.{Aim}
 use Rattle.cola_merge.specs.declared.merging.Merger.{Merger}
 use Rattle.cola_merge.specs.Feeds.{feed_len}
 use Rattle.cola_merge.specs.Heads.{consumed, IsReady, IsUsedUp}
-use Rattle.cola_merge.specs.States.{State, len_of, Spends, Grows}
-use Rattle.cola_merge.specs.Advance.{IsSavedByBlocks}
+use Rattle.cola_merge.specs.States.{IsSavedByBlocks, MergeState, len_of, WritesWithin, Spends, Grows}
 use Rattle.cola_transfers.specs.Blocks.{IsWrittenDown}
 use Rattle.cola_level.specs.Standing.{is_kept}
+use Rattle.cola_level.specs.Built.{object_of}
 use Rattle.cola_level.specs.Work.{sources, is_ended, SpendsFor, WritesDown}
 use Rattle.cola_level.proofs.Finishing.{len_same}
 
@@ -49,11 +50,11 @@ spends_for s h = record {
   faults_stay = s.faults_stay;
 }
 
-pub spends_more : {held : Held} {level : ℕ} {old new last : Spent} {before after : ℕ} → Spends old new before after → after ≤ before + 59 → FinishSpends held new last level → SpendsFor old last before after
+pub spends_more : {level : ℕ} {old : Spent} {new last : State} {before after : ℕ} → Spends old new.spent before after → after ≤ before + 59 → FinishSpends new last level → SpendsFor old last.spent before after
 spends_more {old = old} {new = new} {last = last} {before = before} {after = after} s h f = record {
   steps_stay = s.steps_stay;
   steps_rise = h;
-  ticked_is = ticks old.ticked new.ticked last.ticked before after s.ticked_is f.writes.ticks_made;
+  ticked_is = ticks old.ticked new.spent.ticked last.spent.ticked before after s.ticked_is f.writes.ticks_made;
   turned_stays = (let a = s.turned_stays in let b = f.writes.turned_is in omega (arith, a, b));
   written_stays = (let a = s.written_stays in let b = f.writes.written_stays in omega (arith, a, b));
   transfers = (let a = s.transfers in let b = f.writes.turned_is in let c = f.writes.written_rises in omega (arith, a, b, c));
@@ -100,8 +101,8 @@ small : (slot span old new before after : ℕ) → slot < span → new ≤ slot 
 small slot span old new before after h l w =
     let z : new / span < 1 = div_below new span 1 (omega (arith, h)) (omega (arith, h, l)) in omega (arith, z, w)
 
-module _ (aim : Aim) (s t : State) (grows : Grows s.held t.held aim.level) (by_blocks : IsSavedByBlocks s.held t.held aim.level)
-    (written : t.spent.written + len_of aim s / span s.held ≤ s.spent.written + len_of aim t / span s.held) where
+module _ (aim : Aim) (s t : MergeState) (grows : Grows s.held t.held aim.level) (by_blocks : IsSavedByBlocks s.held t.held aim.level)
+    (written : WritesWithin aim s t) where
   still_kept : len_of aim t ≡ len_of aim s → is_kept s.held aim.level ≡ true → is_kept t.held aim.level ≡ true
   still_kept e k = kept_same s.held t.held aim.level grows.around.fixed_is (by_blocks.still e) ∙ k
 
@@ -109,7 +110,7 @@ module _ (aim : Aim) (s t : State) (grows : Grows s.held t.held aim.level) (by_b
   whole_kept l z = saved_kept t.held aim.level (by_blocks.grew l ∙ eq-eqb (len_of aim t % span s.held) 0 z)
 
   -- steps that left source cells, and no finish
-  pub written_down : (IsUsedUp aim t.merger → ⊥) → IsReady t.held aim t.merger → len_of aim t ≤ slot_size aim.level → WritesDown s.held t.held aim t.merger s.spent t.spent
+  pub written_down : (IsUsedUp aim t.merger → ⊥) → IsReady t.held aim t.merger → len_of aim t ≤ slot_size aim.level → WritesDown (object_of s) (object_of t) aim t.merger
   written_down left ready within = record {
     grows = grows.len_rises;
     small = λ h. small (slot_size aim.level) (span s.held) (len_of aim s) (len_of aim t) s.spent.written t.spent.written h within written;
@@ -122,35 +123,35 @@ module _ (aim : Aim) (s t : State) (grows : Grows s.held t.held aim.level) (by_b
     kept_still = still_kept;
   }
 
-  module _ {A : Type 0} (held : Held) (now : Spent) (a : A) (f : Finishes {A = A} t.held held t.spent now aim.level (Ok a)) (w : FinishSpends t.held t.spent now aim.level) where
-    nothing : IsKept t.held aim.level → now.written + len_of aim s / span s.held ≤ s.spent.written + len_of aim t / span s.held
+  module _ {A : Type 0} (new : State) (a : A) (f : Finishes {A = A} (object_of t) new aim.level (Ok a)) (w : FinishSpends (object_of t) new aim.level) where
+    nothing : IsKept t.held aim.level → new.spent.written + len_of aim s / span s.held ≤ s.spent.written + len_of aim t / span s.held
     nothing k = let e = (w.only_needed k).written_is in omega (arith, e, written)
 
     small_kept : slot_size aim.level < span s.held → IsKept t.held aim.level
     small_kept h = record { is = inr (subst (λ (x : Fixed). slot_size aim.level < 8 * 2 ^ x.doublings) (sym grows.around.fixed_is) h) }
 
-    saved_now : (held.shadows aim.level).saved ≡ true
+    saved_now : (new.held.shadows aim.level).saved ≡ true
     saved_now = ap (λ (x : Shadow). x.saved) f.shadow_is
 
-    len_now : (held.shadows aim.level).len ≡ len_of aim t
-    len_now = len_same t.held held t.spent now aim.level (Ok a) f
+    len_now : (new.held.shadows aim.level).len ≡ len_of aim t
+    len_now = len_same (object_of t) new aim.level (Ok a) f
 
     -- steps that left no source cell, and the finish
     at_end : IsUsedUp aim t.merger → len_of aim t ≤ slot_size aim.level →
-        IsWrittenDown (slot_size aim.level) (span s.held) (len_of aim s) (len_of aim t) (is_ended aim t.merger) (is_kept s.held aim.level) (is_kept held aim.level) s.spent.written now.written
+        IsWrittenDown (slot_size aim.level) (span s.held) (len_of aim s) (len_of aim t) (is_ended aim t.merger) (is_kept s.held aim.level) (is_kept new.held aim.level) s.spent.written new.spent.written
     at_end used within = record {
       grows = grows.len_rises;
-      small = λ h. small (slot_size aim.level) (span s.held) (len_of aim s) (len_of aim t) s.spent.written now.written h within (nothing (small_kept h));
+      small = λ h. small (slot_size aim.level) (span s.held) (len_of aim s) (len_of aim t) s.spent.written new.spent.written h within (nothing (small_kept h));
       fills = λ e. absurd (true≢false (sym (used_ended used) ∙ e));
       finishes = (let r = w.writes.written_rises in omega (arith, written, r));
       still_kept = λ e k. nothing (kept_is t.held aim.level (still_kept e k));
       whole = λ l z. nothing (kept_is t.held aim.level (whole_kept l z));
-      kept_at_end = λ e. saved_kept held aim.level saved_now;
-      kept_whole = λ l z. saved_kept held aim.level saved_now;
-      kept_still = λ e k. saved_kept held aim.level saved_now;
+      kept_at_end = λ e. saved_kept new.held aim.level saved_now;
+      kept_whole = λ l z. saved_kept new.held aim.level saved_now;
+      kept_still = λ e k. saved_kept new.held aim.level saved_now;
     }
 
-    pub written_at_end : IsUsedUp aim t.merger → (held.shadows aim.level).len ≤ slot_size aim.level → WritesDown s.held held aim t.merger s.spent now
+    pub written_at_end : IsUsedUp aim t.merger → (new.held.shadows aim.level).len ≤ slot_size aim.level → WritesDown (object_of s) new aim t.merger
     written_at_end used within =
-        subst (λ (x : ℕ). IsWrittenDown (slot_size aim.level) (span s.held) (len_of aim s) x (is_ended aim t.merger) (is_kept s.held aim.level) (is_kept held aim.level) s.spent.written now.written) (sym len_now)
+        subst (λ (x : ℕ). IsWrittenDown (slot_size aim.level) (span s.held) (len_of aim s) x (is_ended aim t.merger) (is_kept s.held aim.level) (is_kept new.held aim.level) s.spent.written new.spent.written) (sym len_now)
         (at_end used (let e = len_now in omega (arith, e, within)))

@@ -3,3 +3,4 @@ pub mod Aims
 pub mod Standing
 pub mod Work
 pub mod Built
+pub mod Works

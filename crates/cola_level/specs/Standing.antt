@@ -11,7 +11,7 @@ use Rattle.cola_cell.specs.Places.{slot_size}
 use Rattle.cola_cell.specs.Held.{Held, Stamped, LawCell, IsTelling, span}
 use Rattle.cola_cell.specs.Spent.{Spent, By}
 use Rattle.cola_cell.specs.Order.{key_cmp}
-use Rattle.cola_told.specs.Cells.{cells, IsShadowTold}
+use Rattle.cola_cell.specs.ToldCells.{cells, IsShadowTold}
 use Rattle.cola_merge.specs.declared.aims.Aim.{Aim}
 use Rattle.cola_merge.specs.Blocks.{is_last}
 use Rattle.cola_merge.specs.Heads.{AreFeedsTold}
@@ -40,7 +40,8 @@ pub record CanAdvance (held : Held) (aim : Aim) (t i above : ℕ) (m : Marks) (b
   pub shadow : IsShadowTold held (suc i)
   pub shadow_is : m.shadow ≡ (held.shadows (suc i)).len
   pub works : works t (suc i) ≡ true
-  pub paced : IsPaced key_cmp 0 t (suc i) (visible_cells held t i above) (stood held t (suc i) m) (all_stood held t (suc (suc i)) below)
+  pub paced : IsPaced key_cmp 0 t (suc i) (visible_cells held t i above)
+      (stood held t (suc i) m) (all_stood held t (suc (suc i)) below)
   pub workable : IsWorkable key_cmp (part_of (is_odd (period t (suc i))) (all_stood held t (suc (suc i)) below)) (suc i)
       (visible_cells held t (suc i) m.visible) (visible_cells held t i above) (first_keys (next_runs t (suc i) (all_stood held t (suc (suc i)) below)))
 

@@ -1,5 +1,5 @@
 -- What the work of a level in one mutation does: to its merge, to the object, and what it spends.
-use Rattle.std.specs.Prelude.{◌≡◌, ℕ, suc, ◌+◌, ◌%◌, ◌^◌, ◌≤◌, min, nat_le, Bool, true, ⊤, List, Result, Ok, Err, IfErr}
+use Rattle.std.specs.Prelude.{◌≡◌, ℕ, suc, ◌+◌, ◌%◌, ◌^◌, ◌≤◌, min, nat_le, Bool, true, ⊤, List, length, Result, Ok, Err, IfErr}
 use Rattle.cola_clock.specs.Marks.{Marks, merge_steps}
 use Rattle.cola_laws.specs.Mutation.{IsAdvanced}
 use Rattle.cola_cell.specs.declared.fault.StepFault.{StepFault}
@@ -7,8 +7,9 @@ use Rattle.cola_cell.specs.declared.fault.StepFault.TheVariants.{Device, BadCell
 use Rattle.cola_cell.specs.Held.{Held, span}
 use Rattle.cola_cell.specs.Places.{slot_size}
 use Rattle.cola_cell.specs.Spent.{Spent}
+use Rattle.cola_cell.specs.State.{State}
 use Rattle.cola_cell.specs.Order.{key_cmp}
-use Rattle.cola_told.specs.Cells.{shadow_cells, IsShadowTold}
+use Rattle.cola_cell.specs.ToldCells.{shadow_cells, IsShadowTold}
 use Rattle.cola_merge.specs.declared.aims.Aim.{Aim}
 use Rattle.cola_merge.specs.declared.merging.Merger.{Merger}
 use Rattle.cola_merge.specs.Feeds.{feed_len, feed_cells, feed_keys}
@@ -58,6 +59,10 @@ IsSavedAtEnd new aim n = IsUsedUp aim n → (new.shadows aim.level).saved ≡ tr
 abbrev pub IsWholeAtEnd : Held → Held → Aim → Merger → Type 0
 IsWholeAtEnd old new aim n = IsUsedUp aim n → shadow_cells new aim.level ≡ whole_run old aim
 
+-- the whole run of an aim fits its slot
+abbrev pub IsWithinSlot : Held → Aim → Type 0
+IsWithinSlot held aim = length (whole_run held aim) ≤ slot_size aim.level
+
 -- no fault was counted, unless the answer is the device's fault
 abbrev pub IsCalm : {A : Type 0} → ℕ → ℕ → Result A StepFault → Type 0
 IsCalm before now (Ok a) = now ≡ before
@@ -80,12 +85,14 @@ pub record SpendsFor (old new : Spent) (before after : ℕ) : Type 0 where
   pub faults_stay : old.faults ≤ new.faults
 
 -- what the work of a level writes of its shadow
-abbrev pub WritesDown : Held → Held → Aim → Merger → Spent → Spent → Type 0
-WritesDown old new aim n before now =
-    IsWrittenDown (slot_size aim.level) (span old) (old.shadows aim.level).len (new.shadows aim.level).len (is_ended aim n) (is_kept old aim.level) (is_kept new aim.level) before.written now.written
+abbrev pub WritesDown : State → State → Aim → Merger → Type 0
+WritesDown old new aim n =
+    IsWrittenDown (slot_size aim.level) (span old.held) (old.held.shadows aim.level).len (new.held.shadows aim.level).len (is_ended aim n)
+    (is_kept old.held aim.level) (is_kept new.held aim.level) old.spent.written new.spent.written
 
 -- a level that could advance did: by so many steps that the laws count it so many steps further, its shadow is told, and it was refused only by the device
 pub record Advances {A : Type 0} (old new : Held) (t i above : ℕ) (m n : Marks) (below : List Marks) (result : Result A StepFault) : Type 0 where
-  pub advanced : IsAdvanced key_cmp (taken result) t (suc i) (visible_cells old t i above) (stood old t (suc i) m) (all_stood old t (suc (suc i)) below) (stood new t (suc i) n)
+  pub advanced : IsAdvanced key_cmp (taken result) t (suc i) (visible_cells old t i above)
+      (stood old t (suc i) m) (all_stood old t (suc (suc i)) below) (stood new t (suc i) n)
   pub told : IsShadowTold new (suc i)
   pub only : IfErr result IsDevice

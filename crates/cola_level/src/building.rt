@@ -19,9 +19,10 @@ fn take_steps<W: CellSource + CellSink, L: Ledger>(
     aim: &Aim,
     steps: &mut Steps<L>,
 ) -> Result<Progress, StepFault>
-    requires { IsReady (W.CellSource.held work.old) aim.now merger.old }
+    requires { IsReady (W.CellSource.state work.old).held aim.now merger.old }
     ensures kept { W.CellSource.kept work.new ≡ W.CellSource.kept work.old }
-    ensures stepped { Stepped aim.now (state (W.CellSource.held work.old) (W.CellSource.spent work.old) merger.old steps.old) (state (W.CellSource.held work.new) (W.CellSource.spent work.new) merger.new steps.new) result }
+    ensures stepped { Stepped aim.now (state (W.CellSource.state work.old) merger.old steps.old)
+        (state (W.CellSource.state work.new) merger.new steps.new) result }
 {
     merger.advance(work, aim, QUOTA, steps)
 }
@@ -33,9 +34,10 @@ pub(crate) fn build<W: CellSource + CellSink, L: Ledger>(
     aim: &Aim,
     steps: &mut Steps<L>,
 ) -> Result<(), StepFault>
-    requires { IsReady (W.CellSource.held work.old) aim.now merger.old }
+    requires { IsReady (W.CellSource.state work.old).held aim.now merger.old }
     ensures kept { W.CellSource.kept work.new ≡ W.CellSource.kept work.old }
-    ensures built { Built aim.now (state (W.CellSource.held work.old) (W.CellSource.spent work.old) merger.old steps.old) (state (W.CellSource.held work.new) (W.CellSource.spent work.new) merger.new steps.new) result }
+    ensures built { Built aim.now (state (W.CellSource.state work.old) merger.old steps.old)
+        (state (W.CellSource.state work.new) merger.new steps.new) result }
 {
     match take_steps(merger, work, aim, steps)? {
         Progress::Done => work.finish(aim.level)?,

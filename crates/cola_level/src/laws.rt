@@ -17,26 +17,39 @@ ghost use Rattle.cola_level.specs.Work.{sources};
 /// period and by whether anything lies below it; its own visible run; the visible run above it; and the keys of the first
 /// of its next runs. So many cells are to be consumed, and it is built in the slot of the level's shadow.
 pub fn aims_follow_the_clock()
-    ensures part { (held : Held) (t i own above : ℕ) (below : List Marks) → merge.part_of (aim_at t i own above below) ≡ part_of (is_odd (period t (suc i))) (all_stood held t (suc (suc i)) below) }
-    ensures own { (held : Held) (t i own above : ℕ) (below : List Marks) → feed_cells held (aim_at t i own above below).own ≡ visible_cells held t (suc i) own }
-    ensures incoming { (held : Held) (t i own above : ℕ) (below : List Marks) → feed_cells held (aim_at t i own above below).incoming ≡ visible_cells held t i above }
-    ensures keys { (held : Held) (t i own above : ℕ) (below : List Marks) → feed_keys held (aim_at t i own above below).sample ≡ first_keys (next_runs t (suc i) (all_stood held t (suc (suc i)) below)) }
-    ensures lengths { (t i own above : ℕ) (below : List Marks) → sources (aim_at t i own above below) ≡ own + above + sample_end (is_odd (period t (suc i))) below }
+    ensures part { (held : Held) (t i own above : ℕ) (below : List Marks) →
+        merge.part_of (aim_at t i own above below) ≡ part_of (is_odd (period t (suc i))) (all_stood held t (suc (suc i)) below) }
+    ensures own { (held : Held) (t i own above : ℕ) (below : List Marks) →
+        feed_cells held (aim_at t i own above below).own ≡ visible_cells held t (suc i) own }
+    ensures incoming { (held : Held) (t i own above : ℕ) (below : List Marks) →
+        feed_cells held (aim_at t i own above below).incoming ≡ visible_cells held t i above }
+    ensures keys { (held : Held) (t i own above : ℕ) (below : List Marks) →
+        feed_keys held (aim_at t i own above below).sample ≡ first_keys (next_runs t (suc i) (all_stood held t (suc (suc i)) below)) }
+    ensures lengths { (t i own above : ℕ) (below : List Marks) →
+        sources (aim_at t i own above below) ≡ own + above + sample_end (is_odd (period t (suc i))) below }
     ensures level { (t i own above : ℕ) (below : List Marks) → (aim_at t i own above below).level ≡ suc i }
-    ensures slot { (t i own above : ℕ) (below : List Marks) → (aim_at t i own above below).slot ≡ 1 - visible_slot t (suc i) }
+    ensures slot { (t i own above : ℕ) (below : List Marks) →
+        (aim_at t i own above below).slot ≡ 1 - visible_slot t (suc i) }
 {}
 
 /// The same of level 0: what comes in is the one new item.
 pub fn top_aim_follows_the_clock()
-    ensures part { (held : Held) (t own : ℕ) (c : Cell) (below : List Marks) → merge.part_of (top_at t own c below) ≡ part_of (is_odd (period t 0)) (all_stood held t 1 below) }
-    ensures own { (held : Held) (t own : ℕ) (c : Cell) (below : List Marks) → feed_cells held (top_at t own c below).own ≡ visible_cells held t 0 own }
-    ensures incoming { (held : Held) (t own : ℕ) (c : Cell) (below : List Marks) → feed_cells held (top_at t own c below).incoming ≡ as_cell c ∷ [] }
-    ensures keys { (held : Held) (t own : ℕ) (c : Cell) (below : List Marks) → feed_keys held (top_at t own c below).sample ≡ first_keys (next_runs t 0 (all_stood held t 1 below)) }
+    ensures part { (held : Held) (t own : ℕ) (c : Cell) (below : List Marks) →
+        merge.part_of (top_at t own c below) ≡ part_of (is_odd (period t 0)) (all_stood held t 1 below) }
+    ensures own { (held : Held) (t own : ℕ) (c : Cell) (below : List Marks) →
+        feed_cells held (top_at t own c below).own ≡ visible_cells held t 0 own }
+    ensures incoming { (held : Held) (t own : ℕ) (c : Cell) (below : List Marks) →
+        feed_cells held (top_at t own c below).incoming ≡ as_cell c ∷ [] }
+    ensures keys { (held : Held) (t own : ℕ) (c : Cell) (below : List Marks) →
+        feed_keys held (top_at t own c below).sample ≡ first_keys (next_runs t 0 (all_stood held t 1 below)) }
 {}
 
 /// While a level's shadow grows, the runs of all other levels stay, and its own visible run, which stands in another slot.
 pub fn other_runs_stay()
-    ensures levels { (old new : Held) (level t j : ℕ) (below : List Marks) → Grows old new level → level < j → all_stood new t j below ≡ all_stood old t j below }
-    ensures level { (old new : Held) (level t j : ℕ) (m : Marks) → Grows old new level → j ≢ level → stood new t j m ≡ stood old t j m }
-    ensures visible { (old new : Held) (level t j len : ℕ) → Grows old new level → (j ≢ level) ⊎ (visible_slot t j ≢ (old.shadows level).slot) → visible_cells new t j len ≡ visible_cells old t j len }
+    ensures levels { (old new : Held) (level t j : ℕ) (below : List Marks) → Grows old new level →
+        level < j → all_stood new t j below ≡ all_stood old t j below }
+    ensures level { (old new : Held) (level t j : ℕ) (m : Marks) → Grows old new level →
+        j ≢ level → stood new t j m ≡ stood old t j m }
+    ensures visible { (old new : Held) (level t j len : ℕ) → Grows old new level →
+        (j ≢ level) ⊎ (visible_slot t j ≢ (old.shadows level).slot) → visible_cells new t j len ≡ visible_cells old t j len }
 {}

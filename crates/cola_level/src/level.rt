@@ -1,5 +1,5 @@
 //! A level.
-ghost use Rattle.std.specs.Prelude.{◌≡◌, ◌≤◌};
+ghost use Rattle.std.specs.Prelude.{◌≡◌};
 
 use crate::building::build;
 use cola_cell::{CellSink, CellSource, StepFault};
@@ -36,24 +36,10 @@ impl Default for Level {
 }
 
 impl Level {
-    ghost use Rattle.std.specs.Prelude.{ℕ, ◌+◌, ◌-◌, suc, true, List, OnOk, IfErr, length};
-    ghost use Rattle.cola_cell.specs.declared.cell.Reader.{Reader};
-    ghost use Rattle.cola_cell.specs.Held.{IsTelling};
-    ghost use Rattle.cola_cell.specs.Places.{slot_size};
-    ghost use Rattle.cola_cell.specs.Spent.{Buffer};
-    ghost use Rattle.cola_clock.specs.Clock.{works};
-    ghost use Rattle.cola_clock.specs.Marks.{Marks as LevelMarks, AreLevelMarks};
     ghost use Rattle.cola_layout.specs.Marks.{numbers_of};
-    ghost use Rattle.cola_told.specs.Cells.{IsShadowTold};
-    ghost use Rattle.cola_merge.specs.Advance.{IsGoing, whole_run};
-    ghost use Rattle.cola_merge.specs.Blocks.{blocks_left};
-    ghost use Rattle.cola_merge.specs.Heads.{head_of, consumed, IsReady};
-    ghost use Rattle.cola_merge.specs.States.{state, StepCause, Grows, IsBeside, KeepsBlocks};
-    ghost use Rattle.cola_transfers.specs.Chain.{IsLevelWorked};
-    ghost use Rattle.cola_level.specs.Aims.{aim_at};
+    ghost use Rattle.cola_merge.specs.Heads.{IsReady};
     ghost use Rattle.cola_level.specs.Marks.{marks_of, level_with, out_of_window, flipped, IsOwnRunConsumed};
-    ghost use Rattle.cola_level.specs.Standing.{CanAdvance, transfers_of};
-    ghost use Rattle.cola_level.specs.Work.{taken, Takes, GoesOn, IsSavedAtEnd, IsWholeAtEnd, IsCalm, IsDevice, SpendsFor, WritesDown, Advances};
+    ghost use Rattle.cola_level.specs.Works.{Works};
 
     /// The level with these marks.
     pub fn of(marks: &Marks) -> Level
@@ -91,50 +77,10 @@ impl Level {
         aim: &Aim,
         steps: &mut Steps<L>,
     ) -> Result<(), StepFault>
-        requires { IsReady (W.CellSource.held work.old) aim.now self.old.merger }
-        // it may be called again, and nothing changed but the shadow's end and what stands behind it
-        ensures ready { IsReady (W.CellSource.held work.new) aim.now self.new.merger }
+        requires { IsReady (W.CellSource.state work.old).held aim.now self.old.merger }
         ensures kept { W.CellSource.kept work.new ≡ W.CellSource.kept work.old }
-        ensures frames { Grows (W.CellSource.held work.old) (W.CellSource.held work.new) aim.now.level }
-        ensures lasts { (buffer : Buffer) → IsBeside aim.now buffer →
-            KeepsBlocks aim.now.level aim.now.slot buffer (W.CellSource.spent work.old).lasts (W.CellSource.spent work.new).lasts }
-        ensures visible { self.new.visible ≡ self.old.visible }
-        ensures length { self.new.shadow ≡ ((W.CellSource.held work.new).shadows aim.now.level).len }
-        // how far it went
-        ensures takes { Takes aim.now self.old.merger self.new.merger result }
-        ensures rises { (reader : Reader) → (head_of self.old.merger reader).at ≤ (head_of self.new.merger reader).at }
-        ensures emits { ((W.CellSource.held work.new).shadows aim.now.level).len + consumed self.old.merger
-            ≤ ((W.CellSource.held work.old).shadows aim.now.level).len + consumed self.new.merger }
-        ensures samples { ((W.CellSource.held work.old).shadows aim.now.level).len + self.new.merger.sample.at
-            ≤ ((W.CellSource.held work.new).shadows aim.now.level).len + self.old.merger.sample.at }
-        ensures told { IsTelling (W.CellSource.held work.old) → IsShadowTold (W.CellSource.held work.old) aim.now.level → IsShadowTold (W.CellSource.held work.new) aim.now.level }
-        ensures cut { IsGoing (W.CellSource.held work.old) aim.now self.old.merger →
-            GoesOn (W.CellSource.held work.old) (W.CellSource.held work.new) aim.now self.old.merger self.new.merger result }
-        ensures whole { IsGoing (W.CellSource.held work.old) aim.now self.old.merger →
-            OnOk result (IsWholeAtEnd (W.CellSource.held work.old) (W.CellSource.held work.new) aim.now self.new.merger) }
-        ensures saved { OnOk result (IsSavedAtEnd (W.CellSource.held work.new) aim.now self.new.merger) }
-        // why it was refused
-        ensures cause { IfErr result (StepCause aim.now (W.CellSource.spent work.old).faults
-            (state (W.CellSource.held work.new) (W.CellSource.spent work.new) self.new.merger steps.new)) }
-        ensures calm { IsCalm (W.CellSource.spent work.old).faults (W.CellSource.spent work.new).faults result }
-        ensures only { IsGoing (W.CellSource.held work.old) aim.now self.old.merger →
-            length (whole_run (W.CellSource.held work.old) aim.now) ≤ slot_size aim.now.level → IfErr result IsDevice }
-        // what it cost
-        ensures spends { SpendsFor (W.CellSource.spent work.old) (W.CellSource.spent work.new) steps.old steps.new }
-        ensures turned { OnOk result ((W.CellSource.spent work.new).turned + blocks_left (W.CellSource.held work.old).fixed.doublings (W.CellSource.spent work.new).lasts aim.now self.new.merger
-            ≤ (W.CellSource.spent work.old).turned + blocks_left (W.CellSource.held work.old).fixed.doublings (W.CellSource.spent work.old).lasts aim.now self.old.merger) }
-        ensures written { OnOk result (WritesDown (W.CellSource.held work.old) (W.CellSource.held work.new) aim.now self.new.merger (W.CellSource.spent work.old) (W.CellSource.spent work.new)) }
-        // and so, by the rules of a chain, where the aim is that of level i + 1 at clock t: its marks, its runs as the laws of levels have them, and its transfers
-        ensures marked { (t i above : ℕ) (below : List LevelMarks) → aim.now ≡ aim_at t i self.old.visible above below →
-            self.old.shadow ≡ ((W.CellSource.held work.old).shadows (suc i)).len → works t (suc i) ≡ true →
-            AreLevelMarks 0 t (suc i) above (marks_of self.old) below → AreLevelMarks (taken result) t (suc i) above (marks_of self.new) below }
-        ensures advances { (t i above : ℕ) (below : List LevelMarks) → aim.now ≡ aim_at t i self.old.visible above below →
-            CanAdvance (W.CellSource.held work.old) aim.now t i above (marks_of self.old) below →
-            Advances (W.CellSource.held work.old) (W.CellSource.held work.new) t i above (marks_of self.old) (marks_of self.new) below result }
-        ensures worked { (t i above : ℕ) (below : List LevelMarks) → aim.now ≡ aim_at t i self.old.visible above below →
-            self.old.shadow ≡ ((W.CellSource.held work.old).shadows (suc i)).len →
-            OnOk result (IsLevelWorked (W.CellSource.held work.old).fixed.doublings t i above (marks_of self.old) (marks_of self.new) below
-            (transfers_of (W.CellSource.held work.old) (W.CellSource.spent work.old)) (transfers_of (W.CellSource.held work.new) (W.CellSource.spent work.new))) }
+        ensures works { Works aim.now (W.CellSource.state work.old) (W.CellSource.state work.new)
+            self.old self.new steps.old steps.new result }
     {
         let result = build(&mut self.merger, work, aim, steps);
         // a refused call may have made the shadow longer, too

@@ -23,9 +23,13 @@ use std::sync::ledger::Ledger;
 fn ask<T: Table, L: Ledger>(table: &mut T, command: &Command, steps: &mut Steps<L>) -> (Reply, u32)
     requires one_line { IsOfOneLine command.now }
     requires fits { CommandFits (T.terms table.old).format command.now }
-    ensures turn { GaveTurn T.Table table.old (turn_of (spoken command.now) (reply_of result.0) (steps.new - steps.old)) table.new }
-    ensures call { Calls T.Table table.old table.new steps.old steps.new (command_bound (T.terms table.old).depth (spoken command.now)) }
-    ensures ticks { (cost : Bool) → reply_text cost result.1 (reply_of result.0) ≡ reply_text cost (steps.new - steps.old) (reply_of result.0) }
+    ensures turn { GaveTurn T.Table table.old
+        (turn_of (spoken command.now) (reply_of result.0) (steps.new - steps.old)) table.new }
+    ensures call { Calls T.Table table.old table.new steps.old steps.new
+        (command_bound (T.terms table.old).depth (spoken command.now)) }
+    ensures ticks { (cost : Bool) →
+        reply_text cost result.1 (reply_of result.0) ≡ reply_text cost (steps.new - steps.old)
+        (reply_of result.0) }
 {
     match command {
         Command::Put(key, value) => put(table, key, value, steps),
@@ -57,8 +61,12 @@ pub fn answer<T: Table, K: Sink, L: Ledger>(
 ) -> Result<(), SinkFault>
     requires of_table { IsOfTable command.now }
     requires fits { CommandFits (T.terms table.old).format command.now }
-    ensures turn { (m : Map) → (turn : Turn) × Answered T.Table K.Sink m (spoken command.now) cost result table.old table.new sink.old sink.new steps.old steps.new turn }
-    ensures call { Calls T.Table table.old table.new steps.old steps.new (command_bound (T.terms table.old).depth (spoken command.now)) }
+    ensures turn { (m : Map) →
+        (turn : Turn)
+        × Answered T.Table K.Sink m
+        (spoken command.now) cost result table.old table.new sink.old sink.new steps.old steps.new turn }
+    ensures call { Calls T.Table table.old table.new steps.old steps.new
+        (command_bound (T.terms table.old).depth (spoken command.now)) }
     ensures faults_counted { CountsFaults result (K.faults sink.old) (K.faults sink.new) }
     ensures faults_kept { K.faults sink.old ≤ K.faults sink.new }
 {

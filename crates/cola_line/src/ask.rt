@@ -61,10 +61,7 @@ fn failed_step(fault: StepFault) -> Failure
 pub fn failed_read(fault: ReadFault) -> Failure
     ensures { failure_of result ≡ read_failure fault }
 {
-    match fault {
-        ReadFault::Device => Failure::Fault,
-        ReadFault::BadCell(cell) => Failure::Damaged(cell),
-    }
+    failed_step(StepFault::from(fault))
 }
 
 /// The reply to a put, and the ticks that it made.
@@ -76,9 +73,14 @@ pub fn put<T: Table, L: Ledger>(
 ) -> (Reply, u32)
     requires key_fits { KeyFits (T.terms table.old).format key.now }
     requires value_fits { ValueFits (T.terms table.old).format value.now }
-    ensures turn { GaveTurn T.Table table.old (turn_of (spec.Put key.now value.now) (reply_of result.0) (steps.new - steps.old)) table.new }
-    ensures call { Calls T.Table table.old table.new steps.old steps.new (put_bound (T.terms table.old).depth) }
-    ensures ticks { (cost : Bool) → reply_text cost result.1 (reply_of result.0) ≡ reply_text cost (steps.new - steps.old) (reply_of result.0) }
+    ensures turn { GaveTurn T.Table table.old
+        (turn_of (spec.Put key.now value.now) (reply_of result.0)
+        (steps.new - steps.old)) table.new }
+    ensures call { Calls T.Table table.old table.new steps.old steps.new
+        (put_bound (T.terms table.old).depth) }
+    ensures ticks { (cost : Bool) →
+        reply_text cost result.1 (reply_of result.0) ≡ reply_text cost (steps.new - steps.old)
+        (reply_of result.0) }
 {
     match table.put(key, value, steps) {
         Ok((put, ticks)) => (Reply::Put(put_outcome(put)), ticks),
@@ -97,9 +99,14 @@ pub fn put_if<T: Table, L: Ledger>(
     requires stamped { (T.terms table.old).format ≡ Two }
     requires key_fits { KeyFits (T.terms table.old).format key.now }
     requires value_fits { ValueFits (T.terms table.old).format value.now }
-    ensures turn { GaveTurn T.Table table.old (turn_of (spec.PutIf key.now seen value.now) (reply_of result.0) (steps.new - steps.old)) table.new }
-    ensures call { Calls T.Table table.old table.new steps.old steps.new (put_bound (T.terms table.old).depth) }
-    ensures ticks { (cost : Bool) → reply_text cost result.1 (reply_of result.0) ≡ reply_text cost (steps.new - steps.old) (reply_of result.0) }
+    ensures turn { GaveTurn T.Table table.old
+        (turn_of (spec.PutIf key.now seen value.now) (reply_of result.0)
+        (steps.new - steps.old)) table.new }
+    ensures call { Calls T.Table table.old table.new steps.old steps.new
+        (put_bound (T.terms table.old).depth) }
+    ensures ticks { (cost : Bool) →
+        reply_text cost result.1 (reply_of result.0) ≡ reply_text cost (steps.new - steps.old)
+        (reply_of result.0) }
 {
     match table.put_if(key, seen, value, steps) {
         Ok((put, ticks)) => (Reply::Put(put_if_outcome(put)), ticks),
@@ -109,9 +116,13 @@ pub fn put_if<T: Table, L: Ledger>(
 
 /// The reply to a delete, and the ticks that it made.
 pub fn delete<T: Table, L: Ledger>(table: &mut T, key: &Key, steps: &mut Steps<L>) -> (Reply, u32)
-    ensures turn { GaveTurn T.Table table.old (turn_of (spec.Del key.now) (reply_of result.0) (steps.new - steps.old)) table.new }
-    ensures call { Calls T.Table table.old table.new steps.old steps.new (put_bound (T.terms table.old).depth) }
-    ensures ticks { (cost : Bool) → reply_text cost result.1 (reply_of result.0) ≡ reply_text cost (steps.new - steps.old) (reply_of result.0) }
+    ensures turn { GaveTurn T.Table table.old
+        (turn_of (spec.Del key.now) (reply_of result.0) (steps.new - steps.old)) table.new }
+    ensures call { Calls T.Table table.old table.new steps.old steps.new
+        (put_bound (T.terms table.old).depth) }
+    ensures ticks { (cost : Bool) →
+        reply_text cost result.1 (reply_of result.0) ≡ reply_text cost (steps.new - steps.old)
+        (reply_of result.0) }
 {
     match table.delete(key, steps) {
         Ok((value, ticks)) => (Reply::Deleted(value), ticks),
@@ -121,9 +132,13 @@ pub fn delete<T: Table, L: Ledger>(table: &mut T, key: &Key, steps: &mut Steps<L
 
 /// The reply to a get, and the ticks that it made.
 pub fn get<T: Table, L: Ledger>(table: &mut T, key: &Key, steps: &mut Steps<L>) -> (Reply, u32)
-    ensures turn { GaveTurn T.Table table.old (turn_of (spec.Get key.now) (reply_of result.0) (steps.new - steps.old)) table.new }
-    ensures call { Calls T.Table table.old table.new steps.old steps.new (get_bound (T.terms table.old).depth) }
-    ensures ticks { (cost : Bool) → reply_text cost result.1 (reply_of result.0) ≡ reply_text cost (steps.new - steps.old) (reply_of result.0) }
+    ensures turn { GaveTurn T.Table table.old
+        (turn_of (spec.Get key.now) (reply_of result.0) (steps.new - steps.old)) table.new }
+    ensures call { Calls T.Table table.old table.new steps.old steps.new
+        (get_bound (T.terms table.old).depth) }
+    ensures ticks { (cost : Bool) →
+        reply_text cost result.1 (reply_of result.0) ≡ reply_text cost (steps.new - steps.old)
+        (reply_of result.0) }
 {
     match table.get(key, steps) {
         Ok((value, ticks)) => (Reply::Got(value), ticks),
@@ -134,9 +149,13 @@ pub fn get<T: Table, L: Ledger>(table: &mut T, key: &Key, steps: &mut Steps<L>) 
 /// The reply to a stamp, and the ticks that it made.
 pub fn stamp<T: Table, L: Ledger>(table: &mut T, key: &Key, steps: &mut Steps<L>) -> (Reply, u32)
     requires { (T.terms table.old).format ≡ Two }
-    ensures turn { GaveTurn T.Table table.old (turn_of (spec.Stamp key.now) (reply_of result.0) (steps.new - steps.old)) table.new }
-    ensures call { Calls T.Table table.old table.new steps.old steps.new (get_bound (T.terms table.old).depth) }
-    ensures ticks { (cost : Bool) → reply_text cost result.1 (reply_of result.0) ≡ reply_text cost (steps.new - steps.old) (reply_of result.0) }
+    ensures turn { GaveTurn T.Table table.old
+        (turn_of (spec.Stamp key.now) (reply_of result.0) (steps.new - steps.old)) table.new }
+    ensures call { Calls T.Table table.old table.new steps.old steps.new
+        (get_bound (T.terms table.old).depth) }
+    ensures ticks { (cost : Bool) →
+        reply_text cost result.1 (reply_of result.0) ≡ reply_text cost (steps.new - steps.old)
+        (reply_of result.0) }
 {
     match table.stamp(key, steps) {
         Ok((stamp, ticks)) => (Reply::Stamped(stamp), ticks),

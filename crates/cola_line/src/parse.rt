@@ -5,7 +5,7 @@ ghost use Rattle.cola_cell.specs.declared.format.Format.TheVariants.{Two};
 ghost use Rattle.cola_cell.specs.Format.{KeyFits, ValueFits};
 ghost use Rattle.cola_spec.specs.Map.{is_key, is_value};
 ghost use Rattle.cola_spec.specs.Command.{command_of, verb_of, put_of, put_if_of, del_of, get_of, stamp_of, range_of, scan_of, is_number, number_of, alone as alone_of};
-ghost use Rattle.cola_table.specs.Terms.{shape_of};
+ghost use Rattle.cola_cell.specs.Shapes.{shape_of};
 ghost use Rattle.cola_line.specs.Spoken.{spoken, CommandFits};
 ghost use Rattle.cola_line.specs.Words.{words_left};
 
@@ -16,7 +16,8 @@ use cola_cell::{Format, Key, Value};
 /// The key of a word, where its length is within the format's limit.
 fn key_of(word: &[u8], format: Format) -> Option<Key>
     ensures fits { IfSome result (KeyFits format) }
-    ensures tested { (limit : ℕ) → result ≡ (if is_key (shape_of format limit) word.now then Some word.now else None) }
+    ensures tested { (limit : ℕ) →
+        result ≡ (if is_key (shape_of format limit) word.now then Some word.now else None) }
 {
     let key = Key::of(word)?;
     if key.fits(format) { Some(key) } else { None }
@@ -25,7 +26,8 @@ fn key_of(word: &[u8], format: Format) -> Option<Key>
 /// The value of a word, where its length is within the format's limit.
 fn value_of(word: &[u8], format: Format) -> Option<Value>
     ensures fits { IfSome result (ValueFits format) }
-    ensures tested { (limit : ℕ) → result ≡ (if is_value (shape_of format limit) word.now then Some word.now else None) }
+    ensures tested { (limit : ℕ) →
+        result ≡ (if is_value (shape_of format limit) word.now then Some word.now else None) }
 {
     let value = Value::of(word)?;
     if value.fits(format) {
@@ -54,7 +56,9 @@ pub fn number(word: &[u8], most: usize) -> Option<u64>
 }
 
 fn put(words: Option<&[u8]>, format: Format) -> Option<Command>
-    ensures means { (limit : ℕ) → option_map spoken result ≡ put_of (shape_of format limit) (words_left (option_copied words.entry)) }
+    ensures means { (limit : ℕ) →
+        option_map spoken result ≡ put_of (shape_of format limit)
+        (words_left (option_copied words.entry)) }
     ensures fits { IfSome result (CommandFits format) }
 {
     let (key, value) = two(words)?;
@@ -65,7 +69,9 @@ fn put(words: Option<&[u8]>, format: Format) -> Option<Command>
 
 /// The command of a conditional put in format Two.
 fn put_if_two(words: Option<&[u8]>) -> Option<Command>
-    ensures means { (limit : ℕ) → option_map spoken result ≡ put_if_of (shape_of Two limit) (words_left (option_copied words.entry)) }
+    ensures means { (limit : ℕ) →
+        option_map spoken result ≡ put_if_of (shape_of Two limit)
+        (words_left (option_copied words.entry)) }
     ensures fits { IfSome result (CommandFits Two) }
 {
     let (key, seen, value) = three(words)?;
@@ -76,7 +82,9 @@ fn put_if_two(words: Option<&[u8]>) -> Option<Command>
 }
 
 fn del(words: Option<&[u8]>, format: Format) -> Option<Command>
-    ensures means { (limit : ℕ) → option_map spoken result ≡ del_of (shape_of format limit) (words_left (option_copied words.entry)) }
+    ensures means { (limit : ℕ) →
+        option_map spoken result ≡ del_of (shape_of format limit)
+        (words_left (option_copied words.entry)) }
     ensures fits { IfSome result (CommandFits format) }
 {
     let key = key_of(one(words)?, format)?;
@@ -84,7 +92,9 @@ fn del(words: Option<&[u8]>, format: Format) -> Option<Command>
 }
 
 fn get(words: Option<&[u8]>, format: Format) -> Option<Command>
-    ensures means { (limit : ℕ) → option_map spoken result ≡ get_of (shape_of format limit) (words_left (option_copied words.entry)) }
+    ensures means { (limit : ℕ) →
+        option_map spoken result ≡ get_of (shape_of format limit)
+        (words_left (option_copied words.entry)) }
     ensures fits { IfSome result (CommandFits format) }
 {
     let key = key_of(one(words)?, format)?;
@@ -92,7 +102,9 @@ fn get(words: Option<&[u8]>, format: Format) -> Option<Command>
 }
 
 fn put_if(words: Option<&[u8]>, format: Format) -> Option<Command>
-    ensures means { (limit : ℕ) → option_map spoken result ≡ put_if_of (shape_of format limit) (words_left (option_copied words.entry)) }
+    ensures means { (limit : ℕ) →
+        option_map spoken result ≡ put_if_of (shape_of format limit)
+        (words_left (option_copied words.entry)) }
     ensures fits { IfSome result (CommandFits format) }
 {
     match format {
@@ -103,7 +115,9 @@ fn put_if(words: Option<&[u8]>, format: Format) -> Option<Command>
 
 /// The command of a stamp in format Two.
 fn stamp_two(words: Option<&[u8]>) -> Option<Command>
-    ensures means { (limit : ℕ) → option_map spoken result ≡ stamp_of (shape_of Two limit) (words_left (option_copied words.entry)) }
+    ensures means { (limit : ℕ) →
+        option_map spoken result ≡ stamp_of (shape_of Two limit)
+        (words_left (option_copied words.entry)) }
     ensures fits { IfSome result (CommandFits Two) }
 {
     let key = key_of(one(words)?, Format::Two)?;
@@ -111,7 +125,9 @@ fn stamp_two(words: Option<&[u8]>) -> Option<Command>
 }
 
 fn stamp(words: Option<&[u8]>, format: Format) -> Option<Command>
-    ensures means { (limit : ℕ) → option_map spoken result ≡ stamp_of (shape_of format limit) (words_left (option_copied words.entry)) }
+    ensures means { (limit : ℕ) →
+        option_map spoken result ≡ stamp_of (shape_of format limit)
+        (words_left (option_copied words.entry)) }
     ensures fits { IfSome result (CommandFits format) }
 {
     match format {
@@ -121,7 +137,9 @@ fn stamp(words: Option<&[u8]>, format: Format) -> Option<Command>
 }
 
 fn range(words: Option<&[u8]>, format: Format) -> Option<Command>
-    ensures means { (limit : ℕ) → option_map spoken result ≡ range_of (shape_of format limit) (words_left (option_copied words.entry)) }
+    ensures means { (limit : ℕ) →
+        option_map spoken result ≡ range_of (shape_of format limit)
+        (words_left (option_copied words.entry)) }
     ensures fits { IfSome result (CommandFits format) }
 {
     let (low, high) = two(words)?;
@@ -131,7 +149,9 @@ fn range(words: Option<&[u8]>, format: Format) -> Option<Command>
 }
 
 fn scan(words: Option<&[u8]>, format: Format) -> Option<Command>
-    ensures means { (limit : ℕ) → option_map spoken result ≡ scan_of (shape_of format limit) (words_left (option_copied words.entry)) }
+    ensures means { (limit : ℕ) →
+        option_map spoken result ≡ scan_of (shape_of format limit)
+        (words_left (option_copied words.entry)) }
     ensures fits { IfSome result (CommandFits format) }
 {
     let (low, most) = two(words)?;
@@ -142,7 +162,8 @@ fn scan(words: Option<&[u8]>, format: Format) -> Option<Command>
 
 /// The command of a verb that stands alone.
 fn alone(words: Option<&[u8]>, command: Command) -> Option<Command>
-    ensures means { option_map spoken result ≡ alone_of (spoken command) (words_left (option_copied words.entry)) }
+    ensures means { option_map spoken result ≡ alone_of (spoken command)
+        (words_left (option_copied words.entry)) }
     ensures same { IfSome result (λ answer. answer ≡ command) }
 {
     match words {
@@ -153,7 +174,9 @@ fn alone(words: Option<&[u8]>, command: Command) -> Option<Command>
 
 /// The command of a verb and the words after it.
 fn verb(verb: &[u8], words: Option<&[u8]>, format: Format) -> Option<Command>
-    ensures means { (limit : ℕ) → option_map spoken result ≡ verb_of (shape_of format limit) verb.now (words_left (option_copied words.entry)) }
+    ensures means { (limit : ℕ) →
+        option_map spoken result ≡ verb_of (shape_of format limit) verb.now
+        (words_left (option_copied words.entry)) }
     ensures fits { IfSome result (CommandFits format) }
 {
     if verb == b"put".as_slice() {
@@ -193,7 +216,8 @@ fn verb(verb: &[u8], words: Option<&[u8]>, format: Format) -> Option<Command>
 /// Verbs are in lower case. A text with a NUL byte is no command. `putif` and `stamp` are commands in
 /// format Two alone.
 pub fn parse_line(text: &[u8], format: Format) -> Option<Command>
-    ensures means { (limit : ℕ) → option_map spoken result ≡ command_of (shape_of format limit) text.now }
+    ensures means { (limit : ℕ) →
+        option_map spoken result ≡ command_of (shape_of format limit) text.now }
     ensures fits { IfSome result (CommandFits format) }
 {
     if text.contains(&0) {

@@ -191,7 +191,8 @@ fn push_cost(text: &mut Text, cost: bool, ticks: u32)
 /// The line of a put's outcome, with its cost where it has one.
 fn outcome_line(text: &mut Text, outcome: &Outcome, cost: bool, ticks: u32)
     requires { text.old.items ≡ [] }
-    ensures text { text.new.items ≡ outcome_text (outcome_of outcome.now) ++ outcome_suffix cost ticks (outcome_of outcome.now) }
+    ensures text { text.new.items ≡ outcome_text
+        (outcome_of outcome.now) ++ outcome_suffix cost ticks (outcome_of outcome.now) }
     ensures short { length text.new.items ≤ 100 }
 {
     push_outcome(text, outcome);
@@ -245,7 +246,8 @@ pub fn write_reply<K: Sink>(
     ticks: u32,
     sink: &mut K,
 ) -> Result<(), SinkFault>
-    ensures wrote { Wrote (reply_text cost ticks (reply_of reply.now)) result (K.written sink.old) (K.written sink.new) }
+    ensures wrote { Wrote (reply_text cost ticks (reply_of reply.now)) result (K.written sink.old)
+        (K.written sink.new) }
     ensures faults_counted { CountsFaults result (K.faults sink.old) (K.faults sink.new) }
     ensures faults_kept { K.faults sink.old ≤ K.faults sink.new }
 {

@@ -35,7 +35,8 @@ fn write_row<K: Sink>(row: &(Key, Value), sink: &mut K) -> Result<(), SinkFault>
 
 /// Writes the line after the last row.
 fn write_end<K: Sink>(rows: u64, sink: &mut K) -> Result<(), SinkFault>
-    ensures wrote { Wrote (line (codes "end " ++ decimal rows)) result (K.written sink.old) (K.written sink.new) }
+    ensures wrote { Wrote (line (codes "end " ++ decimal rows)) result (K.written sink.old)
+        (K.written sink.new) }
     ensures faults_counted { CountsFaults result (K.faults sink.old) (K.faults sink.new) }
     ensures faults_kept { K.faults sink.old ≤ K.faults sink.new }
 {
@@ -69,9 +70,13 @@ pub fn write_rows<T: Table, K: Sink, L: Ledger>(
     sink: &mut K,
     steps: &mut Steps<L>,
 ) -> Result<(), SinkFault>
-    ensures rows { (m : Map) → (answer : Answer) × Listed T.Table K.Sink m low.now (option_copied high.entry) most result table.old table.new sink.old sink.new answer }
+    ensures rows { (m : Map) →
+        (answer : Answer)
+        × Listed T.Table K.Sink m low.now
+        (option_copied high.entry) most result table.old table.new sink.old sink.new answer }
     ensures sound { (m : Map) → T.holds table.old m → T.holds table.new m }
-    ensures call { Calls T.Table table.old table.new steps.old steps.new (range_bound (T.terms table.old).depth) }
+    ensures call { Calls T.Table table.old table.new steps.old steps.new
+        (range_bound (T.terms table.old).depth) }
     ensures faults_counted { CountsFaults result (K.faults sink.old) (K.faults sink.new) }
     ensures faults_kept { K.faults sink.old ≤ K.faults sink.new }
 {

@@ -15,7 +15,7 @@ use Rattle.cola_opening.specs.Judged.{file_size, IsClosedWith, IsSmall, IsNoStor
 use Rattle.cola_opening.proofs.Sizes.{header_fits}
 use Rattle.cola_outside.specs.Faults.{Rose}
 use Rattle.cola_spec.specs.Map.{Map, count}
-use Rattle.cola_table.specs.Terms.{shape_of}
+use Rattle.cola_cell.specs.Shapes.{shape_of}
 use Rattle.cola_load.specs.declared.fault.GrowFault.{GrowFault}
 use Rattle.cola_load.specs.declared.fault.GrowFault.TheVariants.{Small, NotStore, NotClosed, Fewer, OutOfMemory, BadCell, NotEmpty, Disorder, Device}
 use Rattle.cola_load.specs.Filled.{Row, AreRows, IsFilled, rows_of, row_of_entry, map_of, filled_header}

@@ -26,8 +26,8 @@ use Rattle.cola_layout.proofs.Levels.{numbers-length, number-at}
 use Rattle.cola_outside.specs.Faults.{Rose}
 use Rattle.cola_run.specs.Saving as run
 use Rattle.cola_spec.specs.Map.{Map, Shape}
-use Rattle.cola_table.specs.Terms.{shape_of}
-use Rattle.cola_told.specs.Cells.{IsTold}
+use Rattle.cola_cell.specs.Shapes.{shape_of}
+use Rattle.cola_cell.specs.ToldCells.{IsTold}
 use Rattle.cola_verdict.specs.Tests.{run_len, tested_of}
 use Rattle.cola_verdict.proofs.Runs.{told-cells}
 use Rattle.cola_load.specs.declared.fault.GrowFault.{GrowFault}

@@ -17,9 +17,9 @@ use Rattle.cola_laws.proofs.Loaded.{loaded-sound}
 use Rattle.cola_layout.specs.declared.geometry.Geometry.{Geometry}
 use Rattle.cola_layout.specs.Marks.{all_numbers}
 use Rattle.cola_spec.specs.Map.{key_cmp}
-use Rattle.cola_table.specs.Terms.{shape_of}
-use Rattle.cola_told.specs.Cells.{cell_at, AreTold}
-use Rattle.cola_told.proofs.CellLists.{cells-same}
+use Rattle.cola_cell.specs.Shapes.{shape_of}
+use Rattle.cola_cell.specs.ToldCells.{cell_at, AreTold}
+use Rattle.cola_cell.proofs.CellLists.{cells-same}
 use Rattle.cola_load.specs.Filled.{Row, map_of, AreRows, run_len, bottom_run, marks_from, filled_header, HasFilledCells, IsFilled}
 use Rattle.cola_load.proofs.FilledRuns.{spots_at, run_at, levels_at, levels-loaded}
 use Rattle.cola_load.proofs.FilledMaps.{count-is, is-map, found-is, bottom-run}

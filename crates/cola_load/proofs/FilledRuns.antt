@@ -5,7 +5,7 @@ use Rattle.cola_abstract.specs.Cell as laws
 use Rattle.cola_cell.specs.Held.{Stamped, LawCell, Spot, Told, as_cell}
 use Rattle.cola_runs.specs.Cells.{key_of, every_eighth, sample}
 use Rattle.cola_runs.specs.Weave.{look_at, relinked}
-use Rattle.cola_told.specs.Cells.{cell_at, cells}
+use Rattle.cola_cell.specs.ToldCells.{cell_at, cells}
 use Rattle.cola_laws.specs.Chain.{Level, visibles, first_keys}
 use Rattle.cola_laws.specs.Plain.{showing, look_run, loaded}
 use Rattle.cola_load.specs.Filled.{Row, row_at, run_len, bottom_cell, filled_cell, bottom_run}

@@ -35,10 +35,10 @@ use Rattle.cola_run.specs.Saving as run
 use Rattle.cola_runs.specs.Cells.{key_of, Entry, Value}
 use Rattle.cola_runs.specs.Search as laws
 use Rattle.cola_spec.specs.Map.{Map, EntryFits, Shape, is_key, count}
-use Rattle.cola_table.specs.Terms.{shape_of}
-use Rattle.cola_told.specs.Cells.{IsTold, cells}
-use Rattle.cola_told.proofs.CellLists.{length-cells}
-use Rattle.cola_told.proofs.ToldRuns.{told_is}
+use Rattle.cola_cell.specs.Shapes.{shape_of}
+use Rattle.cola_cell.specs.ToldCells.{IsTold, cells}
+use Rattle.cola_cell.proofs.CellLists.{length-cells}
+use Rattle.cola_cell.proofs.ToldRuns.{told_is}
 use Rattle.cola_verdict.specs.Tests.{live_pairs}
 use Rattle.cola_verdict.proofs.Living.{pairs-find, pairs-rise}
 use Rattle.cola_verdict.proofs.Mapped.{stored-pair, entries-are, count-is}

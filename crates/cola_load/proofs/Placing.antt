@@ -16,7 +16,7 @@ use Rattle.cola_front.specs.Front.{FrontCells, cell_at, cell_bytes}
 use Rattle.cola_front.proofs.FrontLemmas.{comes_back}
 use Rattle.cola_layout.proofs.Places.{place-differ}
 use Rattle.cola_layout.specs.declared.geometry.Geometry.{Geometry}
-use Rattle.cola_run.specs.Cells.{IsOnDevice, block_cells, block_bytes, block_number, file_bytes, device_levels, tail_number}
+use Rattle.cola_run.specs.Cells.{IsOnDevice, block_cells, block_bytes, block_number, file_bytes, tail_number, tails_bytes}
 use Rattle.cola_run.specs.Parts.{tail_of, fills, WroteTail, TailPushed}
 use Rattle.cola_run.proofs.Numbers.{IsMore, IsFull, next-split, one-place, first-place, block-behind}
 use Rattle.cola_run.proofs.Spots.{choose-then, choose-else, both-same}
@@ -32,7 +32,7 @@ in-slot bottom level index low within = record { level_in = omega (arith, low); 
 
 -- a block that is written lies in the file
 pub write-inside : (told : Option (List ℕ)) (g : Geometry) (level index : ℕ) (tails : List ℕ) (from size at : ℕ) → IsOnDevice g level → index < slot_size level
-    → length tails ≡ width g.format * (block_cells g * device_levels g) → HasRange told 0 (file_bytes g) → from + size ≤ length tails
+    → length tails ≡ tails_bytes g → HasRange told 0 (file_bytes g) → from + size ≤ length tails
     → size ≡ block_bytes g → at ≡ block_number g level 0 index * block_bytes g → HasRange told at (length (take (from + size - from) (drop from tails)))
 write-inside None g level index tails from size at device within many inside fits size_is at_is = tt
 write-inside (Some bytes) g level index tails from size at device within many inside fits size_is at_is =
@@ -122,7 +122,7 @@ module _ (loading : Loading) (front : FrontCells) (bytes : List ℕ) (level inde
 
 -- a cell that was put into the tail of a level
 module _ (loading : Loading) (tails x y : List ℕ) (level index : ℕ) (cell : Cell) (low : level ≤ loading.geometry.bottom) (high : loading.geometry.block_exp ≤ level + 2)
-    (within : index < slot_size level) (many : length loading.tails ≡ width loading.geometry.format * (block_cells loading.geometry * device_levels loading.geometry))
+    (within : index < slot_size level) (many : length loading.tails ≡ tails_bytes loading.geometry)
     (long : file_bytes loading.geometry ≤ length x)
     (spelled : IsSpelling loading.geometry.format cell (spelling loading.geometry.format cell))
     (is : tails ≡ splice loading.tails (width loading.geometry.format * tail_number loading.geometry level index) (spelling loading.geometry.format cell)) where
@@ -145,7 +145,7 @@ module _ (loading : Loading) (tails x y : List ℕ) (level index : ℕ) (cell : 
   tail-stays l i device apart =
       ap (λ (xs : List ℕ). cell_bytes h.format xs (tail_number h l i)) is ∙ put-stays h loading.tails (spelling h.format cell) level index h.block_fits on many spelled.size l i device apart
 
-  tails-long : length tails ≡ width h.format * (block_cells h * device_levels h)
+  tails-long : length tails ≡ tails_bytes h
   tails-long = ap (λ (xs : List ℕ). length xs) is ∙ put-many h loading.tails (spelling h.format cell) level index h.block_fits on many spelled.size ∙ many
 
   back : decoded h.format (spelling h.format cell) ≡ Some cell
@@ -229,7 +229,7 @@ puts-front {T} E value told loading front level index cell low inside within roo
 
 -- what putting one into a tail says
 module _ {T E : Type 0} (loading : Loading) (tails : List ℕ) (level index : ℕ) (cell : Cell) (low : level ≤ loading.geometry.bottom) (high : loading.geometry.block_exp ≤ level + 2)
-    (within : index < slot_size level) (many : length loading.tails ≡ width loading.geometry.format * (block_cells loading.geometry * device_levels loading.geometry))
+    (within : index < slot_size level) (many : length loading.tails ≡ tails_bytes loading.geometry)
     (spelled : IsSpelling loading.geometry.format cell (spelling loading.geometry.format cell))
     (is : tails ≡ splice loading.tails (width loading.geometry.format * tail_number loading.geometry level index) (spelling loading.geometry.format cell)) where
   puts-written : (result : Result T E) (a b : Option (List ℕ)) → fills loading.geometry index ≡ true → HasRange a 0 (file_bytes loading.geometry) → WroteTail result loading.geometry tails level 0 index a b
@@ -266,7 +266,7 @@ front-same g a b stays = subst (λ (z : Option (List ℕ)). Both a z (StaysInFro
 
 -- a device on which at most a block behind the front was written
 module _ {T E : Type 0} (g : Geometry) (tails : List ℕ) (level index : ℕ) (low : level ≤ g.bottom) (high : g.block_exp ≤ level + 2) (within : index < slot_size level)
-    (many : length tails ≡ width g.format * (block_cells g * device_levels g)) where
+    (many : length tails ≡ tails_bytes g) where
   pub front-written : (result : Result T E) (a b : Option (List ℕ)) → HasRange a 0 (file_bytes g) → WroteTail result g tails level 0 index a b → Both a b (StaysInFront g)
   front-written result None None inside wrote = tt
   front-written result None (Some y) inside wrote = absurd wrote

@@ -22,7 +22,7 @@ use Rattle.cola_layout.specs.Header.{IsSpelling}
 use Rattle.cola_device.proofs.ToldLemmas.{length-WroteSome}
 use Rattle.cola_layout.proofs.Places.{front-below, device-behind, place-behind, slot-blocks}
 use Rattle.cola_layout.proofs.Powers.{next_power}
-use Rattle.cola_run.specs.Cells.{block_cells, block_bytes, block_number, file_bytes, device_levels}
+use Rattle.cola_run.specs.Cells.{block_cells, block_bytes, block_number, file_bytes, tails_bytes}
 use Rattle.cola_run.specs.Parts.{tail_of, WroteTail}
 use Rattle.cola_run.specs.Saving.{SameLevels}
 use Rattle.cola_run.proofs.Bytes.{room-of, room-sum}
@@ -86,7 +86,7 @@ module _ (loading : Loading) (level : ℕ) (high : loading.geometry.block_exp �
 
   -- a block that is not full was written
   pub save-part : (before old now : List ℕ) → n < slot_size level → file_bytes h ≤ length old
-      → length loading.tails ≡ width h.format * (block_cells h * device_levels h) → StaysInFront h old now
+      → length loading.tails ≡ tails_bytes h → StaysInFront h old now
       → now ≡ splice old (block_number h level 0 n * block_bytes h) (tail_of h loading.tails level) → HasSaved loading level before old → HasSaved loading (level + 1) before now
   save-part before old now within_n long many front stays was =
       let on = on-level h level high low in
@@ -126,7 +126,7 @@ module _ (loading : Loading) (level : ℕ) (high : loading.geometry.block_exp �
   pub saves-kept : (told : Option (List ℕ)) → n % block_cells h ≡ 0 → Both told told (λ old new. (before : List ℕ) → HasSaved loading level before old → HasSaved loading (level + 1) before new)
   saves-kept told full = both-same told (λ old new. (before : List ℕ) → HasSaved loading level before old → HasSaved loading (level + 1) before new) (λ x before was. save-full before x full was)
 
-  pub saves-written : {T E : Type 0} (result : Result T E) (a b : Option (List ℕ)) → n < slot_size level → length loading.tails ≡ width h.format * (block_cells h * device_levels h)
+  pub saves-written : {T E : Type 0} (result : Result T E) (a b : Option (List ℕ)) → n < slot_size level → length loading.tails ≡ tails_bytes h
       → HasRange a 0 (file_bytes h) → WroteTail result h loading.tails level 0 n a b → Both a b (λ old new. (before : List ℕ) → HasSaved loading level before old → OnOk result (HasSaved loading (level + 1) before new))
   saves-written result None None within_n many inside wrote = tt
   saves-written result None (Some y) within_n many inside wrote = absurd wrote

@@ -21,7 +21,7 @@ use Rattle.cola_opening.specs.Judged.{IsClosedWith, IsSmall, IsNoStore, IsInUse,
 use Rattle.cola_run.specs.Cells.{device_levels}
 use Rattle.cola_run.specs.Store.{beside}
 use Rattle.cola_spec.specs.Map.{Map, count}
-use Rattle.cola_table.specs.Terms.{shape_of}
+use Rattle.cola_cell.specs.Shapes.{shape_of}
 use Rattle.cola_load.specs.declared.fault.GrowFault.{GrowFault}
 use Rattle.cola_load.specs.declared.fault.GrowFault.TheVariants.{Small, NotStore, NotClosed, Fewer, OutOfMemory, BadCell, NotEmpty, Disorder, Device}
 use Rattle.cola_load.specs.declared.fault.LoadFault.{LoadFault}
@@ -79,15 +79,18 @@ module _ {E : Type 0} (e : device.Ghosts E) (header : Header) (geometry : Geomet
   pub record IsGrown (rows : List Row) (count : ℕ) : Type 0 where
     pub count_is : count ≡ length rows
     pub was_empty : IsEmpty (e.bytes to)
-    pub are_rows : IfSome (e.bytes to_now) (λ bytes. AreRows (shape_of geometry.format geometry.keys) header.last rows)
+    pub are_rows : IfSome (e.bytes to_now) (λ bytes.
+        AreRows (shape_of geometry.format geometry.keys) header.last rows)
     pub filled : IfSome (e.bytes to_now) (λ bytes. IsFilled geometry header.last rows bytes)
-    pub map_is : IfSome told (λ bytes. (m : Map) → HeaderStandsFor (fields_of header) bytes m → rows ≡ rows_of m)
+    pub map_is : IfSome told (λ bytes.
+        (m : Map) → HeaderStandsFor (fields_of header) bytes m → rows ≡ rows_of m)
     pub given : IfSome told (AreInFile header rows)
     pub settled : IsSettled e to_now
 
   -- a cell of the file is none, and the new file was not called or has no header
   pub record HasBad (number : ℕ) : Type 0 where
-    pub bad : IfSome told (λ bytes. decoded header.geometry.format (cell_bytes header.geometry.format bytes number) ≡ None)
+    pub bad : IfSome told (λ bytes.
+        decoded header.geometry.format (cell_bytes header.geometry.format bytes number) ≡ None)
     pub no_map : IfSome told (IsForNone header)
     pub left : (to_now ≡ to) ⊎ IfSome (e.bytes to_now) IsHeadless
 
@@ -112,7 +115,8 @@ module _ {E : Type 0} (e : device.Ghosts E) (header : Header) (geometry : Geomet
     pub cause : Rose (e.counts to).faults (e.counts to_now).faults
     pub was_empty : IsEmpty (e.bytes to)
     pub left : IfSome (e.bytes to_now) (IsUnfinished geometry header.last rows)
-    pub map_is : IfSome told (λ bytes. (m : Map) → HeaderStandsFor (fields_of header) bytes m → rows ≡ rows_of m)
+    pub map_is : IfSome told (λ bytes.
+        (m : Map) → HeaderStandsFor (fields_of header) bytes m → rows ≡ rows_of m)
     pub given : IfSome told (AreInFile header rows)
 
   -- one of the devices refused a call: the new file was not called, was not begun, has no header, or was not finished
@@ -154,7 +158,8 @@ module _ {D E : Type 0} (d : device.Ghosts D) (e : device.Ghosts E) (from from_n
     pub steps_stay : ticks ≤ ticks_now
     pub few_ticks : ticks_now ≤ ticks + grow_ticks bottom
     pub spends : Spends (d.counts from) (d.counts from_now) (head + grow_reads bottom) 0 head
-    pub other_spends : WritesRows geometry (e.counts to) (e.counts to_now) (device_levels geometry + 2) 4 result
+    pub other_spends : WritesRows geometry (e.counts to) (e.counts to_now)
+        (device_levels geometry + 2) 4 result
 
   -- the file is a closed one with this header, of no more keys than the new one is for, and this is what copying its map answered
   pub record HasCopied (keys block_exp : ℕ) (result : Result ℕ GrowFault) : Type 0 where
@@ -165,9 +170,11 @@ module _ {D E : Type 0} (d : device.Ghosts D) (e : device.Ghosts E) (from from_n
     pub few : header.count ≤ keys
     pub is_for : IsFor keys block_exp header.geometry.format geometry
     pub copies : Copies e header geometry (d.bytes from) to to_now result
-    pub faults : BothCalm (d.counts from).faults (d.counts from_now).faults (e.counts to).faults (e.counts to_now).faults result
+    pub faults : BothCalm (d.counts from).faults (d.counts from_now).faults
+        (e.counts to).faults (e.counts to_now).faults result
     -- of the old file the size, the first two blocks and what lies behind its cells stay
-    pub beside_stays : option_map (beside header.geometry) (d.bytes from_now) ≡ option_map (beside header.geometry) (d.bytes from)
+    pub beside_stays : option_map (beside header.geometry) (d.bytes from_now)
+        ≡ option_map (beside header.geometry) (d.bytes from)
     pub spent : IsSpent 1 header.geometry.bottom geometry result
 
   -- what growing answers

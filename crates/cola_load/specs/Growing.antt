@@ -22,7 +22,7 @@ use Rattle.cola_layout.specs.Marks.{all_numbers}
 use Rattle.cola_look.specs.Runs.{AreRuns}
 use Rattle.cola_opening.specs.Counted.{Spends}
 use Rattle.cola_pairs.specs.Live.{live, between}
-use Rattle.cola_table.specs.Terms.{shape_of}
+use Rattle.cola_cell.specs.Shapes.{shape_of}
 use Rattle.cola_load.specs.declared.fault.GrowFault.{GrowFault}
 use Rattle.cola_load.specs.declared.fault.GrowFault.TheVariants.{Small, NotStore, NotClosed, Fewer, OutOfMemory, BadCell, NotEmpty, Disorder, Device}
 use Rattle.cola_load.specs.declared.growing.Filling.{Filling}
@@ -56,7 +56,8 @@ pub record IsValueIn (spots : Spots) (run : Run) (row : Row) : Type 0 where
   pub within : index < run.len
   pub young : Bool
   pub link : ℕ
-  pub told : Tells (spots run.level run.slot index) (Told (laws.Entry row.key (laws.Value (record { value = row.value; stamp = row.stamp })) young link))
+  pub told : Tells (spots run.level run.slot index)
+      (Told (laws.Entry row.key (laws.Value (pair_of row).1) young link))
 
 -- and in one of the runs
 abbrev pub IsValueOf : Spots → List Run → Row → Type 0
@@ -212,7 +213,8 @@ module _ (held : Held) (runs : List Run) where
     pub row : Row
     pub number_is : number ≡ length rows + 1
     pub breaks : Breaks geometry last (length rows) (last_key rows) row
-    pub pairs_are : OfPairs (λ pairs. (others : List (List ℕ × Stamped)) × (pairs ≡ map pair_of rows ++ pair_of row ∷ others))
+    pub pairs_are : OfPairs (λ pairs. (others : List (List ℕ × Stamped)) ×
+        (pairs ≡ map pair_of rows ++ pair_of row ∷ others))
     pub given : AreValuesOf held.spots runs (row ∷ rows)
     pub headless : IfSome told IsHeadless
 

@@ -7,17 +7,17 @@ use Rattle.cola_cell.specs.declared.cell.Cell.{Cell}
 use Rattle.cola_cell.specs.declared.cell.Cell.TheVariants.{Item, Look}
 use Rattle.cola_cell.specs.declared.cell.Item.TheVariants.{Value}
 use Rattle.cola_cell.specs.Decoded.{decoded}
-use Rattle.cola_cell.specs.Format.{width, stamp_limit}
+use Rattle.cola_cell.specs.Format.{stamp_limit}
 use Rattle.cola_cell.specs.Places.{number_of, slot_size}
 use Rattle.cola_device.specs.declared.device.Device as device
 use Rattle.cola_device.specs.Bytes.{IsEmpty}
 use Rattle.cola_device.specs.Settling.{IsSettled}
 use Rattle.cola_front.specs.Front.{FrontCells, cell_at, cell_bytes}
 use Rattle.cola_layout.specs.declared.geometry.Geometry.{Geometry}
-use Rattle.cola_run.specs.Cells.{block_cells, block_bytes, device_levels, file_bytes, tail_number}
+use Rattle.cola_run.specs.Cells.{block_cells, block_bytes, device_levels, file_bytes, tail_number, tails_bytes}
 use Rattle.cola_run.specs.Saving.{SameFront, SameLevels}
 use Rattle.cola_spec.specs.Map.{key_cmp}
-use Rattle.cola_table.specs.Terms.{shape_of}
+use Rattle.cola_cell.specs.Shapes.{shape_of}
 use Rattle.cola_load.specs.declared.fault.LoadFault.{LoadFault}
 use Rattle.cola_load.specs.declared.fault.LoadFault.TheVariants.{NotEmpty, OutOfMemory, Device}
 use Rattle.cola_load.specs.Filled.{Row, AreRows, run_len, filled_cell, IsFilled}
@@ -38,7 +38,7 @@ pub record IsLoading (loading : Loading) : Type 0 where
   pub last_fits : loading.last ≤ stamp_limit loading.geometry.format
   pub format : loading.front.format ≡ loading.geometry.format
   pub block : loading.front.block ≡ block_cells loading.geometry
-  pub tails_many : length loading.tails ≡ width loading.geometry.format * (block_cells loading.geometry * device_levels loading.geometry)
+  pub tails_many : length loading.tails ≡ tails_bytes loading.geometry
 
 -- the cell at an index of a level whose run has so many cells, where the device has these bytes: in the front, in the block
 -- that is being filled, or on the device
@@ -112,7 +112,8 @@ pub record SameRows (before now : Loading) : Type 0 where
 -- a cell stands behind the run of a level, and all other cells are as before
 pub record HasMore (before now : Loading) (level index : ℕ) (cell : Cell) (old new : List ℕ) : Type 0 where
   pub is : standing_cell now new (index + 1) level index ≡ Some cell
-  pub same : (i : ℕ) → i < index → standing_cell now new (index + 1) level i ≡ standing_cell before old index level i
+  pub same : (i : ℕ) → i < index → standing_cell now new (index + 1) level i
+      ≡ standing_cell before old index level i
   pub others : (l i len : ℕ) → l ≤ before.geometry.bottom → ¬ (l ≡ level) → i < slot_size l
       → standing_cell now new len l i ≡ standing_cell before old len l i
 
@@ -134,11 +135,12 @@ pub record StaysInFront (geometry : Geometry) (before now : List ℕ) : Type 0 w
 -- first two blocks
 pub record HasSaved (loading : Loading) (level : ℕ) (before now : List ℕ) : Type 0 where
   pub stays : StaysInFront loading.geometry before now
-  pub saved : (l i : ℕ) → loading.geometry.block_exp ≤ l + 2 → l < level → l ≤ loading.geometry.bottom
-      → i < run_len loading.rows (loading.geometry.bottom - l)
+  pub saved : (l i : ℕ) → loading.geometry.block_exp ≤ l + 2 → l < level
+      → l ≤ loading.geometry.bottom → i < run_len loading.rows (loading.geometry.bottom - l)
       → decoded loading.geometry.format (cell_bytes loading.geometry.format now (number_of l 0 i))
       ≡ standing_cell loading before (run_len loading.rows (loading.geometry.bottom - l)) l i
-  pub rest : (l i : ℕ) → loading.geometry.block_exp ≤ l + 2 → level ≤ l → l ≤ loading.geometry.bottom → i < slot_size l
+  pub rest : (l i : ℕ) → loading.geometry.block_exp ≤ l + 2 → level ≤ l
+      → l ≤ loading.geometry.bottom → i < slot_size l
       → cell_bytes loading.geometry.format now (number_of l 0 i) ≡ cell_bytes loading.geometry.format before (number_of l 0 i)
 
 module _ {D : Type 0} (d : device.Ghosts D) (geometry : Geometry) (last : ℕ) (before now : D) where

@@ -13,7 +13,8 @@ use cola_device::Device;
 /// After Ok the new file stands for the map that the old one stands for, with its stamps and its last number, by the header of
 /// a store for as many keys as were asked for. The answer is how many keys the map has.
 pub fn grown_file_stands<D: Device, E: Device>()
-    ensures { (from from_now : D) (to to_now : E) (ticks ticks_now keys block_exp answer : ℕ) (header : Fields) (bytes new : List ℕ) (m : Map) →
+    ensures { (from from_now : D) (to to_now : E) (ticks ticks_now keys block_exp answer : ℕ)
+        (header : Fields) (bytes new : List ℕ) (m : Map) →
         D.bytes from ≡ Some bytes → HeaderStandsFor header bytes m → E.bytes to_now ≡ Some new →
         Grows D.Device E.Device from from_now to to_now ticks ticks_now keys block_exp (Ok answer) →
         IsFileOf keys block_exp header.format m new × (answer ≡ count m) }
@@ -22,15 +23,19 @@ pub fn grown_file_stands<D: Device, E: Device>()
 /// Where the old file stands for a map of no more keys than the new one is for, the new one is empty, and no count of faults
 /// rose, the map is copied, or there is no memory.
 pub fn growing_completes<D: Device, E: Device>()
-    ensures { (from from_now : D) (to to_now : E) (ticks ticks_now keys block_exp : ℕ) (result : Result ℕ AnyFault)
-        (header : Fields) (bytes : List ℕ) (m : Map) → D.bytes from ≡ Some bytes → HeaderStandsFor header bytes m → count m ≤ keys → E.bytes to ≡ Some [] →
-        ¬ Rose (D.counts from).faults (D.counts from_now).faults → ¬ Rose (E.counts to).faults (E.counts to_now).faults →
-        Grows D.Device E.Device from from_now to to_now ticks ticks_now keys block_exp result → IsCountOrFull (count m) result }
+    ensures { (from from_now : D) (to to_now : E) (ticks ticks_now keys block_exp : ℕ)
+        (result : Result ℕ AnyFault) (header : Fields) (bytes : List ℕ) (m : Map) →
+        D.bytes from ≡ Some bytes → HeaderStandsFor header bytes m → count m ≤ keys → E.bytes to ≡ Some [] →
+        ¬ Rose (D.counts from).faults (D.counts from_now).faults →
+        ¬ Rose (E.counts to).faults (E.counts to_now).faults →
+        Grows D.Device E.Device from from_now to to_now ticks ticks_now keys block_exp result →
+        IsCountOrFull (count m) result }
 {}
 
 /// Where the new file's device met no fault, each refusal leaves the file as it was, or without a header.
 pub fn refused_files_have_no_header<D: Device, E: Device>()
-    ensures { (from from_now : D) (to to_now : E) (ticks ticks_now keys block_exp : ℕ) (fault : AnyFault) →
+    ensures { (from from_now : D) (to to_now : E) (ticks ticks_now keys block_exp : ℕ)
+        (fault : AnyFault) →
         ¬ Rose (E.counts to).faults (E.counts to_now).faults →
         Grows D.Device E.Device from from_now to to_now ticks ticks_now keys block_exp (Err fault) →
         (E.bytes to_now ≡ E.bytes to) ⊎ IfSome (E.bytes to_now) IsHeadless }

@@ -14,7 +14,7 @@ ghost use Rattle.cola_layout.specs.Marks.{numbers_of, marks_of};
 ghost use Rattle.cola_look.specs.Runs.{HasRun};
 ghost use Rattle.cola_opening.specs.Counted.{Spends};
 ghost use Rattle.cola_run.specs.Cells.{device_levels, file_bytes};
-ghost use Rattle.cola_run.specs.Store.{beside};
+ghost use Rattle.cola_run.specs.Store.{beside, device_of};
 ghost use Rattle.cola_load.specs.Filled.{Row};
 ghost use Rattle.cola_load.specs.Loading.{HoldsRows, full_blocks};
 ghost use Rattle.cola_load.specs.Growing.{runs_in, least, Breaks, Admits, IsFillingOf, IsCopied, CopiesNext, CopiesAll, Walks, BothCalm, WritesNext, WritesRows, unread_as};
@@ -23,7 +23,7 @@ ghost use Rattle.cola_load.specs.Grow.{Suits, IsFor, Copies, Grows, IsSpent, ref
 use crate::fault::{GrowFault, LoadFault};
 use crate::loader::Loader;
 use arrayvec::ArrayVec;
-use cola_cell::{CellSource, Format, Key, ReadFault, Run, Value};
+use cola_cell::{CellSource, Format, Key, MOST_LEVELS, ReadFault, Run, Value};
 use cola_clock::visible_slot;
 use cola_cursor::Cursor;
 use cola_device::Device;
@@ -50,8 +50,10 @@ impl Filling {
     /// Whether a row may be pushed next.
     fn admits(&self, key: &Key, value: &Value, stamp: u64) -> bool
         requires { self.now.rows ≤ self.now.geometry.keys }
-        ensures yes { IsTrue result → Admits self.now (record { key = key.now; value = value.now; stamp = stamp }) }
-        ensures no { IsFalse result → Breaks self.now.geometry self.now.last self.now.rows self.now.key
+        ensures yes { IsTrue result →
+            Admits self.now (record { key = key.now; value = value.now; stamp = stamp }) }
+        ensures no { IsFalse result → Breaks self.now.geometry self.now.last
+            self.now.rows self.now.key
             (record { key = key.now; value = value.now; stamp = stamp }) }
     {
         if self.rows == self.geometry.keys {
@@ -108,9 +110,10 @@ fn visible_at(header: &Header, level: u8) -> u8
 }
 
 /// The visible runs of a file by its header, from level 0 on.
-fn visible_runs(header: &Header) -> ArrayVec<Run, 23>
+fn visible_runs(header: &Header) -> ArrayVec<Run, MOST_LEVELS>
     ensures runs { result.items ≡ runs_in header.now }
-    ensures has { (held : Held) → held.fixed.levels ≡ header.now.geometry.bottom + 1 → All (HasRun held) result.items }
+    ensures has { (held : Held) → held.fixed.levels ≡ header.now.geometry.bottom + 1 →
+        All (HasRun held) result.items }
     ensures rise { LevelsRise 0 result.items }
 {
     let mut runs = ArrayVec::new();
@@ -188,24 +191,31 @@ fn copy_next<W: CellSource, E: Device, L: Ledger>(
     filling: &Filling,
     steps: &mut Steps<L>,
 ) -> Result<Option<Filling>, GrowFault>
-    requires stands { Stands (W.held work.old) cursor.old }
+    requires stands { Stands (W.state work.old).held cursor.old }
     requires filling { IsFillingOf filling.now loader.old }
     requires few { filling.now.rows ≤ filling.now.geometry.keys }
     requires inside { HasRange (E.bytes to.old) 0 (file_bytes filling.now.geometry) }
-    ensures copies { (begun : Cursor) (rows : List Row) → IsCopied (W.held work.old) begun cursor.old loader.old (E.bytes to.old) rows →
-        CopiesNext (W.held work.old) begun filling.now.geometry filling.now.last rows cursor.new loader.new (E.bytes to.new) result }
+    ensures copies { (begun : Cursor) (rows : List Row) →
+        IsCopied (W.state work.old).held begun cursor.old loader.old (E.bytes to.old) rows →
+        CopiesNext (W.state work.old).held begun filling.now.geometry filling.now.last rows
+        cursor.new loader.new (E.bytes to.new) result }
     ensures next { IfOk result (λ more. IfSome more (λ next. next.rows ≡ filling.now.rows + 1)) }
-    ensures same { IfOk result (λ more. IfSome more (λ next. (next.geometry ≡ filling.now.geometry) × (next.last ≡ filling.now.last))) }
-    ensures room { IfOk result (λ more. IfSome more (λ next. next.rows ≤ filling.now.geometry.keys)) }
-    ensures stands { OnOk result (Stands (W.held work.new) cursor.new) }
-    ensures left { OnOk result (steps.new + all_left cursor.new.lines.items ≤ steps.old + all_left cursor.old.lines.items) }
+    ensures same { IfOk result (λ more. IfSome more (λ next.
+        (next.geometry ≡ filling.now.geometry) × (next.last ≡ filling.now.last))) }
+    ensures room { IfOk result (λ more.
+        IfSome more (λ next. next.rows ≤ filling.now.geometry.keys)) }
+    ensures stands { OnOk result (Stands (W.state work.new).held cursor.new) }
+    ensures left { OnOk result (steps.new + all_left cursor.new.lines.items
+        ≤ steps.old + all_left cursor.old.lines.items) }
     ensures at_most { steps.new ≤ steps.old + all_left cursor.old.lines.items }
-    ensures reading { Reading (W.spent work.old) (W.spent work.new) steps.old steps.new }
-    ensures faults { BothCalm (W.spent work.old).faults (W.spent work.new).faults (E.counts to.old).faults (E.counts to.new).faults result }
-    ensures cells_stay { W.held work.new ≡ W.held work.old }
+    ensures reading { Reading (W.state work.old) (W.state work.new) steps.old steps.new }
+    ensures faults { BothCalm (W.state work.old).spent.faults (W.state work.new).spent.faults
+        (E.counts to.old).faults (E.counts to.new).faults result }
+    ensures cells_stay { (W.state work.new).held ≡ (W.state work.old).held }
     ensures kept { W.kept work.new ≡ W.kept work.old }
     ensures writes { WritesNext filling.now (E.counts to.old) (E.counts to.new) result }
-    ensures stays { IfOk result (λ more. MatchOption more (loader.new ≡ loader.old) (λ next. Unit {0})) }
+    ensures stays { IfOk result (λ more.
+        MatchOption more (loader.new ≡ loader.old) (λ next. Unit {0})) }
     ensures other_kept { E.kept to.new ≡ E.kept to.old }
 {
     let (key, value, stamp) = match cursor.next_stamped(work, steps) {
@@ -231,18 +241,20 @@ fn copy_all<W: CellSource, E: Device, L: Ledger>(
     begun: &Filling,
     steps: &mut Steps<L>,
 ) -> Result<u64, GrowFault>
-    requires stands { Stands (W.held work.old) cursor.old }
+    requires stands { Stands (W.state work.old).held cursor.old }
     requires filling { IsFillingOf begun.now loader.old }
     requires none { begun.now.rows ≡ 0 }
     requires no_key { begun.now.key ≡ None }
     requires holds { IfSome (E.bytes to.old) (λ bytes. HoldsRows loader.old bytes []) }
-    ensures copies { CopiesAll (W.held work.old) cursor.old begun.now.geometry begun.now.last cursor.new loader.new (E.bytes to.new) result }
+    ensures copies { CopiesAll (W.state work.old).held cursor.old begun.now.geometry begun.now.last
+        cursor.new loader.new (E.bytes to.new) result }
     ensures geometry { OnOk result (loader.new.geometry ≡ begun.now.geometry) }
     ensures last { OnOk result (loader.new.last ≡ begun.now.last) }
     ensures at_most { steps.new ≤ steps.old + all_left cursor.old.lines.items }
-    ensures reading { Reading (W.spent work.old) (W.spent work.new) steps.old steps.new }
-    ensures faults { BothCalm (W.spent work.old).faults (W.spent work.new).faults (E.counts to.old).faults (E.counts to.new).faults result }
-    ensures cells_stay { W.held work.new ≡ W.held work.old }
+    ensures reading { Reading (W.state work.old) (W.state work.new) steps.old steps.new }
+    ensures faults { BothCalm (W.state work.old).spent.faults (W.state work.new).spent.faults
+        (E.counts to.old).faults (E.counts to.new).faults result }
+    ensures cells_stay { (W.state work.new).held ≡ (W.state work.old).held }
     ensures kept { W.kept work.new ≡ W.kept work.old }
     ensures writes { WritesRows begun.now.geometry (E.counts to.old) (E.counts to.new) 0 0 result }
     ensures other_kept { E.kept to.new ≡ E.kept to.old }
@@ -257,25 +269,28 @@ fn copy_all<W: CellSource, E: Device, L: Ledger>(
 /// Fills a file with the pairs of runs.
 fn fill<W: CellSource, E: Device, L: Ledger>(
     work: &mut W,
-    runs: &ArrayVec<Run, 23>,
+    runs: &ArrayVec<Run, MOST_LEVELS>,
     to: &mut E,
     loader: Loader,
     begun: &Filling,
     steps: &mut Steps<L>,
 ) -> Result<u64, GrowFault>
-    requires runs { All (HasRun (W.held work.old)) runs.now.items }
+    requires runs { All (HasRun (W.state work.old).held) runs.now.items }
     requires levels { LevelsRise 0 runs.now.items }
     requires filling { IsFillingOf begun.now loader }
     requires none { begun.now.rows ≡ 0 }
     requires no_key { begun.now.key ≡ None }
     requires holds { IfSome (E.bytes to.old) (λ bytes. HoldsRows loader bytes []) }
-    ensures walks { Walks (W.held work.old) runs.now.items begun.now.geometry begun.now.last (E.counts to.old).faults (E.counts to.new).faults (E.bytes to.new) result }
+    ensures walks { Walks (W.state work.old).held runs.now.items begun.now.geometry begun.now.last
+        (E.counts to.old).faults (E.counts to.new).faults (E.bytes to.new) result }
     ensures settled { OnOk result (IsSettled E.Device to.new) }
-    ensures at_most { steps.new ≤ steps.old + range_ticks (W.held work.old).fixed.levels }
-    ensures reading { Reading (W.spent work.old) (W.spent work.new) steps.old steps.new }
-    ensures faults { BothCalm (W.spent work.old).faults (W.spent work.new).faults (E.counts to.old).faults (E.counts to.new).faults result }
+    ensures at_most { steps.new ≤ steps.old + range_ticks (W.state work.old).held.fixed.levels }
+    ensures reading { Reading (W.state work.old) (W.state work.new) steps.old steps.new }
+    ensures faults { BothCalm (W.state work.old).spent.faults (W.state work.new).spent.faults
+        (E.counts to.old).faults (E.counts to.new).faults result }
     ensures kept { W.kept work.new ≡ W.kept work.old }
-    ensures writes { WritesRows begun.now.geometry (E.counts to.old) (E.counts to.new) (device_levels begun.now.geometry + 2) 2 result }
+    ensures writes { WritesRows begun.now.geometry (E.counts to.old) (E.counts to.new)
+        (device_levels begun.now.geometry + 2) 2 result }
     ensures other_kept { E.kept to.new ≡ E.kept to.old }
 {
     let mut loader = loader;
@@ -304,14 +319,18 @@ fn copy_store<D: Device, E: Device, L: Ledger>(
     requires same { header.now.geometry ≡ runs.old.geometry }
     requires format { geometry.format ≡ header.now.geometry.format }
     requires few { header.now.count ≤ geometry.keys }
-    ensures copies { Copies E.Device header.now geometry (D.bytes runs.old.buffers.cache.device) to.old to.new result }
-    ensures faults { BothCalm (D.counts runs.old.buffers.cache.device).faults (D.counts runs.new.buffers.cache.device).faults
+    ensures copies { Copies E.Device header.now geometry (D.bytes (device_of runs.old))
+        to.old to.new result }
+    ensures faults { BothCalm (D.counts (device_of runs.old)).faults
+        (D.counts (device_of runs.new)).faults
         (E.counts to.old).faults (E.counts to.new).faults result }
-    ensures spent { IsSpent D.Device E.Device runs.old.buffers.cache.device runs.new.buffers.cache.device to.old to.new steps.old steps.new
+    ensures spent { IsSpent D.Device E.Device (device_of runs.old)
+        (device_of runs.new) to.old to.new steps.old steps.new
         0 header.now.geometry.bottom geometry result }
-    ensures beside_stays { option_map (beside header.now.geometry) (D.bytes runs.new.buffers.cache.device)
-        ≡ option_map (beside header.now.geometry) (D.bytes runs.old.buffers.cache.device) }
-    ensures kept { D.kept runs.new.buffers.cache.device ≡ D.kept runs.old.buffers.cache.device }
+    ensures beside_stays { option_map (beside header.now.geometry)
+        (D.bytes (device_of runs.new))
+        ≡ option_map (beside header.now.geometry) (D.bytes (device_of runs.old)) }
+    ensures kept { D.kept (device_of runs.new) ≡ D.kept (device_of runs.old) }
     ensures other_kept { E.kept to.new ≡ E.kept to.old }
 {
     match runs.load(header) {
@@ -345,9 +364,12 @@ fn copy_file<D: Device, E: Device, L: Ledger>(
     requires format { geometry.format ≡ header.now.geometry.format }
     requires few { header.now.count ≤ geometry.keys }
     ensures copies { Copies E.Device header.now geometry (D.bytes from) to.old to.new result.1 }
-    ensures faults { BothCalm (D.counts from).faults (D.counts result.0).faults (E.counts to.old).faults (E.counts to.new).faults result.1 }
-    ensures spent { IsSpent D.Device E.Device from result.0 to.old to.new steps.old steps.new 0 header.now.geometry.bottom geometry result.1 }
-    ensures beside_stays { option_map (beside header.now.geometry) (D.bytes result.0) ≡ option_map (beside header.now.geometry) (D.bytes from) }
+    ensures faults { BothCalm (D.counts from).faults (D.counts result.0).faults
+        (E.counts to.old).faults (E.counts to.new).faults result.1 }
+    ensures spent { IsSpent D.Device E.Device from result.0 to.old to.new
+        steps.old steps.new 0 header.now.geometry.bottom geometry result.1 }
+    ensures beside_stays { option_map (beside header.now.geometry) (D.bytes result.0)
+        ≡ option_map (beside header.now.geometry) (D.bytes from) }
     ensures kept { D.kept result.0 ≡ D.kept from }
     ensures other_kept { E.kept to.new ≡ E.kept to.old }
 {
@@ -387,7 +409,8 @@ pub fn grow<D: Device, E: Device, L: Ledger>(
 ) -> (D, Result<u64, GrowFault>)
     requires keys { AreKeys keys }
     requires block { Suits keys block_exp }
-    ensures grows { Grows D.Device E.Device from result.0 to.old to.new steps.old steps.new keys block_exp result.1 }
+    ensures grows { Grows D.Device E.Device from result.0 to.old to.new
+        steps.old steps.new keys block_exp result.1 }
     ensures no_write { (D.counts result.0).writes ≡ (D.counts from).writes }
     ensures kept { D.kept result.0 ≡ D.kept from }
     ensures other_kept { E.kept to.new ≡ E.kept to.old }

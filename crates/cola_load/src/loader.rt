@@ -9,7 +9,7 @@ ghost use Rattle.cola_device.specs.Counts.{Called};
 ghost use Rattle.cola_device.specs.Settling.{IsSettled};
 ghost use Rattle.cola_front.specs.Front.{new_front};
 ghost use Rattle.cola_opening.specs.Counted.{Spends};
-ghost use Rattle.cola_run.specs.Cells.{block_cells, device_levels, file_bytes};
+ghost use Rattle.cola_run.specs.Cells.{block_cells, device_levels, file_bytes, tails_bytes};
 ghost use Rattle.cola_run.specs.Saving.{SameLevels};
 ghost use Rattle.cola_load.specs.Loading.{Begins, Pushes, Finishes, FrontWaits, StaysInFront, IsAbove, IsLoading, SameRows};
 ghost use Rattle.cola_load.specs.Loading.{Puts, PutsRow, HasSaved, row_cell, full_blocks, filled_by};
@@ -76,9 +76,10 @@ fn levels_on_device(geometry: &Geometry) -> u8
 
 /// A front and tails in which no cell stands.
 fn no_cells(alloc: Global, geometry: &Geometry) -> Result<(Front, BoxedSlice<u8>), AllocError>
-    ensures front { IfOk result (λ made. made.0 ≡ new_front geometry.now.block_exp geometry.now.format) }
-    ensures tails { IfOk result (λ made. boxed_slice_items made.1
-        ≡ replicate (width geometry.now.format * (block_cells geometry.now * device_levels geometry.now)) 0) }
+    ensures front { IfOk result (λ made.
+        made.0 ≡ new_front geometry.now.block_exp geometry.now.format) }
+    ensures tails { IfOk result (λ made.
+        boxed_slice_items made.1 ≡ replicate (tails_bytes geometry.now) 0) }
 {
     let front = Front::new(alloc, geometry.block_exp, geometry.format)?;
     let cells = cells_of_block(geometry) as usize * levels_on_device(geometry) as usize;
@@ -89,7 +90,8 @@ fn no_cells(alloc: Global, geometry: &Geometry) -> Result<(Front, BoxedSlice<u8>
 /// The cell that a row gives the run so many levels above the bottom, at an index of that.
 fn cell_of(key: &Key, value: &Value, stamp: u64, height: u8, index: u32) -> Cell
     requires { index < 2 ^ 24 }
-    ensures { result ≡ row_cell (record { key = key.now; value = value.now; stamp = stamp }) height index }
+    ensures { result ≡ row_cell (record { key = key.now; value = value.now; stamp = stamp })
+        height index }
 {
     if height == 0 {
         return Cell::Item {
@@ -162,11 +164,14 @@ impl Loader {
         requires index { index < slot_size level }
         requires fits { CellFits self.old.geometry.format cell.now }
         requires inside { HasRange (D.bytes device.old) 0 (file_bytes self.old.geometry) }
-        ensures puts { Both (D.bytes device.old) (D.bytes device.new) (Puts result self.old self.new level index cell.now) }
+        ensures puts { Both (D.bytes device.old) (D.bytes device.new)
+            (Puts result self.old self.new level index cell.now) }
         ensures stays { SameRows self.old self.new }
-        ensures front_stays { Both (D.bytes device.old) (D.bytes device.new) (StaysInFront self.old.geometry) }
+        ensures front_stays { Both (D.bytes device.old) (D.bytes device.new)
+            (StaysInFront self.old.geometry) }
         ensures kept { D.kept device.new ≡ D.kept device.old }
-        ensures counts { Called (D.counts device.old) (D.counts device.new) 0 (filled_by self.old.geometry level index) 0 result }
+        ensures counts { Called (D.counts device.old) (D.counts device.new) 0
+            (filled_by self.old.geometry level index) 0 result }
     {
         if level < self.geometry.front_levels() {
             self.front.write(self.geometry.place(level, 0, index), cell);
@@ -191,10 +196,12 @@ impl Loader {
         ensures puts { Both (D.bytes device.old) (D.bytes device.new)
             (PutsRow result self.old self.new (record { key = key.now; value = value.now; stamp = stamp })) }
         ensures stays { SameRows self.old self.new }
-        ensures front_stays { Both (D.bytes device.old) (D.bytes device.new) (StaysInFront self.old.geometry) }
+        ensures front_stays { Both (D.bytes device.old) (D.bytes device.new)
+            (StaysInFront self.old.geometry) }
         ensures kept { D.kept device.new ≡ D.kept device.old }
         ensures counts { Called (D.counts device.old) (D.counts device.new)
-            0 (full_blocks self.old.geometry (self.old.rows + 1) - full_blocks self.old.geometry self.old.rows) 0 result }
+            0 (full_blocks self.old.geometry (self.old.rows + 1)
+            - full_blocks self.old.geometry self.old.rows) 0 result }
     {
         let mut index = self.rows as u32;
         for height in 0..self.geometry.levels() {
@@ -217,9 +224,11 @@ impl Loader {
         requires front { self.now.geometry.block_exp ≤ level + 2 }
         requires level { level ≤ self.now.geometry.bottom }
         requires inside { HasRange (D.bytes device.old) 0 (file_bytes self.now.geometry) }
-        ensures saves { Both (D.bytes device.old) (D.bytes device.new) (λ old new. (before : List ℕ) → HasSaved self.now level before old
+        ensures saves { Both (D.bytes device.old) (D.bytes device.new)
+            (λ old new. (before : List ℕ) → HasSaved self.now level before old
             → OnOk result (HasSaved self.now (level + 1) before new)) }
-        ensures front_stays { Both (D.bytes device.old) (D.bytes device.new) (StaysInFront self.now.geometry) }
+        ensures front_stays { Both (D.bytes device.old) (D.bytes device.new)
+            (StaysInFront self.now.geometry) }
         ensures kept { D.kept device.new ≡ D.kept device.old }
         ensures counts { Called (D.counts device.old) (D.counts device.new) 0 1 0 result }
     {
@@ -235,9 +244,11 @@ impl Loader {
         requires inside { HasRange (D.bytes device.old) 0 (file_bytes self.now.geometry) }
         ensures saves { Both (D.bytes device.old) (D.bytes device.new)
             (λ old new. OnOk result (HasSaved self.now (self.now.geometry.bottom + 1) old new)) }
-        ensures front_stays { Both (D.bytes device.old) (D.bytes device.new) (StaysInFront self.now.geometry) }
+        ensures front_stays { Both (D.bytes device.old) (D.bytes device.new)
+            (StaysInFront self.now.geometry) }
         ensures kept { D.kept device.new ≡ D.kept device.old }
-        ensures counts { Called (D.counts device.old) (D.counts device.new) 0 (device_levels self.now.geometry) 0 result }
+        ensures counts { Called (D.counts device.old) (D.counts device.new) 0
+            (device_levels self.now.geometry) 0 result }
     {
         for level in self.geometry.front_levels()..self.geometry.levels() {
             match self.write_tail_of(device, level) {
@@ -252,10 +263,14 @@ impl Loader {
     fn write_front<D: Device>(&self, device: &mut D) -> Result<u64, DeviceFault>
         requires inside { HasRange (D.bytes device.old) 0 (file_bytes self.now.geometry) }
         ensures rows { IfOk result (λ rows. rows ≡ self.now.rows) }
-        ensures finishes { Both (D.bytes device.old) (D.bytes device.new) (λ old new. (before : List ℕ) →
-            HasSaved self.now (self.now.geometry.bottom + 1) before old → Finishes result self.now before new) }
-        ensures size_stays { Both (D.bytes device.old) (D.bytes device.new) (λ old new. length new ≡ length old) }
-        ensures levels_stay { Both (D.bytes device.old) (D.bytes device.new) (SameLevels self.now.geometry) }
+        ensures finishes { Both (D.bytes device.old) (D.bytes device.new)
+            (λ old new. (before : List ℕ) →
+            HasSaved self.now (self.now.geometry.bottom + 1) before old →
+            Finishes result self.now before new) }
+        ensures size_stays { Both (D.bytes device.old) (D.bytes device.new)
+            (λ old new. length new ≡ length old) }
+        ensures levels_stay { Both (D.bytes device.old) (D.bytes device.new)
+            (SameLevels self.now.geometry) }
         ensures settled { OnOk result (IsSettled D.Device device.new) }
         ensures kept { D.kept device.new ≡ D.kept device.old }
         ensures counts { Called (D.counts device.old) (D.counts device.new) 0 2 1 result }
@@ -292,14 +307,16 @@ impl Loader {
         requires inside { HasRange (D.bytes device.old) 0 (file_bytes self.old.geometry) }
         ensures pushes { Both (D.bytes device.old) (D.bytes device.new)
             (Pushes result self.old self.new (record { key = key.now; value = value.now; stamp = stamp })) }
-        ensures front_stays { Both (D.bytes device.old) (D.bytes device.new) (StaysInFront self.old.geometry) }
+        ensures front_stays { Both (D.bytes device.old) (D.bytes device.new)
+            (StaysInFront self.old.geometry) }
         ensures geometry { self.new.geometry ≡ self.old.geometry }
         ensures last { self.new.last ≡ self.old.last }
         ensures rows { OnOk result (self.new.rows ≡ self.old.rows + 1) }
         ensures key { OnOk result (self.new.key ≡ Some key.now) }
         ensures kept { D.kept device.new ≡ D.kept device.old }
         ensures counts { Called (D.counts device.old) (D.counts device.new)
-            0 (full_blocks self.old.geometry (self.old.rows + 1) - full_blocks self.old.geometry self.old.rows) 0 result }
+            0 (full_blocks self.old.geometry (self.old.rows + 1)
+            - full_blocks self.old.geometry self.old.rows) 0 result }
     {
         // It says that a key has a byte at least.
         let _ = key.bytes();
@@ -322,11 +339,13 @@ impl Loader {
         requires inside { HasRange (D.bytes device.old) 0 (file_bytes self.geometry) }
         ensures rows { IfOk result (λ rows. rows ≡ self.rows) }
         ensures finishes { Both (D.bytes device.old) (D.bytes device.new) (Finishes result self) }
-        ensures size_stays { Both (D.bytes device.old) (D.bytes device.new) (λ old new. length new ≡ length old) }
+        ensures size_stays { Both (D.bytes device.old) (D.bytes device.new)
+            (λ old new. length new ≡ length old) }
         ensures waits { FrontWaits D.Device self.geometry device.old device.new result }
         ensures settled { OnOk result (IsSettled D.Device device.new) }
         ensures kept { D.kept device.new ≡ D.kept device.old }
-        ensures counts { Called (D.counts device.old) (D.counts device.new) 0 (device_levels self.geometry + 2) 2 result }
+        ensures counts { Called (D.counts device.old) (D.counts device.new) 0
+            (device_levels self.geometry + 2) 2 result }
     {
         match self.write_tails(device) {
             Ok(()) => {}

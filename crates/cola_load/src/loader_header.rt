@@ -5,6 +5,7 @@ ghost use Rattle.cola_layout.specs.Fields.{fields_of};
 ghost use Rattle.cola_load.specs.Filled.{run_len, filled_marks, marks_from, filled_header};
 
 use arrayvec::ArrayVec;
+use cola_cell::MOST_LEVELS;
 use cola_layout::{Geometry, Header, Marks};
 
 /// How many cells the run so many levels above the bottom has.
@@ -33,7 +34,7 @@ fn marks_of_len(len: u32) -> Marks
 }
 
 /// The marks of all levels.
-fn marks_of_levels(geometry: &Geometry, rows: u64) -> ArrayVec<Marks, 23>
+fn marks_of_levels(geometry: &Geometry, rows: u64) -> ArrayVec<Marks, MOST_LEVELS>
     requires { rows ≤ geometry.now.keys }
     ensures { result.items ≡ marks_from rows geometry.now.bottom }
 {

@@ -2,7 +2,7 @@
 //! are read anew for it. It is for tests.
 
 ghost use Rattle.std.specs.Prelude.{◌≡◌, ◌<◌, ◌^◌, ℕ, IfOk, length, option_copied};
-ghost use Rattle.cola_table.specs.Terms.{shape_of};
+ghost use Rattle.cola_cell.specs.Shapes.{shape_of};
 ghost use Rattle.cola_load.specs.Said.{as_line};
 ghost use Rattle.cola_load.specs.PlainLines.{lines_of};
 ghost use Rattle.cola_load.specs.Rows.{rows_said, is_end, has_end, is_not_above, last_key, word_at, word_behind, rows_of, word_of};
@@ -18,7 +18,8 @@ fn rows_said(
     format: Format,
     lines: &[Option<&[u8]>],
 ) -> Result<Vec<(Key, Value)>, AllocError>
-    ensures { (keys : ℕ) → IfOk result (λ rows. rows.items ≡ rows_said (shape_of format keys) (lines_of lines.now)) }
+    ensures { (keys : ℕ) → IfOk result (λ rows.
+        rows.items ≡ rows_said (shape_of format keys) (lines_of lines.now)) }
 {
     let mut rows = Vec::new(alloc);
     for line in lines {
@@ -60,7 +61,8 @@ fn is_not_above(rows: &[(Key, Value)], key: &Key) -> bool
 /// The word of a line that says this behind so many lines, which say these rows, and whether an end.
 fn word_at(keys: u64, lines: u64, rows: &[(Key, Value)], ended: bool, says: &Said) -> Option<Word>
     requires { lines < 2 ^ 63 }
-    ensures { result ≡ word_at keys (record { lines = lines; rows = length rows.now; last = last_key rows.now; ended = ended }) says.now }
+    ensures { result ≡ word_at keys
+        (record { lines = lines; rows = length rows.now; last = last_key rows.now; ended = ended }) says.now }
 {
     match says {
         Said::Nothing => None,
@@ -94,7 +96,9 @@ fn word_behind(
     before: &[Option<&[u8]>],
     line: Option<&[u8]>,
 ) -> Result<Option<Word>, AllocError>
-    ensures { IfOk result (λ word. word ≡ word_behind (shape_of format keys) (lines_of before.now) (as_line (option_copied line.entry))) }
+    ensures { IfOk result (λ word.
+        word ≡ word_behind (shape_of format keys) (lines_of before.now)
+        (as_line (option_copied line.entry))) }
 {
     let rows = rows_said(alloc, format, before)?;
     let ended = has_end(format, before);
@@ -111,8 +115,10 @@ pub fn rows_of(
     format: Format,
     lines: &[Option<&[u8]>],
 ) -> Result<(Vec<(Key, Value)>, Option<Word>), AllocError>
-    ensures rows { IfOk result (λ found. found.0.items ≡ rows_of (shape_of format keys) (lines_of lines.now)) }
-    ensures word { IfOk result (λ found. found.1 ≡ word_of (shape_of format keys) (lines_of lines.now)) }
+    ensures rows { IfOk result (λ found.
+        found.0.items ≡ rows_of (shape_of format keys) (lines_of lines.now)) }
+    ensures word { IfOk result (λ found.
+        found.1 ≡ word_of (shape_of format keys) (lines_of lines.now)) }
 {
     for at in 0..lines.len() {
         let before = &lines[..at];

@@ -2,7 +2,7 @@
 ghost use Rattle.std.specs.Prelude.{◌≡◌, ℕ, option_copied, Some, None, if◌then◌else◌, IfSome};
 ghost use Rattle.cola_cell.specs.Format.{KeyFits, ValueFits};
 ghost use Rattle.cola_spec.specs.Map.{is_key, is_value};
-ghost use Rattle.cola_table.specs.Terms.{shape_of};
+ghost use Rattle.cola_cell.specs.Shapes.{shape_of};
 ghost use Rattle.cola_line.specs.Words.{words_left};
 ghost use Rattle.cola_load.specs.Said.{said, text_said, verb_said, row_said, pair_said, end_said, as_line, SaidFits};
 
@@ -26,7 +26,8 @@ pub enum Said {
 /// The key of a word, where its length is within the format's limit.
 fn key_of(word: &[u8], format: Format) -> Option<Key>
     ensures fits { IfSome result (KeyFits format) }
-    ensures tested { (limit : ℕ) → result ≡ (if is_key (shape_of format limit) word.now then Some word.now else None) }
+    ensures tested { (limit : ℕ) →
+        result ≡ (if is_key (shape_of format limit) word.now then Some word.now else None) }
 {
     let key = Key::of(word)?;
     if key.fits(format) { Some(key) } else { None }
@@ -35,7 +36,8 @@ fn key_of(word: &[u8], format: Format) -> Option<Key>
 /// The value of a word, where its length is within the format's limit.
 fn value_of(word: &[u8], format: Format) -> Option<Value>
     ensures fits { IfSome result (ValueFits format) }
-    ensures tested { (limit : ℕ) → result ≡ (if is_value (shape_of format limit) word.now then Some word.now else None) }
+    ensures tested { (limit : ℕ) →
+        result ≡ (if is_value (shape_of format limit) word.now then Some word.now else None) }
 {
     let value = Value::of(word)?;
     if value.fits(format) {
@@ -61,7 +63,8 @@ fn pair(key: &[u8], value: &[u8], format: Format) -> Said
 
 /// What the words after `row` say.
 fn row(words: Option<&[u8]>, format: Format) -> Said
-    ensures means { (limit : ℕ) → result ≡ row_said (shape_of format limit) (words_left (option_copied words.entry)) }
+    ensures means { (limit : ℕ) →
+        result ≡ row_said (shape_of format limit) (words_left (option_copied words.entry)) }
     ensures fits { SaidFits format result }
 {
     match two(words) {
@@ -86,7 +89,8 @@ fn end(words: Option<&[u8]>, format: Format) -> Said
 
 /// What a verb and the words after it say.
 fn verb(verb: &[u8], words: Option<&[u8]>, format: Format) -> Said
-    ensures means { (limit : ℕ) → result ≡ verb_said (shape_of format limit) verb.now (words_left (option_copied words.entry)) }
+    ensures means { (limit : ℕ) →
+        result ≡ verb_said (shape_of format limit) verb.now (words_left (option_copied words.entry)) }
     ensures fits { SaidFits format result }
 {
     if verb == b"row".as_slice() {
@@ -112,7 +116,8 @@ fn some_text(text: &[u8], format: Format) -> Said
 
 /// What a line says, of which the text is given, or none where it was too long.
 pub fn said_by(text: Option<&[u8]>, format: Format) -> Said
-    ensures means { (limit : ℕ) → result ≡ said (shape_of format limit) (as_line (option_copied text.entry)) }
+    ensures means { (limit : ℕ) →
+        result ≡ said (shape_of format limit) (as_line (option_copied text.entry)) }
     ensures fits { SaidFits format result }
 {
     let Some(text) = text else {

@@ -3,10 +3,10 @@ ghost use Rattle.std.specs.Prelude.{◌≡◌, ℕ, ◌+◌, ◌-◌, ◌*◌, �
 ghost use Rattle.cola_cell.specs.Decoded.{spelling};
 ghost use Rattle.cola_cell.specs.Format.{width, CellFits};
 ghost use Rattle.cola_cell.specs.Places.{number_of, slot_size};
-ghost use Rattle.cola_cell.specs.Spelling.{IsSpelling};
 ghost use Rattle.cola_device.specs.Bytes.{HasRange, splice};
 ghost use Rattle.cola_device.specs.Counts.{Called};
-ghost use Rattle.cola_run.specs.Cells.{IsOnDevice, block_cells, block_bytes, block_number, device_levels, file_bytes, tail_number};
+ghost use Rattle.cola_front.specs.Front.{IsSpelled};
+ghost use Rattle.cola_run.specs.Cells.{IsOnDevice, block_cells, block_bytes, block_number, device_levels, file_bytes, tail_number, tails_bytes};
 ghost use Rattle.cola_run.specs.Parts.{TailPushed, WroteTail, fills};
 
 use cola_cell::Cell;
@@ -46,7 +46,7 @@ fn place_in_tails(geometry: &Geometry, level: u8, index: u32) -> usize
 fn begin_of_tail(geometry: &Geometry, level: u8) -> usize
     requires { IsOnDevice geometry.now level }
     ensures value { result ≡ width geometry.now.format * tail_number geometry.now level 0 }
-    ensures fits { result + block_bytes geometry.now ≤ width geometry.now.format * (block_cells geometry.now * device_levels geometry.now) }
+    ensures fits { result + block_bytes geometry.now ≤ tails_bytes geometry.now }
     ensures few { result ≤ 1376256 }
 {
     geometry.format.width() * place_in_tails(geometry, level, 0)
@@ -72,9 +72,10 @@ pub(crate) fn write_tail<D: Device>(
 ) -> Result<(), DeviceFault>
     requires level { IsOnDevice geometry.now level }
     requires index { index < slot_size level }
-    requires many { length tails.now ≡ width geometry.now.format * (block_cells geometry.now * device_levels geometry.now) }
+    requires many { length tails.now ≡ tails_bytes geometry.now }
     requires inside { HasRange (D.bytes device.old) 0 (file_bytes geometry.now) }
-    ensures wrote { WroteTail result geometry.now tails.now level 0 index (D.bytes device.old) (D.bytes device.new) }
+    ensures wrote { WroteTail result geometry.now tails.now level 0 index
+        (D.bytes device.old) (D.bytes device.new) }
     ensures kept { D.kept device.new ≡ D.kept device.old }
     ensures counts { Called (D.counts device.old) (D.counts device.new) 0 1 0 result }
 {
@@ -107,13 +108,17 @@ pub(crate) fn put_on_device<D: Device>(
     requires index { index < slot_size level }
     requires few { index < 2 ^ 24 }
     requires fits { CellFits geometry.now.format cell.now }
-    requires many { length tails.old ≡ width geometry.now.format * (block_cells geometry.now * device_levels geometry.now) }
+    requires many { length tails.old ≡ tails_bytes geometry.now }
     requires inside { HasRange (D.bytes device.old) 0 (file_bytes geometry.now) }
-    ensures tails { tails.new ≡ splice tails.old (width geometry.now.format * tail_number geometry.now level index) (spelling geometry.now.format cell.now) }
-    ensures spelled { IsSpelling geometry.now.format cell.now (spelling geometry.now.format cell.now) }
-    ensures wrote { TailPushed (fills geometry.now index) result geometry.now tails.new level 0 index (D.bytes device.old) (D.bytes device.new) }
+    ensures tails { tails.new ≡ splice tails.old
+        (width geometry.now.format * tail_number geometry.now level index)
+        (spelling geometry.now.format cell.now) }
+    ensures spelled { IsSpelled geometry.now.format cell.now }
+    ensures wrote { TailPushed (fills geometry.now index) result
+        geometry.now tails.new level 0 index (D.bytes device.old) (D.bytes device.new) }
     ensures kept { D.kept device.new ≡ D.kept device.old }
-    ensures counts { Called (D.counts device.old) (D.counts device.new) 0 ((index + 1) / block_cells geometry.now - index / block_cells geometry.now) 0 result }
+    ensures counts { Called (D.counts device.old) (D.counts device.new) 0
+        ((index + 1) / block_cells geometry.now - index / block_cells geometry.now) 0 result }
 {
     let place = place_in_tails(geometry, level, index);
     put_cell(geometry.format, tails, place, cell);

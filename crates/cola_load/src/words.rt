@@ -35,7 +35,8 @@ pub fn one(left: Option<&[u8]>) -> Option<&[u8]>
 
 /// The two words that are left, where there are just two.
 pub fn two(left: Option<&[u8]>) -> Option<(&[u8], &[u8])>
-    ensures { option_map (λ words. (words.0.now, words.1.now)) result ≡ only_two (words_left (option_copied left.entry)) }
+    ensures { option_map (λ words. (words.0.now, words.1.now)) result
+        ≡ only_two (words_left (option_copied left.entry)) }
 {
     let Some(text) = left else {
         return None;

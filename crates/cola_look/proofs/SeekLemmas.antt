@@ -1,8 +1,7 @@
 -- The search of a run, place by place.
-use Rattle.std.proofs.Common.{◌≡◌, ◌≢◌, ◌⊎◌, inl, inr, ℕ, zero, suc, ◌+◌, ◌-◌, ◌*◌, ◌/◌, ◌%◌, ◌==◌, ◌≤◌, ◌<◌, min, true, false, cond, if◌then◌else◌, List, [], ◌∷◌, length, drop, Option, None, Some, Result, Ok, Err, IfErr, refl, sym, ap, subst, ◌∙◌, arith, Bool, lit<}
+use Rattle.std.proofs.Common.{◌≡◌, ◌≢◌, ◌⊎◌, inl, inr, ℕ, zero, suc, ◌+◌, ◌-◌, ◌*◌, ◌/◌, ◌%◌, ◌==◌, ◌≤◌, ◌<◌, min, true, false, cond, if◌then◌else◌, List, [], ◌∷◌, length, drop, Option, None, Some, Result, Ok, Err, refl, sym, ap, subst, ◌∙◌, arith, Bool, lit<}
 use Rattle.std.specs.declared.cmp.Ordering.{Ordering}
 use Rattle.std.specs.Ordering.{is_lt, nat_cmp}
-use Rattle.std.specs.Result.{IsErrAnd}
 use Rattle.std.specs.Option.{option_map, option_map_or}
 use Rattle.std.specs.List.{slice_get}
 use Rattle.std.proofs.lemmas.Option.{slice_get_past}
@@ -21,7 +20,9 @@ use Rattle.cola_cell.specs.declared.fault.ReadFault.TheVariants.{Device, BadCell
 use Rattle.cola_cell.specs.Places.{number_of, Block, block_of}
 use Rattle.cola_cell.specs.Cell as parts
 use Rattle.cola_cell.specs.Held.{Held, Spot, Untold, Bad, Told, Tells, LawCell, Stamped, as_cell, span}
-use Rattle.cola_cell.specs.Spent.{Buffer, Search, Spent, Reads, ReadAnswers, ReadCalm}
+use Rattle.cola_cell.specs.Spent.{Buffer, Search, Spent, ReadAnswers}
+use Rattle.cola_cell.specs.State.{State}
+use Rattle.cola_cell.specs.Reads.{Reads}
 use Rattle.cola_cell.specs.Listed.{Stands, IsRun}
 use Rattle.cola_cell.specs.Costs.{Costs}
 use Rattle.cola_cell.proofs.CostsLemmas.{costs_none, costs_read_then, costs_within}
@@ -30,6 +31,7 @@ use Rattle.cola_look.specs.declared.seeking.Seat.{Seat}
 use Rattle.cola_cell.specs.Order.{key_cmp}
 use Rattle.cola_look.specs.Outcome.{Outcome, Found, BadAt, Open, Answers}
 use Rattle.cola_look.specs.Seek.{first_of, last_of, is_passed, first_stop, seat_at, found_at, found_end, found_from, found_in, seat_of_key, as_seat, SeekCause, turns_from}
+use Rattle.cola_look.specs.Seeks.{Seeks}
 use Rattle.cola_look.specs.Turns.{groups, turns_left}
 use Rattle.cola_look.proofs.TurnLemmas.{turn_once, read_turned, read_within, eight_in_block}
 
@@ -241,48 +243,59 @@ costs_turned h m = record {
 -- ---- the search on its way
 
 -- the search stands before a place of its window: what is left decides it, a tick was made for each place before, and of the blocks of its eights it may turn to those that are left
-pub record Seeking (held : Held) (run : Run) (next_len start : ℕ) (key : List ℕ) (old now : Spent) (before after first last i : ℕ) : Type 0 where
-  pub rest : GoesOn (found_in held run next_len start key) (found_from held run next_len key i (last - i))
-  pub costs : Costs old now before after (i - first) (i - first)
-  pub turned : now.turned + turns_left (now.lasts Search) (block_of (span held) run.level run.slot i) 8 i last ≤ old.turned + groups 8 first last
-  pub each : now.turned + before ≤ old.turned + after
-  pub calm : now.faults ≡ old.faults
-  pub others : (buffer : Buffer) → buffer ≢ Search → now.lasts buffer ≡ old.lasts buffer
+pub record Seeking (run : Run) (next_len start : ℕ) (key : List ℕ) (old now : State) (before after first last i : ℕ) : Type 0 where
+  pub held_is : now.held ≡ old.held
+  pub rest : GoesOn (found_in old.held run next_len start key) (found_from old.held run next_len key i (last - i))
+  pub costs : Costs old.spent now.spent before after (i - first) (i - first)
+  pub turned : now.spent.turned + turns_left (now.spent.lasts Search) (block_of (span old.held) run.level run.slot i) 8 i last ≤ old.spent.turned + groups 8 first last
+  pub each : now.spent.turned + before ≤ old.spent.turned + after
+  pub others : (buffer : Buffer) → buffer ≢ Search → now.spent.lasts buffer ≡ old.spent.lasts buffer
 
 -- it begins
-pub seeking_begins : (held : Held) (run : Run) (next_len start : ℕ) (key : List ℕ) (spent : Spent) (steps : ℕ) →
-    Seeking held run next_len start key spent spent steps steps (first_of start run.len) (last_of start run.len) (first_of start run.len)
-seeking_begins held run next_len start key spent steps = record {
+pub seeking_begins : (run : Run) (next_len start : ℕ) (key : List ℕ) (state : State) (steps : ℕ) →
+    Seeking run next_len start key state state steps steps (first_of start run.len) (last_of start run.len) (first_of start run.len)
+seeking_begins run next_len start key state steps = record {
+  held_is = refl;
   rest = inr refl;
-  costs = costs_within (costs_none spent steps) (omega arith) (omega arith);
+  costs = costs_within (costs_none state.spent steps) (omega arith) (omega arith);
   turned = omega arith;
   each = omega arith;
-  calm = refl;
   others = λ buffer d. refl;
 }
 
-module _ {held : Held} {run : Run} {next_len start : ℕ} {key : List ℕ} {old mid new : Spent} {before between after first last i : ℕ} where
+-- a read, of the cells that stood at first
+read_first : (old : State) {mid new : State} {level slot index : ℕ} {result : Result Cell ReadFault} → mid.held ≡ old.held → Reads mid new Search level slot index result →
+    Reads (record { held = old.held; spent = mid.spent }) new Search level slot index result
+read_first old {mid} {new} {level} {slot} {index} {result} e r =
+    let E : Held → Type 0 = λ h. Reads (record { held = h; spent = mid.spent }) new Search level slot index result in subst E e r
+
+-- the blocks that a search may still turn to, from a place of its window on
+abbrev turns_at : Held → Run → (last : ℕ) → State → ℕ → ℕ
+turns_at held run last now i = turns_left (now.spent.lasts Search) (block_of (span held) run.level run.slot i) 8 i last
+
+module _ {run : Run} {next_len start : ℕ} {key : List ℕ} {old mid new : State} {before between after first last i : ℕ} where
   -- and goes on behind a cell below the key
-  pub seeking_goes_on : (c : Cell) → Seeking held run next_len start key old mid before between first last i → first ≤ i → i < last →
-      Reads held mid new Search run.level run.slot i (Ok c) → is_lt (key_cmp (parts.key_of c) key) ≡ true → after ≡ between + 1 →
-      Seeking held run next_len start key old new before after first last (i + 1)
-  seeking_goes_on c s a b r l e = record {
-    rest = (let many : last - i ≡ suc (last - (i + 1)) = omega arith in let z : suc i ≡ i + 1 = omega arith in
-        joined s.rest (subst (λ m. GoesOn (found_from held run next_len key i m) (found_from held run next_len key (i + 1) (last - (i + 1)))) (sym many)
-        (subst (λ j. GoesOn (found_from held run next_len key i (suc (last - (i + 1)))) (found_from held run next_len key j (last - (i + 1)))) z
-        (passes held run next_len key i (last - (i + 1)) c r.answer.told l))));
-    costs = costs_within (costs_read_then s.costs r e) (omega arith) (omega arith);
-    turned = (let z : suc i ≡ i + 1 = omega arith in
-        let t : new.turned + turns_left (new.lasts Search) (block_of (span held) run.level run.slot (suc i)) 8 (suc i) last ≤ mid.turned + turns_left (mid.lasts Search) (block_of (span held) run.level run.slot i) 8 i last =
-        turn_once mid.turned new.turned (mid.lasts Search) (new.lasts Search) (block_of (span held) run.level run.slot i) (block_of (span held) run.level run.slot (suc i)) 8 i last (lit< tt) b
-        (λ f. ap (block_at run.level run.slot) (eight_in_block held.fixed.doublings (suc i) i f)) (read_turned r) in
-        let u : new.turned + turns_left (new.lasts Search) (block_of (span held) run.level run.slot (i + 1)) 8 (i + 1) last ≤ mid.turned + turns_left (mid.lasts Search) (block_of (span held) run.level run.slot i) 8 i last =
-        subst (λ j. new.turned + turns_left (new.lasts Search) (block_of (span held) run.level run.slot j) 8 j last ≤ mid.turned + turns_left (mid.lasts Search) (block_of (span held) run.level run.slot i) 8 i last) z t in
-        le_then u s.turned);
-    each = (let t = r.turned_rises in let u = s.each in omega arith);
-    calm = r.calm ∙ s.calm;
-    others = λ buffer d. r.others_stay buffer d ∙ s.others buffer d;
-  }
+  pub seeking_goes_on : (c : Cell) → Seeking run next_len start key old mid before between first last i → first ≤ i → i < last →
+      Reads mid new Search run.level run.slot i (Ok c) → is_lt (key_cmp (parts.key_of c) key) ≡ true → after ≡ between + 1 →
+      Seeking run next_len start key old new before after first last (i + 1)
+  seeking_goes_on c s a b read l e =
+      let r = read_first old s.held_is read in
+      record {
+        held_is = read.cells_stay ∙ s.held_is;
+        rest = (let many : last - i ≡ suc (last - (i + 1)) = omega arith in let z : suc i ≡ i + 1 = omega arith in
+            joined s.rest (subst (λ m. GoesOn (found_from old.held run next_len key i m) (found_from old.held run next_len key (i + 1) (last - (i + 1)))) (sym many)
+            (subst (λ j. GoesOn (found_from old.held run next_len key i (suc (last - (i + 1)))) (found_from old.held run next_len key j (last - (i + 1)))) z
+            (passes old.held run next_len key i (last - (i + 1)) c r.answer.told l))));
+        costs = costs_within (costs_read_then s.costs read e) (omega arith) (omega arith);
+        turned = (let z : suc i ≡ i + 1 = omega arith in
+            let t : new.spent.turned + turns_at old.held run last new (suc i) ≤ mid.spent.turned + turns_at old.held run last mid i =
+            turn_once mid.spent.turned new.spent.turned (mid.spent.lasts Search) (new.spent.lasts Search) (block_of (span old.held) run.level run.slot i)
+            (block_of (span old.held) run.level run.slot (suc i)) 8 i last (lit< tt) b
+            (λ f. ap (block_at run.level run.slot) (eight_in_block old.held.fixed.doublings (suc i) i f)) (read_turned r) in
+            le_then (subst (λ j. new.spent.turned + turns_at old.held run last new j ≤ mid.spent.turned + turns_at old.held run last mid i) z t) s.turned);
+        each = (let t = r.turned_rises in let u = s.each in omega arith);
+        others = λ buffer d. r.others_stay buffer d ∙ s.others buffer d;
+      }
     where
       block_at : ℕ → ℕ → ℕ → Block
       block_at level slot n = record { level = level; slot = slot; number = n }
@@ -296,25 +309,27 @@ module _ {held : Held} {run : Run} {next_len start : ℕ} {key : List ℕ} {old 
       joined (inr e) (inr f) = inr (e ∙ f)
 
 -- what it spent in all, where its last read is made here
-pub seeking_costs : {held : Held} {run : Run} {next_len start : ℕ} {key : List ℕ} {old mid new : Spent} {before between after i : ℕ} {result : Result Cell ReadFault} →
-    Seeking held run next_len start key old mid before between (first_of start run.len) (last_of start run.len) i → first_of start run.len ≤ i → i < last_of start run.len →
-    Reads held mid new Search run.level run.slot i result → after ≡ between + 1 → Costs old new before after 8 (turns_from start)
-seeking_costs {held} {run} {next_len} {start} {key} {old} {mid} {new} {before} {between} {after} {i} s a b r e =
-    let t : new.turned ≤ mid.turned + turns_left (mid.lasts Search) (block_of (span held) run.level run.slot i) 8 i (last_of start run.len) =
-    read_within (block_of (span held) run.level run.slot i) 8 i (last_of start run.len) (lit< tt) b r refl in
-    costs_turned (costs_within {more = 8} {others = 8} (costs_read_then s.costs r e) (omega arith) (omega arith))
-    (three new.turned (mid.turned + turns_left (mid.lasts Search) (block_of (span held) run.level run.slot i) 8 i (last_of start run.len)) old.turned
+pub seeking_costs : {run : Run} {next_len start : ℕ} {key : List ℕ} {old mid new : State} {before between after i : ℕ} {result : Result Cell ReadFault} →
+    Seeking run next_len start key old mid before between (first_of start run.len) (last_of start run.len) i → first_of start run.len ≤ i → i < last_of start run.len →
+    Reads mid new Search run.level run.slot i result → after ≡ between + 1 → Costs old.spent new.spent before after 8 (turns_from start)
+seeking_costs {run} {start = start} {old = old} {mid} {new} {i = i} s a b read e =
+    let left = turns_at old.held run (last_of start run.len) mid i in
+    let t : new.spent.turned ≤ mid.spent.turned + left =
+    read_within (block_of (span old.held) run.level run.slot i) 8 i (last_of start run.len) (lit< tt) b (read_first old s.held_is read) refl in
+    costs_turned (costs_within {more = 8} {others = 8} (costs_read_then s.costs read e) (omega arith) (omega arith))
+    (three new.spent.turned (mid.spent.turned + left) old.spent.turned
     (groups 8 (first_of start run.len) (last_of start run.len)) (turns_from start) t s.turned (eights_within start run.len))
   where
     three : (a b c d e : ℕ) → a ≤ b → b ≤ c + d → d ≤ e → a ≤ c + e
     three a b c d e h k l = omega arith
 
 -- and where it passed all its places
-pub seeking_ends : {held : Held} {run : Run} {next_len start : ℕ} {key : List ℕ} {old now : Spent} {before after i : ℕ} →
-    Seeking held run next_len start key old now before after (first_of start run.len) (last_of start run.len) i → i ≤ last_of start run.len → Costs old now before after 8 (turns_from start)
-seeking_ends {held} {run} {next_len} {start} {key} {old} {now} {before} {after} {i} s a =
+pub seeking_ends : {run : Run} {next_len start : ℕ} {key : List ℕ} {old now : State} {before after i : ℕ} →
+    Seeking run next_len start key old now before after (first_of start run.len) (last_of start run.len) i → i ≤ last_of start run.len →
+    Costs old.spent now.spent before after 8 (turns_from start)
+seeking_ends {run} {start = start} {old = old} {now} {i = i} s a =
     costs_turned (costs_within {more = 8} {others = 8} s.costs (omega arith) (omega arith))
-    (two now.turned (turns_left (now.lasts Search) (block_of (span held) run.level run.slot i) 8 i (last_of start run.len)) old.turned
+    (two now.spent.turned (turns_at old.held run (last_of start run.len) now i) old.spent.turned
     (groups 8 (first_of start run.len) (last_of start run.len)) (turns_from start) s.turned (eights_within start run.len))
   where
     two : (a b c d e : ℕ) → a + b ≤ c + d → d ≤ e → a ≤ c + e
@@ -326,83 +341,69 @@ seeking_ends {held} {run} {next_len} {start} {key} {old} {now} {before} {after} 
 pub compared : (key found k : List ℕ) (order : Ordering) (below b : Bool) → found ≡ k → order ≡ slice_cmp nat_cmp found key → below ≡ is_lt order → below ≡ b → is_lt (key_cmp k key) ≡ b
 compared key found k order below b e f h l = ap (λ x. is_lt (slice_cmp nat_cmp x key)) (sym e) ∙ ap is_lt (sym f) ∙ sym h ∙ l
 
--- an exit by `?`
-pub err_is : {T E : Type 0} (result : Result T E) (fault : E) → IsErrAnd result (λ e. e ≡ fault) → result ≡ Err fault
-err_is (Ok x) fault h = absurd h
-err_is (Err e) fault h = ap Err h
-
--- what each clause says but those on what stays
-pub record Sought (held : Held) (run : Run) (next_len start : ℕ) (key : List ℕ) (old new : Spent) (before after : ℕ) (result : Result Seat ReadFault) : Type 0 where
-  pub exact : Answers (found_in held run next_len start key) as_seat result
-  pub told : (cells : List LawCell) → IsRun held run cells → Answers (Found (laws.seek key_cmp key start cells next_len)) as_seat result
-  pub right : (cells : List LawCell) → IsRun held run cells → IsWellFormed key_cmp cells →
-      start ≤ laws.place key_cmp key cells → laws.place key_cmp key cells ≤ start + 7 → Answers (Found (seat_of_key key cells next_len)) as_seat result
-  pub cause : IfErr result (SeekCause held run start old.faults new.faults)
-  pub calm : ReadCalm old.faults new.faults result
-  pub costs : Costs old new before after 8 (turns_from start)
-  pub others_stay : (buffer : Buffer) → buffer ≢ Search → new.lasts buffer ≡ old.lasts buffer
-
-module _ {held : Held} {run : Run} {next_len start : ℕ} {key : List ℕ} {old mid new : Spent} {before between after i : ℕ} where
+module _ {run : Run} {next_len start : ℕ} {key : List ℕ} {old mid new : State} {before between after i : ℕ} where
   -- its last read was refused
-  pub sought_refused : (fault : ReadFault) (result : Result Seat ReadFault) → Seeking held run next_len start key old mid before between (first_of start run.len) (last_of start run.len) i →
-      first_of start run.len ≤ i → i < last_of start run.len → Reads held mid new Search run.level run.slot i (Err fault) → after ≡ between + 1 → result ≡ Err fault →
-      Sought held run next_len start key old new before after result
-  sought_refused fault result s a b r e f =
-      let E : Result Seat ReadFault → Type 0 = λ x. Sought held run next_len start key old new before after x in
+  pub seeks_refused : (fault : ReadFault) (result : Result Seat ReadFault) →
+      Seeking run next_len start key old mid before between (first_of start run.len) (last_of start run.len) i →
+      first_of start run.len ≤ i → i < last_of start run.len → mid.spent.faults ≡ old.spent.faults → Reads mid new Search run.level run.slot i (Err fault) →
+      after ≡ between + 1 → result ≡ Err fault → Seeks run next_len start key old new before after result
+  seeks_refused fault result s a b calm read e f =
+      let r = read_first old s.held_is read in
+      let E : Result Seat ReadFault → Type 0 = λ x. Seeks run next_len start key old new before after x in
       let many : last_of start run.len - i ≡ suc (last_of start run.len - suc i) = omega arith in
-      let left : ℕ → Type 0 = λ n. Answers (found_from held run next_len key i n) as_seat (Err fault) in
-      let exact : Answers (found_in held run next_len start key) as_seat (Err fault) =
-      answers_whole (found_in held run next_len start key) (found_from held run next_len key i (last_of start run.len - i)) as_seat (Err fault) s.rest
-      (subst left (sym many) (refuses held run next_len key i (last_of start run.len - suc i) mid.faults new.faults fault r.answer)) in
+      let left : ℕ → Type 0 = λ n. Answers (found_from old.held run next_len key i n) as_seat (Err fault) in
+      let exact : Answers (found_in old.held run next_len start key) as_seat (Err fault) =
+      answers_whole (found_in old.held run next_len start key) (found_from old.held run next_len key i (last_of start run.len - i)) as_seat (Err fault) s.rest
+      (subst left (sym many) (refuses old.held run next_len key i (last_of start run.len - suc i) mid.spent.faults new.spent.faults fault r.answer)) in
       subst E (sym f) (record {
         exact = exact;
-        told = answers_told held run next_len start key (Err fault) exact;
-        right = answers_right held run next_len start key (Err fault) exact;
-        cause = search_cause held run start i old.faults mid.faults new.faults fault (omega arith) b s.calm r.answer;
-        calm = calm_later fault s.calm r.calm;
-        costs = seeking_costs s a b r e;
+        told = answers_told old.held run next_len start key (Err fault) exact;
+        right = answers_right old.held run next_len start key (Err fault) exact;
+        cause = search_cause old.held run start i old.spent.faults mid.spent.faults new.spent.faults fault (omega arith) b calm r.answer;
+        costs = seeking_costs s a b read e;
+        within = tt;
+        each_turn = (let t = r.turned_rises in let u = s.each in omega arith);
         others_stay = λ buffer d. r.others_stay buffer d ∙ s.others buffer d;
       })
-    where
-      calm_later : (fault : ReadFault) → mid.faults ≡ old.faults → ReadCalm {T = Cell} mid.faults new.faults (Err fault) → ReadCalm {T = Seat} old.faults new.faults (Err fault)
-      calm_later Device h k = tt
-      calm_later (BadCell number) h k = k ∙ h
 
   -- it stopped at a cell
-  pub sought_found : (c : Cell) (seat : Seat) → Seeking held run next_len start key old mid before between (first_of start run.len) (last_of start run.len) i →
-      first_of start run.len ≤ i → i < last_of start run.len → Reads held mid new Search run.level run.slot i (Ok c) → after ≡ between + 1 →
-      is_lt (key_cmp (parts.key_of c) key) ≡ false → as_seat seat ≡ seat_at key i (as_cell c) → Sought held run next_len start key old new before after (Ok seat)
-  sought_found c seat s a b r e l f =
+  pub seeks_found : (c : Cell) (seat : Seat) → Seeking run next_len start key old mid before between (first_of start run.len) (last_of start run.len) i →
+      first_of start run.len ≤ i → i < last_of start run.len → Reads mid new Search run.level run.slot i (Ok c) → after ≡ between + 1 →
+      is_lt (key_cmp (parts.key_of c) key) ≡ false → as_seat seat ≡ seat_at key i (as_cell c) → Seeks run next_len start key old new before after (Ok seat)
+  seeks_found c seat s a b read e l f =
+      let r = read_first old s.held_is read in
       let many : last_of start run.len - i ≡ suc (last_of start run.len - suc i) = omega arith in
-      let left : ℕ → Type 0 = λ n. Answers (found_from held run next_len key i n) as_seat (Ok seat) in
-      let exact : Answers (found_in held run next_len start key) as_seat (Ok seat) =
-      answers_whole (found_in held run next_len start key) (found_from held run next_len key i (last_of start run.len - i)) as_seat (Ok seat) s.rest
-      (subst left (sym many) (stops held run next_len key i (last_of start run.len - suc i) c seat r.answer.told l f)) in
+      let left : ℕ → Type 0 = λ n. Answers (found_from old.held run next_len key i n) as_seat (Ok seat) in
+      let exact : Answers (found_in old.held run next_len start key) as_seat (Ok seat) =
+      answers_whole (found_in old.held run next_len start key) (found_from old.held run next_len key i (last_of start run.len - i)) as_seat (Ok seat) s.rest
+      (subst left (sym many) (stops old.held run next_len key i (last_of start run.len - suc i) c seat r.answer.told l f)) in
       record {
         exact = exact;
-        told = answers_told held run next_len start key (Ok seat) exact;
-        right = answers_right held run next_len start key (Ok seat) exact;
+        told = answers_told old.held run next_len start key (Ok seat) exact;
+        right = answers_right old.held run next_len start key (Ok seat) exact;
         cause = tt;
-        calm = r.calm ∙ s.calm;
-        costs = seeking_costs s a b r e;
+        costs = seeking_costs s a b read e;
+        within = (let at : seat.pos ≡ i = ap (λ (x : laws.Seat Stamped). x.pos) f in omega arith);
+        each_turn = (let t = r.turned_rises in let u = s.each in omega arith);
         others_stay = λ buffer d. r.others_stay buffer d ∙ s.others buffer d;
       }
 
 -- it passed all its places
-pub sought_end : {held : Held} {run : Run} {next_len start : ℕ} {key : List ℕ} {old now : Spent} {before after i : ℕ} (seat : Seat) →
-    Seeking held run next_len start key old now before after (first_of start run.len) (last_of start run.len) i → i ≡ last_of start run.len →
-    as_seat seat ≡ record { pos = run.len; hit = None; link = 8 * (next_len / 8) } → Sought held run next_len start key old now before after (Ok seat)
-sought_end {held} {run} {next_len} {start} {key} {i = i} seat s e f =
+pub seeks_end : {run : Run} {next_len start : ℕ} {key : List ℕ} {old now : State} {before after i : ℕ} (seat : Seat) →
+    Seeking run next_len start key old now before after (first_of start run.len) (last_of start run.len) i → i ≡ last_of start run.len →
+    as_seat seat ≡ record { pos = run.len; hit = None; link = 8 * (next_len / 8) } → Seeks run next_len start key old now before after (Ok seat)
+seeks_end {run} {next_len} {start} {key} {old} {i = i} seat s e f =
     let none : last_of start run.len - i ≡ 0 = omega arith in
-    let left : ℕ → Type 0 = λ n. Answers (found_from held run next_len key i n) as_seat (Ok seat) in
-    let exact : Answers (found_in held run next_len start key) as_seat (Ok seat) =
-    answers_whole (found_in held run next_len start key) (found_from held run next_len key i (last_of start run.len - i)) as_seat (Ok seat) s.rest (subst left (sym none) f) in
+    let left : ℕ → Type 0 = λ n. Answers (found_from old.held run next_len key i n) as_seat (Ok seat) in
+    let exact : Answers (found_in old.held run next_len start key) as_seat (Ok seat) =
+    answers_whole (found_in old.held run next_len start key) (found_from old.held run next_len key i (last_of start run.len - i)) as_seat (Ok seat) s.rest (subst left (sym none) f) in
     record {
       exact = exact;
-      told = answers_told held run next_len start key (Ok seat) exact;
-      right = answers_right held run next_len start key (Ok seat) exact;
+      told = answers_told old.held run next_len start key (Ok seat) exact;
+      right = answers_right old.held run next_len start key (Ok seat) exact;
       cause = tt;
-      calm = s.calm;
       costs = seeking_ends s (omega arith);
+      within = (let at : seat.pos ≡ run.len = ap (λ (x : laws.Seat Stamped). x.pos) f in omega arith);
+      each_turn = s.each;
       others_stay = s.others;
     }

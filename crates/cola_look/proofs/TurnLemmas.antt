@@ -6,8 +6,10 @@ use Rattle.std.proofs.lemmas.Bool.{eqb-true, eq-eqb}
 use Rattle.cola_cell.specs.declared.cell.Cell.{Cell}
 use Rattle.cola_cell.specs.declared.fault.ReadFault.{ReadFault}
 use Rattle.cola_cell.specs.Places.{Block, block_of}
-use Rattle.cola_cell.specs.Held.{Held, span}
-use Rattle.cola_cell.specs.Spent.{Buffer, Spent, Reads}
+use Rattle.cola_cell.specs.Held.{span}
+use Rattle.cola_cell.specs.Spent.{Buffer}
+use Rattle.cola_cell.specs.State.{State}
+use Rattle.cola_cell.specs.Reads.{Reads}
 use Rattle.cola_look.specs.Turns.{is_in, turns_left}
 
 -- ---- whole groups
@@ -99,8 +101,8 @@ turn_once turned turned' last last' block next size i end h l same r =
     ]
 
 -- of an accepted read
-pub read_turned : {held : Held} {old new : Spent} {buffer : Buffer} {level slot index : ℕ} {cell : Cell} → Reads held old new buffer level slot index (Ok cell) →
-    Turned old.turned new.turned (old.lasts buffer) (new.lasts buffer) (block_of (span held) level slot index)
+pub read_turned : {old new : State} {buffer : Buffer} {level slot index : ℕ} {cell : Cell} → Reads old new buffer level slot index (Ok cell) →
+    Turned old.spent.turned new.spent.turned (old.spent.lasts buffer) (new.spent.lasts buffer) (block_of (span old.held) level slot index)
 read_turned r = record { rises = r.turned_rises; stays = λ e. ((r.in_last e).turned_is, (r.in_last e).last_is); moves = r.moves }
 
 -- a refused read takes no more turns than are left
@@ -108,12 +110,12 @@ refused_turn : (t t' most at : ℕ) (x : Bool) → at < most → t' ≤ t + 1 �
 refused_turn t t' most at true h r s = let e = s refl in omega arith
 refused_turn t t' most at false h r s = omega arith
 
-pub read_within : {held : Held} {old new : Spent} {buffer : Buffer} {level slot index : ℕ} {result : Result Cell ReadFault} (block : Block) (size i end : ℕ) → 0 < size → i < end →
-    Reads held old new buffer level slot index result → block ≡ block_of (span held) level slot index →
-    new.turned ≤ old.turned + turns_left (old.lasts buffer) block size i end
-read_within {held} {old} {new} {buffer} {level} {slot} {index} block size i end h l r e =
-    refused_turn old.turned new.turned ((end + (size - 1)) / size) (i / size) (is_in block (old.lasts buffer)) (some_left i end size h l) r.turned_rises
-    (λ f. (r.in_last (in_is block (old.lasts buffer) f ∙ ap Some e)).turned_is)
+pub read_within : {old new : State} {buffer : Buffer} {level slot index : ℕ} {result : Result Cell ReadFault} (block : Block) (size i end : ℕ) → 0 < size → i < end →
+    Reads old new buffer level slot index result → block ≡ block_of (span old.held) level slot index →
+    new.spent.turned ≤ old.spent.turned + turns_left (old.spent.lasts buffer) block size i end
+read_within {old} {new} {buffer} block size i end h l r e =
+    refused_turn old.spent.turned new.spent.turned ((end + (size - 1)) / size) (i / size) (is_in block (old.spent.lasts buffer)) (some_left i end size h l) r.turned_rises
+    (λ f. (r.in_last (in_is block (old.spent.lasts buffer) f ∙ ap Some e)).turned_is)
 
 -- ---- groups of eight
 

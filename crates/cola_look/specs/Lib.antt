@@ -1,5 +1,6 @@
 pub mod Outcome
 pub mod Runs
 pub mod Seek
+pub mod Seeks
 pub mod Stops
 pub mod Turns

@@ -1,16 +1,12 @@
 //! The search of one run.
-ghost use Rattle.std.specs.Prelude.{◌≡◌, ◌≢◌, ℕ, ◌+◌, ◌≤◌, List, IfOk, IfErr};
-ghost use Rattle.cola_runs.specs.Cells.{IsWellFormed};
-ghost use Rattle.cola_runs.specs.Search as laws;
+ghost use Rattle.std.specs.Prelude.{◌≡◌};
 ghost use Rattle.cola_cell.specs.Cell.{key_of};
-ghost use Rattle.cola_cell.specs.Held.{LawCell, as_cell};
-ghost use Rattle.cola_cell.specs.Listed.{IsRun};
-ghost use Rattle.cola_cell.specs.Spent.{Buffer, Search, ReadCalm};
-ghost use Rattle.cola_cell.specs.Costs.{Costs};
+ghost use Rattle.cola_cell.specs.Held.{as_cell};
+ghost use Rattle.cola_cell.specs.Looks.{OnlyLooks};
 ghost use Rattle.cola_cell.specs.Order.{key_cmp};
-ghost use Rattle.cola_look.specs.Outcome.{Found, Answers};
 ghost use Rattle.cola_look.specs.Runs.{HasRun};
-ghost use Rattle.cola_look.specs.Seek.{found_in, seat_at, seat_of_key, as_seat, SeekCause, turns_from};
+ghost use Rattle.cola_look.specs.Seek.{seat_at, as_seat};
+ghost use Rattle.cola_look.specs.Seeks.{Seeks};
 
 use crate::windowing::window;
 use cola_cell::{CellSource, Item, Key, Packed, ReadFault, Run};
@@ -38,27 +34,10 @@ pub fn seek<W: CellSource, L: Ledger>(
     key: &Key,
     steps: &mut Steps<L>,
 ) -> Result<Seat, ReadFault>
-    requires { HasRun (W.held work.old) run.now }
-
-    // On every run: the answer that its cells give, as far as they are told.
-    ensures exact { Answers (found_in (W.held work.old) run.now next_len start key.now) as_seat result }
-    // On a run that is told to be a list of cells: the laws' search of the list.
-    ensures told { (cells : List LawCell) → IsRun (W.held work.old) run.now cells →
-        Answers (Found (laws.seek key_cmp key.now start cells next_len)) as_seat result }
-    // On a well-formed run that the search begins in near enough: the key's place, its item and its link.
-    ensures right { (cells : List LawCell) → IsRun (W.held work.old) run.now cells → IsWellFormed key_cmp cells →
-        start ≤ laws.place key_cmp key.now cells → laws.place key_cmp key.now cells ≤ start + 7 →
-        Answers (Found (seat_of_key key.now cells next_len)) as_seat result }
-    ensures cause { IfErr result (SeekCause (W.held work.old) run.now start (W.spent work.old).faults (W.spent work.new).faults) }
-
-    ensures cells_stay { W.held work.new ≡ W.held work.old }
-    ensures kept { W.kept work.new ≡ W.kept work.old }
-    ensures calm { ReadCalm (W.spent work.old).faults (W.spent work.new).faults result }
-    ensures costs { Costs (W.spent work.old) (W.spent work.new) steps.old steps.new 8 (turns_from start) }
-    // On every object: it stops within the run, and turns to at most one block for each tick.
-    ensures within { IfOk result (λ seat. seat.pos ≤ run.now.len) }
-    ensures each_turn { (W.spent work.new).turned + steps.old ≤ (W.spent work.old).turned + steps.new }
-    ensures others_stay { (buffer : Buffer) → buffer ≢ Search → (W.spent work.new).lasts buffer ≡ (W.spent work.old).lasts buffer }
+    requires { HasRun (W.state work.old).held run.now }
+    ensures looks { OnlyLooks W.CellSource work.old work.new result }
+    ensures seeks { Seeks run.now next_len start key.now (W.state work.old) (W.state work.new)
+        steps.old steps.new result }
 {
     let (first, last) = window(start, run.len);
     let mut cell = Packed::blank();

@@ -1,5 +1,5 @@
 -- What a call of a merge says, from the steps that it took.
-use Rattle.std.proofs.Common.{◌≡◌, ℕ, ◌+◌, ◌-◌, ◌*◌, ◌/◌, ◌<◌, ◌≤◌, min, List, length, map, Option, Some, None, Result, Ok, Err, OnOk, refl, ap, sym, subst, ◌∙◌, arith}
+use Rattle.std.proofs.Common.{◌≡◌, ℕ, ◌+◌, ◌-◌, ◌*◌, ◌<◌, ◌≤◌, min, List, length, map, Option, Some, None, Result, Ok, Err, OnOk, refl, ap, sym, subst, ◌∙◌, arith}
 use Rattle.std.specs.Cmp.Lexicographic.{nat_list_cmp_total}
 use Rattle.std.specs.List.Sorted.{IsStrictlySortedBy}
 use Rattle.std.proofs.lemmas.List.{length-map}
@@ -16,7 +16,7 @@ use Rattle.cola_cell.specs.declared.cell.Reader.TheVariants.{Own, Incoming, Samp
 use Rattle.cola_cell.specs.declared.fault.StepFault.{StepFault}
 use Rattle.cola_cell.specs.declared.fault.StepFault.TheVariants.{Device, BadCell, Overfull}
 use Rattle.cola_cell.specs.Places.{slot_size}
-use Rattle.cola_cell.specs.Held.{Held, LawCell, Stamped, span}
+use Rattle.cola_cell.specs.Held.{Held, LawCell, Stamped}
 use Rattle.cola_cell.proofs.RunLemmas.{telling_stays, told_is_good}
 use Rattle.cola_merge.specs.declared.aims.Feed.{Feed}
 use Rattle.cola_merge.specs.declared.aims.Feed.TheVariants as feed
@@ -24,15 +24,14 @@ use Rattle.cola_merge.specs.declared.aims.Aim.{Aim}
 use Rattle.cola_merge.specs.declared.aims.Progress.{Progress}
 use Rattle.cola_merge.specs.declared.aims.Progress.TheVariants.{Done, More}
 use Rattle.cola_merge.specs.declared.merging.Merger.{Merger}
-use Rattle.cola_told.specs.Cells.{cell_at, shadow_cells}
+use Rattle.cola_cell.specs.ToldCells.{cell_at, shadow_cells}
 use Rattle.cola_cell.specs.Order.{key_cmp}
 use Rattle.cola_merge.specs.Feeds.{part_of, feed_of, feed_len, feed_spots, feed_cells, feed_keys, IsFeedTold, IsBadAt}
-use Rattle.cola_merge.specs.Heads.{fresh, fresh_head, head_of, missing_head, missing, fetched_of, fetched, IsReady, IsUsedUp, AreFeedsTold, build_of}
+use Rattle.cola_merge.specs.Heads.{fresh, fresh_head, head_of, consumed, missing_head, missing, fetched_of, fetched, IsReady, IsUsedUp, AreFeedsTold, build_of}
 use Rattle.cola_merge.specs.Rules.{next_action, Emits}
-use Rattle.cola_merge.specs.Blocks.{blocks_left}
-use Rattle.cola_merge.specs.States.{State, len_of, Goes, Took, Refused, IsOverfull, HasRun}
-use Rattle.cola_merge.specs.Advance.{Consumes, whole_run, IsGoing, GoesBy, GoesFurther, Gone, IsWhole, HasStepCause, IsCalm, IsDeviceFault, cells_read, refused_push, IsThrifty, IsSavedByBlocks}
-use Rattle.cola_told.proofs.CellLists.{length-cells}
+use Rattle.cola_merge.specs.States.{IsSavedByBlocks, MergeState, len_of, TurnsWithin, WritesWithin, Goes, Took, Refused, IsOverfull, TakesQuota}
+use Rattle.cola_merge.specs.Advance.{Consumes, whole_run, IsGoing, GoesBy, GoesFurther, Gone, IsWhole, HasStepCause, IsCalm, IsDeviceFault, cells_read, refused_push, IsThrifty, BuildsBy, Advances}
+use Rattle.cola_cell.proofs.CellLists.{length-cells}
 use Rattle.cola_merge.proofs.Kept.{feed_cells-stay, feeds_told-stay}
 use Rattle.cola_merge.proofs.Reading.{heads_of}
 use Rattle.cola_merge.proofs.Ruling.{action_of_heads}
@@ -40,12 +39,12 @@ use Rattle.cola_merge.proofs.Stepping.{all_read}
 
 -- ---- whatever the answer
 
-pub goes_of : {aim : Aim} {s t : State} {quota : ℕ} (result : Result Progress StepFault) → HasRun aim s t quota result → (count : ℕ) × (count ≤ quota) × Goes aim s t count
+goes_of : {aim : Aim} {s t : MergeState} {quota : ℕ} (result : Result Progress StepFault) → TakesQuota aim s t quota result → (count : ℕ) × (count ≤ quota) × Goes aim s t count
 goes_of {quota = quota} (Ok More) r = (quota, omega arith, r.steps.0.goes)
 goes_of (Ok Done) r = (r.steps.0, r.steps.1, r.steps.2.goes)
 goes_of (Err fault) r = (r.steps.0, (let h = r.steps.1 in omega (arith, h)), r.steps.2.goes)
 
-pub consumes_of : {aim : Aim} {s t : State} {quota : ℕ} (result : Result Progress StepFault) → HasRun aim s t quota result → Consumes aim s.merger t.merger quota result
+consumes_of : {aim : Aim} {s t : MergeState} {quota : ℕ} (result : Result Progress StepFault) → TakesQuota aim s t quota result → Consumes aim s.merger t.merger quota result
 consumes_of (Ok More) r = (r.steps.0.goes.consumes, r.steps.1)
 consumes_of (Ok Done) r = let h = r.steps.1 in let e = r.steps.2.goes.consumes in (omega (arith, e), omega (arith, h, e), r.steps.3)
 consumes_of (Err fault) r = let h = r.steps.1 in let e = r.steps.2.goes.consumes in (omega (arith, e), omega (arith, h, e))
@@ -58,7 +57,7 @@ feed_length held f = length-cells (feed_spots held f) 0 (feed_len f)
 keys_length : (held : Held) (f : Feed) → length (feed_keys held f) ≡ feed_len f
 keys_length held f = length-map (feed_cells held f) laws.key_of ∙ feed_length held f
 
-module _ {aim : Aim} (s t : State) (r : IsReady s.held aim s.merger) (going : IsGoing s.held aim s.merger) where
+module _ {aim : Aim} (s t : MergeState) (r : IsReady s.held aim s.merger) (going : IsGoing s.held aim s.merger) where
   advanced : {count : ℕ} → Goes aim s t count → GoesBy s.held t.held aim s.merger t.merger count
   advanced {count} g =
       subst (λ (p : Build (List ℕ) Stamped). IsAdvanced key_cmp (part_of aim) (feed_cells s.held aim.own) (feed_cells s.held aim.incoming) (feed_keys s.held aim.sample) count (build_of s.held aim s.merger) p)
@@ -125,17 +124,17 @@ module _ {aim : Aim} (s t : State) (r : IsReady s.held aim s.merger) (going : Is
       less : (n q l m : ℕ) → m ≡ l - n → m ≡ 0 → n ≤ q → m ≡ l - q
       less n q l m f g h = omega (arith, f, g, h)
 
-  further : {quota : ℕ} (result : Result Progress StepFault) → HasRun aim s t quota result → GoesFurther s.held t.held aim s.merger t.merger quota result
+  further : {quota : ℕ} (result : Result Progress StepFault) → TakesQuota aim s t quota result → GoesFurther s.held t.held aim s.merger t.merger quota result
   further (Ok More) k = advanced k.steps.0.goes
   further (Ok Done) k = done_advanced k.steps.2.goes k.steps.1 k.steps.3
   further (Err fault) k = (k.steps.0, k.steps.1, advanced k.steps.2.goes)
 
-  pub gone_of : {quota : ℕ} (result : Result Progress StepFault) → HasRun aim s t quota result → Gone s.held t.held aim s.merger t.merger quota result
+  gone_of : {quota : ℕ} (result : Result Progress StepFault) → TakesQuota aim s t quota result → Gone s.held t.held aim s.merger t.merger quota result
   gone_of result k =
       let g = (goes_of result k).2 in
       record { going = goes_on g; own_stays = own_same g; incoming_stays = incoming_same g; keys_stay = keys_same g; further = further result k }
 
-  pub whole_of : {quota : ℕ} (result : Result Progress StepFault) → HasRun aim s t quota result → IsWhole s.held t.held aim result
+  whole_of : {quota : ℕ} (result : Result Progress StepFault) → TakesQuota aim s t quota result → IsWhole s.held t.held aim result
   whole_of (Ok More) k = tt
   whole_of (Ok Done) k =
       used_up key_cmp (part_of aim) (feed_cells s.held aim.own) (feed_cells s.held aim.incoming) (feed_keys s.held aim.sample) (build_of t.held aim t.merger) (advanced k.steps.2.goes).under_way (none_left k.steps.3)
@@ -167,7 +166,7 @@ emits_is (Take head (Some c)) e = (head, c, refl)
 emits_is Ended e = absurd e
 
 -- a run that fits its slot never overflows it
-never_overfull : {aim : Aim} {t : State} {level : ℕ} → IsReady t.held aim t.merger → IsGoing t.held aim t.merger → length (whole_run t.held aim) ≤ slot_size aim.level → IsOverfull aim t level → ⊥
+never_overfull : {aim : Aim} {t : MergeState} {level : ℕ} → IsReady t.held aim t.merger → IsGoing t.held aim t.merger → length (whole_run t.held aim) ≤ slot_size aim.level → IsOverfull aim t level → ⊥
 never_overfull {aim} {t} {level} r going fits o =
     let e = emits_is (next_action aim t.merger) o.emits in
     let room = has_room nat_list_cmp_total (part_of aim) (feed_cells t.held aim.own) (feed_cells t.held aim.incoming) (feed_keys t.held aim.sample) going.own_rises going.incoming_rises going.keys_rise
@@ -178,16 +177,16 @@ never_overfull {aim} {t} {level} r going fits o =
     no_room : (a b c d : ℕ) → a ≡ b → b ≡ c → a < d → d ≤ c → ⊥
     no_room a b c d e f g h = omega (arith, e, f, g, h)
 
-pub cause_of : {aim : Aim} {s t : State} {quota : ℕ} (result : Result Progress StepFault) → HasRun aim s t quota result → HasStepCause aim s.spent.faults t result
+cause_of : {aim : Aim} {s t : MergeState} {quota : ℕ} (result : Result Progress StepFault) → TakesQuota aim s t quota result → HasStepCause aim s.spent.faults t result
 cause_of (Ok progress) k = tt
 cause_of (Err fault) k = k.steps.2.cause
 
-pub calm_of : {aim : Aim} {s t : State} {quota : ℕ} (result : Result Progress StepFault) → HasRun aim s t quota result → IsCalm s.spent.faults t.spent.faults result
+calm_of : {aim : Aim} {s t : MergeState} {quota : ℕ} (result : Result Progress StepFault) → TakesQuota aim s t quota result → IsCalm s.spent.faults t.spent.faults result
 calm_of (Ok More) k = k.steps.0.calm
 calm_of (Ok Done) k = k.steps.2.calm
 calm_of (Err fault) k = k.steps.2.calm
 
-pub only_of : {aim : Aim} {s t : State} {quota : ℕ} (result : Result Progress StepFault) → IsReady s.held aim s.merger → HasRun aim s t quota result → IsGoing s.held aim s.merger →
+only_of : {aim : Aim} {s t : MergeState} {quota : ℕ} (result : Result Progress StepFault) → IsReady s.held aim s.merger → TakesQuota aim s t quota result → IsGoing s.held aim s.merger →
     length (whole_run s.held aim) ≤ slot_size aim.level → IsDeviceFault result
 only_of (Ok progress) r k going fits = tt
 only_of (Err Device) r k going fits = tt
@@ -211,7 +210,7 @@ missing_small m = three (missing_head m.own.cell) (missing_head m.incoming.cell)
     three : (x y z : ℕ) → x ≤ 1 → y ≤ 1 → z ≤ 1 → x + y + z ≤ 3
     three x y z h k l = omega (arith, h, k, l)
 
-pub ticks_of : {aim : Aim} {s t : State} {quota : ℕ} (result : Result Progress StepFault) → HasRun aim s t quota result → t.steps ≤ s.steps + (3 + 2 * quota)
+ticks_of : {aim : Aim} {s t : MergeState} {quota : ℕ} (result : Result Progress StepFault) → TakesQuota aim s t quota result → t.steps ≤ s.steps + (3 + 2 * quota)
 ticks_of {s = s} {t = t} (Ok More) k = let m = missing_small s.merger in let h = k.steps.0.ticks in omega (arith, m, h)
 ticks_of {s = s} {t = t} (Ok Done) k = let m = missing_small s.merger in let h = k.steps.2.ticks in let l = k.steps.1 in omega (arith, m, h, l)
 ticks_of {s = s} {t = t} (Err fault) k = let m = missing_small s.merger in let h = k.steps.2.ticks in let l = k.steps.1 in omega (arith, m, h, l)
@@ -228,7 +227,7 @@ fresh_fetched aim m e = ap (λ (x : Merger). fetched aim x) e ∙ none (fetched_
     none : (x y z : ℕ) → x ≡ 0 → y ≡ 0 → z ≡ 0 → x + y + z ≡ 0
     none x y z e f g = omega (arith, e, f, g)
 
-thrifty_ok : {aim : Aim} {s t : State} {count : ℕ} (result : Result Progress StepFault) → Took aim s t count → len_of aim s ≤ slot_size aim.level → s.merger ≡ fresh →
+thrifty_ok : {aim : Aim} {s t : MergeState} {count : ℕ} (result : Result Progress StepFault) → Took aim s t count → len_of aim s ≤ slot_size aim.level → s.merger ≡ fresh →
     IsThrifty aim s.steps t.steps (len_of aim s) (len_of aim t) result
 thrifty_ok {aim} {s} {t} result k l e =
     let none : fetched aim s.merger ≡ 0 = fresh_fetched aim s.merger e in
@@ -244,7 +243,7 @@ thrifty_ok {aim} {s} {t} result k l e =
     second : (t s m n l k a z : ℕ) → m ≡ 0 → n ≤ a → t + m + l ≤ s + n + k → k ≤ z → t + l ≤ s + a + z
     second t s m n l k a z e h g f = omega (arith, e, h, g, f)
 
-thrifty_err : {aim : Aim} {s t : State} {count : ℕ} (fault : StepFault) → Refused aim s t count fault → len_of aim s ≤ slot_size aim.level → s.merger ≡ fresh →
+thrifty_err : {aim : Aim} {s t : MergeState} {count : ℕ} (fault : StepFault) → Refused aim s t count fault → len_of aim s ≤ slot_size aim.level → s.merger ≡ fresh →
     IsThrifty aim s.steps t.steps (len_of aim s) (len_of aim t) (Err fault)
 thrifty_err {aim} {s} {t} fault k l e =
     let none : fetched aim s.merger ≡ 0 = fresh_fetched aim s.merger e in
@@ -256,25 +255,61 @@ thrifty_err {aim} {s} {t} fault k l e =
     without : (t m l a : ℕ) → m ≡ 0 → t + m + l ≤ a → t + l ≤ a
     without t m l a e h = omega (arith, e, h)
 
-pub thrifty_of : {aim : Aim} {s t : State} {quota : ℕ} (result : Result Progress StepFault) → HasRun aim s t quota result → len_of aim s ≤ slot_size aim.level → s.merger ≡ fresh →
+thrifty_of : {aim : Aim} {s t : MergeState} {quota : ℕ} (result : Result Progress StepFault) → TakesQuota aim s t quota result → len_of aim s ≤ slot_size aim.level → s.merger ≡ fresh →
     IsThrifty aim s.steps t.steps (len_of aim s) (len_of aim t) result
 thrifty_of (Ok More) k l e = thrifty_ok (Ok More) k.steps.0 l e
 thrifty_of (Ok Done) k l e = thrifty_ok (Ok Done) k.steps.2 l e
 thrifty_of (Err fault) k l e = thrifty_err fault k.steps.2 l e
 
-pub turned_of : {aim : Aim} {s t : State} {quota : ℕ} (result : Result Progress StepFault) → HasRun aim s t quota result →
-    OnOk result (t.spent.turned + blocks_left s.held.fixed.doublings t.spent.lasts aim t.merger ≤ s.spent.turned + blocks_left s.held.fixed.doublings s.spent.lasts aim s.merger)
+turned_of : {aim : Aim} {s t : MergeState} {quota : ℕ} (result : Result Progress StepFault) → TakesQuota aim s t quota result →
+    OnOk result (TurnsWithin aim s t)
 turned_of (Ok More) k = k.steps.0.turned
 turned_of (Ok Done) k = k.steps.2.turned
 turned_of (Err fault) k = tt
 
-pub written_of : {aim : Aim} {s t : State} {quota : ℕ} (result : Result Progress StepFault) → HasRun aim s t quota result →
-    OnOk result (t.spent.written + len_of aim s / span s.held ≤ s.spent.written + len_of aim t / span s.held)
+written_of : {aim : Aim} {s t : MergeState} {quota : ℕ} (result : Result Progress StepFault) → TakesQuota aim s t quota result →
+    OnOk result (WritesWithin aim s t)
 written_of (Ok More) k = k.steps.0.written
 written_of (Ok Done) k = k.steps.2.written
 written_of (Err fault) k = tt
 
-pub saved_of : {aim : Aim} {s t : State} {quota : ℕ} (result : Result Progress StepFault) → HasRun aim s t quota result → OnOk result (IsSavedByBlocks s.held t.held aim.level)
-saved_of (Ok More) k = record { still = k.steps.0.still; grew = k.steps.0.grew }
-saved_of (Ok Done) k = record { still = k.steps.2.still; grew = k.steps.2.grew }
+saved_of : {aim : Aim} {s t : MergeState} {quota : ℕ} (result : Result Progress StepFault) → TakesQuota aim s t quota result → OnOk result (IsSavedByBlocks s.held t.held aim.level)
+saved_of (Ok More) k = k.steps.0.saved
+saved_of (Ok Done) k = k.steps.2.saved
 saved_of (Err fault) k = tt
+
+-- ---- what a call says
+
+-- as many steps as source cells were consumed
+builds_of : {aim : Aim} {s t : MergeState} {count : ℕ} → Goes aim s t count → BuildsBy s.held t.held aim s.merger t.merger
+builds_of {aim} {s} {t} {count} g tells told =
+    let e : count ≡ consumed t.merger - consumed s.merger = let c = g.consumes in omega (arith, c) in
+    subst (λ (n : ℕ). build_of t.held aim t.merger ≡ steps key_cmp (part_of aim) (feed_cells s.held aim.own) (feed_cells s.held aim.incoming) (feed_keys s.held aim.sample) n (build_of s.held aim s.merger)) e
+    (g.builds tells told)
+
+pub advances : {aim : Aim} {s t : MergeState} {quota : ℕ} (result : Result Progress StepFault) → IsReady s.held aim s.merger → len_of aim s ≤ slot_size aim.level → TakesQuota aim s t quota result →
+    Advances aim s t quota result
+advances {aim} {s} {t} result r l k =
+    let g = (goes_of result k).2 in
+    record {
+      ready = g.ready;
+      frames = g.grows;
+      lasts = g.lasts;
+      saved = saved_of result k;
+      consumes = consumes_of result k;
+      rises = g.rises;
+      emits = g.emits;
+      samples = g.samples;
+      builds = builds_of g;
+      told = g.told;
+      cut = λ going. gone_of s t r going result k;
+      whole = λ going. whole_of s t r going result k;
+      cause = cause_of result k;
+      calm = calm_of result k;
+      only = λ going fits. only_of result r k going fits;
+      ticks = ticks_of result k;
+      begins = λ e. thrifty_of result k l e;
+      spends = g.spends;
+      turned = turned_of result k;
+      written = written_of result k;
+    }

@@ -27,7 +27,7 @@ use Rattle.cola_merge.specs.Heads.{fresh, head_at, head_of, with_head, HasHeads,
 use Rattle.cola_merge.specs.Rules.{as_head, next_action}
 use Rattle.cola_merge.specs.Advance.{whole_run}
 use Rattle.cola_merge.specs.Pulls.{AreInOrder, ahead}
-use Rattle.cola_told.proofs.CellLists.{length-cells}
+use Rattle.cola_cell.proofs.CellLists.{length-cells}
 use Rattle.cola_merge.proofs.Ruling.{action_of_heads}
 
 -- ---- the first cells of a weave

@@ -12,12 +12,12 @@ use Rattle.cola_merge.specs.declared.aims.Feed.TheVariants as feed
 use Rattle.cola_merge.specs.declared.aims.Aim.{Aim}
 use Rattle.cola_merge.specs.Fetched.{Head}
 use Rattle.cola_merge.specs.declared.merging.Merger.{Merger}
-use Rattle.cola_told.specs.Cells.{cell_at}
+use Rattle.cola_cell.specs.ToldCells.{cell_at}
 use Rattle.cola_merge.specs.Feeds.{feed_len, feed_spots, feed_cells, IsFeedTold, IsFeed, IsApart}
 use Rattle.cola_merge.specs.Heads.{IsHeldCell, IsHead, IsReady, AreFeedsTold}
 use Rattle.cola_merge.specs.Blocks.{Lasts, is_last, run_left, feed_left}
 use Rattle.cola_merge.specs.States.{Grows, IsOther, KeepsBlocks}
-use Rattle.cola_told.proofs.CellLists.{cells-same}
+use Rattle.cola_cell.proofs.CellLists.{cells-same}
 use Rattle.cola_merge.proofs.Groups.{is_last-other, run_left-same}
 
 -- ---- a shadow that grew

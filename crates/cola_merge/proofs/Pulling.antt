@@ -9,7 +9,7 @@ use Rattle.cola_cell.specs.declared.fault.ReadFault.{ReadFault}
 use Rattle.cola_cell.specs.declared.fault.ReadFault.TheVariants.{Device, BadCell}
 use Rattle.cola_cell.specs.Fault.{step_of_read}
 use Rattle.cola_cell.specs.Held.{Held, LawCell, as_cell}
-use Rattle.cola_cell.specs.Spent.{Buffer, Spent, ReadCalm}
+use Rattle.cola_cell.specs.Spent.{ReadCalm}
 use Rattle.cola_merge.specs.Fetched.{Head}
 use Rattle.cola_merge.specs.declared.aims.Aim.{Aim}
 use Rattle.cola_merge.specs.declared.rules.Choice.{Choice}
@@ -17,24 +17,25 @@ use Rattle.cola_merge.specs.declared.merging.Merger.{Merger}
 use Rattle.cola_merge.specs.Feeds.{feed_of, feed_len}
 use Rattle.cola_merge.specs.Heads.{head_at, head_of, with_head, consumed, HasHeads, fetched}
 use Rattle.cola_merge.specs.Rules.{HeadFits, Suits, emitted_of, choice_cell}
-use Rattle.cola_merge.specs.Blocks.{blocks_left}
-use Rattle.cola_merge.specs.States.{Spends, IsBeside, state, StepCalm}
-use Rattle.cola_merge.specs.Pulls.{AreInOrder, Gives, IsEndedBy, FitsGiven, given_cells, HasPullCause, IsFrugal, Looked, Unread, Chosen, Gave, Drawn}
+use Rattle.cola_merge.specs.States.{MergeState, TurnsWithin, StepCause, StepCalm}
+use Rattle.cola_merge.specs.Pulls.{AreInOrder, Gives, IsEndedBy, FitsGiven, given_cells, HasPullCause, IsFrugal, Pulls, Looked, Unread, Chosen, Gave, Drawn}
 use Rattle.cola_merge.proofs.Sums.{spends_none, spends_then, cause_then}
 use Rattle.cola_merge.proofs.Reading.{head_in, consumed-with, rises-with, fetched-with, left-with}
 use Rattle.cola_merge.proofs.Stepping.{held_fits, head_there, held_below, fetched_some, feed_left-next, passed_heads}
+use Rattle.cola_merge.proofs.Taking.{kept_at}
 use Rattle.cola_merge.proofs.Ruling.{ended_is_used_up}
 use Rattle.cola_merge.proofs.Ahead.{ahead-next, ahead-none, ahead-same}
 
 -- ---- parts of a call
 
-pub gave_none : {held : Held} {aim : Aim} {m : Merger} (spent : Spent) (n : ℕ) → HasHeads held aim m → Gave held aim spent spent m m n n []
-gave_none {held} {aim} {m} spent n h = record {
+pub gave_none : {aim : Aim} (s : MergeState) → HasHeads s.held aim s.merger → Gave aim s s []
+gave_none s h = record {
+  cells_stay = refl;
   heads = h;
   rises = λ reader. omega arith;
   consumes = omega arith;
   gives = λ _. refl;
-  spends = spends_none spent n;
+  spends = spends_none s.spent s.steps;
   written_is = refl;
   others_stay = λ buffer d. refl;
   reads = omega arith;
@@ -42,17 +43,17 @@ gave_none {held} {aim} {m} spent n h = record {
   calm = refl;
 }
 
--- cells are given behind source cells that gave none
-pub gave_then : {held : Held} {aim : Aim} {a b c : Spent} {m n o : Merger} {i j k : ℕ} {given : List LawCell} → Gave held aim a b m n i j [] → Gave held aim b c n o j k given → Gave held aim a c m o i k given
-gave_then {held} {aim} {a} {b} {c} {m} {n} {o} {i} {j} {k} {given} g h = record {
+gave_same : {aim : Aim} {s t u : MergeState} {given : List LawCell} → Gave aim s t [] → Gave aim (kept_at s.held t) u given → Gave aim s u given
+gave_same {aim} {s} {t} {u} {given} g h = record {
+  cells_stay = h.cells_stay;
   heads = h.heads;
   rises = λ reader. let x = g.rises reader in let y = h.rises reader in omega (arith, x, y);
-  consumes = more (consumed m) (consumed n) (consumed o) (length given) g.consumes h.consumes;
-  gives = λ t. g.gives t ∙ h.gives t;
+  consumes = more (consumed s.merger) (consumed t.merger) (consumed u.merger) (length given) g.consumes h.consumes;
+  gives = λ o. g.gives o ∙ h.gives o;
   spends = spends_then g.spends h.spends;
   written_is = h.written_is ∙ g.written_is;
   others_stay = λ buffer d. h.others_stay buffer d ∙ g.others_stay buffer d;
-  reads = up i j k (fetched aim m) (fetched aim n) (fetched aim o) g.reads h.reads;
+  reads = up s.steps t.steps u.steps (fetched aim s.merger) (fetched aim t.merger) (fetched aim u.merger) g.reads h.reads;
   turned = at_most _ _ _ g.turned h.turned;
   calm = h.calm ∙ g.calm;
 }
@@ -66,13 +67,18 @@ gave_then {held} {aim} {a} {b} {c} {m} {n} {o} {i} {j} {k} {given} g h = record 
     at_most : (a b c : ℕ) → b ≤ a → c ≤ b → c ≤ a
     at_most a b c g h = omega (arith, g, h)
 
+-- cells are given behind source cells that gave none
+pub gave_then : {aim : Aim} {s t u : MergeState} {given : List LawCell} → Gave aim s t [] → Gave aim t u given → Gave aim s u given
+gave_then {aim} {s} {t} {u} {given} g h = gave_same g (subst (λ (x : Held). Gave aim (kept_at x t) u given) g.cells_stay h)
+
 -- heads that were read
-gave_look : {held : Held} {aim : Aim} {a b : Spent} {m n : Merger} {i j : ℕ} → Looked held aim a b m n i j → Gave held aim a b m n i j []
-gave_look {held} {aim} {a} {b} {m} {n} {i} {j} f = record {
+gave_look : {aim : Aim} {s t : MergeState} → Looked aim s t → Gave aim s t []
+gave_look {aim} {s} {t} f = record {
+  cells_stay = f.looks.cells_stay;
   heads = f.looks.heads;
   rises = λ reader. let e = f.looks.at_is reader in omega (arith, e);
   consumes = (let x = f.looks.at_is Own in let y = f.looks.at_is Incoming in let z = f.looks.at_is Sample in omega (arith, x, y, z));
-  gives = λ _. ahead-same held aim m n f.looks.at_is;
+  gives = λ _. ahead-same s.held aim s.merger t.merger f.looks.at_is;
   spends = f.looks.spends;
   written_is = f.looks.written_is;
   others_stay = f.looks.others_stay;
@@ -85,30 +91,41 @@ given_small : (c : Option Cell) → length (option_to_list (option_map as_cell c
 given_small None = omega arith
 given_small (Some c) = omega arith
 
-module _ {held : Held} {aim : Aim} {a b : Spent} {m n : Merger} {i j : ℕ} (choice : Choice) (h : Chosen held aim a b m n i j (Some choice)) where
-  below : (head_of n choice.head).at < feed_len (feed_of aim choice.head)
-  below = held_below held (feed_of aim choice.head) (head_of n choice.head).at (head_of n choice.head).cell (head_in choice.head h.looked.looks.heads).cell (head_there aim n choice.head (choice_cell n choice) h.asked)
+-- a state whose chosen head is consumed
+abbrev pub passed_at : MergeState → Choice → MergeState
+passed_at t choice = record {
+  held = t.held;
+  spent = t.spent;
+  merger = with_head t.merger choice.head (head_at ((head_of t.merger choice.head).at + 1));
+  steps = t.steps;
+}
 
-  abbrev next : Merger
-  next = with_head n choice.head (head_at ((head_of n choice.head).at + 1))
+module _ {aim : Aim} {s t : MergeState} (choice : Choice) (h : Chosen aim s t (Some choice)) where
+  pub heads_chosen : HasHeads t.held aim t.merger
+  heads_chosen = subst (λ (x : Held). HasHeads x aim t.merger) (sym h.looked.looks.cells_stay) h.looked.looks.heads
 
-  one_more : consumed next ≡ consumed n + 1
-  one_more = consumed-with n choice.head (head_at ((head_of n choice.head).at + 1)) 1 refl
+  below : (head_of t.merger choice.head).at < feed_len (feed_of aim choice.head)
+  below = held_below t.held (feed_of aim choice.head) (head_of t.merger choice.head).at (head_of t.merger choice.head).cell (head_in choice.head heads_chosen).cell (head_there aim t.merger choice.head (choice_cell t.merger choice) h.asked)
+
+  one_more : consumed (passed_at t choice).merger ≡ consumed t.merger + 1
+  one_more = consumed-with t.merger choice.head (head_at ((head_of t.merger choice.head).at + 1)) 1 refl
 
   -- the head that was chosen is consumed
-  gave_consumed : Gave held aim b b n next j j (option_to_list (option_map as_cell (choice_cell n choice)))
+  gave_consumed : Gave aim t (passed_at t choice) (option_to_list (option_map as_cell (choice_cell t.merger choice)))
   gave_consumed = record {
-    heads = passed_heads choice.head h.looked.looks.heads below;
-    rises = λ other. rises-with n choice.head (head_at ((head_of n choice.head).at + 1)) (omega arith) other;
-    consumes = (let l = given_small (choice_cell n choice) in let e = one_more in omega (arith, l, e));
-    gives = λ t. ahead-next held aim n choice.head (choice_cell n choice) h.looked.looks.heads h.fetched t h.asked;
-    spends = spends_none b j;
+    cells_stay = refl;
+    heads = passed_heads choice.head heads_chosen below;
+    rises = λ other. rises-with t.merger choice.head (head_at ((head_of t.merger choice.head).at + 1)) (omega arith) other;
+    consumes = (let l = given_small (choice_cell t.merger choice) in let e = one_more in omega (arith, l, e));
+    gives = λ o. ahead-next t.held aim t.merger choice.head (choice_cell t.merger choice) heads_chosen h.fetched o h.asked;
+    spends = spends_none t.spent t.steps;
     written_is = refl;
     others_stay = λ buffer d. refl;
-    reads = same j (fetched aim next) (fetched aim n) _ _ (fetched-with aim n choice.head (head_at ((head_of n choice.head).at + 1))) (fetched_some (feed_of aim choice.head) (head_of n choice.head) (head_there aim n choice.head (choice_cell n choice) h.asked));
-    turned = up b.turned _ _
-        (left-with aim n held.fixed.doublings b.lasts b.lasts 0 0 choice.head (head_at ((head_of n choice.head).at + 1))
-        (let l = feed_left-next held.fixed.doublings b.lasts choice.head (feed_of aim choice.head) (head_of n choice.head).at below in omega (arith, l)) (λ buffer d. refl));
+    reads = same t.steps (fetched aim (passed_at t choice).merger) (fetched aim t.merger) _ _ (fetched-with aim t.merger choice.head (head_at ((head_of t.merger choice.head).at + 1)))
+        (fetched_some (feed_of aim choice.head) (head_of t.merger choice.head) (head_there aim t.merger choice.head (choice_cell t.merger choice) h.asked));
+    turned = up t.spent.turned _ _
+        (left-with aim t.merger t.held.fixed.doublings t.spent.lasts t.spent.lasts 0 0 choice.head (head_at ((head_of t.merger choice.head).at + 1))
+        (let l = feed_left-next t.held.fixed.doublings t.spent.lasts choice.head (feed_of aim choice.head) (head_of t.merger choice.head).at below in omega (arith, l)) (λ buffer d. refl));
     calm = refl;
   }
     where
@@ -118,66 +135,54 @@ module _ {held : Held} {aim : Aim} {a b : Spent} {m n : Merger} {i j : ℕ} (cho
       up : (k x y : ℕ) → 0 + x ≤ 0 + y → k + x ≤ k + y
       up k x y l = omega (arith, l)
 
-  -- the head is read and consumed
-  pub gave_chosen : (o : Merger) → o ≡ next → Gave held aim a b m o i j (option_to_list (option_map as_cell (choice_cell n choice)))
-  gave_chosen o e = subst (λ (x : Merger). Gave held aim a b m x i j (option_to_list (option_map as_cell (choice_cell n choice)))) (sym e) (gave_then (gave_look h.looked) gave_consumed)
+  -- the head is read and consumed, where the merger is named otherwise
+  pub gave_chosen : (o : Merger) → o ≡ (passed_at t choice).merger → Gave aim s (record { held = t.held; spent = t.spent; merger = o; steps = t.steps }) (option_to_list (option_map as_cell (choice_cell t.merger choice)))
+  gave_chosen o e = subst (λ (x : Merger). Gave aim s (record { held = t.held; spent = t.spent; merger = x; steps = t.steps }) (option_to_list (option_map as_cell (choice_cell t.merger choice)))) (sym e)
+      (gave_then (gave_look h.looked) gave_consumed)
 
-  pub consumed_chosen : (o : Merger) → o ≡ next → consumed m < consumed o
+  pub consumed_chosen : (o : Merger) → o ≡ (passed_at t choice).merger → consumed s.merger < consumed o
   consumed_chosen o e =
       let x = h.looked.looks.at_is Own in let y = h.looked.looks.at_is Incoming in let z = h.looked.looks.at_is Sample in
-      let k : consumed o ≡ consumed n + 1 = ap consumed e ∙ one_more in omega (arith, k, x, y, z)
+      let k : consumed o ≡ consumed t.merger + 1 = ap consumed e ∙ one_more in omega (arith, k, x, y, z)
 
--- ---- the head of a choice, as it was asked for
+  -- the head of the choice, as it was asked for
+  pub suits_by : {head : Head} → head ≡ head_of t.merger choice.head → Suits choice.pass head.cell
+  suits_by e = subst (λ (x : Head). Suits choice.pass x.cell) (sym e) h.suits
+
+  pub given_fits : {head : Head} (cell : Option Cell) → (HeadFits s.held.fixed.format head.cell → HeadFits s.held.fixed.format cell) → head ≡ head_of t.merger choice.head → HeadFits s.held.fixed.format cell
+  given_fits cell fits e =
+      fits (subst (λ (x : Head). HeadFits s.held.fixed.format x.cell) (sym e)
+      (held_fits s.held (feed_of aim choice.head) (head_of t.merger choice.head).at (head_of t.merger choice.head).cell (head_in choice.head h.looked.looks.heads).cell))
 
 pub given_by : {head : Head} (n : Merger) (choice : Choice) → head ≡ head_of n choice.head → emitted_of choice.pass head.cell ≡ choice_cell n choice
 given_by n choice e = ap (λ (h : Head). emitted_of choice.pass h.cell) e
 
-pub suits_by : {held : Held} {aim : Aim} {a b : Spent} {m n : Merger} {i j : ℕ} {head : Head} (choice : Choice) → Chosen held aim a b m n i j (Some choice) → head ≡ head_of n choice.head → Suits choice.pass head.cell
-suits_by choice h e = subst (λ (x : Head). Suits choice.pass x.cell) (sym e) h.suits
+pub given_gave : {aim : Aim} {s t : MergeState} (n : Merger) (choice : Choice) (cell : Option Cell) → cell ≡ choice_cell n choice
+    → Gave aim s t (option_to_list (option_map as_cell (choice_cell n choice))) → Gave aim s t (option_to_list (option_map as_cell cell))
+given_gave {aim} {s} {t} n choice cell e g = subst (λ (x : Option Cell). Gave aim s t (option_to_list (option_map as_cell x))) (sym e) g
 
-pub given_fits : {held : Held} {aim : Aim} {a b : Spent} {m n : Merger} {i j : ℕ} {head : Head} (cell : Option Cell) (choice : Choice) → Chosen held aim a b m n i j (Some choice)
-    → (HeadFits held.fixed.format head.cell → HeadFits held.fixed.format cell) → head ≡ head_of n choice.head → HeadFits held.fixed.format cell
-given_fits {held} {aim} {a} {b} {m} {n} cell choice h fits e =
-    fits (subst (λ (x : Head). HeadFits held.fixed.format x.cell) (sym e)
-    (held_fits held (feed_of aim choice.head) (head_of n choice.head).at (head_of n choice.head).cell (head_in choice.head h.looked.looks.heads).cell))
-
-pub given_gave : {held : Held} {aim : Aim} {a b : Spent} {m o : Merger} {i j : ℕ} (n : Merger) (choice : Choice) (cell : Option Cell) → cell ≡ choice_cell n choice
-    → Gave held aim a b m o i j (option_to_list (option_map as_cell (choice_cell n choice))) → Gave held aim a b m o i j (option_to_list (option_map as_cell cell))
-given_gave {held} {aim} {a} {b} {m} {o} {i} {j} n choice cell e g = subst (λ (x : Option Cell). Gave held aim a b m o i j (option_to_list (option_map as_cell x))) (sym e) g
-
--- ---- the calls of a loop, where the object keeps its cells
-
-pub chosen_at : {h : Held} {aim : Aim} {a b : Spent} {m n : Merger} {i j : ℕ} (held : Held) (choice : Option Choice) (c : Choice) → h ≡ held → choice ≡ Some c → Chosen h aim a b m n i j choice →
-    Chosen held aim a b m n i j (Some c)
-chosen_at {h} {aim} {a} {b} {m} {n} {i} {j} held choice c e f k =
-    subst (λ (x : Held). Chosen x aim a b m n i j (Some c)) e (subst (λ (x : Option Choice). Chosen h aim a b m n i j x) f k)
+-- ---- the calls of a loop
 
 -- no choice is left: nothing was given, and each source cell was consumed
-pub ended_at : {h : Held} {aim : Aim} {a b c : Spent} {m n o : Merger} {i j k : ℕ} (held : Held) (choice : Option Choice) → h ≡ held → choice ≡ None → Gave held aim a b m n i j [] →
-    Chosen h aim b c n o j k choice → Drawn held aim a c m o i k (Ok None)
-ended_at {h} {aim} {a} {b} {c} {m} {n} {o} {i} {j} {k} held choice e f g s =
-    let t : Chosen held aim b c n o j k None =
-    subst (λ (x : Held). Chosen x aim b c n o j k None) e (subst (λ (x : Option Choice). Chosen h aim b c n o j k x) f s) in
-    record { draws = (gave_then g (gave_look t.looked), ended_is_used_up aim o t.fetched t.asked) }
+pub ended_at : {aim : Aim} {s t u : MergeState} (choice : Option Choice) → choice ≡ None → Gave aim s t [] → Chosen aim t u choice → Drawn aim s u (Ok None)
+ended_at {aim} {s} {t} {u} choice f g h =
+    let k : Chosen aim t u None = subst (λ (x : Option Choice). Chosen aim t u x) f h in
+    record { draws = (gave_then g (gave_look k.looked), ended_is_used_up aim u.merger k.fetched k.asked) }
 
 -- a cell was given
-pub drawn_some : {held : Held} {aim : Aim} {a b : Spent} {m n : Merger} {i j : ℕ} (cell : Option Cell) → is_some cell ≡ true → HeadFits held.fixed.format cell →
-    Gave held aim a b m n i j (option_to_list (option_map as_cell cell)) → Drawn held aim a b m n i j (Ok cell)
+pub drawn_some : {aim : Aim} {s t : MergeState} (cell : Option Cell) → is_some cell ≡ true → HeadFits s.held.fixed.format cell → Gave aim s t (option_to_list (option_map as_cell cell)) → Drawn aim s t (Ok cell)
 drawn_some None e f g = absurd (true≢false (sym e))
 drawn_some (Some c) e f g = record { draws = (g, f) }
 
 -- none was
-pub none_given : {held : Held} {aim : Aim} {a b : Spent} {m n : Merger} {i j : ℕ} (cell : Option Cell) → is_some cell ≡ false → Gave held aim a b m n i j (option_to_list (option_map as_cell cell)) →
-    Gave held aim a b m n i j []
+pub none_given : {aim : Aim} {s t : MergeState} (cell : Option Cell) → is_some cell ≡ false → Gave aim s t (option_to_list (option_map as_cell cell)) → Gave aim s t []
 none_given None e g = g
 none_given (Some c) e g = absurd (true≢false e)
 
 -- a head was not read
-pub stopped_at : {h : Held} {aim : Aim} {a b c : Spent} {m n o : Merger} {i j k : ℕ} (held : Held) (result : Result (Option Cell) ReadFault) (fault : ReadFault) → h ≡ held → result ≡ Err fault →
-    Gave held aim a b m n i j [] → Unread h aim b c n o j k fault → Drawn held aim a c m o i k result
-stopped_at {h} {aim} {a} {b} {c} {m} {n} {o} {i} {j} {k} held result fault e f g u =
-    subst (λ (x : Result (Option Cell) ReadFault). Drawn held aim a c m o i k x) (sym f)
-    (record { draws = record { between = b; merger = n; ticked = j; gave = g; unread = subst (λ (x : Held). Unread x aim b c n o j k fault) e u } })
+pub stopped_at : {aim : Aim} {s t u : MergeState} (result : Result (Option Cell) ReadFault) (fault : ReadFault) → result ≡ Err fault → Gave aim s t [] → Unread aim t u fault → Drawn aim s u result
+stopped_at {aim} {s} {t} {u} result fault f g h =
+    subst (λ (x : Result (Option Cell) ReadFault). Drawn aim s u x) (sym f) (record { draws = record { between = t; gave = g; unread = h } })
 
 -- fewer source cells are left
 pub fewer_left : {held : Held} {aim : Aim} (m : Merger) {n : Merger} → HasHeads held aim n → consumed m < consumed n →
@@ -190,72 +195,55 @@ read_calm : (before between now : ℕ) (fault : ReadFault) → between ≡ befor
 read_calm before between now Device e c = tt
 read_calm before between now (BadCell number) e c = c ∙ e
 
-module _ {held : Held} {aim : Aim} {a b : Spent} {m n : Merger} {i j : ℕ} where
-  pub heads_of_drawn : (result : Result (Option Cell) ReadFault) → Drawn held aim a b m n i j result → HasHeads held aim n
-  heads_of_drawn (Ok (Some c)) d = d.draws.0.heads
-  heads_of_drawn (Ok None) d = d.draws.0.heads
-  heads_of_drawn (Err fault) d = d.draws.unread.looks.heads
+one_of : {aim : Aim} {s t : MergeState} {cells : List LawCell} (result : Result (Option Cell) ReadFault) → Gave aim s t cells → length cells ≡ given_cells result →
+    (AreInOrder s.held aim → Gives s.held aim s.merger t.merger result) → IsEndedBy aim t.merger result → FitsGiven s.held.fixed.format result →
+    HasPullCause s.held aim s.spent.faults t.spent t.merger t.steps result → ReadCalm s.spent.faults t.spent.faults result → IsFrugal aim s.merger t.merger s.steps t.steps result →
+    OnOk result (TurnsWithin aim s t) → Pulls aim s t result
+one_of {aim} {s} {t} {cells} result g e gives ends fits cause calm ticks turned = record {
+  cells_stay = g.cells_stay;
+  heads = g.heads;
+  lasts = g.others_stay;
+  gives = gives;
+  ends = ends;
+  fits = fits;
+  rises = g.rises;
+  consumes = (let l = g.consumes in omega (arith, l, e));
+  cause = cause;
+  calm = calm;
+  ticks = ticks;
+  spends = g.spends;
+  written = g.written_is;
+  turned = turned;
+}
 
-  pub lasts_of : (result : Result (Option Cell) ReadFault) → Drawn held aim a b m n i j result → (buffer : Buffer) → IsBeside aim buffer → b.lasts buffer ≡ a.lasts buffer
-  lasts_of (Ok (Some c)) d = d.draws.0.others_stay
-  lasts_of (Ok None) d = d.draws.0.others_stay
-  lasts_of (Err fault) d = λ buffer s. d.draws.unread.looks.others_stay buffer s ∙ d.draws.gave.others_stay buffer s
-
-  pub gives_of : (result : Result (Option Cell) ReadFault) → Drawn held aim a b m n i j result → AreInOrder held aim → Gives held aim m n result
-  gives_of (Ok (Some c)) d t = d.draws.0.gives t
-  gives_of (Ok None) d t = d.draws.0.gives t ∙ ahead-none held aim n d.draws.1
-  gives_of (Err fault) d t = sym (d.draws.gave.gives t ∙ ahead-same held aim d.draws.merger n d.draws.unread.looks.at_is)
-
-  pub ended_of : (result : Result (Option Cell) ReadFault) → Drawn held aim a b m n i j result → IsEndedBy aim n result
-  ended_of (Ok (Some c)) d = tt
-  ended_of (Ok None) d = d.draws.1
-  ended_of (Err fault) d = tt
-
-  pub fits_of : (result : Result (Option Cell) ReadFault) → Drawn held aim a b m n i j result → FitsGiven held.fixed.format result
-  fits_of (Ok (Some c)) d = d.draws.1
-  fits_of (Ok None) d = tt
-  fits_of (Err fault) d = tt
-
-  pub rises_of : (result : Result (Option Cell) ReadFault) → Drawn held aim a b m n i j result → (reader : Reader) → (head_of m reader).at ≤ (head_of n reader).at
-  rises_of (Ok (Some c)) d = d.draws.0.rises
-  rises_of (Ok None) d = d.draws.0.rises
-  rises_of (Err fault) d = λ reader. let e = d.draws.unread.looks.at_is reader in let r = d.draws.gave.rises reader in omega (arith, e, r)
-
-  pub consumes_of : (result : Result (Option Cell) ReadFault) → Drawn held aim a b m n i j result → consumed m + given_cells result ≤ consumed n
-  consumes_of (Ok (Some c)) d = d.draws.0.consumes
-  consumes_of (Ok None) d = d.draws.0.consumes
-  consumes_of (Err fault) d =
-      let x = rises_of (Err fault) d Own in let y = rises_of (Err fault) d Incoming in let z = rises_of (Err fault) d Sample in omega (arith, x, y, z)
-
-  pub cause_of : (result : Result (Option Cell) ReadFault) → Drawn held aim a b m n i j result → HasPullCause held aim a.faults b n j result
-  cause_of (Ok given) d = tt
-  cause_of (Err fault) d = cause_then aim a.faults d.draws.between.faults (state held b n j) (step_of_read fault) d.draws.gave.calm d.draws.unread.cause
-
-  pub calm_of : (result : Result (Option Cell) ReadFault) → Drawn held aim a b m n i j result → ReadCalm a.faults b.faults result
-  calm_of (Ok (Some c)) d = d.draws.0.calm
-  calm_of (Ok None) d = d.draws.0.calm
-  calm_of (Err fault) d = read_calm a.faults d.draws.between.faults b.faults fault d.draws.gave.calm d.draws.unread.calm
-
-  pub frugal_of : (result : Result (Option Cell) ReadFault) → Drawn held aim a b m n i j result → IsFrugal aim m n i j result
-  frugal_of (Ok (Some c)) d = d.draws.0.reads
-  frugal_of (Ok None) d = d.draws.0.reads
-  frugal_of (Err fault) d = (up i d.draws.ticked j (fetched aim m) (fetched aim d.draws.merger) (fetched aim n) d.draws.gave.reads d.draws.unread.reads, d.draws.unread.left)
+-- a refusal, from the state that it began in
+module _ {aim : Aim} {s t u : MergeState} {fault : ReadFault} (g : Gave aim s t []) (n : Unread aim (kept_at s.held t) u fault) where
+  stopped_pulls : Pulls aim s u (Err fault)
+  stopped_pulls = record {
+    cells_stay = n.looks.cells_stay;
+    heads = n.looks.heads;
+    lasts = λ buffer b. n.looks.others_stay buffer b ∙ g.others_stay buffer b;
+    gives = λ o. sym (g.gives o ∙ ahead-same s.held aim t.merger u.merger n.looks.at_is);
+    ends = tt;
+    fits = tt;
+    rises = rises;
+    consumes = (let x = rises Own in let y = rises Incoming in let z = rises Sample in omega (arith, x, y, z));
+    cause = cause_then aim s.spent.faults t.spent.faults (kept_at s.held u) (step_of_read fault) g.calm (subst (λ (x : Held). StepCause aim t.spent.faults (kept_at x u) (step_of_read fault)) n.looks.cells_stay n.cause);
+    calm = read_calm s.spent.faults t.spent.faults u.spent.faults fault g.calm n.calm;
+    ticks = (up s.steps t.steps u.steps (fetched aim s.merger) (fetched aim t.merger) (fetched aim u.merger) g.reads n.reads, n.left);
+    spends = spends_then g.spends n.looks.spends;
+    written = n.looks.written_is ∙ g.written_is;
+    turned = tt;
+  }
     where
+      rises : (reader : Reader) → (head_of s.merger reader).at ≤ (head_of u.merger reader).at
+      rises reader = let x = g.rises reader in let e = n.looks.at_is reader in omega (arith, x, e)
+
       up : (i j k x y z : ℕ) → j + x ≤ i + y → k + y ≤ j + (z + 1) → k + x ≤ i + (z + 1)
       up i j k x y z g h = omega (arith, g, h)
 
-  pub spends_of : (result : Result (Option Cell) ReadFault) → Drawn held aim a b m n i j result → Spends a b i j
-  spends_of (Ok (Some c)) d = d.draws.0.spends
-  spends_of (Ok None) d = d.draws.0.spends
-  spends_of (Err fault) d = spends_then d.draws.gave.spends d.draws.unread.looks.spends
-
-  pub written_of : (result : Result (Option Cell) ReadFault) → Drawn held aim a b m n i j result → b.written ≡ a.written
-  written_of (Ok (Some c)) d = d.draws.0.written_is
-  written_of (Ok None) d = d.draws.0.written_is
-  written_of (Err fault) d = d.draws.unread.looks.written_is ∙ d.draws.gave.written_is
-
-  pub turned_of : (result : Result (Option Cell) ReadFault) → Drawn held aim a b m n i j result →
-      OnOk result (b.turned + blocks_left held.fixed.doublings b.lasts aim n ≤ a.turned + blocks_left held.fixed.doublings a.lasts aim m)
-  turned_of (Ok (Some c)) d = d.draws.0.turned
-  turned_of (Ok None) d = d.draws.0.turned
-  turned_of (Err fault) d = tt
+pub pulls : {aim : Aim} {s t : MergeState} (result : Result (Option Cell) ReadFault) → Drawn aim s t result → Pulls aim s t result
+pulls (Ok (Some c)) d = let g = d.draws.0 in one_of (Ok (Some c)) g refl g.gives tt d.draws.1 tt g.calm g.reads g.turned
+pulls {aim} {s} {t} (Ok None) d = let g = d.draws.0 in one_of (Ok None) g refl (λ o. g.gives o ∙ ahead-none s.held aim t.merger d.draws.1) d.draws.1 tt tt g.calm g.reads g.turned
+pulls {aim} {s} {t} (Err fault) d =
+    stopped_pulls d.draws.gave (subst (λ (x : Held). Unread aim (kept_at x d.draws.between) t fault) d.draws.gave.cells_stay d.draws.unread)

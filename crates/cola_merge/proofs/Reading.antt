@@ -11,9 +11,11 @@ use Rattle.cola_cell.specs.declared.fault.ReadFault.{ReadFault}
 use Rattle.cola_cell.specs.declared.fault.ReadFault.TheVariants as read
 use Rattle.cola_cell.specs.Fault.{step_of_read}
 use Rattle.cola_cell.specs.Places.{block_of}
-use Rattle.cola_cell.specs.Held.{Held}
+use Rattle.cola_cell.specs.Held.{Held, span}
 use Rattle.cola_cell.specs.Format.{CellFits}
-use Rattle.cola_cell.specs.Spent.{Buffer, By, Spent, Reads, ReadAnswers, ReadCalm}
+use Rattle.cola_cell.specs.Spent.{Buffer, By, ReadAnswers, ReadCalm}
+use Rattle.cola_cell.specs.Reads.{Reads}
+use Rattle.cola_cell.specs.State.{State}
 use Rattle.cola_merge.specs.declared.aims.Feed.{Feed}
 use Rattle.cola_merge.specs.declared.aims.Feed.TheVariants as feed
 use Rattle.cola_merge.specs.declared.aims.Aim.{Aim}
@@ -31,8 +33,8 @@ use Rattle.cola_merge.proofs.Sums.{spends_none}
 
 -- ---- one read
 
-read_spends : {held : Held} {old new : Spent} {buffer : Buffer} {level slot index : ℕ} {result : Result Cell ReadFault} {from to : ℕ} →
-    Reads held old new buffer level slot index result → to ≡ from + 1 → Spends old new from to
+read_spends : {old new : State} {buffer : Buffer} {level slot index : ℕ} {result : Result Cell ReadFault} {from to : ℕ} →
+    Reads old new buffer level slot index result → to ≡ from + 1 → Spends old.spent new.spent from to
 read_spends r e = record {
   steps_stay = omega (arith, e);
   ticked_is = omega (arith, e, r.one_tick);
@@ -43,13 +45,13 @@ read_spends r e = record {
 }
 
 -- a read of a run at a cursor, where the cells of so many cursors lie in one block
-reads_left : {held : Held} {old new : Spent} (reader : Reader) (run : Run) (c : Cell) (size end at index : ℕ) →
-    Reads held old new (By reader run.level) run.level run.slot index (Ok c) → at < end → index / (8 * 2 ^ held.fixed.doublings) ≡ at / size →
-    new.turned + run_left (8 * 2 ^ held.fixed.doublings) (new.lasts (By reader run.level)) run size end at ≤ old.turned + run_left (8 * 2 ^ held.fixed.doublings) (old.lasts (By reader run.level)) run size end at
-reads_left {held} {old} {new} reader run c size end at index r h e =
-    let same : block_of (8 * 2 ^ held.fixed.doublings) run.level run.slot index ≡ record { level = run.level; slot = run.slot; number = at / size } =
+reads_left : {old new : State} (reader : Reader) (run : Run) (c : Cell) (size end at index : ℕ) →
+    Reads old new (By reader run.level) run.level run.slot index (Ok c) → at < end → index / span old.held ≡ at / size →
+    new.spent.turned + run_left (span old.held) (new.spent.lasts (By reader run.level)) run size end at ≤ old.spent.turned + run_left (span old.held) (old.spent.lasts (By reader run.level)) run size end at
+reads_left {old} {new} reader run c size end at index r h e =
+    let same : block_of (span old.held) run.level run.slot index ≡ record { level = run.level; slot = run.slot; number = at / size } =
     ap (λ (n : ℕ). record { level = run.level; slot = run.slot; number = n }) e in
-    read_left (8 * 2 ^ held.fixed.doublings) (old.lasts (By reader run.level)) (new.lasts (By reader run.level)) run size end at old.turned new.turned h r.turned_rises
+    read_left (span old.held) (old.spent.lasts (By reader run.level)) (new.spent.lasts (By reader run.level)) run size end at old.spent.turned new.spent.turned h r.turned_rises
     (λ s. (r.in_small s).turned_is)
     (λ b. let i = r.in_last (b ∙ ap Some (sym same)) in (i.turned_is, i.last_is))
     (λ m. r.moves m ∙ ap Some same)
@@ -94,24 +96,26 @@ missed_head was e = ap missing_head e
 not_held : (was : Option Cell) → was ≡ None → held_head was ≡ 0
 not_held was e = ap held_head e
 
-module _ {A : Type 0} {held : Held} {old new : Spent} (reader : Reader) (run : Run) (at : ℕ) (was : Option Cell) (from to : ℕ) (missed : was ≡ None) (ticked : to ≡ from + 1) where
+module _ {A : Type 0} {old new : State} (reader : Reader) (run : Run) (at : ℕ) (was : Option Cell) (from to : ℕ) (missed : was ≡ None) (ticked : to ≡ from + 1) where
   -- the cell of a run
-  pub run_is_fetched : (c : Cell) (a : A) → at < run.len → Reads held old new (By reader run.level) run.level run.slot at (Ok c) →
-      Fetch held old new reader (feed.Run run) (record { at = at; cell = was }) (record { at = at; cell = Some c }) from to (Ok a)
+  pub run_is_fetched : (c : Cell) (a : A) → at < run.len → Reads old new (By reader run.level) run.level run.slot at (Ok c) →
+      Fetch old new reader (feed.Run run) (record { at = at; cell = was }) (record { at = at; cell = Some c }) from to (Ok a)
   run_is_fetched c a h r = record {
+    cells_stay = r.cells_stay;
     at_is = refl;
     head = record { within = omega (arith, h); cell = (h, r.answer.told, r.answer.fits) };
     spends = read_spends r ticked;
     written_is = r.written_is;
     others_stay = λ buffer d. r.others_stay buffer d;
     calm = r.calm;
-    fetches = (λ _. refl, omega (arith, missed_head was missed, ticked), omega (arith, not_held was missed, ticked), reads_left reader run c (8 * 2 ^ held.fixed.doublings) run.len at at r h refl);
+    fetches = (λ _. refl, omega (arith, missed_head was missed, ticked), omega (arith, not_held was missed, ticked), reads_left reader run c (span old.held) run.len at at r h refl);
   }
 
   -- the sampled cell of a run
-  pub sampled_is_fetched : (c : Cell) (a : A) → at < run.len / 8 → Reads held old new (By reader run.level) run.level run.slot (8 * at + 7) (Ok c) →
-      Fetch held old new reader (feed.Sampled run) (record { at = at; cell = was }) (record { at = at; cell = Some c }) from to (Ok a)
+  pub sampled_is_fetched : (c : Cell) (a : A) → at < run.len / 8 → Reads old new (By reader run.level) run.level run.slot (8 * at + 7) (Ok c) →
+      Fetch old new reader (feed.Sampled run) (record { at = at; cell = was }) (record { at = at; cell = Some c }) from to (Ok a)
   sampled_is_fetched c a h r = record {
+    cells_stay = r.cells_stay;
     at_is = refl;
     head = record { within = omega (arith, h); cell = (h, r.answer.told, r.answer.fits) };
     spends = read_spends r ticked;
@@ -122,43 +126,46 @@ module _ {A : Type 0} {held : Held} {old new : Spent} (reader : Reader) (run : R
       λ _. refl,
       omega (arith, missed_head was missed, ticked),
       omega (arith, not_held was missed, ticked),
-      reads_left reader run c (2 ^ held.fixed.doublings) (run.len / 8) at (8 * at + 7) r h (sampled_block at held.fixed.doublings),
+      reads_left reader run c (2 ^ old.held.fixed.doublings) (run.len / 8) at (8 * at + 7) r h (sampled_block at old.held.fixed.doublings),
     );
   }
 
-  pub run_is_refused : (fault : ReadFault) → at < run.len → IsHead held (feed.Run run) (record { at = at; cell = was }) → Reads held old new (By reader run.level) run.level run.slot at (Err fault) →
-      Fetch {A = A} held old new reader (feed.Run run) (record { at = at; cell = was }) (record { at = at; cell = was }) from to (Err fault)
+  pub run_is_refused : (fault : ReadFault) → at < run.len → IsHead old.held (feed.Run run) (record { at = at; cell = was }) → Reads old new (By reader run.level) run.level run.slot at (Err fault) →
+      Fetch {A = A} old new reader (feed.Run run) (record { at = at; cell = was }) (record { at = at; cell = was }) from to (Err fault)
   run_is_refused fault h i r = record {
+    cells_stay = r.cells_stay;
     at_is = refl;
     head = i;
     spends = read_spends r ticked;
     written_is = r.written_is;
     others_stay = λ buffer d. r.others_stay buffer d;
-    calm = calm_same Cell A old.faults new.faults fault r.calm;
-    fetches = (run_cause held old.faults new.faults run at fault h r.answer, refl, ticked, omega (arith, not_held was missed, h));
+    calm = calm_same Cell A old.spent.faults new.spent.faults fault r.calm;
+    fetches = (run_cause old.held old.spent.faults new.spent.faults run at fault h r.answer, refl, ticked, omega (arith, not_held was missed, h));
   }
 
-  pub sampled_is_refused : (fault : ReadFault) → at < run.len / 8 → IsHead held (feed.Sampled run) (record { at = at; cell = was }) → Reads held old new (By reader run.level) run.level run.slot (8 * at + 7) (Err fault) →
-      Fetch {A = A} held old new reader (feed.Sampled run) (record { at = at; cell = was }) (record { at = at; cell = was }) from to (Err fault)
+  pub sampled_is_refused : (fault : ReadFault) → at < run.len / 8 → IsHead old.held (feed.Sampled run) (record { at = at; cell = was }) → Reads old new (By reader run.level) run.level run.slot (8 * at + 7) (Err fault) →
+      Fetch {A = A} old new reader (feed.Sampled run) (record { at = at; cell = was }) (record { at = at; cell = was }) from to (Err fault)
   sampled_is_refused fault h i r = record {
+    cells_stay = r.cells_stay;
     at_is = refl;
     head = i;
     spends = read_spends r ticked;
     written_is = r.written_is;
     others_stay = λ buffer d. r.others_stay buffer d;
-    calm = calm_same Cell A old.faults new.faults fault r.calm;
-    fetches = (sampled_cause held old.faults new.faults run at fault h r.answer, refl, ticked, omega (arith, not_held was missed, h));
+    calm = calm_same Cell A old.spent.faults new.spent.faults fault r.calm;
+    fetches = (sampled_cause old.held old.spent.faults new.spent.faults run at fault h r.answer, refl, ticked, omega (arith, not_held was missed, h));
   }
 
 -- ---- a head that needs no read
 
 -- it is held, or its feed is used up
-pub stays_fetched : {A : Type 0} {held : Held} (spent : Spent) (reader : Reader) (f : Feed) (head : Head) (n : ℕ) (a : A) → IsHead held f head → IsFetched f head →
-    Fetch held spent spent reader f head head n n (Ok a)
-stays_fetched spent reader f head n a h t = record {
+pub stays_fetched : {A : Type 0} (s : State) (reader : Reader) (f : Feed) (head : Head) (n : ℕ) (a : A) → IsHead s.held f head → IsFetched f head →
+    Fetch s s reader f head head n n (Ok a)
+stays_fetched s reader f head n a h t = record {
+  cells_stay = refl;
   at_is = refl;
   head = h;
-  spends = spends_none spent n;
+  spends = spends_none s.spent n;
   written_is = refl;
   others_stay = λ buffer d. refl;
   calm = refl;
@@ -166,12 +173,13 @@ stays_fetched spent reader f head n a h t = record {
 }
 
 -- the one cell
-pub one_is_fetched : {A : Type 0} {held : Held} (spent : Spent) (reader : Reader) (c : Cell) (at : ℕ) (was : Option Cell) (n : ℕ) (a : A) → was ≡ None → at < 1 → CellFits held.fixed.format c →
-    Fetch held spent spent reader (feed.One c) (record { at = at; cell = was }) (record { at = at; cell = Some c }) n n (Ok a)
-one_is_fetched spent reader c at was n a e h f = record {
+pub one_is_fetched : {A : Type 0} (s : State) (reader : Reader) (c : Cell) (at : ℕ) (was : Option Cell) (n : ℕ) (a : A) → was ≡ None → at < 1 → CellFits s.held.fixed.format c →
+    Fetch s s reader (feed.One c) (record { at = at; cell = was }) (record { at = at; cell = Some c }) n n (Ok a)
+one_is_fetched s reader c at was n a e h f = record {
+  cells_stay = refl;
   at_is = refl;
   head = record { within = omega (arith, h); cell = (h, refl, f) };
-  spends = spends_none spent n;
+  spends = spends_none s.spent n;
   written_is = refl;
   others_stay = λ buffer d. refl;
   calm = refl;
@@ -296,9 +304,10 @@ head_within {held} {f} {head} h = fetched_within held f head.at head.cell h.with
 
 -- ---- a fetch of one head
 
-module _ {A : Type 0} {held : Held} {aim : Aim} {old new : Spent} (m : Merger) (from to : ℕ) (reader : Reader) (head : Head) (r : HasHeads held aim m) where
-  fetch_looks : (result : Result A ReadFault) → Fetch held old new reader (feed_of aim reader) (head_of m reader) head from to result → Looks held aim old new m (with_head m reader head) from to
+module _ {A : Type 0} {aim : Aim} {old new : State} (m : Merger) (from to : ℕ) (reader : Reader) (head : Head) (r : HasHeads old.held aim m) where
+  fetch_looks : (result : Result A ReadFault) → Fetch old new reader (feed_of aim reader) (head_of m reader) head from to result → Looks aim (state old m from) (state new (with_head m reader head) to)
   fetch_looks result f = record {
+    cells_stay = f.cells_stay;
     at_is = λ other. at-with m reader head f.at_is other;
     heads = heads_with reader r f.head;
     spends = f.spends;
@@ -307,12 +316,12 @@ module _ {A : Type 0} {held : Held} {aim : Aim} {old new : Spent} (m : Merger) (
   }
 
   -- an accepted fetch
-  pub fetch_looked : (a : A) → Fetch held old new reader (feed_of aim reader) (head_of m reader) head from to (Ok a) → Looked held aim old new m (with_head m reader head) from to
+  pub fetch_looked : (a : A) → Fetch old new reader (feed_of aim reader) (head_of m reader) head from to (Ok a) → Looked aim (state old m from) (state new (with_head m reader head) to)
   fetch_looked a f = record {
     looks = fetch_looks (Ok a) f;
     ticks = less_missing to from (missing (with_head m reader head)) (missing m) (missing_head head.cell) (missing_head (head_of m reader).cell) (missing-with m reader head) f.fetches.1;
     reads = more_read to from (fetched aim (with_head m reader head)) (fetched aim m) (fetched_of (feed_of aim reader) head) (fetched_of (feed_of aim reader) (head_of m reader)) (fetched-with aim m reader head) f.fetches.2;
-    turned = left-with aim m held.fixed.doublings old.lasts new.lasts old.turned new.turned reader head f.fetches.3 f.others_stay;
+    turned = left-with aim m old.held.fixed.doublings old.spent.lasts new.spent.lasts old.spent.turned new.spent.turned reader head f.fetches.3 f.others_stay;
     calm = f.calm;
   }
     where
@@ -336,19 +345,20 @@ bad_with : (held : Held) (aim : Aim) (m : Merger) (reader : Reader) (head : Head
 bad_with held aim m reader head number e h =
     subst (λ (n : ℕ). IsBadAt held (feed_of aim reader) n number) (sym (ap (λ (x : Head). x.at) (head_of-with m reader head) ∙ e)) h
 
-fetch_cause : (held : Held) (aim : Aim) (old new : Spent) (m : Merger) (to : ℕ) (reader : Reader) (head : Head) (fault : ReadFault) → head.at ≡ (head_of m reader).at →
-    ReadFailed held old.faults new.faults (feed_of aim reader) (head_of m reader).at fault →
-    StepCause aim old.faults (state held new (with_head m reader head) to) (step_of_read fault)
-fetch_cause held aim old new m to reader head read.Device e c = c
-fetch_cause held aim old new m to reader head (read.BadCell number) e c = record { reader = reader; bad = bad_with held aim m reader head number e c }
+fetch_cause : (aim : Aim) (old new : State) (m : Merger) (to : ℕ) (reader : Reader) (head : Head) (fault : ReadFault) → new.held ≡ old.held → head.at ≡ (head_of m reader).at →
+    ReadFailed old.held old.spent.faults new.spent.faults (feed_of aim reader) (head_of m reader).at fault →
+    StepCause aim old.spent.faults (state new (with_head m reader head) to) (step_of_read fault)
+fetch_cause aim old new m to reader head read.Device s e c = c
+fetch_cause aim old new m to reader head (read.BadCell number) s e c =
+    record { reader = reader; bad = bad_with new.held aim m reader head number e (subst (λ (h : Held). IsBadAt h (feed_of aim reader) (head_of m reader).at number) (sym s) c) }
 
 fetch_calm : (A : Type 0) (before now : ℕ) (fault : ReadFault) → ReadCalm {T = A} before now (Err fault) → StepCalm before now (step_of_read fault)
 fetch_calm A before now read.Device c = tt
 fetch_calm A before now (read.BadCell number) c = c
 
-pub fetch_unread : {A : Type 0} {held : Held} {aim : Aim} {old new : Spent} (m : Merger) (from to : ℕ) (reader : Reader) (head : Head) (fault : ReadFault) → HasHeads held aim m →
-    Fetch {A = A} held old new reader (feed_of aim reader) (head_of m reader) head from to (Err fault) → Unread held aim old new m (with_head m reader head) from to fault
-fetch_unread {A} {held} {aim} {old} {new} m from to reader head fault r f =
+pub fetch_unread : {A : Type 0} {aim : Aim} {old new : State} (m : Merger) (from to : ℕ) (reader : Reader) (head : Head) (fault : ReadFault) → HasHeads old.held aim m →
+    Fetch {A = A} old new reader (feed_of aim reader) (head_of m reader) head from to (Err fault) → Unread aim (state old m from) (state new (with_head m reader head) to) fault
+fetch_unread {A} {aim} {old} {new} m from to reader head fault r f =
     let all : fetched aim m < cells_read aim = all_within reader r f.fetches.3 in
     let cell : missing_head head.cell ≡ missing_head (head_of m reader).cell = ap (λ (x : Head). missing_head x.cell) f.fetches.1 in
     let same : fetched aim (with_head m reader head) ≡ fetched aim m =
@@ -358,8 +368,8 @@ fetch_unread {A} {held} {aim} {old} {new} m from to reader head fault r f =
       ticks = as_missing to from (missing (with_head m reader head)) (missing m) (missing_head head.cell) (missing_head (head_of m reader).cell) (missing-with m reader head) cell f.fetches.2;
       reads = one_more to from (fetched aim (with_head m reader head)) (fetched aim m) same f.fetches.2;
       left = subst (λ (n : ℕ). n < cells_read aim) (sym same) all;
-      cause = fetch_cause held aim old new m to reader head fault f.at_is f.fetches.0;
-      calm = fetch_calm A old.faults new.faults fault f.calm;
+      cause = fetch_cause aim old new m to reader head fault f.cells_stay f.at_is f.fetches.0;
+      calm = fetch_calm A old.spent.faults new.spent.faults fault f.calm;
     }
   where
     as_missing : (t s n m x y : ℕ) → n + y ≡ m + x → x ≡ y → t ≡ s + 1 → t + n ≤ s + m + 1
@@ -377,35 +387,35 @@ pub none_of : (o : Option Cell) → is_some o ≡ false → o ≡ None
 none_of None e = refl
 none_of (Some c) e = absurd (true≢false e)
 
-pub fetch_sampled : {A : Type 0} {held : Held} {old new : Spent} (reader : Reader) (f : Feed) (run : Run) (head : Head) (from to len : ℕ) (c : Cell) (a : A) →
+pub fetch_sampled : {A : Type 0} {old new : State} (reader : Reader) (f : Feed) (run : Run) (head : Head) (from to len : ℕ) (c : Cell) (a : A) →
     f ≡ feed.Sampled run → is_some head.cell ≡ false → head.at < len → len ≡ feed_len f → to ≡ from + 1 →
-    Reads held old new (By reader run.level) run.level run.slot (8 * head.at + 7) (Ok c) →
-    Fetch {A = A} held old new reader f head (record { at = head.at; cell = Some c }) from to (Ok a)
-fetch_sampled {A} {held} {old} {new} reader f run head from to len c a e n h l t r =
-    subst (λ (x : Feed). Fetch {A = A} held old new reader x head (record { at = head.at; cell = Some c }) from to (Ok a)) (sym e)
+    Reads old new (By reader run.level) run.level run.slot (8 * head.at + 7) (Ok c) →
+    Fetch {A = A} old new reader f head (record { at = head.at; cell = Some c }) from to (Ok a)
+fetch_sampled {A} {old} {new} reader f run head from to len c a e n h l t r =
+    subst (λ (x : Feed). Fetch {A = A} old new reader x head (record { at = head.at; cell = Some c }) from to (Ok a)) (sym e)
     (sampled_is_fetched reader run head.at head.cell from to (none_of head.cell n) t c a (let k : len ≡ run.len / 8 = l ∙ ap feed_len e in omega (arith, h, k)) r)
 
-pub fetch_run : {A : Type 0} {held : Held} {old new : Spent} (reader : Reader) (f : Feed) (run : Run) (head : Head) (from to len : ℕ) (c : Cell) (a : A) →
+pub fetch_run : {A : Type 0} {old new : State} (reader : Reader) (f : Feed) (run : Run) (head : Head) (from to len : ℕ) (c : Cell) (a : A) →
     f ≡ feed.Run run → is_some head.cell ≡ false → head.at < len → len ≡ feed_len f → to ≡ from + 1 →
-    Reads held old new (By reader run.level) run.level run.slot head.at (Ok c) →
-    Fetch {A = A} held old new reader f head (record { at = head.at; cell = Some c }) from to (Ok a)
-fetch_run {A} {held} {old} {new} reader f run head from to len c a e n h l t r =
-    subst (λ (x : Feed). Fetch {A = A} held old new reader x head (record { at = head.at; cell = Some c }) from to (Ok a)) (sym e)
+    Reads old new (By reader run.level) run.level run.slot head.at (Ok c) →
+    Fetch {A = A} old new reader f head (record { at = head.at; cell = Some c }) from to (Ok a)
+fetch_run {A} {old} {new} reader f run head from to len c a e n h l t r =
+    subst (λ (x : Feed). Fetch {A = A} old new reader x head (record { at = head.at; cell = Some c }) from to (Ok a)) (sym e)
     (run_is_fetched reader run head.at head.cell from to (none_of head.cell n) t c a (let k : len ≡ run.len = l ∙ ap feed_len e in omega (arith, h, k)) r)
 
-pub fetch_sampled_refused : {A : Type 0} {held : Held} {old new : Spent} (reader : Reader) (f : Feed) (run : Run) (head : Head) (from to len : ℕ) (fault : ReadFault) →
-    f ≡ feed.Sampled run → is_some head.cell ≡ false → head.at < len → len ≡ feed_len f → to ≡ from + 1 → IsHead held f head →
-    Reads held old new (By reader run.level) run.level run.slot (8 * head.at + 7) (Err fault) → Fetch {A = A} held old new reader f head head from to (Err fault)
-fetch_sampled_refused {A} {held} {old} {new} reader f run head from to len fault e n h l t i r =
-    subst (λ (x : Feed). Fetch {A = A} held old new reader x head head from to (Err fault)) (sym e)
-    (sampled_is_refused {A = A} reader run head.at head.cell from to (none_of head.cell n) t fault (let k : len ≡ run.len / 8 = l ∙ ap feed_len e in omega (arith, h, k)) (subst (λ (x : Feed). IsHead held x head) e i) r)
+pub fetch_sampled_refused : {A : Type 0} {old new : State} (reader : Reader) (f : Feed) (run : Run) (head : Head) (from to len : ℕ) (fault : ReadFault) →
+    f ≡ feed.Sampled run → is_some head.cell ≡ false → head.at < len → len ≡ feed_len f → to ≡ from + 1 → IsHead old.held f head →
+    Reads old new (By reader run.level) run.level run.slot (8 * head.at + 7) (Err fault) → Fetch {A = A} old new reader f head head from to (Err fault)
+fetch_sampled_refused {A} {old} {new} reader f run head from to len fault e n h l t i r =
+    subst (λ (x : Feed). Fetch {A = A} old new reader x head head from to (Err fault)) (sym e)
+    (sampled_is_refused {A = A} reader run head.at head.cell from to (none_of head.cell n) t fault (let k : len ≡ run.len / 8 = l ∙ ap feed_len e in omega (arith, h, k)) (subst (λ (x : Feed). IsHead old.held x head) e i) r)
 
-pub fetch_run_refused : {A : Type 0} {held : Held} {old new : Spent} (reader : Reader) (f : Feed) (run : Run) (head : Head) (from to len : ℕ) (fault : ReadFault) →
-    f ≡ feed.Run run → is_some head.cell ≡ false → head.at < len → len ≡ feed_len f → to ≡ from + 1 → IsHead held f head →
-    Reads held old new (By reader run.level) run.level run.slot head.at (Err fault) → Fetch {A = A} held old new reader f head head from to (Err fault)
-fetch_run_refused {A} {held} {old} {new} reader f run head from to len fault e n h l t i r =
-    subst (λ (x : Feed). Fetch {A = A} held old new reader x head head from to (Err fault)) (sym e)
-    (run_is_refused {A = A} reader run head.at head.cell from to (none_of head.cell n) t fault (let k : len ≡ run.len = l ∙ ap feed_len e in omega (arith, h, k)) (subst (λ (x : Feed). IsHead held x head) e i) r)
+pub fetch_run_refused : {A : Type 0} {old new : State} (reader : Reader) (f : Feed) (run : Run) (head : Head) (from to len : ℕ) (fault : ReadFault) →
+    f ≡ feed.Run run → is_some head.cell ≡ false → head.at < len → len ≡ feed_len f → to ≡ from + 1 → IsHead old.held f head →
+    Reads old new (By reader run.level) run.level run.slot head.at (Err fault) → Fetch {A = A} old new reader f head head from to (Err fault)
+fetch_run_refused {A} {old} {new} reader f run head from to len fault e n h l t i r =
+    subst (λ (x : Feed). Fetch {A = A} old new reader x head head from to (Err fault)) (sym e)
+    (run_is_refused {A = A} reader run head.at head.cell from to (none_of head.cell n) t fault (let k : len ≡ run.len = l ∙ ap feed_len e in omega (arith, h, k)) (subst (λ (x : Feed). IsHead old.held x head) e i) r)
 
 -- the error that a `?` hands on
 pub err_is : {T E : Type 0} (r : Result T E) (f : E) → IsErrAnd r (λ y. y ≡ f) → r ≡ Err f

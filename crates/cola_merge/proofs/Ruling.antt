@@ -22,12 +22,12 @@ use Rattle.cola_merge.specs.declared.aims.Feed.{Feed}
 use Rattle.cola_merge.specs.declared.aims.Feed.TheVariants as feed
 use Rattle.cola_merge.specs.declared.aims.Aim.{Aim}
 use Rattle.cola_merge.specs.declared.merging.Merger.{Merger}
-use Rattle.cola_told.specs.Cells.{cell_at}
+use Rattle.cola_cell.specs.ToldCells.{cell_at}
 use Rattle.cola_cell.specs.Order.{key_cmp}
 use Rattle.cola_merge.specs.Feeds.{part_of, feed_len, feed_spots, feed_cells, feed_keys, IsFeedTold, IsFeed}
 use Rattle.cola_merge.specs.Heads.{IsHeldCell, HasHeads, IsUsedUp, AreFetched, AreFeedsTold, build_of}
 use Rattle.cola_merge.specs.Rules.{next_action}
-use Rattle.cola_told.proofs.CellLists.{get-cells, past-cells}
+use Rattle.cola_cell.proofs.CellLists.{get-cells, past-cells}
 
 -- ---- what a rule takes is there
 

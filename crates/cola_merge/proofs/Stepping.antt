@@ -12,20 +12,21 @@ use Rattle.cola_cell.specs.declared.fault.PushFault.TheVariants as push
 use Rattle.cola_cell.specs.Cell.{key_of}
 use Rattle.cola_cell.specs.Fault.{step_of_push}
 use Rattle.cola_cell.specs.Places.{slot_size}
-use Rattle.cola_cell.specs.Held.{Held, LawCell, Stamped, as_cell, IsTelling}
-use Rattle.cola_cell.specs.Spent.{Buffer, Spent}
+use Rattle.cola_cell.specs.Held.{Held, LawCell, Stamped, as_cell, IsTelling, span}
+use Rattle.cola_cell.specs.Spent.{Buffer}
+use Rattle.cola_cell.specs.State.{State}
 use Rattle.cola_merge.specs.declared.aims.Feed.{Feed}
 use Rattle.cola_merge.specs.declared.aims.Feed.TheVariants as feed
 use Rattle.cola_merge.specs.declared.aims.Aim.{Aim}
 use Rattle.cola_merge.specs.Fetched.{Head}
 use Rattle.cola_merge.specs.declared.merging.Merger.{Merger}
-use Rattle.cola_told.specs.Cells.{shadow_cells}
+use Rattle.cola_cell.specs.ToldCells.{shadow_cells}
 use Rattle.cola_cell.specs.Order.{key_cmp}
 use Rattle.cola_merge.specs.Feeds.{part_of, feed_of, feed_len, read_len, feed_cells, feed_keys}
 use Rattle.cola_merge.specs.Heads.{head_at, head_of, with_head, consumed, IsHeldCell, HasHeads, IsReady, AreFetched, missing_head, missing, held_head, fetched_of, fetched, AreFeedsTold, build_of}
 use Rattle.cola_merge.specs.Rules.{as_head, next_action, Emits, HeadFits}
 use Rattle.cola_merge.specs.Blocks.{Lasts, feed_left, blocks_left}
-use Rattle.cola_merge.specs.States.{KeepsBlocks, count_of, Emitted, PushFailed, Unpushed, State, state, len_of, Goes, Took, StepCause, StepCalm, failed_push, Refused}
+use Rattle.cola_merge.specs.States.{KeepsBlocks, count_of, Emitted, PushFailed, Unpushed, MergeState, state, len_of, Goes, Took, StepCause, StepCalm, failed_push, Refused}
 use Rattle.cola_merge.proofs.Groups.{run_left-next}
 use Rattle.cola_merge.proofs.Kept.{ready-stays, left-stays}
 use Rattle.cola_merge.proofs.Reading.{heads_of, ready_by, heads_with, head_in, feed_in, consumed-with, rises-with, missing-with, fetched-with, left-with, head_within}
@@ -123,8 +124,12 @@ build_after held new aim m Sample cells e =
 
 -- ---- a step that was accepted
 
-module _ {aim : Aim} (s : State) (new : Held) (now : Spent) (to : ℕ) (reader : Reader) (c : Option Cell) (r : IsReady s.held aim s.merger) (f : AreFetched aim s.merger)
-    (asked : Take (as_head reader) (option_map as_cell c) ≡ next_action aim s.merger) (e : Emitted s.held new s.spent now aim.level c s.steps to) where
+-- the object of a state
+abbrev pub object_of : MergeState → State
+object_of s = record { held = s.held; spent = s.spent }
+
+module _ {aim : Aim} (s : MergeState) (new : State) (to : ℕ) (reader : Reader) (c : Option Cell) (r : IsReady s.held aim s.merger) (f : AreFetched aim s.merger)
+    (asked : Take (as_head reader) (option_map as_cell c) ≡ next_action aim s.merger) (e : Emitted (object_of s) new aim.level c s.steps to) where
   there : IsSome (head_of s.merger reader).cell
   there = head_there aim s.merger reader c asked
 
@@ -134,27 +139,27 @@ module _ {aim : Aim} (s : State) (new : Held) (now : Spent) (to : ℕ) (reader :
   abbrev next : Merger
   next = with_head s.merger reader (head_at ((head_of s.merger reader).at + 1))
 
-  keeps : (buffer : Buffer) → KeepsBlocks aim.level aim.slot buffer s.spent.lasts now.lasts
-  keeps buffer = subst (λ (x : ℕ). KeepsBlocks aim.level x buffer s.spent.lasts now.lasts) (sym r.slot_is) (e.keeps buffer)
+  keeps : (buffer : Buffer) → KeepsBlocks aim.level aim.slot buffer s.spent.lasts new.spent.lasts
+  keeps buffer = subst (λ (x : ℕ). KeepsBlocks aim.level x buffer s.spent.lasts new.spent.lasts) (sym r.slot_is) (e.keeps buffer)
 
   built : IsTelling s.held → AreFeedsTold s.held aim →
-      build_of new aim next ≡ steps key_cmp (part_of aim) (feed_cells s.held aim.own) (feed_cells s.held aim.incoming) (feed_keys s.held aim.sample) 1 (build_of s.held aim s.merger)
+      build_of new.held aim next ≡ steps key_cmp (part_of aim) (feed_cells s.held aim.own) (feed_cells s.held aim.incoming) (feed_keys s.held aim.sample) 1 (build_of s.held aim s.merger)
   built t h =
       sym (step_of_heads s.held aim s.merger (heads_of r) f h
       ∙ ap (λ (a : Action (List ℕ) Stamped). after a (build_of s.held aim s.merger)) (sym asked)
-      ∙ build_after s.held new aim s.merger reader (option_to_list (option_map as_cell c)) (e.done t))
+      ∙ build_after s.held new.held aim s.merger reader (option_to_list (option_map as_cell c)) (e.done t))
 
   consumed_one : consumed next ≡ consumed s.merger + 1
   consumed_one = consumed-with s.merger reader (head_at ((head_of s.merger reader).at + 1)) 1 refl
 
-  step_goes : Goes aim s (state new now next to) 1
+  step_goes : Goes aim s (state new next to) 1
   step_goes = record {
     ready = ready-stays e.grows (ready_by r (passed_heads reader (heads_of r) below));
     grows = e.grows;
     consumes = consumed_one;
     rises = λ other. rises-with s.merger reader (head_at ((head_of s.merger reader).at + 1)) (omega arith) other;
-    emits = emits (new.shadows aim.level).len (len_of aim s) (count_of c) (consumed next) (consumed s.merger) e.len_is (count_small c) consumed_one;
-    samples = sampled (new.shadows aim.level).len (len_of aim s) (count_of c) next.sample.at s.merger.sample.at e.len_is (sampled_one aim s.merger reader c asked);
+    emits = emits (new.held.shadows aim.level).len (len_of aim s) (count_of c) (consumed next) (consumed s.merger) e.len_is (count_small c) consumed_one;
+    samples = sampled (new.held.shadows aim.level).len (len_of aim s) (count_of c) next.sample.at s.merger.sample.at e.len_is (sampled_one aim s.merger reader c asked);
     builds = λ t h. built t h;
     told = λ t h. e.told t h;
     spends = e.spends;
@@ -171,19 +176,18 @@ module _ {aim : Aim} (s : State) (new : Held) (now : Spent) (to : ℕ) (reader :
       sampled : (n l k a b : ℕ) → n ≡ l + k → a ≤ b + k → l + a ≤ n + b
       sampled n l k a b e h = omega (arith, e, h)
 
-  pub took_step : Took aim s (state new now next to) 1
+  pub took_step : Took aim s (state new next to) 1
   took_step = record {
     goes = step_goes;
     ticks = ticks to s.steps (count_of c) (missing next) (missing s.merger) (missing_head (head_of s.merger reader).cell) e.ticks (missing-with s.merger reader (head_at ((head_of s.merger reader).at + 1))) (count_small c);
     reads = reads to s.steps (count_of c) (fetched aim next) (fetched aim s.merger) (fetched_of (feed_of aim reader) (head_at ((head_of s.merger reader).at + 1))) (fetched_of (feed_of aim reader) (head_of s.merger reader))
-        (new.shadows aim.level).len (len_of aim s) e.ticks (fetched-with aim s.merger reader (head_at ((head_of s.merger reader).at + 1))) (fetched_some (feed_of aim reader) (head_of s.merger reader) there) e.len_is;
-    turned = turned now.turned s.spent.turned _ _ _ e.turned_is
-        (left-kept s.held.fixed.doublings s.spent.lasts now.lasts aim next s.merger r keeps)
+        (new.held.shadows aim.level).len (len_of aim s) e.ticks (fetched-with aim s.merger reader (head_at ((head_of s.merger reader).at + 1))) (fetched_some (feed_of aim reader) (head_of s.merger reader) there) e.len_is;
+    turned = turned new.spent.turned s.spent.turned _ _ _ e.turned_is
+        (left-kept s.held.fixed.doublings s.spent.lasts new.spent.lasts aim next s.merger r keeps)
         (left-with aim s.merger s.held.fixed.doublings s.spent.lasts s.spent.lasts 0 0 reader (head_at ((head_of s.merger reader).at + 1))
         (let h = feed_left-next s.held.fixed.doublings s.spent.lasts reader (feed_of aim reader) (head_of s.merger reader).at below in omega (arith, h)) (λ buffer d. refl));
     written = e.written;
-    still = e.still;
-    grew = e.grew;
+    saved = e.saved;
     calm = e.calm;
   }
     where
@@ -201,8 +205,8 @@ module _ {aim : Aim} (s : State) (new : Held) (now : Spent) (to : ℕ) (reader :
       turned n o x y z e f h = omega (arith, e, f, h)
 
   -- the same, where the merger is named otherwise
-  pub took_step_as : (m : Merger) → m ≡ with_head s.merger reader (head_at ((head_of s.merger reader).at + 1)) → Took aim s (state new now m to) 1
-  took_step_as m k = subst (λ (x : Merger). Took aim s (state new now x to) 1) (sym k) took_step
+  pub took_step_as : (m : Merger) → m ≡ with_head s.merger reader (head_at ((head_of s.merger reader).at + 1)) → Took aim s (state new m to) 1
+  took_step_as m k = subst (λ (x : Merger). Took aim s (state new x to) 1) (sym k) took_step
 
 -- ---- a step that was refused
 
@@ -217,9 +221,9 @@ emits_some : (aim : Aim) (m : Merger) (head : runs.Head) (c : Option Cell) → I
 emits_some aim m head None h e = absurd (true≢false (sym h))
 emits_some aim m head (Some c) h e = subst Emits e tt
 
-module _ {aim : Aim} (s : State) (new : Held) (now : Spent) (to : ℕ) (reader : Reader) (c : Option Cell) (fault : PushFault) (r : IsReady s.held aim s.merger) (f : AreFetched aim s.merger)
-    (asked : Take (as_head reader) (option_map as_cell c) ≡ next_action aim s.merger) (e : Unpushed s.held new s.spent now aim.level c s.steps to fault) where
-  refused_goes : Goes aim s (state new now s.merger to) 0
+module _ {aim : Aim} (s : MergeState) (new : State) (to : ℕ) (reader : Reader) (c : Option Cell) (fault : PushFault) (r : IsReady s.held aim s.merger) (f : AreFetched aim s.merger)
+    (asked : Take (as_head reader) (option_map as_cell c) ≡ next_action aim s.merger) (e : Unpushed (object_of s) new aim.level c s.steps to fault) where
+  refused_goes : Goes aim s (state new s.merger to) 0
   refused_goes = record {
     ready = ready-stays e.grows r;
     grows = e.grows;
@@ -230,13 +234,13 @@ module _ {aim : Aim} (s : State) (new : Held) (now : Spent) (to : ℕ) (reader :
     builds = λ _ _. ap (λ (l : List LawCell). record { own = s.merger.own.at; incoming = s.merger.incoming.at; sampled = s.merger.sample.at; done = l }) e.done;
     told = λ _ h. e.told h;
     spends = e.spends;
-    lasts = λ buffer _. subst (λ (x : ℕ). KeepsBlocks aim.level x buffer s.spent.lasts now.lasts) (sym r.slot_is) (e.keeps buffer);
+    lasts = λ buffer _. subst (λ (x : ℕ). KeepsBlocks aim.level x buffer s.spent.lasts new.spent.lasts) (sym r.slot_is) (e.keeps buffer);
   }
 
-  by_fault : (fault : PushFault) → PushFailed (len_of aim s) s.spent.faults now.faults aim.level s.steps to fault →
+  by_fault : (fault : PushFault) → PushFailed (len_of aim s) s.spent.faults new.spent.faults aim.level s.steps to fault →
       (to ≤ s.steps + 1) × (len_of aim s ≤ slot_size aim.level → to + len_of aim s ≤ s.steps + slot_size aim.level)
-      × StepCause aim s.spent.faults (state new now s.merger to) (step_of_push fault) × StepCalm s.spent.faults now.faults (step_of_push fault)
-      × (to + len_of aim s ≤ s.steps + ((new.shadows aim.level).len + failed_push (step_of_push fault)))
+      × StepCause aim s.spent.faults (state new s.merger to) (step_of_push fault) × StepCalm s.spent.faults new.spent.faults (step_of_push fault)
+      × (to + len_of aim s ≤ s.steps + ((new.held.shadows aim.level).len + failed_push (step_of_push fault)))
   by_fault push.Device h = (omega (arith, h.2), λ l. omega (arith, h.0, h.2), h.1, tt, omega (arith, h.2, e.len_is))
   by_fault (push.Overfull number) h = (
     omega (arith, h.3),
@@ -246,7 +250,7 @@ module _ {aim : Aim} (s : State) (new : Held) (now : Spent) (to : ℕ) (reader :
     omega (arith, h.3, e.len_is),
   )
 
-  pub refused_step : Refused aim s (state new now s.merger to) 0 (step_of_push fault)
+  pub refused_step : Refused aim s (state new s.merger to) 0 (step_of_push fault)
   refused_step =
       let b = by_fault fault e.cause in
       let small : to ≤ s.steps + 1 = b.0 in
@@ -254,8 +258,8 @@ module _ {aim : Aim} (s : State) (new : Held) (now : Spent) (to : ℕ) (reader :
         goes = refused_goes;
         ticks = omega (arith, small);
         reads = λ l. room to s.steps (fetched aim s.merger) (read_len aim.own + read_len aim.incoming + read_len aim.sample) (len_of aim s) (slot_size aim.level) (all_read (heads_of r)) (b.1 l);
-        pushes = room to s.steps (fetched aim s.merger) (read_len aim.own + read_len aim.incoming + read_len aim.sample) (len_of aim s) ((new.shadows aim.level).len + failed_push (step_of_push fault)) (all_read (heads_of r)) b.4;
-        written = written now.written s.spent.written (len_of aim s) (new.shadows aim.level).len (8 * 2 ^ s.held.fixed.doublings) e.written e.len_is;
+        pushes = room to s.steps (fetched aim s.merger) (read_len aim.own + read_len aim.incoming + read_len aim.sample) (len_of aim s) ((new.held.shadows aim.level).len + failed_push (step_of_push fault)) (all_read (heads_of r)) b.4;
+        written = written new.spent.written s.spent.written (len_of aim s) (new.held.shadows aim.level).len (span s.held) e.written e.len_is;
         cause = b.2;
         calm = b.3;
       }

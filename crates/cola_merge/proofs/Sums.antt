@@ -10,15 +10,14 @@ use Rattle.cola_cell.specs.declared.sink.Shadow.{Shadow}
 use Rattle.cola_cell.specs.declared.fault.StepFault.{StepFault}
 use Rattle.cola_cell.specs.declared.fault.StepFault.TheVariants.{Device, BadCell, Overfull}
 use Rattle.cola_cell.specs.Places.{slot_size}
-use Rattle.cola_cell.specs.Held.{Fixed, LawCell, Stamped, IsTelling}
+use Rattle.cola_cell.specs.Held.{Fixed, LawCell, Stamped, IsTelling, span}
 use Rattle.cola_cell.specs.Spent.{Spent}
 use Rattle.cola_cell.proofs.RunLemmas.{telling_stays}
 use Rattle.cola_merge.specs.declared.aims.Aim.{Aim}
 use Rattle.cola_cell.specs.Order.{key_cmp}
 use Rattle.cola_merge.specs.Feeds.{part_of, read_len, feed_cells, feed_keys}
 use Rattle.cola_merge.specs.Heads.{consumed, IsReady, missing, fetched, AreFeedsTold, build_of}
-use Rattle.cola_merge.specs.Blocks.{blocks_left}
-use Rattle.cola_merge.specs.States.{Spends, State, len_of, Goes, Took, Refused, StepCause, StepCalm, failed_push}
+use Rattle.cola_merge.specs.States.{Spends, MergeState, len_of, blocks_in_all, Goes, Took, Refused, StepCause, StepCalm, failed_push}
 use Rattle.cola_merge.proofs.Kept.{grows_none, grows_then, feed_cells-stay, feeds_told-stay}
 use Rattle.std.proofs.Common.{map}
 
@@ -55,7 +54,7 @@ spends_then {a} {b} {c} {i} {j} {k} g h = record {
 
 -- ---- steps
 
-pub goes_none : {aim : Aim} (s : State) → IsReady s.held aim s.merger → Goes aim s s 0
+pub goes_none : {aim : Aim} (s : MergeState) → IsReady s.held aim s.merger → Goes aim s s 0
 goes_none {aim} s r = record {
   ready = r;
   grows = grows_none s.held aim.level;
@@ -78,7 +77,7 @@ under a b c x y z e f = omega (arith, e, f)
 over : (a b c x y z : ℕ) → a + y ≤ b + x → b + z ≤ c + y → a + z ≤ c + x
 over a b c x y z e f = omega (arith, e, f)
 
-builds_then : {aim : Aim} {s t u : State} {m n : ℕ} → (g : Goes aim s t m) (h : Goes aim t u n) → IsReady s.held aim s.merger → IsTelling s.held → (f : AreFeedsTold s.held aim) →
+builds_then : {aim : Aim} {s t u : MergeState} {m n : ℕ} → (g : Goes aim s t m) (h : Goes aim t u n) → IsReady s.held aim s.merger → IsTelling s.held → (f : AreFeedsTold s.held aim) →
     build_of u.held aim u.merger ≡ steps key_cmp (part_of aim) (feed_cells s.held aim.own) (feed_cells s.held aim.incoming) (feed_keys s.held aim.sample) (m + n) (build_of s.held aim s.merger)
 builds_then {aim} {s} {t} {u} {m} {n} g h r tells f =
     let own : List LawCell = feed_cells s.held aim.own in
@@ -93,7 +92,7 @@ builds_then {aim} {s} {t} {u} {m} {n} g h r tells f =
     ∙ ap (λ (p : Build (List ℕ) Stamped). steps key_cmp (part_of aim) own incoming keys n p) first
     ∙ sym (steps-add key_cmp (part_of aim) own incoming keys m n (build_of s.held aim s.merger))
 
-pub goes_then : {aim : Aim} {s t u : State} {m n : ℕ} → IsReady s.held aim s.merger → Goes aim s t m → Goes aim t u n → Goes aim s u (m + n)
+pub goes_then : {aim : Aim} {s t u : MergeState} {m n : ℕ} → IsReady s.held aim s.merger → Goes aim s t m → Goes aim t u n → Goes aim s u (m + n)
 goes_then {aim} {s} {t} {u} {m} {n} r g h = record {
   ready = h.ready;
   grows = grows_then g.grows h.grows;
@@ -107,15 +106,14 @@ goes_then {aim} {s} {t} {u} {m} {n} r g h = record {
   lasts = λ buffer b l q k d. h.lasts buffer b l q k d ∙ g.lasts buffer b l q k d;
 }
 
-pub took_none : {aim : Aim} (s : State) → IsReady s.held aim s.merger → Took aim s s 0
+pub took_none : {aim : Aim} (s : MergeState) → IsReady s.held aim s.merger → Took aim s s 0
 took_none {aim} s r = record {
   goes = goes_none s r;
   ticks = omega arith;
   reads = omega arith;
   turned = omega arith;
   written = omega arith;
-  still = λ _. refl;
-  grew = λ h. absurd (omega (arith, h));
+  saved = record { still = λ _. refl; grew = λ h. absurd (omega (arith, h)) };
   calm = refl;
 }
 
@@ -134,33 +132,40 @@ grew_then span x y z t u h k l same first second = elim (eqb_tells z y) [
   | inr e ↦ second (let f : z ≢ y = e.1 in omega (arith, k, f))
 ]
 
-pub took_then : {aim : Aim} {s t u : State} {m n : ℕ} → IsReady s.held aim s.merger → Took aim s t m → Took aim t u n → Took aim s u (m + n)
+-- an object on which blocks stay as large
+took_by : {aim : Aim} {s t u : MergeState} {m n : ℕ} → Goes aim s t m → Took aim t u n →
+    (blocks_in_all s.held.fixed.doublings aim u ≤ blocks_in_all s.held.fixed.doublings aim t)
+    × (u.spent.written + len_of aim t / span s.held ≤ t.spent.written + len_of aim u / span s.held)
+    × (len_of aim t < len_of aim u → (u.held.shadows aim.level).saved ≡ (len_of aim u % span s.held == 0))
+took_by {aim} {s} {t} {u} g h =
+    subst (λ (f : Fixed). (blocks_in_all f.doublings aim u ≤ blocks_in_all f.doublings aim t)
+    × (u.spent.written + len_of aim t / (8 * 2 ^ f.doublings) ≤ t.spent.written + len_of aim u / (8 * 2 ^ f.doublings))
+    × (len_of aim t < len_of aim u → (u.held.shadows aim.level).saved ≡ (len_of aim u % (8 * 2 ^ f.doublings) == 0)))
+    g.grows.around.fixed_is (h.turned, h.written, h.saved.grew)
+
+pub took_then : {aim : Aim} {s t u : MergeState} {m n : ℕ} → IsReady s.held aim s.merger → Took aim s t m → Took aim t u n → Took aim s u (m + n)
 took_then {aim} {s} {t} {u} {m} {n} r g h =
-    let e : t.held.fixed ≡ s.held.fixed = g.goes.grows.around.fixed_is in
-    let turned : u.spent.turned + blocks_left s.held.fixed.doublings u.spent.lasts aim u.merger ≤ t.spent.turned + blocks_left s.held.fixed.doublings t.spent.lasts aim t.merger =
-    subst (λ (f : Fixed). u.spent.turned + blocks_left f.doublings u.spent.lasts aim u.merger ≤ t.spent.turned + blocks_left f.doublings t.spent.lasts aim t.merger) e h.turned in
-    let written : u.spent.written + len_of aim t / (8 * 2 ^ s.held.fixed.doublings) ≤ t.spent.written + len_of aim u / (8 * 2 ^ s.held.fixed.doublings) =
-    subst (λ (f : Fixed). u.spent.written + len_of aim t / (8 * 2 ^ f.doublings) ≤ t.spent.written + len_of aim u / (8 * 2 ^ f.doublings)) e h.written in
-    let grew : len_of aim t < len_of aim u → (u.held.shadows aim.level).saved ≡ (len_of aim u % (8 * 2 ^ s.held.fixed.doublings) == 0) =
-    subst (λ (f : Fixed). len_of aim t < len_of aim u → (u.held.shadows aim.level).saved ≡ (len_of aim u % (8 * 2 ^ f.doublings) == 0)) e h.grew in
+    let b = took_by g.goes h in
     record {
       goes = goes_then r g.goes h.goes;
       ticks = twice s.steps t.steps u.steps (missing s.merger) (missing t.merger) (missing u.merger) m n g.ticks h.ticks;
       reads = sums s.steps t.steps u.steps (fetched aim s.merger) (fetched aim t.merger) (fetched aim u.merger) (len_of aim s) (len_of aim t) (len_of aim u) g.reads h.reads;
-      turned = at_most _ _ _ g.turned turned;
-      written = under s.spent.written t.spent.written u.spent.written (len_of aim s / (8 * 2 ^ s.held.fixed.doublings)) (len_of aim t / (8 * 2 ^ s.held.fixed.doublings)) (len_of aim u / (8 * 2 ^ s.held.fixed.doublings)) g.written written;
-      still = λ f. both_still g.goes.grows.len_rises h.goes.grows.len_rises f;
-      grew = λ l. grew_then (8 * 2 ^ s.held.fixed.doublings) (len_of aim s) (len_of aim t) (len_of aim u) (t.held.shadows aim.level) (u.held.shadows aim.level)
-          g.goes.grows.len_rises h.goes.grows.len_rises l h.still g.grew grew;
+      turned = at_most _ _ _ g.turned b.0;
+      written = under s.spent.written t.spent.written u.spent.written (len_of aim s / span s.held) (len_of aim t / span s.held) (len_of aim u / span s.held) g.written b.1;
+      saved = record {
+        still = λ f. both_still g.goes.grows.len_rises h.goes.grows.len_rises f;
+        grew = λ l. grew_then (span s.held) (len_of aim s) (len_of aim t) (len_of aim u) (t.held.shadows aim.level) (u.held.shadows aim.level)
+            g.goes.grows.len_rises h.goes.grows.len_rises l h.saved.still g.saved.grew b.2;
+      };
       calm = h.calm ∙ g.calm;
     }
   where
     both_still : len_of aim s ≤ len_of aim t → len_of aim t ≤ len_of aim u → len_of aim u ≡ len_of aim s → u.held.shadows aim.level ≡ s.held.shadows aim.level
-    both_still a b f = h.still (omega (arith, a, b, f)) ∙ g.still (omega (arith, a, b, f))
+    both_still a b f = h.saved.still (omega (arith, a, b, f)) ∙ g.saved.still (omega (arith, a, b, f))
 
 -- ---- a refused step
 
-pub cause_then : (aim : Aim) (before between : ℕ) (t : State) (fault : StepFault) → between ≡ before → StepCause aim between t fault → StepCause aim before t fault
+pub cause_then : (aim : Aim) (before between : ℕ) (t : MergeState) (fault : StepFault) → between ≡ before → StepCause aim between t fault → StepCause aim before t fault
 cause_then aim before between t Device e c = subst (λ (x : ℕ). Rose x t.spent.faults) e c
 cause_then aim before between t (BadCell number) e c = c
 cause_then aim before between t (Overfull level) e c = c
@@ -179,18 +184,17 @@ all_read a b c p q x y r z e f = omega (arith, e, f)
 under_more : (a b c x y z : ℕ) → b + x ≤ a + y → c + y ≤ b + (z + 1) → c + x ≤ a + (z + 1)
 under_more a b c x y z e f = omega (arith, e, f)
 
-pub refused_then : {aim : Aim} {s t u : State} {m n : ℕ} {fault : StepFault} → IsReady s.held aim s.merger → Took aim s t m → Refused aim t u n fault → Refused aim s u (m + n) fault
+pub refused_then : {aim : Aim} {s t u : MergeState} {m n : ℕ} {fault : StepFault} → IsReady s.held aim s.merger → Took aim s t m → Refused aim t u n fault → Refused aim s u (m + n) fault
 refused_then {aim} {s} {t} {u} {m} {n} {fault} r g h =
     let e : t.held.fixed ≡ s.held.fixed = g.goes.grows.around.fixed_is in
-    let all : ℕ = read_len aim.own + read_len aim.incoming + read_len aim.sample in
-    let written : u.spent.written + len_of aim t / (8 * 2 ^ s.held.fixed.doublings) ≤ t.spent.written + (len_of aim u / (8 * 2 ^ s.held.fixed.doublings) + 1) =
+    let written : u.spent.written + len_of aim t / span s.held ≤ t.spent.written + (len_of aim u / span s.held + 1) =
     subst (λ (f : Fixed). u.spent.written + len_of aim t / (8 * 2 ^ f.doublings) ≤ t.spent.written + (len_of aim u / (8 * 2 ^ f.doublings) + 1)) e h.written in
     record {
       goes = goes_then r g.goes h.goes;
       ticks = once_more s.steps t.steps u.steps (missing s.merger) (missing t.merger) (missing u.merger) m n g.ticks h.ticks;
       reads = λ l. all_read s.steps t.steps u.steps (fetched aim s.merger) (fetched aim t.merger) (len_of aim s) (len_of aim t) (read_len aim.own + read_len aim.incoming + read_len aim.sample) (slot_size aim.level) g.reads (h.reads (g.goes.grows.len_fits l));
       pushes = all_read s.steps t.steps u.steps (fetched aim s.merger) (fetched aim t.merger) (len_of aim s) (len_of aim t) (read_len aim.own + read_len aim.incoming + read_len aim.sample) (len_of aim u + failed_push fault) g.reads h.pushes;
-      written = under_more s.spent.written t.spent.written u.spent.written (len_of aim s / (8 * 2 ^ s.held.fixed.doublings)) (len_of aim t / (8 * 2 ^ s.held.fixed.doublings)) (len_of aim u / (8 * 2 ^ s.held.fixed.doublings)) g.written written;
+      written = under_more s.spent.written t.spent.written u.spent.written (len_of aim s / span s.held) (len_of aim t / span s.held) (len_of aim u / span s.held) g.written written;
       cause = cause_then aim s.spent.faults t.spent.faults u fault g.calm h.cause;
       calm = calm_then s.spent.faults t.spent.faults u.spent.faults fault g.calm h.calm;
     }

@@ -14,11 +14,11 @@ use Rattle.cola_cell.specs.Listed.{IsRun}
 use Rattle.cola_cell.proofs.RunLemmas.{run_stays}
 use Rattle.cola_merge.specs.declared.aims.Feed.TheVariants as feed
 use Rattle.cola_merge.specs.declared.aims.Aim.{Aim}
-use Rattle.cola_told.specs.Cells.{cell_at, cells, run_cells}
+use Rattle.cola_cell.specs.ToldCells.{cell_at, cells, run_cells}
 use Rattle.cola_merge.specs.Feeds.{feed_keys}
 use Rattle.cola_merge.specs.Heads.{fresh, build_of}
 use Rattle.cola_merge.specs.States.{Grows}
-use Rattle.cola_told.proofs.CellLists.{get-cells, past-cells}
+use Rattle.cola_cell.proofs.CellLists.{get-cells, past-cells}
 
 -- ---- the sample
 

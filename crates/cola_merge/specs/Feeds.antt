@@ -14,7 +14,7 @@ use Rattle.cola_cell.specs.Spent.{IsBad}
 use Rattle.cola_merge.specs.declared.aims.Feed.{Feed}
 use Rattle.cola_merge.specs.declared.aims.Feed.TheVariants as feed
 use Rattle.cola_merge.specs.declared.aims.Aim.{Aim}
-use Rattle.cola_told.specs.Cells.{cells, AreTold}
+use Rattle.cola_cell.specs.ToldCells.{cells, AreTold}
 
 -- only the young items are taken
 abbrev pub takes_young : clock.Part → Bool

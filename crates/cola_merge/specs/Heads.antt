@@ -11,7 +11,7 @@ use Rattle.cola_merge.specs.declared.aims.Feed.TheVariants as feed
 use Rattle.cola_merge.specs.declared.aims.Aim.{Aim}
 use Rattle.cola_merge.specs.Fetched.{Head}
 use Rattle.cola_merge.specs.declared.merging.Merger.{Merger}
-use Rattle.cola_told.specs.Cells.{shadow_cells}
+use Rattle.cola_cell.specs.ToldCells.{shadow_cells}
 use Rattle.cola_merge.specs.Feeds.{feed_len, feed_spots, IsFeed, IsApart, IsFeedTold}
 use Rattle.std.specs.Prelude.{List}
 
@@ -22,6 +22,14 @@ fresh_head = record { at = 0; cell = None }
 -- a head behind so many consumed cells
 abbrev pub head_at : ℕ → Head
 head_at n = record { at = n; cell = None }
+
+-- a merger of these three heads
+abbrev pub heads : (own incoming sample : Head) → Merger
+heads own incoming sample = record { own = own; incoming = incoming; sample = sample }
+
+-- a merger behind so many consumed cells of each source
+abbrev pub merger_at : (own incoming sample : ℕ) → Merger
+merger_at own incoming sample = heads (head_at own) (head_at incoming) (head_at sample)
 
 -- a merger that has not begun
 abbrev pub fresh : Merger

@@ -1,5 +1,5 @@
 -- What a merge reads for its heads, and what it gives of the cells that are ahead.
-use Rattle.std.specs.Prelude.{◌≡◌, ℕ, ◌+◌, ◌<◌, ◌≤◌, ⊤, List, [], ◌∷◌, ◌++◌, length, drop, Option, Some, None, Result, Ok, Err}
+use Rattle.std.specs.Prelude.{◌≡◌, ℕ, ◌+◌, ◌<◌, ◌≤◌, ⊤, List, [], ◌∷◌, ◌++◌, length, drop, Option, Some, None, Result, Ok, Err, OnOk}
 use Rattle.std.specs.List.Sorted.{IsStrictlySortedBy}
 use Rattle.cola_runs.specs.Cells.{IsRising}
 use Rattle.cola_runs.specs.Weave.{relinked, unlinked, IsCut}
@@ -10,7 +10,7 @@ use Rattle.cola_cell.specs.declared.fault.ReadFault.{ReadFault}
 use Rattle.cola_cell.specs.Fault.{step_of_read}
 use Rattle.cola_cell.specs.Format.{CellFits}
 use Rattle.cola_cell.specs.Held.{Held, LawCell, as_cell}
-use Rattle.cola_cell.specs.Spent.{Buffer, Spent}
+use Rattle.cola_cell.specs.Spent.{Buffer, Spent, ReadCalm}
 use Rattle.cola_cell.specs.Order.{key_cmp}
 use Rattle.cola_merge.specs.declared.aims.Aim.{Aim}
 use Rattle.cola_merge.specs.declared.rules.Choice.{Choice}
@@ -18,8 +18,7 @@ use Rattle.cola_merge.specs.declared.merging.Merger.{Merger}
 use Rattle.cola_merge.specs.Feeds.{part_of, feed_cells, feed_keys}
 use Rattle.cola_merge.specs.Heads.{head_of, consumed, HasHeads, IsUsedUp, AreFetched, missing, fetched, AreFeedsTold}
 use Rattle.cola_merge.specs.Rules.{as_action, next_action, ChoiceSuits}
-use Rattle.cola_merge.specs.Blocks.{blocks_left}
-use Rattle.cola_merge.specs.States.{Spends, IsBeside, state, StepCause, StepCalm}
+use Rattle.cola_merge.specs.States.{MergeState, Spends, IsBeside, StepCause, StepCalm, TurnsWithin}
 use Rattle.cola_merge.specs.Advance.{cells_read}
 
 -- ---- what is ahead
@@ -68,79 +67,102 @@ given_cells (Err fault) = 0
 -- why it was refused: the count of faults rose, or the cell that a feed reads next is bad
 abbrev pub HasPullCause : Held → Aim → ℕ → Spent → Merger → ℕ → Result (Option Cell) ReadFault → Type 0
 HasPullCause held aim before now n to (Ok given) = ⊤
-HasPullCause held aim before now n to (Err fault) = StepCause aim before (state held now n to) (step_of_read fault)
+HasPullCause held aim before now n to (Err fault) = StepCause aim before (record { held = held; spent = now; merger = n; steps = to }) (step_of_read fault)
 
 -- one tick for each cell that was read of the feeds, and where it was refused one for that read, which is not the last that there is
 abbrev pub IsFrugal : Aim → Merger → Merger → ℕ → ℕ → Result (Option Cell) ReadFault → Type 0
 IsFrugal aim m n from to (Ok given) = to + fetched aim m ≤ from + fetched aim n
 IsFrugal aim m n from to (Err fault) = (to + fetched aim m ≤ from + (fetched aim n + 1)) × (fetched aim n < cells_read aim)
 
+-- what a call of `pull` leaves, from one state to another, by its answer
+pub record Pulls (aim : Aim) (s t : MergeState) (result : Result (Option Cell) ReadFault) : Type 0 where
+  -- it may be called again, and no cell changed
+  pub cells_stay : t.held ≡ s.held
+  pub heads : HasHeads s.held aim t.merger
+  pub lasts : (buffer : Buffer) → IsBeside aim buffer → t.spent.lasts buffer ≡ s.spent.lasts buffer
+  -- what it gave, and how far it went
+  pub gives : AreInOrder s.held aim → Gives s.held aim s.merger t.merger result
+  pub ends : IsEndedBy aim t.merger result
+  pub fits : FitsGiven s.held.fixed.format result
+  pub rises : (reader : Reader) → (head_of s.merger reader).at ≤ (head_of t.merger reader).at
+  pub consumes : consumed s.merger + given_cells result ≤ consumed t.merger
+  -- why it was refused
+  pub cause : HasPullCause s.held aim s.spent.faults t.spent t.merger t.steps result
+  pub calm : ReadCalm s.spent.faults t.spent.faults result
+  -- what it cost
+  pub ticks : IsFrugal aim s.merger t.merger s.steps t.steps result
+  pub spends : Spends s.spent t.spent s.steps t.steps
+  pub written : t.spent.written ≡ s.spent.written
+  pub turned : OnOk result (TurnsWithin aim s t)
+
 -- ---- how it goes there
 
 -- heads were read, and no source cell was consumed
-pub record Looks (held : Held) (aim : Aim) (old new : Spent) (m n : Merger) (from to : ℕ) : Type 0 where
-  pub at_is : (reader : Reader) → (head_of n reader).at ≡ (head_of m reader).at
-  pub heads : HasHeads held aim n
-  pub spends : Spends old new from to
-  pub written_is : new.written ≡ old.written
-  pub others_stay : (buffer : Buffer) → IsBeside aim buffer → new.lasts buffer ≡ old.lasts buffer
+pub record Looks (aim : Aim) (s t : MergeState) : Type 0 where
+  pub cells_stay : t.held ≡ s.held
+  pub at_is : (reader : Reader) → (head_of t.merger reader).at ≡ (head_of s.merger reader).at
+  pub heads : HasHeads s.held aim t.merger
+  pub spends : Spends s.spent t.spent s.steps t.steps
+  pub written_is : t.spent.written ≡ s.spent.written
+  pub others_stay : (buffer : Buffer) → IsBeside aim buffer →
+      t.spent.lasts buffer ≡ s.spent.lasts buffer
 
 -- heads that were not held were read
-pub record Looked (held : Held) (aim : Aim) (old new : Spent) (m n : Merger) (from to : ℕ) : Type 0 where
-  pub looks : Looks held aim old new m n from to
-  pub ticks : to + missing n ≤ from + missing m
-  pub reads : to + fetched aim m ≤ from + fetched aim n
-  pub turned : new.turned + blocks_left held.fixed.doublings new.lasts aim n ≤ old.turned + blocks_left held.fixed.doublings old.lasts aim m
-  pub calm : new.faults ≡ old.faults
+pub record Looked (aim : Aim) (s t : MergeState) : Type 0 where
+  pub looks : Looks aim s t
+  pub ticks : t.steps + missing t.merger ≤ s.steps + missing s.merger
+  pub reads : t.steps + fetched aim s.merger ≤ s.steps + fetched aim t.merger
+  pub turned : TurnsWithin aim s t
+  pub calm : t.spent.faults ≡ s.spent.faults
 
 -- the read of a head was refused, maybe after others
-pub record Unread (held : Held) (aim : Aim) (old new : Spent) (m n : Merger) (from to : ℕ) (fault : ReadFault) : Type 0 where
-  pub looks : Looks held aim old new m n from to
-  pub ticks : to + missing n ≤ from + missing m + 1
-  pub reads : to + fetched aim m ≤ from + (fetched aim n + 1)
-  pub left : fetched aim n < cells_read aim
-  pub cause : StepCause aim old.faults (state held new n to) (step_of_read fault)
-  pub calm : StepCalm old.faults new.faults (step_of_read fault)
+pub record Unread (aim : Aim) (s t : MergeState) (fault : ReadFault) : Type 0 where
+  pub looks : Looks aim s t
+  pub ticks : t.steps + missing t.merger ≤ s.steps + missing s.merger + 1
+  pub reads : t.steps + fetched aim s.merger ≤ s.steps + (fetched aim t.merger + 1)
+  pub left : fetched aim t.merger < cells_read aim
+  pub cause : StepCause aim s.spent.faults t (step_of_read fault)
+  pub calm : StepCalm s.spent.faults t.spent.faults (step_of_read fault)
 
 -- the rules were asked by the heads of all feeds that have cells left
-pub record Chosen (held : Held) (aim : Aim) (old new : Spent) (m n : Merger) (from to : ℕ) (choice : Option Choice) : Type 0 where
-  pub looked : Looked held aim old new m n from to
-  pub fetched : AreFetched aim n
-  pub asked : as_action n choice ≡ next_action aim n
-  pub suits : ChoiceSuits n choice
+pub record Chosen (aim : Aim) (s t : MergeState) (choice : Option Choice) : Type 0 where
+  pub looked : Looked aim s t
+  pub fetched : AreFetched aim t.merger
+  pub asked : as_action t.merger choice ≡ next_action aim t.merger
+  pub suits : ChoiceSuits t.merger choice
 
 -- what the next step is to do, or why a head was not read
-abbrev pub Next : Held → Aim → Spent → Spent → Merger → Merger → ℕ → ℕ → Result (Option Choice) ReadFault → Type 0
-Next held aim old new m n from to (Ok choice) = Chosen held aim old new m n from to choice
-Next held aim old new m n from to (Err fault) = Unread held aim old new m n from to fault
+abbrev pub Next : Aim → MergeState → MergeState → Result (Option Choice) ReadFault → Type 0
+Next aim s t (Ok choice) = Chosen aim s t choice
+Next aim s t (Err fault) = Unread aim s t fault
 
 -- source cells were consumed, and these cells given
-pub record Gave (held : Held) (aim : Aim) (old new : Spent) (m n : Merger) (from to : ℕ) (given : List LawCell) : Type 0 where
-  pub heads : HasHeads held aim n
-  pub rises : (reader : Reader) → (head_of m reader).at ≤ (head_of n reader).at
-  pub consumes : consumed m + length given ≤ consumed n
-  pub gives : AreInOrder held aim → ahead held aim m ≡ given ++ ahead held aim n
-  pub spends : Spends old new from to
-  pub written_is : new.written ≡ old.written
-  pub others_stay : (buffer : Buffer) → IsBeside aim buffer → new.lasts buffer ≡ old.lasts buffer
-  pub reads : to + fetched aim m ≤ from + fetched aim n
-  pub turned : new.turned + blocks_left held.fixed.doublings new.lasts aim n ≤ old.turned + blocks_left held.fixed.doublings old.lasts aim m
-  pub calm : new.faults ≡ old.faults
+pub record Gave (aim : Aim) (s t : MergeState) (given : List LawCell) : Type 0 where
+  pub cells_stay : t.held ≡ s.held
+  pub heads : HasHeads s.held aim t.merger
+  pub rises : (reader : Reader) → (head_of s.merger reader).at ≤ (head_of t.merger reader).at
+  pub consumes : consumed s.merger + length given ≤ consumed t.merger
+  pub gives : AreInOrder s.held aim → ahead s.held aim s.merger ≡ given ++ ahead s.held aim t.merger
+  pub spends : Spends s.spent t.spent s.steps t.steps
+  pub written_is : t.spent.written ≡ s.spent.written
+  pub others_stay : (buffer : Buffer) → IsBeside aim buffer →
+      t.spent.lasts buffer ≡ s.spent.lasts buffer
+  pub reads : t.steps + fetched aim s.merger ≤ s.steps + fetched aim t.merger
+  pub turned : TurnsWithin aim s t
+  pub calm : t.spent.faults ≡ s.spent.faults
 
 -- source cells were consumed that give none, and a head was not read
-pub record StopsAt (held : Held) (aim : Aim) (old new : Spent) (m n : Merger) (from to : ℕ) (fault : ReadFault) : Type 0 where
-  pub between : Spent
-  pub merger : Merger
-  pub ticked : ℕ
-  pub gave : Gave held aim old between m merger from ticked []
-  pub unread : Unread held aim between new merger n ticked to fault
+pub record StopsAt (aim : Aim) (s t : MergeState) (fault : ReadFault) : Type 0 where
+  pub between : MergeState
+  pub gave : Gave aim s between []
+  pub unread : Unread aim between t fault
 
 -- one cell was given; or none was left; or a head was not read
-abbrev pub Draws : Held → Aim → Spent → Spent → Merger → Merger → ℕ → ℕ → Result (Option Cell) ReadFault → Type 0
-Draws held aim old new m n from to (Ok (Some c)) = Gave held aim old new m n from to (as_cell c ∷ []) × CellFits held.fixed.format c
-Draws held aim old new m n from to (Ok None) = Gave held aim old new m n from to [] × IsUsedUp aim n
-Draws held aim old new m n from to (Err fault) = StopsAt held aim old new m n from to fault
+abbrev pub Draws : Aim → MergeState → MergeState → Result (Option Cell) ReadFault → Type 0
+Draws aim s t (Ok (Some c)) = Gave aim s t (as_cell c ∷ []) × CellFits s.held.fixed.format c
+Draws aim s t (Ok None) = Gave aim s t [] × IsUsedUp aim t.merger
+Draws aim s t (Err fault) = StopsAt aim s t fault
 
 -- a call that gives the next cell
-pub record Drawn (held : Held) (aim : Aim) (old new : Spent) (m n : Merger) (from to : ℕ) (result : Result (Option Cell) ReadFault) : Type 0 where
-  pub draws : Draws held aim old new m n from to result
+pub record Drawn (aim : Aim) (s t : MergeState) (result : Result (Option Cell) ReadFault) : Type 0 where
+  pub draws : Draws aim s t result

@@ -80,11 +80,11 @@ impl Head {
         work: &mut W,
         steps: &mut Steps<L>,
     ) -> Result<(), ReadFault>
-        requires feed { IsFeed (W.held work.old).fixed feed.now }
-        requires head { IsHead (W.held work.old) feed.now self.old }
-        ensures cells_stay { W.held work.new ≡ W.held work.old }
+        requires feed { IsFeed (W.state work.old).held.fixed feed.now }
+        requires head { IsHead (W.state work.old).held feed.now self.old }
         ensures kept { W.kept work.new ≡ W.kept work.old }
-        ensures fetch { Fetch (W.held work.old) (W.spent work.old) (W.spent work.new) reader feed.now self.old self.new steps.old steps.new result }
+        ensures fetch { Fetch (W.state work.old) (W.state work.new) reader feed.now self.old self.new
+            steps.old steps.new result }
     {
         if self.is_held || self.at >= feed.len() {
             return Ok(());

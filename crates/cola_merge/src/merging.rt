@@ -1,5 +1,5 @@
 //! The merger.
-ghost use Rattle.std.specs.Prelude.{◌≡◌, ◌+◌, ◌*◌, ◌/◌, ◌<◌, ◌≤◌, ◌^◌, ◌↔◌, IsTrue, OnOk, Some, length};
+ghost use Rattle.std.specs.Prelude.{◌≡◌, ◌+◌, ◌*◌, ◌<◌, ◌≤◌, ◌^◌, ◌↔◌, IsTrue, Some};
 ghost use Rattle.cola_cell.specs.declared.format.Format.{Format};
 ghost use Rattle.cola_merge.specs.Rules.{HeadFits, Suits, emitted_of};
 ghost use Rattle.cola_merge.specs.States.{Emission};
@@ -28,13 +28,14 @@ fn emit<W: CellSink, L: Ledger>(
     pass: Option<Pass>,
     steps: &mut Steps<L>,
 ) -> Result<(), PushFault>
-    requires level_in { level < (W.CellSource.held work.old).fixed.levels }
-    requires in_slot { slot ≡ ((W.CellSource.held work.old).shadows level).slot }
+    requires level_in { level < (W.CellSource.state work.old).held.fixed.levels }
+    requires in_slot { slot ≡ ((W.CellSource.state work.old).held.shadows level).slot }
     requires slot_in { slot < 2 }
-    requires fits { HeadFits (W.CellSource.held work.old).fixed.format head.now.cell }
+    requires fits { HeadFits (W.CellSource.state work.old).held.fixed.format head.now.cell }
     requires suits { Suits pass head.now.cell }
     ensures kept { W.CellSource.kept work.new ≡ W.CellSource.kept work.old }
-    ensures emission { Emission (W.CellSource.held work.old) (W.CellSource.held work.new) (W.CellSource.spent work.old) (W.CellSource.spent work.new) level (emitted_of pass head.now.cell) steps.old steps.new result }
+    ensures emission { Emission (W.CellSource.state work.old) (W.CellSource.state work.new) level
+        (emitted_of pass head.now.cell) steps.old steps.new result }
 {
     match (pass, head.cell()) {
         (Some(pass), Some(cell)) => work.push_as(level, slot, cell, pass, steps),
@@ -53,17 +54,11 @@ fn given(head: &Head, pass: Option<Pass>) -> Option<Cell>
 }
 
 impl Merger {
-    ghost use Rattle.cola_merge.specs.Heads.{fresh, head_at, head_of, with_head, consumed, HasHeads, IsReady, AreFetched, IsUsedUp};
-    ghost use Rattle.cola_merge.specs.Rules.{as_action, next_action, choice_cell, ChoiceSuits};
-    ghost use Rattle.cola_merge.specs.States.{state, Stepped, Taken, HasRun, Grows, IsBeside, KeepsBlocks, Spends};
-    ghost use Rattle.cola_told.specs.Cells.{IsShadowTold};
-    ghost use Rattle.cola_merge.specs.Blocks.{blocks_left};
-    ghost use Rattle.cola_merge.specs.Advance.{Consumes, IsGoing, Gone, IsWhole, HasStepCause, IsCalm, IsDeviceFault, whole_run, IsThrifty, IsSavedByBlocks};
-    ghost use Rattle.cola_merge.specs.Pulls.{Next, Drawn, AreInOrder, Gives, IsEndedBy, FitsGiven, given_cells, HasPullCause, IsFrugal};
-    ghost use Rattle.cola_cell.specs.declared.cell.Reader.{Reader};
-    ghost use Rattle.cola_cell.specs.Places.{slot_size};
-    ghost use Rattle.cola_cell.specs.Held.{IsTelling, span};
-    ghost use Rattle.cola_cell.specs.Spent.{Buffer, ReadCalm};
+    ghost use Rattle.cola_merge.specs.Heads.{fresh, head_at, merger_at, head_of, with_head, HasHeads, IsReady, AreFetched, IsUsedUp};
+    ghost use Rattle.cola_merge.specs.Rules.{as_action, next_action, ChoiceSuits};
+    ghost use Rattle.cola_merge.specs.States.{state, Stepped, Taken, TakesQuota};
+    ghost use Rattle.cola_merge.specs.Advance.{Advances};
+    ghost use Rattle.cola_merge.specs.Pulls.{Next, Drawn, Pulls};
 
     /// A merge that has consumed nothing.
     pub fn begin() -> Merger
@@ -74,7 +69,7 @@ impl Merger {
 
     /// A merge that has consumed so many cells of its own run, of the incoming one and of the sample.
     pub fn resume(own: u32, incoming: u32, sample: u32) -> Merger
-        ensures { result ≡ record { own = head_at own; incoming = head_at incoming; sample = head_at sample } }
+        ensures { result ≡ merger_at own incoming sample }
     {
         Merger {
             own: Head::behind(own),
@@ -127,40 +122,10 @@ impl Merger {
         quota: u32,
         steps: &mut Steps<L>,
     ) -> Result<Progress, StepFault>
-        requires { IsReady (W.CellSource.held work.old) aim.now self.old }
-        // it may be called again, and nothing changed but the end of the shadow
-        ensures ready { IsReady (W.CellSource.held work.new) aim.now self.new }
+        requires { IsReady (W.CellSource.state work.old).held aim.now self.old }
         ensures kept { W.CellSource.kept work.new ≡ W.CellSource.kept work.old }
-        ensures frames { Grows (W.CellSource.held work.old) (W.CellSource.held work.new) aim.now.level }
-        ensures lasts { (buffer : Buffer) → IsBeside aim.now buffer →
-            KeepsBlocks aim.now.level aim.now.slot buffer (W.CellSource.spent work.old).lasts (W.CellSource.spent work.new).lasts }
-        ensures saved { OnOk result (IsSavedByBlocks (W.CellSource.held work.old) (W.CellSource.held work.new) aim.now.level) }
-        // how far it went
-        ensures consumes { Consumes aim.now self.old self.new quota result }
-        ensures rises { (reader : Reader) → (head_of self.old reader).at ≤ (head_of self.new reader).at }
-        ensures emits { ((W.CellSource.held work.new).shadows aim.now.level).len + consumed self.old
-            ≤ ((W.CellSource.held work.old).shadows aim.now.level).len + consumed self.new }
-        ensures samples { ((W.CellSource.held work.old).shadows aim.now.level).len + self.new.sample.at
-            ≤ ((W.CellSource.held work.new).shadows aim.now.level).len + self.old.sample.at }
-        ensures told { IsTelling (W.CellSource.held work.old) → IsShadowTold (W.CellSource.held work.old) aim.now.level → IsShadowTold (W.CellSource.held work.new) aim.now.level }
-        ensures cut { IsGoing (W.CellSource.held work.old) aim.now self.old →
-            Gone (W.CellSource.held work.old) (W.CellSource.held work.new) aim.now self.old self.new quota result }
-        ensures whole { IsGoing (W.CellSource.held work.old) aim.now self.old → IsWhole (W.CellSource.held work.old) (W.CellSource.held work.new) aim.now result }
-        // why it was refused
-        ensures cause { HasStepCause aim.now (W.CellSource.spent work.old).faults
-            (state (W.CellSource.held work.new) (W.CellSource.spent work.new) self.new steps.new) result }
-        ensures calm { IsCalm (W.CellSource.spent work.old).faults (W.CellSource.spent work.new).faults result }
-        ensures only { IsGoing (W.CellSource.held work.old) aim.now self.old →
-            length (whole_run (W.CellSource.held work.old) aim.now) ≤ slot_size aim.now.level → IsDeviceFault result }
-        // what it cost
-        ensures ticks { steps.new ≤ steps.old + (3 + 2 * quota) }
-        ensures begins { self.old ≡ fresh → IsThrifty aim.now steps.old steps.new
-            ((W.CellSource.held work.old).shadows aim.now.level).len ((W.CellSource.held work.new).shadows aim.now.level).len result }
-        ensures spends { Spends (W.CellSource.spent work.old) (W.CellSource.spent work.new) steps.old steps.new }
-        ensures turned { OnOk result ((W.CellSource.spent work.new).turned + blocks_left (W.CellSource.held work.old).fixed.doublings (W.CellSource.spent work.new).lasts aim.now self.new
-            ≤ (W.CellSource.spent work.old).turned + blocks_left (W.CellSource.held work.old).fixed.doublings (W.CellSource.spent work.old).lasts aim.now self.old) }
-        ensures written { OnOk result ((W.CellSource.spent work.new).written + ((W.CellSource.held work.old).shadows aim.now.level).len / span (W.CellSource.held work.old)
-            ≤ (W.CellSource.spent work.old).written + ((W.CellSource.held work.new).shadows aim.now.level).len / span (W.CellSource.held work.old)) }
+        ensures advances { Advances aim.now (state (W.CellSource.state work.old) self.old steps.old)
+            (state (W.CellSource.state work.new) self.new steps.new) quota result }
     {
         // every object has at most 23 levels, and its shadows stand in slot 0 or 1 and fit it
         let _ = work.ticked();
@@ -179,27 +144,10 @@ impl Merger {
         aim: &Aim,
         steps: &mut Steps<L>,
     ) -> Result<Option<Cell>, ReadFault>
-        requires { HasHeads (W.held work.old) aim.now self.old }
-        // it may be called again, and no cell changed
-        ensures cells_stay { W.held work.new ≡ W.held work.old }
+        requires { HasHeads (W.state work.old).held aim.now self.old }
         ensures kept { W.kept work.new ≡ W.kept work.old }
-        ensures heads { HasHeads (W.held work.old) aim.now self.new }
-        ensures lasts { (buffer : Buffer) → IsBeside aim.now buffer → (W.spent work.new).lasts buffer ≡ (W.spent work.old).lasts buffer }
-        // what it gave, and how far it went
-        ensures gives { AreInOrder (W.held work.old) aim.now → Gives (W.held work.old) aim.now self.old self.new result }
-        ensures ends { IsEndedBy aim.now self.new result }
-        ensures fits { FitsGiven (W.held work.old).fixed.format result }
-        ensures rises { (reader : Reader) → (head_of self.old reader).at ≤ (head_of self.new reader).at }
-        ensures consumes { consumed self.old + given_cells result ≤ consumed self.new }
-        // why it was refused
-        ensures cause { HasPullCause (W.held work.old) aim.now (W.spent work.old).faults (W.spent work.new) self.new steps.new result }
-        ensures calm { ReadCalm (W.spent work.old).faults (W.spent work.new).faults result }
-        // what it cost
-        ensures ticks { IsFrugal aim.now self.old self.new steps.old steps.new result }
-        ensures spends { Spends (W.spent work.old) (W.spent work.new) steps.old steps.new }
-        ensures written { (W.spent work.new).written ≡ (W.spent work.old).written }
-        ensures turned { OnOk result ((W.spent work.new).turned + blocks_left (W.held work.old).fixed.doublings (W.spent work.new).lasts aim.now self.new
-            ≤ (W.spent work.old).turned + blocks_left (W.held work.old).fixed.doublings (W.spent work.old).lasts aim.now self.old) }
+        ensures pulls { Pulls aim.now (state (W.state work.old) self.old steps.old)
+            (state (W.state work.new) self.new steps.new) result }
     {
         // every object has at most 23 levels
         let _ = work.ticked();
@@ -246,11 +194,11 @@ impl Merger {
         aim: &Aim,
         steps: &mut Steps<L>,
     ) -> Result<Option<Choice>, ReadFault>
-        requires heads { HasHeads (W.held work.old) aim.now self.old }
-        requires levels { (W.held work.old).fixed.levels ≤ 23 }
-        ensures cells_stay { W.held work.new ≡ W.held work.old }
+        requires heads { HasHeads (W.state work.old).held aim.now self.old }
+        requires levels { (W.state work.old).held.fixed.levels ≤ 23 }
         ensures kept { W.kept work.new ≡ W.kept work.old }
-        ensures next { Next (W.held work.old) aim.now (W.spent work.old) (W.spent work.new) self.old self.new steps.old steps.new result }
+        ensures next { Next aim.now (state (W.state work.old) self.old steps.old)
+            (state (W.state work.new) self.new steps.new) result }
     {
         self.own.fetch(Reader::Own, &aim.own, work, steps)?;
         self.incoming
@@ -267,14 +215,15 @@ impl Merger {
         choice: &Choice,
         steps: &mut Steps<L>,
     ) -> Result<(), PushFault>
-        requires ready { IsReady (W.CellSource.held work.old) aim.now self.old }
+        requires ready { IsReady (W.CellSource.state work.old).held aim.now self.old }
         requires fetched { AreFetched aim.now self.old }
         requires asked { as_action self.old (Some choice.now) ≡ next_action aim.now self.old }
         requires suits { ChoiceSuits self.old (Some choice.now) }
-        requires levels { (W.CellSource.held work.old).fixed.levels ≤ 23 }
-        requires slot_in { ((W.CellSource.held work.old).shadows aim.now.level).slot < 2 }
+        requires levels { (W.CellSource.state work.old).held.fixed.levels ≤ 23 }
+        requires slot_in { ((W.CellSource.state work.old).held.shadows aim.now.level).slot < 2 }
         ensures kept { W.CellSource.kept work.new ≡ W.CellSource.kept work.old }
-        ensures stepped { Stepped aim.now (state (W.CellSource.held work.old) (W.CellSource.spent work.old) self.old steps.old) (state (W.CellSource.held work.new) (W.CellSource.spent work.new) self.new steps.new) result }
+        ensures stepped { Stepped aim.now (state (W.CellSource.state work.old) self.old steps.old)
+            (state (W.CellSource.state work.new) self.new steps.new) result }
     {
         let head = self.head(choice.head);
         emit(work, aim.level, aim.slot, head, choice.pass, steps)?;
@@ -289,12 +238,13 @@ impl Merger {
         aim: &Aim,
         steps: &mut Steps<L>,
     ) -> Result<(), StepFault>
-        requires ready { IsReady (W.CellSource.held work.old) aim.now self.old }
+        requires ready { IsReady (W.CellSource.state work.old).held aim.now self.old }
         requires left { IsUsedUp aim.now self.old → ⊥ }
-        requires levels { (W.CellSource.held work.old).fixed.levels ≤ 23 }
-        requires slot_in { ((W.CellSource.held work.old).shadows aim.now.level).slot < 2 }
+        requires levels { (W.CellSource.state work.old).held.fixed.levels ≤ 23 }
+        requires slot_in { ((W.CellSource.state work.old).held.shadows aim.now.level).slot < 2 }
         ensures kept { W.CellSource.kept work.new ≡ W.CellSource.kept work.old }
-        ensures taken { Taken aim.now (state (W.CellSource.held work.old) (W.CellSource.spent work.old) self.old steps.old) (state (W.CellSource.held work.new) (W.CellSource.spent work.new) self.new steps.new) result }
+        ensures taken { Taken aim.now (state (W.CellSource.state work.old) self.old steps.old)
+            (state (W.CellSource.state work.new) self.new steps.new) result }
     {
         let Some(choice) = self.next(work, aim, steps)? else {
             return Ok(());
@@ -311,11 +261,12 @@ impl Merger {
         quota: u32,
         steps: &mut Steps<L>,
     ) -> Result<Progress, StepFault>
-        requires ready { IsReady (W.CellSource.held work.old) aim.now self.old }
-        requires levels { (W.CellSource.held work.old).fixed.levels ≤ 23 }
-        requires slot_in { ((W.CellSource.held work.old).shadows aim.now.level).slot < 2 }
+        requires ready { IsReady (W.CellSource.state work.old).held aim.now self.old }
+        requires levels { (W.CellSource.state work.old).held.fixed.levels ≤ 23 }
+        requires slot_in { ((W.CellSource.state work.old).held.shadows aim.now.level).slot < 2 }
         ensures kept { W.CellSource.kept work.new ≡ W.CellSource.kept work.old }
-        ensures ran { HasRun aim.now (state (W.CellSource.held work.old) (W.CellSource.spent work.old) self.old steps.old) (state (W.CellSource.held work.new) (W.CellSource.spent work.new) self.new steps.new) quota result }
+        ensures ran { TakesQuota aim.now (state (W.CellSource.state work.old) self.old steps.old)
+            (state (W.CellSource.state work.new) self.new steps.new) quota result }
     {
         for _ in 0..quota {
             if self.is_done(aim) {
@@ -335,11 +286,11 @@ impl Merger {
         aim: &Aim,
         steps: &mut Steps<L>,
     ) -> Result<Option<Cell>, ReadFault>
-        requires heads { HasHeads (W.held work.old) aim.now self.old }
-        requires levels { (W.held work.old).fixed.levels ≤ 23 }
-        ensures cells_stay { W.held work.new ≡ W.held work.old }
+        requires heads { HasHeads (W.state work.old).held aim.now self.old }
+        requires levels { (W.state work.old).held.fixed.levels ≤ 23 }
         ensures kept { W.kept work.new ≡ W.kept work.old }
-        ensures drawn { Drawn (W.held work.old) aim.now (W.spent work.old) (W.spent work.new) self.old self.new steps.old steps.new result }
+        ensures drawn { Drawn aim.now (state (W.state work.old) self.old steps.old)
+            (state (W.state work.new) self.new steps.new) result }
     {
         while let Some(next) = self.next(work, aim, steps)? {
             let cell = given(self.head(next.head), next.pass);

@@ -30,7 +30,8 @@ fn compare_piece<D: Device, E: Device>(
     requires fits { at + count < 2 ^ 64 }
     requires inside { HasRange (D.bytes first.old) at count }
     requires second_inside { HasRange (E.bytes second.old) at count }
-    ensures compares { Compares D.Device E.Device first.old first.new second.old second.new (differ_within at count) result }
+    ensures compares { Compares D.Device E.Device first.old first.new second.old second.new
+        (differ_within at count) result }
     ensures only_read { OnlyRead D.Device E.Device first.old first.new second.old second.new 1 0 }
 {
     let mut bytes = [0u8; 512];
@@ -59,8 +60,10 @@ fn compare_pieces<D: Device, E: Device>(
 ) -> Result<Option<u64>, DeviceFault>
     requires inside { HasRange (D.bytes first.old) 0 size }
     requires second_inside { HasRange (E.bytes second.old) 0 size }
-    ensures compares { Compares D.Device E.Device first.old first.new second.old second.new (differ_within 0 size) result }
-    ensures only_read { OnlyRead D.Device E.Device first.old first.new second.old second.new (pieces_of size) 0 }
+    ensures compares { Compares D.Device E.Device first.old first.new second.old second.new
+        (differ_within 0 size) result }
+    ensures only_read { OnlyRead D.Device E.Device first.old first.new second.old second.new
+        (pieces_of size) 0 }
 {
     for piece in 0..size / 512 {
         match compare_piece(first, second, 512 * piece, 512) {

@@ -20,12 +20,14 @@ pub fn calm_side_is_in_use<D: Device, E: Device>()
 
 /// A mirror that is settled with the bytes that it has settled so: each side that was in use behind that settled with them.
 pub fn sides_of_a_settled_mirror<D: Device, E: Device>()
-    ensures { (now : Pair D E) → IsSettled ⟦<Mirror<D, E> as Device>⟧ now → SidesSettled D.Device E.Device (bytes_of D.Device E.Device now) }
+    ensures { (now : Pair D E) → IsSettled ⟦<Mirror<D, E> as Device>⟧ now →
+        SidesSettled D.Device E.Device (bytes_of D.Device E.Device now) }
 {}
 
 /// Two lists have no first difference exactly where they are the same, and a place is the first exactly where they have the
 /// same items before it and not the same there.
 pub fn first_difference_is_the_first()
     ensures none { (xs ys : List ℕ) → first_difference xs ys ≡ None ↔ xs ≡ ys }
-    ensures some { (xs ys : List ℕ) (place : ℕ) → first_difference xs ys ≡ Some place ↔ DifferAt xs ys place }
+    ensures some { (xs ys : List ℕ) (place : ℕ) →
+        first_difference xs ys ≡ Some place ↔ DifferAt xs ys place }
 {}

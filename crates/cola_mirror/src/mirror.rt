@@ -105,7 +105,8 @@ impl<D: Device, E: Device> Device for Mirror<D, E> {
     /// The first side in use is asked, and the other one in use only where that failed. No side is lost.
     fn size(&mut self) -> Result<u64, DeviceFault>
         ensures value { IfOk result (HasSize (bytes_of D.Device E.Device self.old)) }
-        ensures bytes_stay { bytes_of D.Device E.Device self.new ≡ bytes_of D.Device E.Device self.old }
+        ensures bytes_stay { bytes_of D.Device E.Device self.new
+            ≡ bytes_of D.Device E.Device self.old }
         ensures kept { settings D.Device E.Device self.new ≡ settings D.Device E.Device self.old }
         ensures counts { Called self.old.counts self.new.counts 0 0 1 result }
         ensures is { IsSize D.Device E.Device self.old result self.new }
@@ -123,7 +124,8 @@ impl<D: Device, E: Device> Device for Mirror<D, E> {
     /// second is.
     fn lay_out(&mut self, size: u64) -> Result<(), DeviceFault>
         requires { IsEmpty (bytes_of D.Device E.Device self.old) }
-        ensures laid { LaidOut result size (bytes_of D.Device E.Device self.old) (bytes_of D.Device E.Device self.new) }
+        ensures laid { LaidOut result size (bytes_of D.Device E.Device self.old)
+            (bytes_of D.Device E.Device self.new) }
         ensures kept { settings D.Device E.Device self.new ≡ settings D.Device E.Device self.old }
         ensures counts { Called self.old.counts self.new.counts 0 0 1 result }
         ensures is { IsLayout D.Device E.Device size self.old result self.new }
@@ -142,7 +144,8 @@ impl<D: Device, E: Device> Device for Mirror<D, E> {
         requires block { length into.old ≤ MAX_TRANSFER }
         requires inside { HasRange (bytes_of D.Device E.Device self.old) at (length into.old) }
         ensures given { OnOk result (Gives (bytes_of D.Device E.Device self.old) at into.new) }
-        ensures bytes_stay { bytes_of D.Device E.Device self.new ≡ bytes_of D.Device E.Device self.old }
+        ensures bytes_stay { bytes_of D.Device E.Device self.new
+            ≡ bytes_of D.Device E.Device self.old }
         ensures kept { settings D.Device E.Device self.new ≡ settings D.Device E.Device self.old }
         ensures counts { Called self.old.counts self.new.counts 1 0 0 result }
         ensures is { IsRead D.Device E.Device at into.new self.old result self.new }
@@ -161,7 +164,8 @@ impl<D: Device, E: Device> Device for Mirror<D, E> {
     fn write(&mut self, at: u64, from: &[u8]) -> Result<(), DeviceFault>
         requires block { length from.now ≤ MAX_TRANSFER }
         requires inside { HasRange (bytes_of D.Device E.Device self.old) at (length from.now) }
-        ensures wrote { Wrote result at from.now (bytes_of D.Device E.Device self.old) (bytes_of D.Device E.Device self.new) }
+        ensures wrote { Wrote result at from.now (bytes_of D.Device E.Device self.old)
+            (bytes_of D.Device E.Device self.new) }
         ensures kept { settings D.Device E.Device self.new ≡ settings D.Device E.Device self.old }
         ensures counts { Called self.old.counts self.new.counts 0 1 0 result }
         ensures is { IsWrite D.Device E.Device at from.now self.old result self.new }
@@ -178,7 +182,8 @@ impl<D: Device, E: Device> Device for Mirror<D, E> {
     /// Each side in use settles, the first one first. Of two the one that failed is lost, and where both failed none is.
     fn settle(&mut self) -> Result<(), DeviceFault>
         ensures settled { IsSettling D.Device E.Device self.old result self.new }
-        ensures bytes_stay { bytes_of D.Device E.Device self.new ≡ bytes_of D.Device E.Device self.old }
+        ensures bytes_stay { bytes_of D.Device E.Device self.new
+            ≡ bytes_of D.Device E.Device self.old }
         ensures kept { settings D.Device E.Device self.new ≡ settings D.Device E.Device self.old }
         ensures counts { Called self.old.counts self.new.counts 0 0 1 result }
         ensures refused { OnErr result (EachFailed D.Device E.Device self.old self.new) }

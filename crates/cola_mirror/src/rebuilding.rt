@@ -61,9 +61,11 @@ fn copy_behind<D: Device, E: Device>(from: &mut D, to: &mut E, size: u64) -> Res
     requires long { 512 ≤ size }
     requires inside { HasRange (D.bytes from.old) 0 size }
     requires room { HasRange (E.bytes to.old) 0 size }
-    ensures moves { Moves D.Device E.Device from.old from.new to.old to.new 512 (size - 512) result }
+    ensures moves { Moves D.Device E.Device from.old from.new to.old to.new 512
+        (size - 512) result }
     ensures below { Both (E.bytes to.old) (E.bytes to.new) (IsSameBelow 512) }
-    ensures only { OnlyMoves D.Device E.Device from.old from.new to.old to.new (pieces_of size - 1) }
+    ensures only { OnlyMoves D.Device E.Device from.old from.new to.old to.new
+        (pieces_of size - 1) }
 {
     let behind = size - 512;
     for piece in 0..behind / 512 {
@@ -109,7 +111,8 @@ fn write_first<E: Device>(to: &mut E, head: &[u8; 512]) -> Result<(), DeviceFaul
 pub fn rebuild<D: Device, E: Device>(from: &mut D, to: &mut E) -> Result<(), RebuildFault>
     ensures rebuilds { Rebuilds D.Device E.Device from.old from.new to.old to.new result }
     ensures only_copied { OnlyCopied D.Device E.Device from.old from.new to.old to.new }
-    ensures complete { CanBeRebuilt D.Device E.Device from.old from.new to.old to.new → IsOk result }
+    ensures complete { CanBeRebuilt D.Device E.Device from.old from.new to.old to.new →
+        IsOk result }
 {
     let mut head = [0u8; 512];
     let found = match read_header(from, &mut head) {

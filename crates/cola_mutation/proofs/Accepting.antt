@@ -2,7 +2,6 @@
 use Rattle.std.proofs.Common.{◌≡◌, ◌≢◌, ◌⊎◌, inl, inr, ℕ, zero, suc, ◌+◌, ◌-◌, ◌/◌, ◌%◌, ◌^◌, ◌<◌, ◌≤◌, false, List, [], ◌∷◌, length, Result, Ok, Err, refl, ap, sym, subst, ◌∙◌, arith}
 use Rattle.std.proofs.lemmas.Nat.{pow_pos}
 use Rattle.std.proofs.lemmas.Bool.{true≢false}
-use Rattle.std.proofs.lemmas.Bool.Decides.{eqb_tells}
 use Rattle.cola_clock.specs.Clock.{works, flips, ends, window_step, window_length, visible_slot, working_levels, SameSchedule}
 use Rattle.cola_clock.specs.Marks.{Marks, merge_steps, AreCursorsAtRest, AreAllMarks, AreChainMarks}
 use Rattle.cola_clock.proofs.Laws.{flips-zero}
@@ -20,10 +19,10 @@ use Rattle.cola_merge.specs.States.{Grows}
 use Rattle.cola_level.specs.declared.level.Level.{Level}
 use Rattle.cola_level.specs.Marks.{marks_of, all_marks_of}
 use Rattle.cola_mutation.specs.Levels.{AreFit, IsChain}
-use Rattle.cola_mutation.specs.Work.{State, Keeps, TakeTurns, with_shadow, Builds, one_working, many_working}
+use Rattle.cola_mutation.specs.Work.{WorkState, Keeps, TakeTurns, with_shadow, Builds, one_working, many_working}
 use Rattle.cola_mutation.specs.Ends.{ended, all_ended, AreDone, Restarted}
 use Rattle.cola_mutation.specs.Standing.{first_marks, ThenBuilds, Prepares, PreparesAll}
-use Rattle.cola_mutation.proofs.Keeping.{fits_stay}
+use Rattle.cola_mutation.proofs.Keeping.{keeps_grows, fits_stay}
 use Rattle.cola_mutation.proofs.Marking.{ends_at_end}
 use Rattle.cola_mutation.proofs.Advancing.{visible_apart}
 use Rattle.cola_mutation.proofs.Readying.{slot_below, length_levels}
@@ -32,17 +31,17 @@ use Rattle.cola_mutation.proofs.Following.{all_marks_ended, length_marks, length
 -- ---- what was accepted
 
 -- the turns were accepted, and level 0 was built
-pub record Accepted (t : ℕ) (c : Cell) (s u : State) (top built : Level) (below worked : List Level) : Type 0 where
-  pub mid : State
+pub record Accepted (t : ℕ) (c : Cell) (s u : WorkState) (top built : Level) (below worked : List Level) : Type 0 where
+  pub mid : WorkState
   pub turns : TakeTurns {A = Unit {0}} t 0 top.visible s mid below worked (Ok tt)
   pub builds : Builds {A = Unit {0}} t c mid u top built (first_marks worked) (Ok tt)
 
-accepted_by : (t : ℕ) (c : Cell) (s mid u : State) (top built : Level) (below worked : List Level) (first : Result (Unit {0}) StepFault) → TakeTurns t 0 top.visible s mid below worked first →
+accepted_by : (t : ℕ) (c : Cell) (s mid u : WorkState) (top built : Level) (below worked : List Level) (first : Result (Unit {0}) StepFault) → TakeTurns t 0 top.visible s mid below worked first →
     ThenBuilds t c mid u top built worked first (Ok tt) → Accepted t c s u top built below worked
 accepted_by t c s mid u top built below worked (Ok tt) turns builds = record { mid = mid; turns = turns; builds = builds }
 accepted_by t c s mid u top built below worked (Err fault) turns builds = let e = builds.2 in absurd (let f : ⊥ = cc in f)
 
-pub accepted_of : (t : ℕ) (c : Cell) (s u : State) (top built : Level) (below worked : List Level) → Prepares {A = Unit {0}} t c s u top built below worked (Ok tt) → Accepted t c s u top built below worked
+pub accepted_of : (t : ℕ) (c : Cell) (s u : WorkState) (top built : Level) (below worked : List Level) → Prepares {A = Unit {0}} t c s u top built below worked (Ok tt) → Accepted t c s u top built below worked
 accepted_of t c s u top built below worked p = accepted_by t c s p.mid u top built below worked p.first p.turns p.builds
 
 -- ---- the build of level 0 leaves the others
@@ -51,27 +50,8 @@ accepted_of t c s u top built below worked p = accepted_by t c s p.mid u top bui
 abbrev pub IsBelow : ℕ → Type 0
 IsBelow l = l ≢ 0
 
-top_slots : {a b : Held} (l : ℕ) → Grows a b 0 → (b.shadows l).slot ≡ (a.shadows l).slot
-top_slots {a} {b} l g = elim (eqb_tells l 0) [
-  | inl e ↦ subst (λ (x : ℕ). (b.shadows x).slot ≡ (a.shadows x).slot) (sym e.1) g.slot_is
-  | inr e ↦ ap (λ (x : Shadow). x.slot) (g.around.shadows_stay l e.1)
-]
-
-top_spots : {a b : Held} (l s k : ℕ) → Grows a b 0 → IsBelow l ⊎ (s ≢ (a.shadows l).slot) → b.spots l s k ≡ a.spots l s k
-top_spots l s k g (inl d) = g.others_stay l s k (inl d)
-top_spots {a} {b} l s k g (inr d) = elim (eqb_tells l 0) [
-  | inl e ↦ g.others_stay l s k (inr (inl (λ f. d (f ∙ ap (λ (x : ℕ). (a.shadows x).slot) (sym e.1)))))
-  | inr e ↦ g.others_stay l s k (inl e.1)
-]
-
 pub keeps_top : {a b : Held} → Grows a b 0 → Keeps IsBelow a b
-keeps_top g = record {
-  fixed_is = g.around.fixed_is;
-  telling_is = g.around.telling_is;
-  slots_stay = λ l. top_slots l g;
-  shadows_stay = λ l d. g.around.shadows_stay l d;
-  spots_stay = λ l s k d. top_spots l s k g d;
-}
+keeps_top g = keeps_grows 0 (λ l d. d) g
 
 near_top : (a : Held) (t i : ℕ) → (a.shadows 0).slot ≡ 1 - visible_slot t 0 → IsBelow i ⊎ (visible_slot t i ≢ (a.shadows i).slot)
 near_top a t zero e = inr (visible_apart t 0 (a.shadows 0).slot e)
@@ -98,11 +78,11 @@ all_done t i above (l ∷ ls) fits marks = (
 )
 
 -- the marks after the turns
-pub marks_worked : {held : Held} {s mid : State} (t : ℕ) (top : Level) (below worked : List Level) → IsChain held t (top ∷ below) → TakeTurns {A = Unit {0}} t 0 top.visible s mid below worked (Ok tt) →
+pub marks_worked : {held : Held} {s mid : WorkState} (t : ℕ) (top : Level) (below worked : List Level) → IsChain held t (top ∷ below) → TakeTurns {A = Unit {0}} t 0 top.visible s mid below worked (Ok tt) →
     AreAllMarks merge_steps t 1 top.visible (all_marks_of worked)
 marks_worked t top below worked chain turns = turns.marked chain.marks.1
 
-pub done_all : {held : Held} (t : ℕ) (c : Cell) (s u : State) (ls ms : List Level) → IsChain held t ls → PreparesAll {A = Unit {0}} t c s u ls ms (Ok tt) → AreDone t 0 ms
+pub done_all : {held : Held} (t : ℕ) (c : Cell) (s u : WorkState) (ls ms : List Level) → IsChain held t ls → PreparesAll {A = Unit {0}} t c s u ls ms (Ok tt) → AreDone t 0 ms
 done_all t c s u [] ms chain p = absurd p
 done_all t c s u (top ∷ below) [] chain p = absurd p
 done_all t c s u (top ∷ below) (built ∷ worked) chain p =
@@ -113,10 +93,7 @@ done_all t c s u (top ∷ below) (built ∷ worked) chain p =
 
 -- ---- the chain at the next clock
 
-below_power : (t n : ℕ) → t % 2 ^ n < 2 ^ n
-below_power t n = let p : 0 < 2 ^ n = pow_pos n in omega (arith, p)
-
-module _ (s u : State) (v : Held) (t : ℕ) (c : Cell) (top : Level) (below worked : List Level) where
+module _ (s u : WorkState) (v : Held) (t : ℕ) (c : Cell) (top : Level) (below worked : List Level) where
   rest_built : (n : ℕ) → top.merger ≡ fresh → AreCursorsAtRest (marks_of (with_shadow top n))
   rest_built n e = record {
     own_rests = ap (λ (m : Merger). m.own.at) e;
@@ -147,7 +124,7 @@ module _ (s u : State) (v : Held) (t : ℕ) (c : Cell) (top : Level) (below work
       record {
         many = let m = chain.many in let o = length_ended t 1 worked in omega (arith, m, o, many);
         counted = let o = length_ended t 1 worked in omega (arith, counted, levels, many, o);
-        clock_in = subst (λ (k : ℕ). suc t % 2 ^ suc (length below) < 2 ^ k) (let o = length_ended t 1 worked in let e : suc (length below) ≡ suc (length (all_ended t 1 worked)) = omega (arith, o, many) in e) (below_power (suc t) (suc (length below)));
+        clock_in = subst (λ (k : ℕ). suc t % 2 ^ suc (length below) < 2 ^ k) (let o = length_ended t 1 worked in let e : suc (length below) ≡ suc (length (all_ended t 1 worked)) = omega (arith, o, many) in e) (let p : 0 < 2 ^ suc (length below) = pow_pos (suc (length below)) in omega (arith, p));
         fit = (
           record {
             empty = ap (λ (x : Shadow). x.len) shadow;

@@ -11,8 +11,8 @@ use Rattle.cola_cell.specs.declared.fault.StepFault.{StepFault}
 use Rattle.cola_cell.specs.Order.{key_cmp}
 use Rattle.cola_cell.specs.Held.{Held, Fixed, Spot, Stamped, LawCell, IsTelling}
 use Rattle.cola_cell.specs.Places.{IsPlace}
-use Rattle.cola_told.specs.Cells.{IsTold, AreTold, IsShadowTold}
-use Rattle.cola_told.proofs.CellLists.{cells-same}
+use Rattle.cola_cell.specs.ToldCells.{IsTold, AreTold, IsShadowTold}
+use Rattle.cola_cell.proofs.CellLists.{cells-same}
 use Rattle.cola_image.specs.Standing.{AreRunsTold, AreRunsAlike}
 use Rattle.cola_image.proofs.CellsLemmas.{levels-alike, runs-told}
 use Rattle.cola_merge.specs.Heads.{AreFeedsTold}

@@ -1,5 +1,5 @@
 -- The build of level 0, from what the merge says.
-use Rattle.std.proofs.Common.{◌≡◌, ◌≢◌, inl, ℕ, ◌+◌, ◌-◌, ◌*◌, ◌/◌, ◌^◌, ◌<◌, ◌≤◌, nat_lt, Bool, ◌||◌, cond, List, [], ◌∷◌, length, Result, Ok, Err, OnOk, refl, ap, ◌∙◌, arith}
+use Rattle.std.proofs.Common.{◌≡◌, ◌≢◌, inl, ℕ, ◌+◌, ◌-◌, ◌*◌, ◌/◌, ◌^◌, ◌<◌, ◌≤◌, nat_lt, Bool, ◌||◌, cond, List, [], ◌∷◌, Result, Ok, Err, refl, ap, ◌∙◌, arith}
 use Rattle.std.proofs.lemmas.Nat.{pow_pos, div_below}
 use Rattle.std.proofs.lemmas.Bool.{lt-ltb}
 use Rattle.cola_clock.specs.Clock.{visible_slot}
@@ -9,42 +9,24 @@ use Rattle.cola_cell.specs.declared.cell.Reader.TheVariants.{Own, Incoming, Samp
 use Rattle.cola_cell.specs.declared.fault.StepFault.{StepFault}
 use Rattle.cola_cell.specs.declared.fault.StepFault.TheVariants.{Device, BadCell, Overfull}
 use Rattle.cola_cell.specs.declared.sink.Shadow.{Shadow}
-use Rattle.cola_cell.specs.Held.{Held, Fixed, IsTelling, span}
+use Rattle.cola_cell.specs.Held.{Held, Fixed, span}
 use Rattle.cola_cell.specs.Places.{slot_size}
 use Rattle.cola_cell.specs.Spent.{Buffer, By}
-use Rattle.cola_told.specs.Cells.{IsShadowTold, shadow_cells}
-use Rattle.cola_merge.specs.declared.aims.Aim.{Aim}
+use Rattle.cola_cell.specs.ToldCells.{IsShadowTold, shadow_cells}
 use Rattle.cola_merge.specs.declared.aims.Progress.{Progress}
 use Rattle.cola_merge.specs.declared.aims.Progress.TheVariants.{Done, More}
 use Rattle.cola_merge.specs.declared.merging.Merger.{Merger}
 use Rattle.cola_merge.specs.Blocks.{blocks_left, groups, is_last}
 use Rattle.cola_merge.specs.Heads.{fresh, consumed, IsReady}
 use Rattle.cola_merge.specs.States as merge
-use Rattle.cola_merge.specs.States.{StepCause, StepCalm, Grows, Spends, KeepsBlocks}
-use Rattle.cola_merge.specs.Advance.{Consumes, IsGoing, IsWhole, whole_run, IsDeviceFault, HasStepCause, IsThrifty}
-use Rattle.cola_merge.specs.Advance as advance
+use Rattle.cola_merge.specs.States.{Grows, Spends, KeepsBlocks}
+use Rattle.cola_merge.specs.Advance.{IsGoing, whole_run, IsDeviceFault, IsThrifty, Advances}
 use Rattle.cola_transfers.specs.Chain.{IsTopBuilt, sample_left}
 use Rattle.cola_level.specs.declared.level.Level.{Level}
 use Rattle.cola_level.specs.Aims.{top_at}
 use Rattle.cola_level.specs.Standing.{is_kept}
 use Rattle.cola_level.specs.Work.{IsDevice}
-use Rattle.cola_mutation.specs.Work.{State, transfers, Costs, with_shadow, Builds}
-
--- what a call of the merge says of its states, for an aim
-pub record Says (s u : State) (aim : Aim) (m n : Merger) (quota : ℕ) (r : Result Progress StepFault) : Type 0 where
-  pub ready : IsReady u.held aim n
-  pub frames : Grows s.held u.held aim.level
-  pub lasts : (buffer : Buffer) → merge.IsBeside aim buffer → KeepsBlocks aim.level aim.slot buffer s.spent.lasts u.spent.lasts
-  pub consumes : Consumes aim m n quota r
-  pub told : IsTelling s.held → IsShadowTold s.held aim.level → IsShadowTold u.held aim.level
-  pub whole : IsGoing s.held aim m → IsWhole s.held u.held aim r
-  pub cause : HasStepCause aim s.spent.faults (merge.state u.held u.spent n u.steps) r
-  pub calm : advance.IsCalm s.spent.faults u.spent.faults r
-  pub only : IsGoing s.held aim m → length (whole_run s.held aim) ≤ slot_size aim.level → IsDeviceFault r
-  pub begins : IsThrifty aim s.steps u.steps (s.held.shadows aim.level).len (u.held.shadows aim.level).len r
-  pub spends : Spends s.spent u.spent s.steps u.steps
-  pub turned : OnOk r (u.spent.turned + blocks_left s.held.fixed.doublings u.spent.lasts aim n ≤ s.spent.turned + blocks_left s.held.fixed.doublings s.spent.lasts aim m)
-  pub written : OnOk r (u.spent.written + (s.held.shadows aim.level).len / span s.held ≤ s.spent.written + (u.held.shadows aim.level).len / span s.held)
+use Rattle.cola_mutation.specs.Work.{WorkState, with_merger, transfers, Costs, IsTopTaken, with_shadow, build_aim, Builds}
 
 -- ---- few sources
 
@@ -56,7 +38,7 @@ not_more t own c next n P r e = let few = few_sources t own c next n r in absurd
 
 -- ---- costs
 
-costs_built : (s u : State) (t own : ℕ) (c : Cell) (next : Marks) (n : Merger) (r : Result Progress StepFault) → IsReady u.held (top_at t own c (next ∷ [])) n →
+costs_built : (s u : WorkState) (t own : ℕ) (c : Cell) (next : Marks) (n : Merger) (r : Result Progress StepFault) → IsReady u.held (top_at t own c (next ∷ [])) n →
     IsThrifty (top_at t own c (next ∷ [])) s.steps u.steps (s.held.shadows 0).len (u.held.shadows 0).len r → Spends s.spent u.spent s.steps u.steps → Costs s u 9 0
 costs_built s u t own c next n r ready thrifty spends = record {
   steps_stay = spends.steps_stay;
@@ -80,7 +62,7 @@ no_own_blocks : (d : ℕ) (x : ℕ) → cond (nat_lt 4 (8 * 2 ^ d)) 0 x ≡ 0
 no_own_blocks d x = ap (λ (b : Bool). cond b 0 x) (lt-ltb 4 (8 * 2 ^ d) (small_slot d))
 
 -- only the sample has blocks left
-left_built : (s : State) (t own : ℕ) (c : Cell) (next : Marks) (under : List Marks) →
+left_built : (s : WorkState) (t own : ℕ) (c : Cell) (next : Marks) (under : List Marks) →
     blocks_left s.held.fixed.doublings s.spent.lasts (top_at t own c (next ∷ [])) fresh ≡ sample_left s.held.fixed.doublings (transfers s).readers t 0 (next ∷ under) 0
 left_built s t own c next under =
     let d : ℕ = s.held.fixed.doublings in
@@ -104,7 +86,7 @@ kept_beside {a} {b} l g d =
     ap (λ (s : Shadow). s.saved || nat_lt (slot_size l) (8 * 2 ^ b.fixed.doublings)) (g.around.shadows_stay l d)
     ∙ ap (λ (f : Fixed). (a.shadows l).saved || nat_lt (slot_size l) (8 * 2 ^ f.doublings)) g.around.fixed_is
 
-built_traded : (s u : State) (t own : ℕ) (c : Cell) (next : Marks) (under : List Marks) (n : Merger) → Grows s.held u.held 0 → (s.held.shadows 0).len ≡ 0 → (u.held.shadows 0).len ≤ 4 →
+built_traded : (s u : WorkState) (t own : ℕ) (c : Cell) (next : Marks) (under : List Marks) (n : Merger) → Grows s.held u.held 0 → (s.held.shadows 0).len ≡ 0 → (u.held.shadows 0).len ≤ 4 →
     ((buffer : Buffer) → merge.IsBeside (top_at t own c (next ∷ [])) buffer → KeepsBlocks 0 (top_at t own c (next ∷ [])).slot buffer s.spent.lasts u.spent.lasts) →
     s.spent.turned ≤ u.spent.turned → s.spent.written ≤ u.spent.written →
     (u.spent.turned + blocks_left s.held.fixed.doublings u.spent.lasts (top_at t own c (next ∷ [])) n ≤ s.spent.turned + blocks_left s.held.fixed.doublings s.spent.lasts (top_at t own c (next ∷ [])) fresh) →
@@ -133,13 +115,26 @@ device_only Device h = tt
 device_only (BadCell number) h = h
 device_only (Overfull level) h = h
 
-whole_done : {A : Type 0} (a : A) (s u : State) (t own : ℕ) (c : Cell) (next : Marks) (n : Merger) (p : Progress) → IsReady u.held (top_at t own c (next ∷ [])) n → Consumes (top_at t own c (next ∷ [])) fresh n 7 (Ok p) →
-    IsWhole s.held u.held (top_at t own c (next ∷ [])) (Ok p) → shadow_cells u.held 0 ≡ whole_run s.held (top_at t own c (next ∷ []))
-whole_done a s u t own c next n Done ready consumes whole = whole
-whole_done a s u t own c next n More ready consumes whole = not_more t own c next n _ ready consumes.0
+whole_done : {s u : WorkState} (t own : ℕ) (c : Cell) (next : Marks) (n : Merger) (p : Progress) → Advances (top_at t own c (next ∷ [])) (with_merger s fresh) (with_merger u n) 7 (Ok p) → IsGoing s.held (top_at t own c (next ∷ [])) fresh →
+    shadow_cells u.held 0 ≡ whole_run s.held (top_at t own c (next ∷ []))
+whole_done t own c next n Done h going = h.whole going
+whole_done t own c next n More h going = not_more t own c next n _ h.ready h.consumes.0
 
-pub builds_ok : {A : Type 0} (a : A) (p : Progress) (t : ℕ) (c : Cell) (s u : State) (top built : Level) (next : Marks) (n : Merger) → (s.held.shadows 0).len ≡ 0 →
-    Says s u (top_at t top.visible c (next ∷ [])) fresh n 7 (Ok p) → built ≡ with_shadow top (u.held.shadows 0).len → Builds t c s u top built next (Ok a)
+-- a whole run has as many cells as its sources may give
+whole_length : {s u : WorkState} (t own : ℕ) (c : Cell) (next : Marks) (n : Merger) (p : Progress) → (s.held.shadows 0).len ≡ 0 → Advances (top_at t own c (next ∷ [])) (with_merger s fresh) (with_merger u n) 7 (Ok p) →
+    IsTopTaken (top_at t own c (next ∷ [])) s.held u.held
+whole_length t own c next n Done empty h = record {
+  emits = let e = h.emits in omega (arith, e, empty, h.ready.own.within, h.ready.incoming.within, h.ready.sample.within);
+  samples = let e = h.samples in let used = h.consumes.2.sample in omega (arith, e, empty, used);
+  built = n;
+  done = h.consumes.2;
+  builds = h.builds;
+  grows = h.frames;
+}
+whole_length t own c next n More empty h = not_more t own c next n _ h.ready h.consumes.0
+
+pub builds_ok : {A : Type 0} (a : A) (p : Progress) (t : ℕ) (c : Cell) (s u : WorkState) (top built : Level) (next : Marks) (n : Merger) → (s.held.shadows 0).len ≡ 0 →
+    Advances (build_aim t c top next) (with_merger s fresh) (with_merger u n) 7 (Ok p) → built ≡ with_shadow top (u.held.shadows 0).len → Builds t c s u top built next (Ok a)
 builds_ok a p t c s u top built next n empty h e =
     let few : (u.held.shadows 0).len ≤ slot_size 0 = h.frames.len_fits (omega (arith, empty)) in
     record {
@@ -148,16 +143,17 @@ builds_ok a p t c s u top built next n empty h e =
       same = tt;
       within = few;
       told = λ tells. h.told tells (untold_none s.held empty);
-      whole = λ going. whole_done a s u t top.visible c next n p h.ready h.consumes (h.whole going);
+      whole = λ going. whole_done t top.visible c next n p h going;
       only = λ going fits. tt;
       traded = λ under. built_traded s u t top.visible c next under n h.frames empty few h.lasts h.spends.turned_stays h.spends.written_stays h.turned h.written;
+      took = whole_length t top.visible c next n p empty h;
       refused = tt;
       calm = h.calm;
-      costs = costs_built s u t top.visible c next n (Ok p) h.ready h.begins h.spends;
+      costs = costs_built s u t top.visible c next n (Ok p) h.ready (h.begins refl) h.spends;
     }
 
-pub builds_err : {A : Type 0} (fault : StepFault) (t : ℕ) (c : Cell) (s u : State) (top : Level) (next : Marks) (n : Merger) → (s.held.shadows 0).len ≡ 0 →
-    Says s u (top_at t top.visible c (next ∷ [])) fresh n 7 (Err fault) → Builds {A = A} t c s u top top next (Err fault)
+pub builds_err : {A : Type 0} (fault : StepFault) (t : ℕ) (c : Cell) (s u : WorkState) (top : Level) (next : Marks) (n : Merger) → (s.held.shadows 0).len ≡ 0 →
+    Advances (build_aim t c top next) (with_merger s fresh) (with_merger u n) 7 (Err fault) → Builds {A = A} t c s u top top next (Err fault)
 builds_err fault t c s u top next n empty h = record {
   grows = h.frames;
   accepted = tt;
@@ -167,7 +163,17 @@ builds_err fault t c s u top next n empty h = record {
   whole = λ going. tt;
   only = λ going fits. device_only fault (h.only going fits);
   traded = λ under. tt;
-  refused = record { aim = top_at t top.visible c (next ∷ []); merger = n; ready = h.ready; cause = h.cause };
+  took = tt;
+  refused = record {
+    empty = empty;
+    grows = h.frames;
+    merger = n;
+    ready = h.ready;
+    emits = let e = h.emits in omega (arith, e, empty);
+    samples = let e = h.samples in omega (arith, e, empty);
+    builds = h.builds;
+    cause = h.cause;
+  };
   calm = h.calm;
-  costs = costs_built s u t top.visible c next n (Err fault) h.ready h.begins h.spends;
+  costs = costs_built s u t top.visible c next n (Err fault) h.ready (h.begins refl) h.spends;
 }

@@ -9,6 +9,7 @@ use Rattle.cola_cell.specs.declared.cell.Cell.{Cell}
 use Rattle.cola_cell.specs.declared.sink.Shadow.{Shadow}
 use Rattle.cola_cell.specs.Format.{CellFits}
 use Rattle.cola_cell.specs.Held.{Held, Fixed, Spot, Told, Tells, as_cell}
+use Rattle.cola_cell.specs.Shadows.{StaysAround, Restarts}
 use Rattle.cola_merge.specs.declared.aims.Feed.{Feed}
 use Rattle.cola_merge.specs.declared.aims.Aim.{Aim}
 use Rattle.cola_merge.specs.declared.heads.Head.{Head}
@@ -51,28 +52,38 @@ pub apart_of : (t i l : ℕ) → works t (suc i) ≡ true → IsBeside t i l →
 apart_of t i l w (inl d) = d
 apart_of t i l w (inr f) = λ e. true≢false (sym w ∙ ap (λ (x : ℕ). works t x) (sym e) ∙ f)
 
-slots_grow : {a b : Held} (level l : ℕ) → Grows a b level → (b.shadows l).slot ≡ (a.shadows l).slot
-slots_grow {a} {b} level l g = elim (eqb_tells l level) [
-  | inl e ↦ subst (λ (x : ℕ). (b.shadows x).slot ≡ (a.shadows x).slot) (sym e.1) g.slot_is
-  | inr e ↦ ap (λ (x : Shadow). x.slot) (g.around.shadows_stay l e.1)
+-- an object of which one level's shadow changed, in its slot
+near_one : {P : Type 0} (a : Held) (level l s : ℕ) → (P → l ≢ level) → P ⊎ (s ≢ (a.shadows l).slot) → (l ≢ level) ⊎ (s ≢ (a.shadows level).slot)
+near_one a level l s apart (inl q) = inl (apart q)
+near_one a level l s apart (inr d) = elim (eqb_tells l level) [
+  | inl e ↦ inr (λ f. d (f ∙ ap (λ (x : ℕ). (a.shadows x).slot) (sym e.1)))
+  | inr e ↦ inl e.1
 ]
 
-spots_grow : {a b : Held} (t i l s k : ℕ) → works t (suc i) ≡ true → Grows a b (suc i) → IsBeside t i l ⊎ (s ≢ (a.shadows l).slot) → b.spots l s k ≡ a.spots l s k
-spots_grow t i l s k w g (inl q) = g.others_stay l s k (inl (apart_of t i l w q))
-spots_grow {a} {b} t i l s k w g (inr d) = elim (eqb_tells l (suc i)) [
-  | inl e ↦ g.others_stay l s k (inr (inl (λ f. d (f ∙ ap (λ (x : ℕ). (a.shadows x).slot) (sym e.1)))))
-  | inr e ↦ g.others_stay l s k (inl e.1)
-]
-
--- the work of one level
-pub keeps_grown : {a b : Held} (t i : ℕ) → works t (suc i) ≡ true → Grows a b (suc i) → Keeps (IsBeside t i) a b
-keeps_grown t i w g = record {
-  fixed_is = g.around.fixed_is;
-  telling_is = g.around.telling_is;
-  slots_stay = λ l. slots_grow (suc i) l g;
-  shadows_stay = λ l q. g.around.shadows_stay l (apart_of t i l w q);
-  spots_stay = λ l s k d. spots_grow t i l s k w g d;
+pub keeps_one : {Q : ℕ → Type 0} {a b : Held} (level : ℕ) → ((l : ℕ) → Q l → l ≢ level) → StaysAround a b level → (b.shadows level).slot ≡ (a.shadows level).slot →
+    ((l s k : ℕ) → (l ≢ level) ⊎ (s ≢ (a.shadows level).slot) → b.spots l s k ≡ a.spots l s k) → Keeps Q a b
+keeps_one {Q} {a} {b} level apart around same stay = record {
+  fixed_is = around.fixed_is;
+  telling_is = around.telling_is;
+  slots_stay = λ l. elim (eqb_tells l level) [
+    | inl e ↦ subst (λ (x : ℕ). (b.shadows x).slot ≡ (a.shadows x).slot) (sym e.1) same
+    | inr e ↦ ap (λ (x : Shadow). x.slot) (around.shadows_stay l e.1)
+  ];
+  shadows_stay = λ l q. around.shadows_stay l (apart l q);
+  spots_stay = λ l s k d. stay l s k (near_one a level l s (apart l) d);
 }
+
+or_behind : {A B C : Type 0} → A ⊎ B → A ⊎ B ⊎ C
+or_behind (inl a) = inl a
+or_behind (inr b) = inr (inl b)
+
+-- a shadow that grew
+pub keeps_grows : {Q : ℕ → Type 0} {a b : Held} (level : ℕ) → ((l : ℕ) → Q l → l ≢ level) → Grows a b level → Keeps Q a b
+keeps_grows level apart g = keeps_one level apart g.around g.slot_is (λ l s k d. g.others_stay l s k (or_behind d))
+
+-- a shadow that was emptied
+pub keeps_restart : {Q : ℕ → Type 0} {a b : Held} (level slot : ℕ) → ((l : ℕ) → Q l → l ≢ level) → Restarts a b level slot → slot ≡ (a.shadows level).slot → Keeps Q a b
+keeps_restart level slot apart r e = keeps_one level apart r.around (ap (λ (s : Shadow). s.slot) r.shadow_is ∙ e) (λ l s k d. r.others_stay l s k (or_behind d))
 
 pub quiet_beside : (t i l : ℕ) → IsQuiet t i l → IsBeside t i l
 quiet_beside t i l (inl h) = inl (λ e. let f : l ≡ suc i = e in omega (arith, f, h))

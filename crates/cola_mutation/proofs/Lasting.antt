@@ -6,7 +6,7 @@ use Rattle.cola_clock.specs.Marks.{Marks, marks_after, all_marks_after}
 use Rattle.cola_clock.proofs.Wrap.{slot-stays, slot-turns}
 use Rattle.cola_cell.specs.Held.{Held, Spot, Spots}
 use Rattle.cola_cell.specs.Shadows.{IsKept}
-use Rattle.cola_told.specs.Cells.{AreTold}
+use Rattle.cola_cell.specs.ToldCells.{AreTold}
 use Rattle.cola_image.specs.Standing.{AreRunsTold, AreRunsAlike}
 use Rattle.cola_merge.specs.States.{Grows}
 use Rattle.cola_level.specs.declared.level.Level.{Level}

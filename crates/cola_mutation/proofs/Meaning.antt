@@ -1,5 +1,5 @@
 -- What a mutation means to the laws of levels, up to the build of level 0.
-use Rattle.std.proofs.Common.{◌≡◌, inl, ℕ, suc, ◌+◌, ◌*◌, ◌^◌, ◌≤◌, false, List, [], ◌∷◌, length, Option, refl, ap, sym, subst, ◌∙◌, arith}
+use Rattle.std.proofs.Common.{◌≡◌, inl, ℕ, suc, ◌+◌, ◌*◌, ◌^◌, ◌≤◌, List, [], ◌∷◌, length, Option, refl, ap, sym, subst, ◌∙◌, arith}
 use Rattle.std.specs.Cmp.Lexicographic.{nat_list_cmp_total}
 use Rattle.std.specs.List.Sorted.{IsStrictlySortedBy}
 use Rattle.cola_clock.specs.Clock.{period, is_odd, visible_slot}
@@ -13,12 +13,11 @@ use Rattle.cola_laws.specs.Mutation.{AreAdvanced, IsBuildable, new_run}
 use Rattle.cola_laws.proofs.Workable.{all-workable, top-buildable}
 use Rattle.cola_laws.proofs.Mutations.{advance}
 use Rattle.cola_cell.specs.declared.cell.Cell.{Cell}
-use Rattle.cola_cell.specs.declared.cell.Cell.TheVariants as cell
 use Rattle.cola_cell.specs.declared.cell.Item.{Item}
 use Rattle.cola_cell.specs.Held.{Held, Stamped, LawCell, IsTelling, as_item}
 use Rattle.cola_cell.specs.Order.{key_cmp}
 use Rattle.cola_cell.specs.Places.{slot_size}
-use Rattle.cola_told.specs.Cells.{AreTold}
+use Rattle.cola_cell.specs.ToldCells.{AreTold}
 use Rattle.cola_image.specs.Standing.{AreRunsTold}
 use Rattle.cola_merge.specs.declared.aims.Feed.TheVariants as feed
 use Rattle.cola_merge.specs.Feeds as merge
@@ -32,7 +31,7 @@ use Rattle.cola_level.specs.Aims.{top_at, sample_of}
 use Rattle.cola_level.specs.Standing.{visible_cells, stood, all_stood}
 use Rattle.cola_level.proofs.Sources.{keys_of_next, part_of_aim}
 use Rattle.cola_mutation.specs.Work.{Keeps, IsQuiet, CanAllTurn}
-use Rattle.cola_mutation.specs.Standing.{StandsFor}
+use Rattle.cola_mutation.specs.Standing.{StandsFor, new_cell}
 use Rattle.cola_mutation.proofs.Advancing.{cells_stay, sampled_told}
 use Rattle.cola_mutation.proofs.Building.{untold_none}
 use Rattle.cola_mutation.proofs.Following.{length_marks}
@@ -66,10 +65,6 @@ pub sound_after : (held mid : Held) (most ahead t : ℕ) (top : Level) (below wo
 sound_after held mid most ahead t top below worked m s keeps adv =
     advance key_cmp most ahead t m (stood held t 0 (marks_of top)) (stood mid t 0 (marks_of top)) (all_stood held t 1 (all_marks_of below)) (all_stood mid t 1 (all_marks_of worked)) s.sound.sound
     (cells_stay 0 (visible_slot t 0) top.visible keeps (inl (inl (omega arith)))) adv
-
--- the cell of a new item
-abbrev pub new_cell : List ℕ → Item → Cell
-new_cell key item = cell.Item key item false 0
 
 -- what the merge of level 0 builds
 pub whole_is : (held : Held) (t own : ℕ) (key : List ℕ) (item : Item) (below : List Marks) →

@@ -1,6 +1,5 @@
 -- A refused mutation leaves a chain at its clock, for the same map.
-use Rattle.std.proofs.Common.{◌≡◌, ◌≢◌, ◌⊎◌, inl, inr, ℕ, zero, suc, ◌+◌, ◌-◌, ◌*◌, ◌/◌, ◌^◌, ◌<◌, ◌≤◌, List, [], ◌∷◌, length, Option, Result, Ok, Err, IfErr, refl, ap, sym, subst, ◌∙◌, arith}
-use Rattle.std.proofs.lemmas.Bool.Decides.{eqb_tells}
+use Rattle.std.proofs.Common.{◌≡◌, ◌⊎◌, inl, inr, ℕ, zero, suc, ◌+◌, ◌-◌, ◌*◌, ◌/◌, ◌^◌, ◌<◌, ◌≤◌, List, [], ◌∷◌, length, Option, Result, Ok, Err, IfErr, refl, ap, sym, subst, ◌∙◌, arith}
 use Rattle.cola_clock.specs.Clock.{visible_slot}
 use Rattle.cola_clock.specs.Marks.{AreMarksIdle}
 use Rattle.cola_clock.proofs.MarkLaws.{marks-fewer}
@@ -17,7 +16,7 @@ use Rattle.cola_cell.specs.Order.{key_cmp}
 use Rattle.cola_cell.specs.Places.{slot_size}
 use Rattle.cola_cell.specs.Spent.{Spent}
 use Rattle.cola_cell.specs.Shadows.{Restarts}
-use Rattle.cola_told.specs.Cells.{IsTold}
+use Rattle.cola_cell.specs.ToldCells.{IsTold}
 use Rattle.cola_image.specs.Standing.{AreRunsAlike}
 use Rattle.cola_image.proofs.CellsLemmas.{levels-alike, runs-told}
 use Rattle.cola_merge.specs.States.{Grows, StepCalm}
@@ -30,26 +29,26 @@ use Rattle.cola_level.specs.Marks.{marks_of, all_marks_of}
 use Rattle.cola_level.specs.Standing.{slot_cells, visible_cells, stood, all_stood}
 use Rattle.cola_level.specs.Work.{taken, IsDevice}
 use Rattle.cola_mutation.specs.Levels.{IsChain}
-use Rattle.cola_mutation.specs.Work.{State, state_of, Keeps, SpendsWithin, many_working, IsRefused, TakeTurns, AllAdvance}
-use Rattle.cola_mutation.specs.Standing.{StandsFor, first_marks, ThenBuilds, Prepares, HasRefusal}
-use Rattle.cola_mutation.proofs.Keeping.{keeps_then}
-use Rattle.cola_mutation.proofs.AddingUp.{spends_then, spends_more, refused_later, calm_then}
+use Rattle.cola_mutation.specs.Work.{WorkState, with_merger, Keeps, SpendsWithin, many_working, IsOneRefused, TakeTurns, AllAdvance, build_aim}
+use Rattle.cola_mutation.specs.Standing.{StandsFor, first_marks, ThenBuilds, Prepares, new_cell, IsBuildRefused}
+use Rattle.cola_mutation.proofs.Keeping.{keeps_then, keeps_restart}
+use Rattle.cola_mutation.proofs.AddingUp.{spends_then, spends_more, cause_later, calm_then}
 use Rattle.cola_mutation.proofs.Advancing.{cells_stay, visible_apart, telling_stays}
 use Rattle.cola_mutation.proofs.Readying.{top_quiet, length_levels}
 use Rattle.cola_mutation.proofs.Lasting.{alike_kept, nothing_told, slots_of}
-use Rattle.cola_mutation.proofs.Meaning.{can_all_turn, sound_after, new_cell, can_build}
+use Rattle.cola_mutation.proofs.Meaning.{can_all_turn, sound_after, can_build}
 use Rattle.cola_mutation.proofs.Accepting.{IsBelow, keeps_top, all_fit_top, half_work}
 use Rattle.cola_mutation.proofs.Succeeding.{over_rests, over_above}
 
 -- ---- what was refused
 
 -- the turns of the levels, of which one may have been refused, and what was left of the build of level 0
-pub record Refused (t : ℕ) (c : Cell) (s u : State) (top : Level) (below worked : List Level) (fault : StepFault) : Type 0 where
-  pub mid : State
+pub record Refused (t : ℕ) (c : Cell) (s u : WorkState) (top : Level) (below worked : List Level) (fault : StepFault) : Type 0 where
+  pub mid : WorkState
   pub first : Result (Unit {0}) StepFault
   pub turns : TakeTurns t 0 top.visible s mid below worked first
   pub grows : Grows mid.held u.held 0
-  pub refused : IsRefused u s.spent.faults fault
+  pub refused : IsOneRefused t 0 top.visible s.spent.faults s.held u below worked fault ⊎ IsBuildRefused t c s u top below worked fault
   pub calm : StepCalm s.spent.faults u.spent.faults fault
   pub costs : SpendsWithin s.spent u.spent s.steps u.steps (59 * many_working t 0 below + 9) (many_working t 0 below + 0)
   pub only : IfErr first IsDevice → IsGoing mid.held (top_at t top.visible c (first_marks worked ∷ [])) fresh → length (whole_run mid.held (top_at t top.visible c (first_marks worked ∷ []))) ≤ slot_size 0 → IsDevice fault
@@ -57,7 +56,7 @@ pub record Refused (t : ℕ) (c : Cell) (s u : State) (top : Level) (below worke
 same_fault : (a b : StepFault) → ◌≡◌ {A = Result (Unit {0}) StepFault} (Err a) (Err b) → b ≡ a
 same_fault a b e = cc
 
-refused_by : (t : ℕ) (c : Cell) (s mid u : State) (top built : Level) (below worked : List Level) (fault : StepFault) (first : Result (Unit {0}) StepFault) → TakeTurns t 0 top.visible s mid below worked first →
+refused_by : (t : ℕ) (c : Cell) (s mid u : WorkState) (top built : Level) (below worked : List Level) (fault : StepFault) (first : Result (Unit {0}) StepFault) → TakeTurns t 0 top.visible s mid below worked first →
     ThenBuilds t c mid u top built worked first (Err fault) → Refused t c s u top below worked fault
 refused_by t c s mid u top built below worked fault (Ok tt) turns builds =
     let r : Result (Unit {0}) StepFault = Err fault in
@@ -66,59 +65,50 @@ refused_by t c s mid u top built below worked fault (Ok tt) turns builds =
       first = Ok tt;
       turns = turns;
       grows = builds.grows;
-      refused = refused_later u s.spent.faults mid.spent.faults r turns.costs.faults_stay builds.refused;
+      refused = inr (record {
+        begun = mid.held;
+        turns = turns.took;
+        refused = record {
+          empty = builds.refused.empty;
+          grows = builds.refused.grows;
+          merger = builds.refused.merger;
+          ready = builds.refused.ready;
+          emits = builds.refused.emits;
+          samples = builds.refused.samples;
+          builds = builds.refused.builds;
+          cause = cause_later (build_aim t c top (first_marks worked)) s.spent.faults mid.spent.faults (with_merger u builds.refused.merger) fault turns.costs.faults_stay builds.refused.cause;
+        };
+      });
       calm = calm_then s.spent.faults mid.spent.faults u.spent.faults r turns.calm builds.calm;
       costs = spends_then turns.costs builds.costs;
       only = λ _ going fits. builds.only going fits;
     }
 refused_by t c s mid u top built below worked fault (Err f) turns builds =
     let e : f ≡ fault = same_fault fault f builds.2 in
-    subst (λ (w : State). Refused t c s w top below worked fault) (sym builds.0) (record {
+    subst (λ (w : WorkState). Refused t c s w top below worked fault) (sym builds.0) (record {
       mid = mid;
       first = Err f;
       turns = turns;
       grows = grows_none mid.held 0;
-      refused = subst (λ (x : StepFault). IsRefused mid s.spent.faults x) e turns.refused;
+      refused = inl (subst (λ (x : StepFault). IsOneRefused t 0 top.visible s.spent.faults s.held mid below worked x) e turns.refused);
       calm = subst (λ (x : StepFault). StepCalm s.spent.faults mid.spent.faults x) e turns.calm;
       costs = spends_more (omega arith) (omega arith) turns.costs;
       only = λ device _ _. subst (λ (x : StepFault). IsDevice x) e device;
     })
 
-pub refused_of : (t : ℕ) (c : Cell) (s u : State) (top built : Level) (below worked : List Level) (fault : StepFault) → Prepares {A = Unit {0}} t c s u top built below worked (Err fault) → Refused t c s u top below worked fault
+pub refused_of : (t : ℕ) (c : Cell) (s u : WorkState) (top built : Level) (below worked : List Level) (fault : StepFault) → Prepares {A = Unit {0}} t c s u top built below worked (Err fault) → Refused t c s u top below worked fault
 refused_of t c s u top built below worked fault p = refused_by t c s p.mid u top built below worked fault p.first p.turns p.builds
 
-top_by : (t : ℕ) (c : Cell) (mid u : State) (top built : Level) (worked : List Level) (fault : StepFault) (first : Result (Unit {0}) StepFault) → ThenBuilds t c mid u top built worked first (Err fault) → built ≡ top
+top_by : (t : ℕ) (c : Cell) (mid u : WorkState) (top built : Level) (worked : List Level) (fault : StepFault) (first : Result (Unit {0}) StepFault) → ThenBuilds t c mid u top built worked first (Err fault) → built ≡ top
 top_by t c mid u top built worked fault (Ok tt) builds = builds.same
 top_by t c mid u top built worked fault (Err f) builds = builds.1
 
-pub top_stays : (t : ℕ) (c : Cell) (s u : State) (top built : Level) (below worked : List Level) (fault : StepFault) → Prepares {A = Unit {0}} t c s u top built below worked (Err fault) → built ≡ top
+pub top_stays : (t : ℕ) (c : Cell) (s u : WorkState) (top built : Level) (below worked : List Level) (fault : StepFault) → Prepares {A = Unit {0}} t c s u top built below worked (Err fault) → built ≡ top
 top_stays t c s u top built below worked fault p = top_by t c p.mid u top built worked fault p.first p.builds
 
 -- ---- level 0's shadow is emptied
 
-restart_slots : {a b : Held} (slot l : ℕ) → Restarts a b 0 slot → slot ≡ (a.shadows 0).slot → (b.shadows l).slot ≡ (a.shadows l).slot
-restart_slots {a} {b} slot l r e = elim (eqb_tells l 0) [
-  | inl x ↦ subst (λ (n : ℕ). (b.shadows n).slot ≡ (a.shadows n).slot) (sym x.1) (ap (λ (s : Shadow). s.slot) r.shadow_is ∙ e)
-  | inr x ↦ ap (λ (s : Shadow). s.slot) (r.around.shadows_stay l x.1)
-]
-
-restart_spots : {a b : Held} (slot l s k : ℕ) → Restarts a b 0 slot → IsBelow l ⊎ (s ≢ (a.shadows l).slot) → b.spots l s k ≡ a.spots l s k
-restart_spots slot l s k r (inl d) = r.others_stay l s k (inl d)
-restart_spots {a} {b} slot l s k r (inr d) = elim (eqb_tells l 0) [
-  | inl e ↦ r.others_stay l s k (inr (inl (λ f. d (f ∙ ap (λ (x : ℕ). (a.shadows x).slot) (sym e.1)))))
-  | inr e ↦ r.others_stay l s k (inl e.1)
-]
-
-keeps_restart : {a b : Held} (slot : ℕ) → Restarts a b 0 slot → slot ≡ (a.shadows 0).slot → Keeps IsBelow a b
-keeps_restart slot r e = record {
-  fixed_is = r.around.fixed_is;
-  telling_is = r.around.telling_is;
-  slots_stay = λ l. restart_slots slot l r e;
-  shadows_stay = λ l d. r.around.shadows_stay l d;
-  spots_stay = λ l s k d. restart_spots slot l s k r d;
-}
-
-module _ (s u : State) (v : Held) (t : ℕ) (c : Cell) (top : Level) (below worked : List Level) (fault : StepFault) where
+module _ (s u : WorkState) (v : Held) (t : ℕ) (c : Cell) (top : Level) (below worked : List Level) (fault : StepFault) where
   abbrev Given : Type 0
   Given = Refused t c s u top below worked fault
 
@@ -129,7 +119,7 @@ module _ (s u : State) (v : Held) (t : ℕ) (c : Cell) (top : Level) (below work
   slot_mid chain a = a.turns.keeps.slots_stay 0 ∙ chain.fit.0.slot_is
 
   pub keeps_all : IsChain s.held t (top ∷ below) → (a : Given) → Emptied → Keeps IsBelow a.mid.held v
-  keeps_all chain a r = keeps_then (λ l d. d) (λ l d. d) (keeps_top a.grows) (keeps_restart (1 - visible_slot t 0) r (sym (a.grows.slot_is ∙ slot_mid chain a)))
+  keeps_all chain a r = keeps_then (λ l d. d) (λ l d. d) (keeps_top a.grows) (keeps_restart 0 (1 - visible_slot t 0) (λ l d. d) r (sym (a.grows.slot_is ∙ slot_mid chain a)))
 
   pub same_chain : IsChain s.held t (top ∷ below) → (a : Given) → Emptied → IsChain v t (top ∷ worked)
   same_chain chain a r =
@@ -221,7 +211,7 @@ module _ (s u : State) (v : Held) (t : ℕ) (c : Cell) (top : Level) (below work
         }
 
 -- only the device refuses
-pub device_only : (s u : State) (most t : ℕ) (key : List ℕ) (item : Item) (top next : Level) (below under : List Level) (m : List ℕ → Option Stamped) (fault : StepFault) → IsChain s.held t (top ∷ below) →
+pub device_only : (s u : WorkState) (most t : ℕ) (key : List ℕ) (item : Item) (top next : Level) (below under : List Level) (m : List ℕ → Option Stamped) (fault : StepFault) → IsChain s.held t (top ∷ below) →
     StandsFor s.held most t (top ∷ below) m → most ≤ 2 ^ (suc (length below) + 1) → Refused t (new_cell key item) s u top below (next ∷ under) fault → IsDevice fault
 device_only s u most t key item top next below under m fault chain stand room a =
     let adv = a.turns.advance (can_all_turn s.held most t top below m stand room) in
@@ -240,13 +230,3 @@ costs_refused s u v i k t below g e =
     let half = half_work t below in
     subst (λ (x : Spent). SpendsWithin s x i k (9 + 59 * (suc (length below) / 2)) (suc (length below) / 2)) (sym e)
     (spends_more (let lo : 59 * many_working t 0 below + 9 ≤ 9 + 59 * (suc (length below) / 2) = omega (arith, half) in lo) (let lo : many_working t 0 below + 0 ≤ suc (length below) / 2 = omega (arith, half) in lo) g)
-
--- ---- why
-
-pub refusal_of : (u v : State) (slot before : ℕ) (fault : StepFault) → IsRefused u before fault → Restarts u.held v.held 0 slot → v.spent ≡ u.spent → v.steps ≡ u.steps → HasRefusal v before fault
-refusal_of u v slot before fault refused r e f = record {
-  at = u.held;
-  slot = slot;
-  restarts = r;
-  refused = subst (λ (n : ℕ). IsRefused (state_of u.held v.spent n) before fault) (sym f) (subst (λ (x : Spent). IsRefused (state_of u.held x u.steps) before fault) (sym e) refused);
-}

@@ -20,8 +20,8 @@ use Rattle.cola_cell.specs.Held.{Held, Fixed, Spot, Stamped, LawCell, as_item}
 use Rattle.cola_cell.specs.Order.{key_cmp}
 use Rattle.cola_cell.specs.Places.{IsPlace}
 use Rattle.cola_cell.specs.Shadows.{IsKept}
-use Rattle.cola_told.specs.Cells.{IsTold, AreTold, shadow_cells}
-use Rattle.cola_told.proofs.CellLists.{cells-same}
+use Rattle.cola_cell.specs.ToldCells.{IsTold, AreTold, shadow_cells}
+use Rattle.cola_cell.proofs.CellLists.{cells-same}
 use Rattle.cola_image.specs.Standing.{AreRunsTold, IsSlotAlike, AreRunsAlike}
 use Rattle.cola_image.proofs.CellsLemmas.{levels-alike, runs-told}
 use Rattle.cola_merge.specs.declared.merging.Merger.{Merger}
@@ -29,15 +29,15 @@ use Rattle.cola_level.specs.declared.level.Level.{Level}
 use Rattle.cola_level.specs.Marks.{marks_of, all_marks_of}
 use Rattle.cola_level.specs.Standing.{slot_cells, visible_cells, stood, all_stood}
 use Rattle.cola_mutation.specs.Levels.{IsChain}
-use Rattle.cola_mutation.specs.Work.{State, with_shadow, AllAdvance}
+use Rattle.cola_mutation.specs.Work.{WorkState, with_shadow, AllAdvance}
 use Rattle.cola_mutation.specs.Ends.{all_ended, Restarted}
-use Rattle.cola_mutation.specs.Standing.{StandsFor}
+use Rattle.cola_mutation.specs.Standing.{StandsFor, new_cell}
 use Rattle.cola_mutation.proofs.Advancing.{cells_stay, visible_apart, telling_stays}
 use Rattle.cola_mutation.proofs.Readying.{top_quiet, length_levels}
 use Rattle.cola_mutation.proofs.Building.{small_slot}
 use Rattle.cola_mutation.proofs.Following.{all_marks_ended, length_marks, length_ended}
 use Rattle.cola_mutation.proofs.Lasting.{alike_grown, alike_then, alike_restarted, slots_of, told_next, told_same}
-use Rattle.cola_mutation.proofs.Meaning.{can_all_turn, sound_after, new_cell, whole_is, CanBuild, can_build}
+use Rattle.cola_mutation.proofs.Meaning.{can_all_turn, sound_after, whole_is, CanBuild, can_build}
 use Rattle.cola_mutation.proofs.Accepting.{Accepted, keeps_top}
 
 -- ---- the clock
@@ -75,7 +75,7 @@ over_stays t (suc l) true f h = absurd (true≢false (sym h ∙ flips-not_over t
 pub slot_same : (a b : Held) (l s n : ℕ) → IsSlotAlike a.spots b.spots l s n → slot_cells b l s n ≡ slot_cells a l s n
 slot_same a b l s n same = cells-same (b.spots l s) (a.spots l s) 0 n (λ k h. same k (omega (arith, h)))
 
-module _ (s u : State) (v : Held) (most t : ℕ) (key : List ℕ) (item : Item) (top next : Level) (below under : List Level) (m : List ℕ → Option Stamped) where
+module _ (s u : WorkState) (v : Held) (most t : ℕ) (key : List ℕ) (item : Item) (top next : Level) (below under : List Level) (m : List ℕ → Option Stamped) where
   abbrev after_marks : List Marks
   after_marks = all_marks_of (with_shadow top (u.held.shadows 0).len ∷ next ∷ under)
 

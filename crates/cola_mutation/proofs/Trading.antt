@@ -10,7 +10,7 @@ use Rattle.cola_level.specs.Marks.{all_marks_of}
 use Rattle.cola_level.specs.Standing.{transfers_of}
 use Rattle.cola_level.proofs.Writing.{saved_kept, kept_same}
 use Rattle.cola_mutation.specs.Levels.{IsChain}
-use Rattle.cola_mutation.specs.Work.{State, transfers, with_shadow, many_working, SpendsWithin}
+use Rattle.cola_mutation.specs.Work.{WorkState, transfers, with_shadow, many_working, SpendsWithin}
 use Rattle.cola_mutation.specs.Ends.{all_ended, Restarted}
 use Rattle.cola_mutation.specs.Standing.{Trades}
 use Rattle.cola_mutation.proofs.AddingUp.{spends_then, spends_more}
@@ -27,7 +27,7 @@ flips_trade {a} {b} t n lowest spent now e h r = record {
   others = λ l lo f. kept_same a b l r.fixed_is (r.others_stay l (inr (inr f)));
 }
 
-pub trades_next : (s u v : State) (t : ℕ) (c : Cell) (top next : Level) (below under : List Level) → IsChain s.held t (top ∷ below) → (a : Accepted t c s u top (with_shadow top (u.held.shadows 0).len) below (next ∷ under)) →
+pub trades_next : (s u v : WorkState) (t : ℕ) (c : Cell) (top next : Level) (below under : List Level) → IsChain s.held t (top ∷ below) → (a : Accepted t c s u top (with_shadow top (u.held.shadows 0).len) below (next ∷ under)) →
     Restarted t 0 (suc (length (next ∷ under))) u.held v.held → v.spent ≡ u.spent → Trades t s v top below (all_ended t 1 (next ∷ under))
 trades_next s u v t c top next below under chain a r e = record {
   worked = all_marks_of (next ∷ under);

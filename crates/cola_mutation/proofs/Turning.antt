@@ -1,28 +1,31 @@
 -- One level's turn, and the turns of all levels.
-use Rattle.std.proofs.Common.{◌≡◌, inl, inr, ℕ, suc, ◌*◌, ◌<◌, ◌≤◌, Bool, true, false, cond, List, [], ◌∷◌, Result, Ok, Err, IfErr, OnOk, refl, ap, sym, subst, ◌∙◌, arith}
+use Rattle.std.proofs.Common.{◌≡◌, inl, inr, ℕ, suc, ◌+◌, ◌*◌, ◌<◌, ◌≤◌, min, Bool, true, false, cond, List, [], ◌∷◌, Result, Ok, Err, IfErr, OnOk, refl, ap, sym, subst, ◌∙◌, arith}
 use Rattle.std.proofs.lemmas.Bool.{true≢false}
 use Rattle.std.specs.Result.{IsErrAnd}
 use Rattle.cola_clock.specs.Clock.{works}
-use Rattle.cola_clock.specs.Marks.{Marks, merge_steps, AreLevelMarks, AreAllMarks}
+use Rattle.cola_clock.specs.Marks.{Marks, merge_steps, AreAllMarks}
 use Rattle.cola_laws.proofs.Facts.{rests-advanced}
 use Rattle.cola_cell.specs.declared.fault.StepFault.{StepFault}
 use Rattle.cola_cell.specs.Order.{key_cmp}
 use Rattle.cola_cell.specs.Held.{Held, Fixed}
 use Rattle.cola_cell.specs.Places.{slot_size}
 use Rattle.cola_merge.specs.declared.aims.Aim.{Aim}
+use Rattle.cola_merge.specs.declared.merging.Merger.{Merger}
 use Rattle.cola_merge.specs.Heads.{consumed, IsReady, IsUsedUp}
-use Rattle.cola_merge.specs.States.{state, StepCause, Grows}
+use Rattle.cola_merge.specs.States.{StepCause, Grows}
+use Rattle.cola_merge.specs.Advance.{BuildsBy}
 use Rattle.cola_transfers.specs.Chain.{IsLevelWorked, IsLevelsTurn}
 use Rattle.cola_level.specs.declared.level.Level.{Level}
 use Rattle.cola_level.specs.Marks.{marks_of, all_marks_of}
 use Rattle.cola_level.specs.Aims.{aim_at}
-use Rattle.cola_level.specs.Standing.{visible_cells, stood, all_stood, CanAdvance}
-use Rattle.cola_level.specs.Work.{taken, Advances, IsCalm, IsSavedAtEnd, SpendsFor}
+use Rattle.cola_level.specs.Standing.{visible_cells, stood, all_stood}
+use Rattle.cola_level.specs.Work.{taken, sources, IsSavedAtEnd}
+use Rattle.cola_level.specs.Works.{Works}
 use Rattle.cola_mutation.specs.Levels.{Fits, AreFit}
-use Rattle.cola_mutation.specs.Work.{State, transfers, IsBeside, IsQuiet, HaveTurned, Costs, one_working, many_working, IsRefused, TakesTurn, TakeTurns}
-use Rattle.cola_mutation.proofs.Keeping.{keeps_same, keeps_then, keeps_weaker, keeps_grown, quiet_beside, quiet_below, aim_level, fits_stay, all_fit_stay}
+use Rattle.cola_mutation.specs.Work.{WorkState, object_of, with_merger, transfers, Keeps, IsBeside, IsQuiet, HaveTurned, Costs, one_working, many_working, HasTaken, IsTurnRefused, TakesTurn, TakeTurns}
+use Rattle.cola_mutation.proofs.Keeping.{keeps_same, keeps_then, keeps_weaker, keeps_grows, apart_of, quiet_beside, quiet_below, aim_level, fits_stay, all_fit_stay}
 use Rattle.cola_mutation.proofs.Marking.{fits_below}
-use Rattle.cola_mutation.proofs.AddingUp.{spends_none, spends_more, costs_then, refused_later, calm_then, marks_then, saved_then, worked_then}
+use Rattle.cola_mutation.proofs.AddingUp.{spends_none, spends_more, costs_then, refused_then, calm_then, marks_then, saved_then, worked_then}
 use Rattle.cola_mutation.proofs.Advancing.{advance_then, advance_refused}
 use Rattle.cola_clock.proofs.Laws.{adjacent-rest}
 
@@ -31,7 +34,7 @@ use Rattle.cola_clock.proofs.Laws.{adjacent-rest}
 one_resting : (t i : ℕ) → works t (suc i) ≡ false → one_working t i ≡ 0
 one_resting t i w = ap (λ (b : Bool). cond b 1 0) w
 
-pub turn_rests : {A : Type 0} (a : A) (t i above : ℕ) (s : State) (l : Level) (below : List Marks) → works t (suc i) ≡ false → Fits s.held t i above l below → TakesTurn t i above s s l l below (Ok a)
+pub turn_rests : {A : Type 0} (a : A) (t i above : ℕ) (s : WorkState) (l : Level) (below : List Marks) → works t (suc i) ≡ false → Fits s.held t i above l below → TakesTurn t i above s s l l below (Ok a)
 turn_rests a t i above s l below w f = record {
   fits = f;
   keeps = keeps_same (IsBeside t i) s.held;
@@ -51,27 +54,13 @@ turn_rests a t i above s l below w f = record {
   };
   saved = λ v. absurd (true≢false (sym v ∙ w));
   worked = subst (λ (b : Bool). IsLevelsTurn s.held.fixed.doublings t i above (marks_of l) (marks_of l) below (transfers s) (transfers s) b) (sym w) (record { marks = refl; transfers = refl });
+  took = record { consumes = λ v. absurd (true≢false (sym v ∙ w)); emits = omega arith; samples = omega arith; builds = λ v. absurd (true≢false (sym v ∙ w)); keeps = keeps_same (IsBeside t i) s.held };
   refused = tt;
   calm = refl;
   costs = spends_none s.spent s.steps (59 * one_working t i) (one_working t i);
 }
 
 -- ---- a level that works
-
--- what the work of a level says, for its aim at the clock
-pub record Says {A : Type 0} (t i above : ℕ) (s u : State) (l m : Level) (below : List Marks) (aim : Aim) (r : Result A StepFault) : Type 0 where
-  pub ready : IsReady u.held aim m.merger
-  pub frames : Grows s.held u.held aim.level
-  pub visible : m.visible ≡ l.visible
-  pub length_is : m.shadow ≡ (u.held.shadows aim.level).len
-  pub rises : consumed l.merger ≤ consumed m.merger
-  pub saved : OnOk r (IsSavedAtEnd u.held aim m.merger)
-  pub cause : IfErr r (StepCause aim s.spent.faults (state u.held u.spent m.merger u.steps))
-  pub calm : IsCalm s.spent.faults u.spent.faults r
-  pub spends : SpendsFor s.spent u.spent s.steps u.steps
-  pub marked : l.shadow ≡ (s.held.shadows (suc i)).len → works t (suc i) ≡ true → AreLevelMarks 0 t (suc i) above (marks_of l) below → AreLevelMarks (taken r) t (suc i) above (marks_of m) below
-  pub advances : CanAdvance s.held aim t i above (marks_of l) below → Advances s.held u.held t i above (marks_of l) (marks_of m) below r
-  pub worked : l.shadow ≡ (s.held.shadows (suc i)).len → OnOk r (IsLevelWorked s.held.fixed.doublings t i above (marks_of l) (marks_of m) below (transfers s) (transfers u))
 
 one_busy : (t i : ℕ) → works t (suc i) ≡ true → one_working t i ≡ 1
 one_busy t i w = ap (λ (b : Bool). cond b 1 0) w
@@ -81,38 +70,61 @@ saved_turn : {A : Type 0} (r : Result A StepFault) (held : Held) (t i : ℕ) (ai
 saved_turn (Ok a) held t i aim m e h = λ w up. subst (λ (n : ℕ). (held.shadows n).saved ≡ true) e (h up)
 saved_turn (Err fault) held t i aim m e h = tt
 
-worked_turn : {A : Type 0} (r : Result A StepFault) (t i above : ℕ) (s u : State) (l m : Level) (below : List Marks) → works t (suc i) ≡ true →
+worked_turn : {A : Type 0} (r : Result A StepFault) (t i above : ℕ) (s u : WorkState) (l m : Level) (below : List Marks) → works t (suc i) ≡ true →
     OnOk r (IsLevelWorked s.held.fixed.doublings t i above (marks_of l) (marks_of m) below (transfers s) (transfers u)) →
     OnOk r (IsLevelsTurn s.held.fixed.doublings t i above (marks_of l) (marks_of m) below (transfers s) (transfers u) (works t (suc i)))
 worked_turn (Ok a) t i above s u l m below w h = subst (λ (b : Bool). IsLevelsTurn s.held.fixed.doublings t i above (marks_of l) (marks_of m) below (transfers s) (transfers u) b) (sym w) h
 worked_turn (Err fault) t i above s u l m below w h = tt
 
-refused_turn : {A : Type 0} (r : Result A StepFault) (u : State) (before : ℕ) (aim : Aim) (m : Level) → IsReady u.held aim m.merger → IfErr r (StepCause aim before (state u.held u.spent m.merger u.steps)) → IfErr r (IsRefused u before)
-refused_turn (Ok a) u before aim m ready h = tt
-refused_turn (Err fault) u before aim m ready h = record { aim = aim; merger = m.merger; ready = ready; cause = h }
+-- the steps that were taken are those of the mutation, or all that were left
+steps_exact : {held : Held} (aim : Aim) (m n : Merger) → IsReady held aim n → min (sources aim) (consumed m + merge_steps) ≤ consumed n → consumed n ≤ consumed m + merge_steps →
+    consumed n ≡ min (sources aim) (consumed m + merge_steps)
+steps_exact aim m n ready enough few = omega (arith, enough, few, ready.own.within, ready.incoming.within, ready.sample.within)
 
-pub turn_works : {A : Type 0} (r : Result A StepFault) (t i above : ℕ) (s u : State) (l m : Level) (below : List Marks) → works t (suc i) ≡ true → Fits s.held t i above l below →
-    Says t i above s u l m below (aim_at t i l.visible above below) r → TakesTurn t i above s u l m below r
+took_turn : {A : Type 0} (r : Result A StepFault) (t i above : ℕ) (s u : WorkState) (l m : Level) (below : List Marks) → Fits s.held t i above l below → (aim : Aim) → aim ≡ aim_at t i m.visible above below → aim.level ≡ suc i →
+    Keeps (IsBeside t i) s.held u.held → Works aim (object_of s) (object_of u) l m s.steps u.steps r → OnOk r (HasTaken t i above s.held u.held l m below)
+took_turn (Ok a) t i above s u l m below f aim same level keeps h =
+    let was : l.shadow ≡ (s.held.shadows aim.level).len = f.shadow_is ∙ ap (λ (n : ℕ). (s.held.shadows n).len) (sym level) in
+    record {
+      consumes = λ _. subst (λ (x : Aim). consumed m.merger ≡ min (sources x) (consumed l.merger + merge_steps)) same
+          (steps_exact aim l.merger m.merger h.ready h.takes.enough h.takes.at_most);
+      emits = let e = h.emits in let n = h.length in omega (arith, e, n, was);
+      samples = let e = h.samples in let n = h.length in omega (arith, e, n, was);
+      builds = λ _. subst (λ (x : Aim). BuildsBy s.held u.held x l.merger m.merger) same h.builds;
+      keeps = keeps;
+    }
+took_turn (Err fault) t i above s u l m below f aim same level keeps h = tt
+
+refused_turn : {A : Type 0} (r : Result A StepFault) (t i above before : ℕ) (begun : Held) (u : WorkState) (m : Level) (below : List Marks) → works t (suc i) ≡ true → Keeps (IsBeside t i) begun u.held → IsReady u.held (aim_at t i m.visible above below) m.merger →
+    IfErr r (StepCause (aim_at t i m.visible above below) before (with_merger u m.merger)) → IfErr r (IsTurnRefused t i above before begun u m below)
+refused_turn (Ok a) t i above before begun u m below w keeps ready h = tt
+refused_turn (Err fault) t i above before begun u m below w keeps ready h = record { works = w; keeps = keeps; ready = ready; cause = h }
+
+pub turn_works : {A : Type 0} (r : Result A StepFault) (t i above : ℕ) (s u : WorkState) (l m : Level) (below : List Marks) → works t (suc i) ≡ true → Fits s.held t i above l below →
+    Works (aim_at t i l.visible above below) (object_of s) (object_of u) l m s.steps u.steps r → TakesTurn t i above s u l m below r
 turn_works r t i above s u l m below w f h =
     let aim : Aim = aim_at t i l.visible above below in
     let level : aim.level ≡ suc i = aim_level t i l.visible above below in
     let grows : Grows s.held u.held (suc i) = subst (λ (n : ℕ). Grows s.held u.held n) level h.frames in
     let same : aim_at t i l.visible above below ≡ aim_at t i m.visible above below = ap (λ (n : ℕ). aim_at t i n above below) (sym h.visible) in
+    let keeps = keeps_grows (suc i) (λ k q. apart_of t i k w q) grows in
+    let ready : IsReady u.held (aim_at t i m.visible above below) m.merger = subst (λ (a : Aim). IsReady u.held a m.merger) same h.ready in
     record {
       fits = record {
         level_in = subst (λ (y : Fixed). suc i < y.levels) (sym grows.around.fixed_is) f.level_in;
-        shadow_is = h.length_is ∙ ap (λ (n : ℕ). (u.held.shadows n).len) level;
+        shadow_is = h.length ∙ ap (λ (n : ℕ). (u.held.shadows n).len) level;
         slot_is = grows.slot_is ∙ f.slot_is;
-        ready = λ _. subst (λ (a : Aim). IsReady u.held a m.merger) same h.ready;
+        ready = λ _. ready;
         rests = λ v. absurd (true≢false (sym w ∙ v));
       };
-      keeps = keeps_grown t i w grows;
-      turned = record { visible = h.visible; progress = h.rises; rests = λ v. absurd (true≢false (sym w ∙ v)) };
-      marked = h.marked f.shadow_is w;
-      advances = λ c. h.advances (c.can w);
+      keeps = keeps;
+      turned = record { visible = h.visible; progress = h.takes.rises; rests = λ v. absurd (true≢false (sym w ∙ v)) };
+      marked = h.marked t i above below refl f.shadow_is w;
+      advances = λ c. h.advances t i above below refl (c.can w);
       saved = saved_turn r u.held t i (aim_at t i m.visible above below) m (aim_level t i m.visible above below) (subst (λ (a : Aim). OnOk r (IsSavedAtEnd u.held a m.merger)) same h.saved);
-      worked = worked_turn r t i above s u l m below w (h.worked f.shadow_is);
-      refused = refused_turn r u s.spent.faults aim m h.ready h.cause;
+      worked = worked_turn r t i above s u l m below w (h.worked t i above below refl f.shadow_is);
+      took = took_turn r t i above s u l m below f aim same level keeps h;
+      refused = refused_turn r t i above s.spent.faults s.held u m below w keeps ready (subst (λ (a : Aim). IfErr r (StepCause a s.spent.faults (with_merger u m.merger))) same h.cause);
       calm = h.calm;
       costs = subst (λ (n : ℕ). Costs s u (59 * n) n) (sym (one_busy t i w)) (record {
         steps_stay = h.spends.steps_stay;
@@ -127,7 +139,7 @@ turn_works r t i above s u l m below w f h =
 
 -- ---- all turns
 
-pub turns_none : {A : Type 0} (a : A) (t i above : ℕ) (s : State) → TakeTurns t i above s s [] [] (Ok a)
+pub turns_none : {A : Type 0} (a : A) (t i above : ℕ) (s : WorkState) → TakeTurns t i above s s [] [] (Ok a)
 turns_none a t i above s = record {
   fit = tt;
   keeps = keeps_same (IsQuiet t i) s.held;
@@ -136,6 +148,7 @@ turns_none a t i above s = record {
   advance = λ c. record { advanced = tt; told = tt; only = tt };
   saved = λ fits marks k lo hi e. absurd (omega (arith, lo, hi));
   worked = refl;
+  took = refl;
   refused = tt;
   calm = refl;
   costs = spends_none s.spent s.steps 0 0;
@@ -145,7 +158,7 @@ all_rest : (t i : ℕ) (ls : List Level) → HaveTurned t i ls ls
 all_rest t i [] = tt
 all_rest t i (l ∷ ls) = (record { visible = refl; progress = omega arith; rests = λ _. refl }, all_rest t (suc i) ls)
 
-pub turns_refused : {A B : Type 0} (fault : StepFault) (t i above : ℕ) (s u : State) (l m : Level) (ls : List Level) → Fits s.held t i above l (all_marks_of ls) → AreFit s.held t (suc i) l.visible ls →
+pub turns_refused : {A B : Type 0} (fault : StepFault) (t i above : ℕ) (s u : WorkState) (l m : Level) (ls : List Level) → Fits s.held t i above l (all_marks_of ls) → AreFit s.held t (suc i) l.visible ls →
     TakesTurn {A = B} t i above s u l m (all_marks_of ls) (Err fault) → TakeTurns {A = A} t i above s u (l ∷ ls) (m ∷ ls) (Err fault)
 turns_refused fault t i above s u l m ls f fs h = record {
   fit = (h.fits, subst (λ (n : ℕ). AreFit u.held t (suc i) n ls) (sym h.turned.visible) (all_fit_stay t i (suc i) l.visible ls (omega arith) h.keeps fs));
@@ -155,7 +168,8 @@ turns_refused fault t i above s u l m ls f fs h = record {
   advance = advance_refused fault s.held u.held t i above l m ls h.keeps h.turned f h.fits (keeps_same (IsQuiet t (suc i)) u.held) h.advances;
   saved = tt;
   worked = tt;
-  refused = h.refused;
+  took = tt;
+  refused = inl (h.refused, refl);
   calm = h.calm;
   costs = spends_more (omega arith) (omega arith) h.costs;
 }
@@ -164,7 +178,7 @@ on_ok : {A : Type 0} (r : Result A StepFault) (P Q : Type 0) → (taken r ≡ me
 on_ok (Ok a) P Q f p = f refl p
 on_ok (Err fault) P Q f p = tt
 
-pub turns_then : {A B : Type 0} (r : Result A StepFault) (b : B) (t i above : ℕ) (s u v : State) (l m : Level) (ls ms : List Level) → Fits s.held t i above l (all_marks_of ls) →
+pub turns_then : {A B : Type 0} (r : Result A StepFault) (b : B) (t i above : ℕ) (s u v : WorkState) (l m : Level) (ls ms : List Level) → Fits s.held t i above l (all_marks_of ls) →
     TakesTurn t i above s u l m (all_marks_of ls) (Ok b) → TakeTurns t (suc i) m.visible u v ls ms r → TakeTurns t i above s v (l ∷ ls) (m ∷ ms) r
 turns_then r b t i above s u v l m ls ms f h g =
     let marked = marks_then r t i above l m ls ms h.turned g.turned h.marked (λ marks. subst (λ (n : ℕ). AreAllMarks (taken r) t (suc (suc i)) n (all_marks_of ms)) h.turned.visible (g.marked (subst (λ (n : ℕ). AreAllMarks 0 t (suc (suc i)) n (all_marks_of ls)) (sym h.turned.visible) marks))) in
@@ -184,7 +198,8 @@ turns_then r b t i above s u v l m ls ms f h g =
           (rest (subst (λ (n : ℕ). n ≤ slot_size (suc i)) (sym h.turned.visible) marks.0.visible_fits) (subst (λ (n : ℕ). AreAllMarks 0 t (suc (suc i)) n (all_marks_of ls)) (sym h.turned.visible) marks.1))
           fits after) g.saved;
       worked = on_ok r _ _ (λ e rest. worked_then s u v t i above l m ls ms h.keeps.fixed_is h.turned h.worked rest) g.worked;
-      refused = refused_later v s.spent.faults u.spent.faults r h.costs.faults_stay g.refused;
+      took = on_ok r _ _ (λ e rest. (u.held, h.took, rest)) g.took;
+      refused = refused_then r t i above s.spent.faults u.spent.faults s.held u.held v l m ls ms h.costs.faults_stay h.took g.refused;
       calm = calm_then s.spent.faults u.spent.faults v.spent.faults r h.calm g.calm;
       costs = costs_then s u v (one_working t i) (many_working t (suc i) ls) h.costs g.costs;
     }
@@ -195,5 +210,5 @@ err_is (Ok x) f h = absurd h
 err_is (Err y) f h = ap Err h
 
 -- what the levels behind one stand on after its turn
-pub rest_fit : {A : Type 0} (r : Result A StepFault) (t i above : ℕ) (s u : State) (l m : Level) (ls : List Level) → AreFit s.held t i above (l ∷ ls) → TakesTurn t i above s u l m (all_marks_of ls) r → AreFit u.held t (suc i) m.visible ls
+pub rest_fit : {A : Type 0} (r : Result A StepFault) (t i above : ℕ) (s u : WorkState) (l m : Level) (ls : List Level) → AreFit s.held t i above (l ∷ ls) → TakesTurn t i above s u l m (all_marks_of ls) r → AreFit u.held t (suc i) m.visible ls
 rest_fit r t i above s u l m ls f h = subst (λ (n : ℕ). AreFit u.held t (suc i) n ls) (sym h.turned.visible) (all_fit_stay t i (suc i) l.visible ls (omega arith) h.keeps f.1)

@@ -11,14 +11,15 @@ use cola_level::Level;
 /// Ends the mutation at one level: where the level flips, its shadow is visible, and its new shadow is empty and stands
 /// in the slot of the run that was visible; where its window ends, its cursors are 0.
 fn end_level<W: CellSink>(work: &mut W, level: &mut Level, clock: u64, number: u8)
-    requires level_in { number < (W.CellSource.held work.old).fixed.levels }
+    requires level_in { number < (W.CellSource.state work.old).held.fixed.levels }
     requires number_in { number ≤ 22 }
     requires clock_in { clock < 2 ^ 23 }
     requires done { ends clock number ≡ true → IsOwnRunConsumed level.old }
     ensures kept { W.CellSource.kept work.new ≡ W.CellSource.kept work.old }
-    ensures spends_nothing { W.CellSource.spent work.new ≡ W.CellSource.spent work.old }
+    ensures spends_nothing { (W.CellSource.state work.new).spent ≡ (W.CellSource.state work.old).spent }
     ensures ended { level.new ≡ ended clock number level.old }
-    ensures restarted { Restarted clock number 1 (W.CellSource.held work.old) (W.CellSource.held work.new) }
+    ensures restarted { Restarted clock number 1
+        (W.CellSource.state work.old).held (W.CellSource.state work.new).held }
 {
     if flips(clock, number) {
         level.flip();
@@ -37,14 +38,15 @@ fn end_level<W: CellSink>(work: &mut W, level: &mut Level, clock: u64, number: u
 
 /// Ends the mutation at these levels, of which the first has this number. No call on the device is made.
 pub(crate) fn end_levels<W: CellSink>(work: &mut W, levels: &mut [Level], clock: u64, number: u8)
-    requires levels_in { number + length levels.old ≤ (W.CellSource.held work.old).fixed.levels }
+    requires levels_in { number + length levels.old ≤ (W.CellSource.state work.old).held.fixed.levels }
     requires numbers_in { number + length levels.old ≤ 23 }
     requires clock_in { clock < 2 ^ 23 }
     requires done { AreDone clock number levels.old }
     ensures kept { W.CellSource.kept work.new ≡ W.CellSource.kept work.old }
-    ensures spends_nothing { W.CellSource.spent work.new ≡ W.CellSource.spent work.old }
+    ensures spends_nothing { (W.CellSource.state work.new).spent ≡ (W.CellSource.state work.old).spent }
     ensures ended { levels.new ≡ all_ended clock number levels.old }
-    ensures restarted { Restarted clock number (length levels.old) (W.CellSource.held work.old) (W.CellSource.held work.new) }
+    ensures restarted { Restarted clock number (length levels.old)
+        (W.CellSource.state work.old).held (W.CellSource.state work.new).held }
 {
     let Some((level, below)) = levels.split_first_mut() else {
         return;

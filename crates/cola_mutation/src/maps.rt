@@ -13,7 +13,8 @@ ghost use Rattle.cola_image.specs.Standing.{found_in};
 pub fn one_key_is_updated()
     ensures put { (shape : Shape) (m : Map) (key value : List ℕ) →
         found_in (with_value shape m key value) ≡ updated key_cmp key (as_item (Value value (next_stamp shape m))) (found_in m) }
-    ensures delete { (m : Map) (key : List ℕ) → found_in (after_delete m key) ≡ updated key_cmp key (as_item Tombstone) (found_in m) }
+    ensures delete { (m : Map) (key : List ℕ) →
+        found_in (after_delete m key) ≡ updated key_cmp key (as_item Tombstone) (found_in m) }
 {}
 
 /// A map of at most so many keys has at most so many for the laws.

@@ -1,14 +1,11 @@
 //! One mutation.
-ghost use Rattle.std.specs.Prelude.{◌≡◌, ℕ, ◌+◌, ◌*◌, ◌/◌, ◌≤◌, ◌<◌, ◌^◌, List, length, IfOk, IfErr, OnOk, OnErr, MatchResult};
-ghost use Rattle.std.specs.declared.option.Option.{Option};
+ghost use Rattle.std.specs.Prelude.{◌≡◌, ◌≤◌, ◌<◌, ◌^◌, length};
 ghost use Rattle.cola_laws.specs.Plain.{next_clock};
 ghost use Rattle.cola_cell.specs.Format.{CellFits, KeyFits, ItemFits};
-ghost use Rattle.cola_cell.specs.Held.{Stamped};
-ghost use Rattle.cola_level.specs.Work.{IsCalm, IsDevice};
 ghost use Rattle.cola_mutation.specs.Levels.{IsChain};
-ghost use Rattle.cola_mutation.specs.Work.{state_of, Costs};
-ghost use Rattle.cola_mutation.specs.Standing.{PreparesAll, KeepsProgress, KeepsVisible, HasRefusal, AllTrade};
-ghost use Rattle.cola_mutation.specs.Steps.{IsMapOf, ChangesMap, KeepsMap, step_ticks};
+ghost use Rattle.cola_mutation.specs.Work.{state_of};
+ghost use Rattle.cola_mutation.specs.Standing.{PreparesAll};
+ghost use Rattle.cola_mutation.specs.Steps.{Mutates};
 
 use crate::ending::end_levels;
 use crate::topping::build_top;
@@ -27,13 +24,13 @@ fn build_shadows<W: CellSink, L: Ledger>(
     cell: Cell,
     steps: &mut Steps<L>,
 ) -> Result<(), StepFault>
-    requires chain { IsChain (W.CellSource.held work.old) clock levels.old }
+    requires chain { IsChain (W.CellSource.state work.old).held clock levels.old }
     requires levels_in { length levels.old ≤ 23 }
     requires clock_in { clock < 2 ^ 23 }
-    requires fits { CellFits (W.CellSource.held work.old).fixed.format cell }
+    requires fits { CellFits (W.CellSource.state work.old).held.fixed.format cell }
     ensures kept { W.CellSource.kept work.new ≡ W.CellSource.kept work.old }
-    ensures prepares { PreparesAll clock cell (state_of (W.CellSource.held work.old) (W.CellSource.spent work.old) steps.old) (state_of (W.CellSource.held work.new) (W.CellSource.spent work.new) steps.new)
-        levels.old levels.new result }
+    ensures prepares { PreparesAll clock cell
+        (state_of (W.CellSource.state work.old) steps.old) (state_of (W.CellSource.state work.new) steps.new) levels.old levels.new result }
 {
     let bottom = (levels.len() - 1) as u8;
     let Some((top, below)) = levels.split_first_mut() else {
@@ -79,30 +76,12 @@ pub fn step<W: CellSink, L: Ledger>(
     item: &Item,
     steps: &mut Steps<L>,
 ) -> Result<u64, StepFault>
-    requires chain { IsChain (W.CellSource.held work.old) clock levels.old }
-    requires key_fits { KeyFits (W.CellSource.held work.old).fixed.format key.now }
-    requires item_fits { ItemFits (W.CellSource.held work.old).fixed.format item.now }
+    requires chain { IsChain (W.CellSource.state work.old).held clock levels.old }
+    requires key_fits { KeyFits (W.CellSource.state work.old).held.fixed.format key.now }
+    requires item_fits { ItemFits (W.CellSource.state work.old).held.fixed.format item.now }
     ensures kept { W.CellSource.kept work.new ≡ W.CellSource.kept work.old }
-    // the levels may be called to again
-    ensures chain { MatchResult result (λ next. IsChain (W.CellSource.held work.new) next levels.new) (λ fault. IsChain (W.CellSource.held work.new) clock levels.new) }
-    ensures fixed { (W.CellSource.held work.new).fixed ≡ (W.CellSource.held work.old).fixed }
-    ensures counted { length levels.new ≡ length levels.old }
-    ensures clock { IfOk result (λ next. next ≡ next_clock (length levels.old) clock) }
-    ensures progress { OnErr result (KeepsProgress clock levels.old levels.new) }
-    ensures visible { OnErr result (KeepsVisible clock (length levels.old) (W.CellSource.held work.old) (W.CellSource.held work.new)) }
-    // what it means
-    ensures changes { IfOk result (λ next. ChangesMap (W.CellSource.held work.old) (W.CellSource.held work.new) clock next key.now item.now levels.old levels.new) }
-    ensures keeps { OnErr result (KeepsMap (W.CellSource.held work.old) (W.CellSource.held work.new) clock levels.old levels.new) }
-    // why it was refused
-    ensures only { (most : ℕ) (m : List ℕ → Option Stamped) → IsMapOf (W.CellSource.held work.old) most clock levels.old m → IfErr result IsDevice }
-    ensures cause { IfErr result (HasRefusal (state_of (W.CellSource.held work.new) (W.CellSource.spent work.new) steps.new) (W.CellSource.spent work.old).faults) }
-    ensures calm { IsCalm (W.CellSource.spent work.old).faults (W.CellSource.spent work.new).faults result }
-    // what it cost
-    ensures costs { Costs (state_of (W.CellSource.held work.old) (W.CellSource.spent work.old) steps.old) (state_of (W.CellSource.held work.new) (W.CellSource.spent work.new) steps.new)
-        (step_ticks (length levels.old)) (length levels.old / 2) }
-    ensures transfers { (W.CellSource.spent work.new).turned + (W.CellSource.spent work.new).written
-        ≤ (W.CellSource.spent work.old).turned + (W.CellSource.spent work.old).written + (9 + 60 * (length levels.old / 2)) }
-    ensures trades { OnOk result (AllTrade clock (state_of (W.CellSource.held work.old) (W.CellSource.spent work.old) steps.old) (state_of (W.CellSource.held work.new) (W.CellSource.spent work.new) steps.new) levels.old levels.new) }
+    ensures steps { Mutates clock key.now item.now
+        (state_of (W.CellSource.state work.old) steps.old) (state_of (W.CellSource.state work.new) steps.new) levels.old levels.new result }
 {
     // every object has at most 23 levels
     let _ = work.ticked();

@@ -1,9 +1,8 @@
 //! The build of level 0 in one mutation.
-ghost use Rattle.std.specs.Prelude.{◌≡◌, ◌≤◌, ◌<◌, ◌^◌, [], ◌∷◌};
+ghost use Rattle.std.specs.Prelude.{◌≡◌, ◌≤◌, ◌<◌, ◌^◌};
 ghost use Rattle.cola_merge.specs.Heads.{fresh, IsReady};
 ghost use Rattle.cola_level.specs.Marks.{marks_of};
-ghost use Rattle.cola_level.specs.Aims.{top_at};
-ghost use Rattle.cola_mutation.specs.Work.{state_of, Builds};
+ghost use Rattle.cola_mutation.specs.Work.{state_of, build_aim, Builds};
 
 use cola_cell::{Cell, CellSink, CellSource, StepFault};
 use cola_level::{Level, top_aim};
@@ -28,10 +27,12 @@ pub(crate) fn build_top<W: CellSink, L: Ledger>(
     requires below_zero { 1 ≤ bottom }
     requires bottom_in { bottom ≤ 22 }
     requires clock_in { clock < 2 ^ 23 }
-    requires ready { IsReady (W.CellSource.held work.old) (top_at clock top.old.visible cell (marks_of next.now ∷ [])) fresh }
-    requires empty { ((W.CellSource.held work.old).shadows 0).len ≡ 0 }
+    requires ready { IsReady (W.CellSource.state work.old).held
+        (build_aim clock cell top.old (marks_of next.now)) fresh }
+    requires empty { ((W.CellSource.state work.old).held.shadows 0).len ≡ 0 }
     ensures kept { W.CellSource.kept work.new ≡ W.CellSource.kept work.old }
-    ensures builds { Builds clock cell (state_of (W.CellSource.held work.old) (W.CellSource.spent work.old) steps.old) (state_of (W.CellSource.held work.new) (W.CellSource.spent work.new) steps.new)
+    ensures builds { Builds clock cell
+        (state_of (W.CellSource.state work.old) steps.old) (state_of (W.CellSource.state work.new) steps.new)
         top.old top.new (marks_of next.now) result }
 {
     let aim = top_aim(clock, bottom, top.visible, cell, next);

@@ -21,11 +21,13 @@ fn work_level<W: CellSink, L: Ledger>(
     above: u32,
     steps: &mut Steps<L>,
 ) -> Result<(), StepFault>
-    requires fits { Fits (W.CellSource.held work.old) clock upper above level.old (all_marks_of below.now) }
+    requires fits { Fits (W.CellSource.state work.old).held clock upper above
+        level.old (all_marks_of below.now) }
     requires clock_in { clock < 2 ^ 23 }
     requires levels_in { upper + length below.now < 22 }
     ensures kept { W.CellSource.kept work.new ≡ W.CellSource.kept work.old }
-    ensures turn { TakesTurn clock upper above (state_of (W.CellSource.held work.old) (W.CellSource.spent work.old) steps.old) (state_of (W.CellSource.held work.new) (W.CellSource.spent work.new) steps.new)
+    ensures turn { TakesTurn clock upper above
+        (state_of (W.CellSource.state work.old) steps.old) (state_of (W.CellSource.state work.new) steps.new)
         level.old level.new (all_marks_of below.now) result }
 {
     let number = upper + 1;
@@ -45,11 +47,12 @@ pub(crate) fn work_levels<W: CellSink, L: Ledger>(
     above: u32,
     steps: &mut Steps<L>,
 ) -> Result<(), StepFault>
-    requires fit { AreFit (W.CellSource.held work.old) clock upper above levels.old }
+    requires fit { AreFit (W.CellSource.state work.old).held clock upper above levels.old }
     requires clock_in { clock < 2 ^ 23 }
     requires levels_in { upper + length levels.old ≤ 22 }
     ensures kept { W.CellSource.kept work.new ≡ W.CellSource.kept work.old }
-    ensures turns { TakeTurns clock upper above (state_of (W.CellSource.held work.old) (W.CellSource.spent work.old) steps.old) (state_of (W.CellSource.held work.new) (W.CellSource.spent work.new) steps.new)
+    ensures turns { TakeTurns clock upper above
+        (state_of (W.CellSource.state work.old) steps.old) (state_of (W.CellSource.state work.new) steps.new)
         levels.old levels.new result }
 {
     let Some((level, below)) = levels.split_first_mut() else {

@@ -25,8 +25,8 @@ fn work_once<W: CellSink, L: Ledger>(
     aim: &Aim,
     steps: &mut Steps<L>,
 ) -> (bool, bool, Stand)
-    requires { IsReady (W.CellSource.held work.old) aim.now level.old.merger }
-    ensures { IsReady (W.CellSource.held work.new) aim.now level.new.merger }
+    requires { IsReady (W.CellSource.state work.old).held aim.now level.old.merger }
+    ensures { IsReady (W.CellSource.state work.new).held aim.now level.new.merger }
 {
     let refused = level.work(work, aim, steps).is_err();
     let stand = (level.shadow, level.merger.own(), level.merger.incoming());
@@ -42,8 +42,8 @@ fn work_thrice<W: CellSink, L: Ledger>(
     failing: u64,
     steps: &mut Steps<L>,
 ) -> Result<(), Fail>
-    requires levels { 3 < (W.CellSource.held work.old).fixed.levels }
-    requires format { (W.CellSource.held work.old).fixed.format ≡ One }
+    requires levels { 3 < (W.CellSource.state work.old).held.fixed.levels }
+    requires format { (W.CellSource.state work.old).held.fixed.format ≡ One }
 {
     let own = rows_of(
         alloc,

@@ -25,11 +25,11 @@ pub fn at_bottom<W: CellSink, L: Ledger>(
     incoming: &[Row],
     steps: &mut Steps<L>,
 ) -> Result<Aim, StepFault>
-    requires levels { 3 < (W.CellSource.held work.old).fixed.levels }
-    requires format { (W.CellSource.held work.old).fixed.format ≡ One }
-    ensures fixed { (W.CellSource.held work.new).fixed ≡ (W.CellSource.held work.old).fixed }
+    requires levels { 3 < (W.CellSource.state work.old).held.fixed.levels }
+    requires format { (W.CellSource.state work.old).held.fixed.format ≡ One }
+    ensures fixed { (W.CellSource.state work.new).held.fixed ≡ (W.CellSource.state work.old).held.fixed }
     ensures level { IfOk result (λ aim. aim.level ≡ 3) }
-    ensures ready { IfOk result (λ aim. IsReady (W.CellSource.held work.new) aim fresh) }
+    ensures ready { IfOk result (λ aim. IsReady (W.CellSource.state work.new).held aim fresh) }
 {
     let own = put_run(work, 3, 1, own, steps)?;
     let incoming = put_run(work, 2, 0, incoming, steps)?;
@@ -45,11 +45,11 @@ fn at_level_2<W: CellSink, L: Ledger>(
     steps: &mut Steps<L>,
 ) -> Result<Aim, StepFault>
     requires three { length runs.now ≡ 3 }
-    requires levels { 3 < (W.CellSource.held work.old).fixed.levels }
-    requires format { (W.CellSource.held work.old).fixed.format ≡ One }
-    ensures fixed { (W.CellSource.held work.new).fixed ≡ (W.CellSource.held work.old).fixed }
+    requires levels { 3 < (W.CellSource.state work.old).held.fixed.levels }
+    requires format { (W.CellSource.state work.old).held.fixed.format ≡ One }
+    ensures fixed { (W.CellSource.state work.new).held.fixed ≡ (W.CellSource.state work.old).held.fixed }
     ensures level { IfOk result (λ aim. aim.level ≡ 2) }
-    ensures ready { IfOk result (λ aim. IsReady (W.CellSource.held work.new) aim fresh) }
+    ensures ready { IfOk result (λ aim. IsReady (W.CellSource.state work.new).held aim fresh) }
 {
     let own = put_run(work, 2, 1, &runs[0], steps)?;
     let incoming = put_run(work, 1, 0, &runs[1], steps)?;
@@ -83,9 +83,9 @@ fn advance_all<W: CellSink, L: Ledger>(
     quotas: &[u32],
     steps: &mut Steps<L>,
 ) -> (u32, u32, u32)
-    requires ready { IsReady (W.CellSource.held work.old) aim.now merger.old }
-    ensures ready { IsReady (W.CellSource.held work.new) aim.now merger.new }
-    ensures fixed { (W.CellSource.held work.new).fixed ≡ (W.CellSource.held work.old).fixed }
+    requires ready { IsReady (W.CellSource.state work.old).held aim.now merger.old }
+    ensures ready { IsReady (W.CellSource.state work.new).held aim.now merger.new }
+    ensures fixed { (W.CellSource.state work.new).held.fixed ≡ (W.CellSource.state work.old).held.fixed }
 {
     let (mut more, mut done, mut refused) = (0u32, 0u32, 0u32);
     for quota in quotas {
@@ -105,7 +105,7 @@ fn has_built<W: CellSink, L: Ledger>(
     rows: &[Row],
     steps: &mut Steps<L>,
 ) -> Result<bool, ReadFault>
-    requires { level < (W.CellSource.held work.old).fixed.levels }
+    requires { level < (W.CellSource.state work.old).held.fixed.levels }
 {
     let slot = 0;
     let len = work.shadow_len(level);
@@ -173,8 +173,8 @@ fn stop_and_resume<W: CellSink, L: Ledger>(
     case: &Case,
     steps: &mut Steps<L>,
 ) -> Result<(), Fail>
-    requires levels { 3 < (W.CellSource.held work.old).fixed.levels }
-    requires format { (W.CellSource.held work.old).fixed.format ≡ One }
+    requires levels { 3 < (W.CellSource.state work.old).held.fixed.levels }
+    requires format { (W.CellSource.state work.old).held.fixed.format ≡ One }
 {
     let aim = at_bottom(
         work,
@@ -200,8 +200,8 @@ fn delete_at_bottom<W: CellSink, L: Ledger>(
     work: &mut W,
     steps: &mut Steps<L>,
 ) -> Result<(), Fail>
-    requires levels { 3 < (W.CellSource.held work.old).fixed.levels }
-    requires format { (W.CellSource.held work.old).fixed.format ≡ One }
+    requires levels { 3 < (W.CellSource.state work.old).held.fixed.levels }
+    requires format { (W.CellSource.state work.old).held.fixed.format ≡ One }
 {
     let own = rows_of(alloc, &[(1, 1, What::Old(1), 0)])?;
     let incoming = rows_of(alloc, &[(1, 1, What::Deleted, 0)])?;
@@ -306,8 +306,8 @@ fn build_small<W: CellSink, L: Ledger>(
     refused: u32,
     steps: &mut Steps<L>,
 ) -> Result<(), Fail>
-    requires levels { 3 < (W.CellSource.held work.old).fixed.levels }
-    requires format { (W.CellSource.held work.old).fixed.format ≡ One }
+    requires levels { 3 < (W.CellSource.state work.old).held.fixed.levels }
+    requires format { (W.CellSource.state work.old).held.fixed.format ≡ One }
 {
     let runs = small_runs(alloc)?;
     let wanted = plain_weave(rt, alloc, &runs, part)?;

@@ -7,7 +7,7 @@ ghost use Rattle.cola_cursor.specs.Seeking.{LevelsRise};
 
 use crate::rows::{Row, cell_of};
 use arrayvec::ArrayVec;
-use cola_cell::{CellSink, CellSource, ReadFault, Run, StepFault};
+use cola_cell::{CellSink, CellSource, MOST_LEVELS, ReadFault, Run, StepFault};
 use cola_outside::Steps;
 use std::sync::ledger::Ledger;
 
@@ -20,10 +20,10 @@ fn push_rows<W: CellSink, L: Ledger>(
     rows: &[Row],
     steps: &mut Steps<L>,
 ) -> Result<(), StepFault>
-    requires level_in { level < (W.CellSource.held work.old).fixed.levels }
-    requires format { (W.CellSource.held work.old).fixed.format ≡ One }
-    requires in_slot { slot ≡ ((W.CellSource.held work.old).shadows level).slot }
-    ensures fixed { (W.CellSource.held work.new).fixed ≡ (W.CellSource.held work.old).fixed }
+    requires level_in { level < (W.CellSource.state work.old).held.fixed.levels }
+    requires format { (W.CellSource.state work.old).held.fixed.format ≡ One }
+    requires in_slot { slot ≡ ((W.CellSource.state work.old).held.shadows level).slot }
+    ensures fixed { (W.CellSource.state work.new).held.fixed ≡ (W.CellSource.state work.old).held.fixed }
 {
     for row in rows {
         if let Some(cell) = cell_of(row) {
@@ -44,11 +44,11 @@ pub fn put_run<W: CellSink, L: Ledger>(
     rows: &[Row],
     steps: &mut Steps<L>,
 ) -> Result<Run, StepFault>
-    requires level_in { level < (W.CellSource.held work.old).fixed.levels }
+    requires level_in { level < (W.CellSource.state work.old).held.fixed.levels }
     requires slot_in { slot < 2 }
-    requires format { (W.CellSource.held work.old).fixed.format ≡ One }
-    ensures fixed { (W.CellSource.held work.new).fixed ≡ (W.CellSource.held work.old).fixed }
-    ensures source { IfOk result (λ run. IsSource (W.CellSource.held work.old).fixed run) }
+    requires format { (W.CellSource.state work.old).held.fixed.format ≡ One }
+    ensures fixed { (W.CellSource.state work.new).held.fixed ≡ (W.CellSource.state work.old).held.fixed }
+    ensures source { IfOk result (λ run. IsSource (W.CellSource.state work.old).held.fixed run) }
     ensures place { IfOk result (λ run. (run.level ≡ level) × (run.slot ≡ slot)) }
 {
     work.restart(level, slot);
@@ -65,8 +65,8 @@ pub fn has_rows<W: CellSource, L: Ledger>(
     rows: &[Row],
     steps: &mut Steps<L>,
 ) -> Result<bool, ReadFault>
-    requires { IsSource (W.held work.old).fixed run.now }
-    ensures cells_stay { W.held work.new ≡ W.held work.old }
+    requires { IsSource (W.state work.old).held.fixed run.now }
+    ensures cells_stay { (W.state work.new).held ≡ (W.state work.old).held }
 {
     for index in 0..run.len {
         let found = work.read(run.level, run.slot, index, steps)?;
@@ -78,7 +78,7 @@ pub fn has_rows<W: CellSource, L: Ledger>(
 }
 
 /// Runs in their order.
-fn in_order(runs: &[Run; 4]) -> ArrayVec<Run, 23>
+fn in_order(runs: &[Run; 4]) -> ArrayVec<Run, MOST_LEVELS>
     ensures { result.items ≡ runs.now }
 {
     let mut list = ArrayVec::new();
@@ -94,11 +94,11 @@ pub fn put_chain<W: CellSink, L: Ledger>(
     work: &mut W,
     chain: &[Vec<Row>],
     steps: &mut Steps<L>,
-) -> Result<ArrayVec<Run, 23>, StepFault>
-    requires levels { 3 < (W.CellSource.held work.old).fixed.levels }
-    requires format { (W.CellSource.held work.old).fixed.format ≡ One }
+) -> Result<ArrayVec<Run, MOST_LEVELS>, StepFault>
+    requires levels { 3 < (W.CellSource.state work.old).held.fixed.levels }
+    requires format { (W.CellSource.state work.old).held.fixed.format ≡ One }
     requires four { length chain.now ≡ 4 }
-    ensures runs { IfOk result (λ runs. All (HasRun (W.CellSource.held work.new)) runs.items) }
+    ensures runs { IfOk result (λ runs. All (HasRun (W.CellSource.state work.new).held) runs.items) }
     ensures rise { IfOk result (λ runs. LevelsRise 0 runs.items) }
 {
     let zero = put_run(work, 0, 0, &chain[0], steps)?;

@@ -9,7 +9,7 @@ use crate::chains::{made_chain, worked_chain};
 use crate::rows::{Row, What, item_of, key_of, rows_of};
 use crate::runs::{put_chain, put_run};
 use arrayvec::ArrayVec;
-use cola_cell::{CellSink, CellSource, FlatCells, Item, ReadFault, Run, Value};
+use cola_cell::{CellSink, CellSource, FlatCells, Item, MOST_LEVELS, ReadFault, Run, Value};
 use cola_cursor::Cursor;
 use cola_look::{Seat, sample_index, seek, window};
 use cola_outside::Steps;
@@ -64,8 +64,8 @@ fn seek_all<W: CellSink, L: Ledger>(
     work: &mut W,
     steps: &mut Steps<L>,
 ) -> Result<(), Fail>
-    requires levels { 1 < (W.CellSource.held work.old).fixed.levels }
-    requires format { (W.CellSource.held work.old).fixed.format ≡ One }
+    requires levels { 1 < (W.CellSource.state work.old).held.fixed.levels }
+    requires format { (W.CellSource.state work.old).held.fixed.format ≡ One }
 {
     let rows = rows_of(
         alloc,
@@ -132,12 +132,12 @@ fn plain_find(chain: &[Vec<Row>], key: u8) -> Option<Item> {
 fn finds_all<W: CellSource, L: Ledger>(
     rt: &impl Abort,
     work: &mut W,
-    runs: &ArrayVec<Run, 23>,
+    runs: &ArrayVec<Run, MOST_LEVELS>,
     chain: &[Vec<Row>],
     steps: &mut Steps<L>,
 ) -> Result<(), Fail>
-    requires { All (HasRun (W.held work.old)) runs.now.items }
-    ensures { W.held work.new ≡ W.held work.old }
+    requires { All (HasRun (W.state work.old).held) runs.now.items }
+    ensures { (W.state work.new).held ≡ (W.state work.old).held }
 {
     for number in 0..71u8 {
         let key = key_of(number).ok_or("no key")?;
@@ -155,8 +155,8 @@ fn gives<W: CellSource, L: Ledger>(
     pairs: &[(u8, u8)],
     steps: &mut Steps<L>,
 ) -> Result<(), Fail>
-    requires { Stands (W.held work.old) cursor.old }
-    ensures { W.held work.new ≡ W.held work.old }
+    requires { Stands (W.state work.old).held cursor.old }
+    ensures { (W.state work.new).held ≡ (W.state work.old).held }
 {
     for (key, value) in pairs {
         let key = key_of(*key).ok_or("no key")?;
@@ -173,14 +173,14 @@ fn ranges<W: CellSource, L: Ledger>(
     rt: &impl Abort,
     alloc: Global,
     work: &mut W,
-    runs: &ArrayVec<Run, 23>,
+    runs: &ArrayVec<Run, MOST_LEVELS>,
     chain: &[Vec<Row>],
     ends: (u8, Option<u8>),
     steps: &mut Steps<L>,
 ) -> Result<(), Fail>
-    requires runs { All (HasRun (W.held work.old)) runs.now.items }
+    requires runs { All (HasRun (W.state work.old).held) runs.now.items }
     requires rise { LevelsRise 0 runs.now.items }
-    ensures { W.held work.new ≡ W.held work.old }
+    ensures { (W.state work.new).held ≡ (W.state work.old).held }
 {
     let (low, high) = ends;
     let pairs = live_pairs(alloc, chain, &low, &high)?;
@@ -197,12 +197,12 @@ fn ranges_all<W: CellSource, L: Ledger>(
     rt: &impl Abort,
     alloc: Global,
     work: &mut W,
-    runs: &ArrayVec<Run, 23>,
+    runs: &ArrayVec<Run, MOST_LEVELS>,
     chain: &[Vec<Row>],
     seed: u8,
     steps: &mut Steps<L>,
 ) -> Result<(), Fail>
-    requires runs { All (HasRun (W.held work.old)) runs.now.items }
+    requires runs { All (HasRun (W.state work.old).held) runs.now.items }
     requires rise { LevelsRise 0 runs.now.items }
 {
     for pair in 0..42u8 {
@@ -224,8 +224,8 @@ fn made_one<W: CellSink, L: Ledger>(
     seed: u8,
     steps: &mut Steps<L>,
 ) -> Result<(), Fail>
-    requires levels { 3 < (W.CellSource.held work.old).fixed.levels }
-    requires format { (W.CellSource.held work.old).fixed.format ≡ One }
+    requires levels { 3 < (W.CellSource.state work.old).held.fixed.levels }
+    requires format { (W.CellSource.state work.old).held.fixed.format ≡ One }
 {
     let chain = made_chain(alloc, seed as u32)?;
     let runs = put_chain(work, &chain, steps)?;
@@ -244,8 +244,8 @@ fn worked_one<W: CellSink, L: Ledger>(
     work: &mut W,
     steps: &mut Steps<L>,
 ) -> Result<(), Fail>
-    requires levels { 3 < (W.CellSource.held work.old).fixed.levels }
-    requires format { (W.CellSource.held work.old).fixed.format ≡ One }
+    requires levels { 3 < (W.CellSource.state work.old).held.fixed.levels }
+    requires format { (W.CellSource.state work.old).held.fixed.format ≡ One }
 {
     let chain = worked_chain(alloc)?;
     let runs = put_chain(work, &chain, steps)?;

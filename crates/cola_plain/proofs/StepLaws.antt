@@ -5,7 +5,7 @@ use Rattle.cola_spec.specs.Map.{Shape}
 use Rattle.cola_spec.specs.Command.{Command, Put, PutIf, Del, Get, Stamp, Range, Scan, Count, Close, Reopen}
 use Rattle.cola_spec.specs.Reply as reply
 use Rattle.cola_spec.specs.Reply.{Reply, Memory, Refused}
-use Rattle.cola_spec.specs.Machine.{State, Open, Closing, Closed, Kind, PlainStep, FaultedStep, ShortStep, kind_of, Turn, Step, StepOf, Run, plain_after, plain_reply, plain_last, plain_turn, plain_turns}
+use Rattle.cola_spec.specs.Machine.{State, Open, Closing, Closed, Kind, PlainStep, FaultedStep, ShortStep, kind_of, Turn, Step, StepOf, History, plain_after, plain_reply, plain_last, plain_turn, plain_turns}
 use Rattle.cola_spec.specs.Machine as machine
 use Rattle.cola_spec.proofs.MachineLaws.{plain_kind}
 use Rattle.cola_plain.specs.declared.script.Choice.{Choice}
@@ -135,7 +135,7 @@ later_are_choices : (script : List Move) → AreChoices script → AreChoices (l
 later_are_choices [] all = all
 later_are_choices (move ∷ moves) all = All-tail (λ (m : Move). IsChoice m.choice) move moves all
 
-pub script_is_run : (script : List Move) (shape : Shape) (state : State) (asked : List (Option Command)) → AreChoices script → Run shape state (scripted_turns script shape state asked) (scripted_last script shape state asked)
+pub script_is_run : (script : List Move) (shape : Shape) (state : State) (asked : List (Option Command)) → AreChoices script → History shape state (scripted_turns script shape state asked) (scripted_last script shape state asked)
 script_is_run script shape state [] all = refl
 script_is_run script shape state (request ∷ requests) all =
     let next = next_move script in
@@ -155,7 +155,7 @@ scripted_chosen : (choice : Choice) (shape : Shape) (state : State) (turn : Turn
 scripted_chosen choice shape state turn told =
     ap (λ o. record { request = turn.request; answer = unwrap_or o (plain_reply shape state turn.request); ticks = turn.ticks }) (sym told)
 
-pub run_is_scripted : (shape : Shape) (state : State) (turns : List Turn) (last : State) → Run shape state turns last → IsScripted shape state turns last
+pub run_is_scripted : (shape : Shape) (state : State) (turns : List Turn) (last : State) → History shape state turns last → IsScripted shape state turns last
 run_is_scripted shape state [] last run = ([], All-nil (λ (m : Move). IsChoice m.choice), refl, run)
 run_is_scripted shape state (turn ∷ turns) last run =
     let chosen = chosen_by_kind shape state turn run.0 (kind_of turn.answer) refl run.1 in

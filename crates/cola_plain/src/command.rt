@@ -219,7 +219,8 @@ fn built<'a>(verb: Verb, words: &[&'a [u8]]) -> Option<Command<'a>>
 
 /// The first grammar of a name.
 fn named<'a>(grammars: &'a [Grammar], name: &[u8]) -> Option<&'a Grammar>
-    ensures { option_map (λ grammar. form_of grammar.now) result ≡ named (map form_of grammars.now) name.now }
+    ensures { option_map (λ grammar. form_of grammar.now) result ≡ named
+        (map form_of grammars.now) name.now }
 {
     match grammars {
         [] => None,
@@ -233,7 +234,8 @@ fn named<'a>(grammars: &'a [Grammar], name: &[u8]) -> Option<&'a Grammar>
 
 /// What a line asks by a grammar, with the words after its name.
 fn by_grammar<'a>(shape: &Shape, grammar: &Grammar, words: &[&'a [u8]]) -> Option<Command<'a>>
-    ensures { request_with result ≡ by_form (shape_of shape.now) (form_of grammar.now) (texts words.now) }
+    ensures { request_with result ≡ by_form (shape_of shape.now) (form_of grammar.now)
+        (texts words.now) }
 {
     let stamps = !grammar.stamped || shape.stamped;
     if stamps && are_of(shape, grammar.kinds, words) {
@@ -260,7 +262,8 @@ pub fn parse<'a>(
     shape: &Shape,
     text: &'a [u8],
 ) -> Result<Option<Command<'a>>, AllocError>
-    ensures { IfOk result (λ request. request_with request ≡ command_of (shape_of shape.now) text.now) }
+    ensures { IfOk result
+        (λ request. request_with request ≡ command_of (shape_of shape.now) text.now) }
 {
     if text.contains(&0) {
         return Ok(None);

@@ -10,7 +10,8 @@ use std::alloc::{AllocError, Global};
 
 /// The parts of a list of bytes between bytes of one kind.
 fn split(alloc: Global, bytes: &[u8], separator: u8) -> Result<Vec<&[u8]>, AllocError>
-    ensures { IfOk result (λ parts. texts parts.items ≡ slice_split (λ byte. nat_eq byte separator) bytes.now) }
+    ensures { IfOk result
+        (λ parts. texts parts.items ≡ slice_split (λ byte. nat_eq byte separator) bytes.now) }
 {
     bytes.split(|byte| *byte == separator).collect(alloc)
 }

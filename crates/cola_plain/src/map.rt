@@ -64,7 +64,8 @@ impl Map {
 
     /// The entry of a key.
     fn find(&self, key: &[u8]) -> Option<&Entry>
-        ensures { option_map kept_in (option_copied result) ≡ find key_cmp key.now (listed self.now.entries.items) }
+        ensures { option_map kept_in (option_copied result) ≡ find key_cmp key.now
+            (listed self.now.entries.items) }
     {
         for entry in &self.entries {
             if entry.key.as_slice() == key {
@@ -76,7 +77,8 @@ impl Map {
 
     /// The value of a key. An error comes only for want of memory.
     pub fn get(&self, alloc: Global, key: &[u8]) -> Result<Option<Vec<u8>>, AllocError>
-        ensures { (m : SpecMap) → Stands self.now m → IfOk result (λ value. option_map (λ v. v.items) value ≡ value_of m key.now) }
+        ensures { (m : SpecMap) → Stands self.now m →
+            IfOk result (λ value. option_map (λ v. v.items) value ≡ value_of m key.now) }
     {
         match self.find(key) {
             Some(entry) => Ok(Some(Vec::from_slice(alloc, &entry.value)?)),
@@ -115,7 +117,9 @@ impl Map {
         shape: &Shape,
         key: &[u8],
     ) -> Result<PutOutcome, AllocError>
-        ensures { (m : SpecMap) → Stands self.now m → IfOk result (λ outcome. outcome_with outcome ≡ put_outcome (shape_of shape.now) m key.now) }
+        ensures { (m : SpecMap) → Stands self.now m →
+            IfOk result (λ outcome. outcome_with outcome ≡ put_outcome
+            (shape_of shape.now) m key.now) }
     {
         let worn = self.is_worn(shape);
         match self.get(alloc, key)? {
@@ -145,7 +149,9 @@ impl Map {
         key: &[u8],
         seen: u64,
     ) -> Result<PutOutcome, AllocError>
-        ensures { (m : SpecMap) → Stands self.now m → IfOk result (λ outcome. outcome_with outcome ≡ put_if_outcome (shape_of shape.now) m key.now seen) }
+        ensures { (m : SpecMap) → Stands self.now m →
+            IfOk result (λ outcome. outcome_with outcome ≡ put_if_outcome
+            (shape_of shape.now) m key.now seen) }
     {
         let stamp = self.stamp(key).unwrap_or(0);
         if stamp == seen {
@@ -156,7 +162,9 @@ impl Map {
 
     /// Where the entry of a key is, or else where it would go.
     fn place(&self, key: &[u8]) -> Result<usize, usize>
-        ensures { (new : Stored) → MatchResult result (IsAt key.now new self.now.entries.items) (GoesAt key.now new self.now.entries.items) }
+        ensures { (new : Stored) →
+            MatchResult result (IsAt key.now new self.now.entries.items)
+            (GoesAt key.now new self.now.entries.items) }
     {
         for (i, entry) in self.entries.iter().enumerate() {
             match key.cmp(entry.key.as_slice()) {
@@ -171,7 +179,9 @@ impl Map {
     /// Puts an entry in its place, or in place of the one that its key has. An error comes only for want of
     /// memory, and changes nothing.
     fn store(&mut self, entry: Entry) -> Result<(), AllocError>
-        ensures stored { OnOk result (listed self.new.entries.items ≡ put key_cmp entry.key.items (kept_in entry) (listed self.old.entries.items)) }
+        ensures stored { OnOk result
+            (listed self.new.entries.items ≡ put key_cmp entry.key.items (kept_in entry)
+            (listed self.old.entries.items)) }
         ensures kept { OnErr result (self.new.entries.items ≡ self.old.entries.items) }
         ensures last { self.new.last ≡ self.old.last }
     {
@@ -200,7 +210,8 @@ impl Map {
 
     /// The last stamp after the next accepted put.
     fn next_last(&self, shape: &Shape) -> u64
-        ensures { result ≡ (if shape.now.stamped then min (self.now.last + 1) (2 ^ 64 - 1) else self.now.last) }
+        ensures { result ≡
+            (if shape.now.stamped then min (self.now.last + 1) (2 ^ 64 - 1) else self.now.last) }
     {
         if shape.stamped {
             self.last.saturating_add(1)
@@ -217,7 +228,8 @@ impl Map {
         key: &[u8],
         value: &[u8],
     ) -> Result<(), AllocError>
-        ensures given { (m : SpecMap) → Stands self.old m → is_worn (shape_of shape.now) m ≡ false → OnOk result (Stands self.new (with_value (shape_of shape.now) m key.now value.now)) }
+        ensures given { (m : SpecMap) → Stands self.old m → is_worn (shape_of shape.now) m ≡ false →
+            OnOk result (Stands self.new (with_value (shape_of shape.now) m key.now value.now)) }
         ensures kept { (m : SpecMap) → Stands self.old m → OnErr result (Stands self.new m) }
     {
         let last = self.next_last(shape);
@@ -240,7 +252,12 @@ impl Map {
         key: &[u8],
         value: &[u8],
     ) -> Result<(), AllocError>
-        ensures settled { (m : SpecMap) → Stands self.old m → (is_accepted (outcome_with outcome.now) ≡ true → is_worn (shape_of shape.now) m ≡ false) → OnOk result (Stands self.new (settled (outcome_with outcome.now) m (with_value (shape_of shape.now) m key.now value.now))) }
+        ensures settled { (m : SpecMap) → Stands self.old m →
+            (is_accepted (outcome_with outcome.now) ≡ true →
+            is_worn (shape_of shape.now) m ≡ false) →
+            OnOk result (Stands self.new
+            (settled (outcome_with outcome.now) m
+            (with_value (shape_of shape.now) m key.now value.now))) }
         ensures kept { (m : SpecMap) → Stands self.old m → OnErr result (Stands self.new m) }
     {
         match outcome {
@@ -260,7 +277,10 @@ impl Map {
         key: &[u8],
         value: &[u8],
     ) -> Result<PutOutcome, AllocError>
-        ensures put { (m : SpecMap) → Stands self.old m → IfOk result (λ outcome. (outcome_with outcome ≡ put_outcome (shape_of shape.now) m key.now) × Stands self.new (after_put (shape_of shape.now) m key.now value.now)) }
+        ensures put { (m : SpecMap) → Stands self.old m →
+            IfOk result (λ outcome.
+            (outcome_with outcome ≡ put_outcome (shape_of shape.now) m key.now)
+            × Stands self.new (after_put (shape_of shape.now) m key.now value.now)) }
         ensures kept { (m : SpecMap) → Stands self.old m → OnErr result (Stands self.new m) }
     {
         let outcome = self.put_outcome(alloc, shape, key)?;
@@ -278,7 +298,10 @@ impl Map {
         seen: u64,
         value: &[u8],
     ) -> Result<PutOutcome, AllocError>
-        ensures put { (m : SpecMap) → Stands self.old m → IfOk result (λ outcome. (outcome_with outcome ≡ put_if_outcome (shape_of shape.now) m key.now seen) × Stands self.new (after_put_if (shape_of shape.now) m key.now seen value.now)) }
+        ensures put { (m : SpecMap) → Stands self.old m →
+            IfOk result (λ outcome.
+            (outcome_with outcome ≡ put_if_outcome (shape_of shape.now) m key.now seen)
+            × Stands self.new (after_put_if (shape_of shape.now) m key.now seen value.now)) }
         ensures kept { (m : SpecMap) → Stands self.old m → OnErr result (Stands self.new m) }
     {
         let outcome = self.put_if_outcome(alloc, shape, key, seen)?;
@@ -288,7 +311,9 @@ impl Map {
 
     /// Copies of all entries but that of a key.
     fn without(&self, alloc: Global, key: &[u8]) -> Result<Vec<Entry>, AllocError>
-        ensures { IfOk result (λ kept. listed kept.items ≡ where_key key_cmp (λ x. not (eq_by_cmp key_cmp key.now x)) (listed self.now.entries.items)) }
+        ensures { IfOk result
+            (λ kept. listed kept.items ≡ where_key key_cmp (λ x. not (eq_by_cmp key_cmp key.now x))
+            (listed self.now.entries.items)) }
     {
         let mut kept = Vec::new(alloc);
         for entry in &self.entries {
@@ -303,7 +328,9 @@ impl Map {
     /// Removes a key, and gives the value that it had. An error comes only for want of memory, and changes
     /// nothing.
     pub fn delete(&mut self, alloc: Global, key: &[u8]) -> Result<Option<Vec<u8>>, AllocError>
-        ensures deleted { (m : SpecMap) → Stands self.old m → IfOk result (λ value. (option_map (λ v. v.items) value ≡ value_of m key.now) × Stands self.new (after_delete m key.now)) }
+        ensures deleted { (m : SpecMap) → Stands self.old m →
+            IfOk result (λ value. (option_map (λ v. v.items) value ≡ value_of m key.now)
+            × Stands self.new (after_delete m key.now)) }
         ensures kept { (m : SpecMap) → Stands self.old m → OnErr result (Stands self.new m) }
     {
         let old = self.get(alloc, key)?;
@@ -318,7 +345,9 @@ impl Map {
         low: &[u8],
         high: Option<&[u8]>,
     ) -> Result<Vec<Row>, AllocError>
-        ensures { (m : SpecMap) → Stands self.now m → IfOk result (λ rows. map pair_with rows.items ≡ pairs_between m low.now (option_copied high.entry)) }
+        ensures { (m : SpecMap) → Stands self.now m →
+            IfOk result (λ rows. map pair_with rows.items ≡ pairs_between m low.now
+            (option_copied high.entry)) }
     {
         let mut rows = Vec::new(alloc);
         for entry in &self.entries {
@@ -332,7 +361,8 @@ impl Map {
 
     /// The first `most` rows from `low` on. An error comes only for want of memory.
     pub fn scan(&self, alloc: Global, low: &[u8], most: u64) -> Result<Vec<Row>, AllocError>
-        ensures { (m : SpecMap) → Stands self.now m → IfOk result (λ rows. map pair_with rows.items ≡ scan m low.now most) }
+        ensures { (m : SpecMap) → Stands self.now m →
+            IfOk result (λ rows. map pair_with rows.items ≡ scan m low.now most) }
     {
         let mut rows = self.range(alloc, low, None)?;
         rows.truncate(most as usize);

@@ -84,7 +84,8 @@ fn costed_line(
     cost: bool,
     ticks: u64,
 ) -> Result<Vec<u8>, AllocError>
-    ensures { IfOk result (λ text. text.items ≡ line ((word.now ++ rest.now) ++ cost_suffix cost ticks)) }
+    ensures { IfOk result
+        (λ text. text.items ≡ line ((word.now ++ rest.now) ++ cost_suffix cost ticks)) }
 {
     let suffix = cost_suffix(alloc, cost, ticks)?;
     let mut text = Vec::from_slice(alloc, word)?;
@@ -100,7 +101,8 @@ fn costed_number_line(
     cost: bool,
     ticks: u64,
 ) -> Result<Vec<u8>, AllocError>
-    ensures { IfOk result (λ text. text.items ≡ line ((word.now ++ decimal number) ++ cost_suffix cost ticks)) }
+    ensures { IfOk result
+        (λ text. text.items ≡ line ((word.now ++ decimal number) ++ cost_suffix cost ticks)) }
 {
     let digits = format!(in alloc; "{number}")?;
     costed_line(alloc, word, digits.as_bytes(), cost, ticks)
@@ -114,7 +116,9 @@ fn value_line(
     cost: bool,
     ticks: u64,
 ) -> Result<Vec<u8>, AllocError>
-    ensures { IfOk result (λ text. text.items ≡ line (value_text word.now (option_map (λ v. v.items) value.now) ++ cost_suffix cost ticks)) }
+    ensures { IfOk result
+        (λ text. text.items ≡ line
+        (value_text word.now (option_map (λ v. v.items) value.now) ++ cost_suffix cost ticks)) }
 {
     match value {
         Some(value) => costed_line(alloc, word, value, cost, ticks),
@@ -129,7 +133,8 @@ fn stamp_line(
     cost: bool,
     ticks: u64,
 ) -> Result<Vec<u8>, AllocError>
-    ensures { IfOk result (λ text. text.items ≡ line (stamp_text stamp.now ++ cost_suffix cost ticks)) }
+    ensures { IfOk result
+        (λ text. text.items ≡ line (stamp_text stamp.now ++ cost_suffix cost ticks)) }
 {
     match stamp {
         Some(stamp) => costed_number_line(alloc, b"at ", *stamp, cost, ticks),
@@ -145,7 +150,10 @@ fn outcome_line(
     cost: bool,
     ticks: u64,
 ) -> Result<Vec<u8>, AllocError>
-    ensures { IfOk result (λ text. text.items ≡ line (outcome_text (outcome_with outcome.now) ++ outcome_suffix cost ticks (outcome_with outcome.now))) }
+    ensures { IfOk result
+        (λ text. text.items ≡ line
+        (outcome_text (outcome_with outcome.now) ++ outcome_suffix cost ticks
+        (outcome_with outcome.now))) }
 {
     match outcome {
         PutOutcome::New => costed_line(alloc, b"new", b"", cost, ticks),
@@ -203,7 +211,9 @@ fn rows_lines(alloc: Global, rows: &Vec<Row>) -> Result<Vec<u8>, AllocError>
 
 /// The lines of rows, and the line with their number.
 fn ended_rows(alloc: Global, rows: &Vec<Row>) -> Result<Vec<u8>, AllocError>
-    ensures { IfOk result (λ text. text.items ≡ rows_text (map pair_with rows.now.items) ++ line (codes "end " ++ decimal (length rows.now.items))) }
+    ensures { IfOk result
+        (λ text. text.items ≡ rows_text (map pair_with rows.now.items) ++ line
+        (codes "end " ++ decimal (length rows.now.items))) }
 {
     let mut text = rows_lines(alloc, rows)?;
     let end = number_line(alloc, b"end ", rows.len() as u64)?;
@@ -213,7 +223,9 @@ fn ended_rows(alloc: Global, rows: &Vec<Row>) -> Result<Vec<u8>, AllocError>
 
 /// The lines of rows, and the line of the failure that cut them.
 fn cut_rows(alloc: Global, rows: &Vec<Row>, failure: &Failure) -> Result<Vec<u8>, AllocError>
-    ensures { IfOk result (λ text. text.items ≡ rows_text (map pair_with rows.now.items) ++ line (failure_text (failure_with failure.now))) }
+    ensures { IfOk result
+        (λ text. text.items ≡ rows_text (map pair_with rows.now.items) ++ line
+        (failure_text (failure_with failure.now))) }
 {
     let mut text = rows_lines(alloc, rows)?;
     let end = failure_line(alloc, failure)?;

@@ -5,7 +5,7 @@ ghost use Rattle.cola_spec.specs.Map.{empty_map};
 ghost use Rattle.cola_spec.specs.Lines.{line_of, raw_lines};
 ghost use Rattle.cola_spec.specs.Command.{requests};
 ghost use Rattle.cola_plain.specs.Command.{request_with, shape_of};
-ghost use Rattle.cola_spec.specs.Machine.{Open, Run};
+ghost use Rattle.cola_spec.specs.Machine.{Open, History};
 ghost use Rattle.cola_plain.specs.Scripts.{IsChoice, next_move, scripted_last, scripted_turns};
 ghost use Rattle.cola_plain.specs.Turns.{turns_with};
 
@@ -53,7 +53,9 @@ pub fn requests<'a>(
     shape: &Shape,
     bytes: &'a [u8],
 ) -> Result<Vec<Option<Command<'a>>>, AllocError>
-    ensures { IfOk result (λ asked. map request_with asked.items ≡ requests (shape_of shape.now) (raw_lines bytes.now)) }
+    ensures { IfOk result
+        (λ asked. map request_with asked.items ≡ requests (shape_of shape.now)
+        (raw_lines bytes.now)) }
 {
     let lines = raw_lines(alloc, bytes)?;
     let mut all = Vec::new(alloc);
@@ -68,7 +70,7 @@ pub fn requests<'a>(
 
 impl Session {
     ghost use Rattle.std.specs.Prelude.{◌≡◌, ℕ, map, take, All, IfOk, OnErr, option_map};
-    ghost use Rattle.cola_spec.specs.Machine.{State, Run};
+    ghost use Rattle.cola_spec.specs.Machine.{State, History};
     ghost use Rattle.cola_plain.specs.Command.{request_with, shape_of};
     ghost use Rattle.cola_plain.specs.Reply.{reply_with};
     ghost use Rattle.cola_plain.specs.Session.{SessionStands};
@@ -84,8 +86,14 @@ impl Session {
         request: Option<Command>,
         choice: Choice,
     ) -> Result<Option<Reply>, AllocError>
-        ensures answer { (state : State) → SessionStands self.old state → IfOk result (λ reply. (option_map reply_with reply ≡ chosen_reply choice (shape_of shape.now) state (request_with request.entry)) × SessionStands self.new (chosen_after choice (shape_of shape.now) state (request_with request.entry))) }
-        ensures kept { (state : State) → SessionStands self.old state → OnErr result (SessionStands self.new state) }
+        ensures answer { (state : State) → SessionStands self.old state →
+            IfOk result (λ reply.
+            (option_map reply_with reply ≡ chosen_reply choice (shape_of shape.now) state
+            (request_with request.entry))
+            × SessionStands self.new
+            (chosen_after choice (shape_of shape.now) state (request_with request.entry))) }
+        ensures kept { (state : State) → SessionStands self.old state →
+            OnErr result (SessionStands self.new state) }
     {
         match choice {
             Choice::Plain => Ok(Some(self.answer(alloc, shape, request)?)),
@@ -103,8 +111,14 @@ impl Session {
         request: Option<Command>,
         choice: Choice,
     ) -> Result<Reply, AllocError>
-        ensures answer { (state : State) → SessionStands self.old state → IfOk result (λ reply. (reply_with reply ≡ scripted_reply choice (shape_of shape.now) state (request_with request.entry)) × SessionStands self.new (scripted_after choice (shape_of shape.now) state (request_with request.entry))) }
-        ensures kept { (state : State) → SessionStands self.old state → OnErr result (SessionStands self.new state) }
+        ensures answer { (state : State) → SessionStands self.old state →
+            IfOk result (λ reply.
+            (reply_with reply ≡ scripted_reply choice (shape_of shape.now) state
+            (request_with request.entry))
+            × SessionStands self.new
+            (scripted_after choice (shape_of shape.now) state (request_with request.entry))) }
+        ensures kept { (state : State) → SessionStands self.old state →
+            OnErr result (SessionStands self.new state) }
     {
         match self.chosen(alloc, shape, request, choice)? {
             Some(reply) => Ok(reply),
@@ -121,8 +135,14 @@ impl Session {
         request: Option<Command<'a>>,
         next: Move,
     ) -> Result<Turn<'a>, AllocError>
-        ensures turn { (state : State) → SessionStands self.old state → IfOk result (λ turn. (turn_with turn ≡ scripted_turn next (shape_of shape.now) state (request_with request.entry)) × SessionStands self.new (scripted_after next.choice (shape_of shape.now) state (request_with request.entry))) }
-        ensures kept { (state : State) → SessionStands self.old state → OnErr result (SessionStands self.new state) }
+        ensures turn { (state : State) → SessionStands self.old state →
+            IfOk result (λ turn.
+            (turn_with turn ≡ scripted_turn next (shape_of shape.now) state
+            (request_with request.entry))
+            × SessionStands self.new
+            (scripted_after next.choice (shape_of shape.now) state (request_with request.entry))) }
+        ensures kept { (state : State) → SessionStands self.old state →
+            OnErr result (SessionStands self.new state) }
     {
         let answer = self.scripted(alloc, shape, request, next.choice)?;
         Ok(Turn {
@@ -142,9 +162,21 @@ impl Session {
         requests: &[Option<Command<'a>>],
         script: &[Move],
     ) -> Result<Vec<Turn<'a>>, AllocError>
-        ensures turns { (state : State) → SessionStands self.old state → IfOk result (λ turns. (turns_with turns.items ≡ scripted_turns script.now (shape_of shape.now) state (map request_with requests.now)) × SessionStands self.new (scripted_last script.now (shape_of shape.now) state (map request_with requests.now))) }
-        ensures refused { (state : State) → SessionStands self.old state → OnErr result ((steps : ℕ) × SessionStands self.new (scripted_last script.now (shape_of shape.now) state (take steps (map request_with requests.now)))) }
-        ensures run { (state : State) → SessionStands self.old state → All (λ move. IsChoice move.choice) script.now → IfOk result (λ turns. Run (shape_of shape.now) state (turns_with turns.items) (scripted_last script.now (shape_of shape.now) state (map request_with requests.now))) }
+        ensures turns { (state : State) → SessionStands self.old state →
+            IfOk result (λ turns.
+            (turns_with turns.items ≡ scripted_turns script.now (shape_of shape.now) state
+            (map request_with requests.now))
+            × SessionStands self.new
+            (scripted_last script.now (shape_of shape.now) state (map request_with requests.now))) }
+        ensures refused { (state : State) → SessionStands self.old state →
+            OnErr result ((steps : ℕ)
+            × SessionStands self.new
+            (scripted_last script.now (shape_of shape.now) state
+            (take steps (map request_with requests.now)))) }
+        ensures run { (state : State) → SessionStands self.old state →
+            All (λ move. IsChoice move.choice) script.now →
+            IfOk result (λ turns. History (shape_of shape.now) state (turns_with turns.items)
+            (scripted_last script.now (shape_of shape.now) state (map request_with requests.now))) }
     {
         let mut turns = Vec::new(alloc);
         for (place, request) in requests.iter().enumerate() {
@@ -163,8 +195,13 @@ pub fn scripted_session<'a>(
     bytes: &'a [u8],
     script: &[Move],
 ) -> Result<Vec<Turn<'a>>, AllocError>
-    ensures turns { IfOk result (λ turns. turns_with turns.items ≡ scripted_turns script.now (shape_of shape.now) (Open empty_map) (requests (shape_of shape.now) (raw_lines bytes.now))) }
-    ensures run { All (λ move. IsChoice move.choice) script.now → IfOk result (λ turns. Run (shape_of shape.now) (Open empty_map) (turns_with turns.items) (scripted_last script.now (shape_of shape.now) (Open empty_map) (requests (shape_of shape.now) (raw_lines bytes.now)))) }
+    ensures turns { IfOk result
+        (λ turns. turns_with turns.items ≡ scripted_turns script.now (shape_of shape.now)
+        (Open empty_map) (requests (shape_of shape.now) (raw_lines bytes.now))) }
+    ensures run { All (λ move. IsChoice move.choice) script.now →
+        IfOk result (λ turns. History (shape_of shape.now) (Open empty_map) (turns_with turns.items)
+        (scripted_last script.now (shape_of shape.now) (Open empty_map)
+        (requests (shape_of shape.now) (raw_lines bytes.now)))) }
 {
     let asked = requests(alloc, shape, bytes)?;
     Session::new(alloc).scripted_run(alloc, shape, &asked, script)

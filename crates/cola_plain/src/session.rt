@@ -40,7 +40,9 @@ pub(crate) fn asked<'a>(
     shape: &Shape,
     raw: &'a [u8],
 ) -> Result<Option<Option<Command<'a>>>, AllocError>
-    ensures { IfOk result (λ request. option_to_list (option_map request_with request) ≡ line_requests (shape_of shape.now) (line_of raw.now)) }
+    ensures { IfOk result
+        (λ request. option_to_list (option_map request_with request) ≡ line_requests
+        (shape_of shape.now) (line_of raw.now)) }
 {
     let Some(text) = text_of(raw) else {
         return Ok(Some(None));
@@ -53,8 +55,10 @@ pub(crate) fn asked<'a>(
 
 /// The reply to a command after a closing that met a fault, and the stage after it.
 fn closing_answer(command: Command) -> (Reply, Stage)
-    ensures reply { (shape : SpecShape) (m : SpecMap) → reply_with result.0 ≡ command_reply shape (Closing m) (command_with command.entry) }
-    ensures stage { (shape : SpecShape) (m : SpecMap) → state_at result.1 m ≡ command_after shape (Closing m) (command_with command.entry) }
+    ensures reply { (shape : SpecShape) (m : SpecMap) →
+        reply_with result.0 ≡ command_reply shape (Closing m) (command_with command.entry) }
+    ensures stage { (shape : SpecShape) (m : SpecMap) →
+        state_at result.1 m ≡ command_after shape (Closing m) (command_with command.entry) }
 {
     match command {
         Command::Put(_, _) => (Reply::Shut, Stage::Closing),
@@ -86,8 +90,10 @@ fn opening_answer(keys: usize, byte: u8) -> (Reply, Stage)
 
 /// The reply to a command while a session of so many keys is closed, and the stage after it.
 fn closed_answer(keys: usize, byte: u8, command: Command) -> (Reply, Stage)
-    ensures reply { (shape : SpecShape) (m : SpecMap) → keys ≡ count m → reply_with result.0 ≡ command_reply shape (Closed m byte) (command_with command.entry) }
-    ensures stage { (shape : SpecShape) (m : SpecMap) → state_at result.1 m ≡ command_after shape (Closed m byte) (command_with command.entry) }
+    ensures reply { (shape : SpecShape) (m : SpecMap) → keys ≡ count m →
+        reply_with result.0 ≡ command_reply shape (Closed m byte) (command_with command.entry) }
+    ensures stage { (shape : SpecShape) (m : SpecMap) →
+        state_at result.1 m ≡ command_after shape (Closed m byte) (command_with command.entry) }
 {
     match command {
         Command::Put(_, _) => (Reply::Shut, Stage::Closed(byte)),
@@ -113,7 +119,9 @@ fn cut(mut rows: Vec<Row>, most: usize) -> Reply
 
 /// What a command is answered that meets a fault after a closing that met one, if it can.
 fn closing_faulted(command: Command) -> Option<Reply>
-    ensures { (rows : ℕ) (m : SpecMap) → option_map reply_with result ≡ command_faulted_reply rows (Closing m) (command_with command.entry) }
+    ensures { (rows : ℕ) (m : SpecMap) →
+        option_map reply_with result ≡ command_faulted_reply rows (Closing m)
+        (command_with command.entry) }
 {
     match command {
         Command::Close => Some(Reply::Failed(Failure::Fault)),
@@ -124,8 +132,12 @@ fn closing_faulted(command: Command) -> Option<Reply>
 /// What a command is answered that meets a fault while the session is closed, if it can, and the stage
 /// after it, where the fault leaves `after` as the state byte.
 fn closed_faulted(byte: u8, after: u8, command: Command) -> (Option<Reply>, Stage)
-    ensures reply { (rows : ℕ) (m : SpecMap) → option_map reply_with result.0 ≡ command_faulted_reply rows (Closed m byte) (command_with command.entry) }
-    ensures stage { (m : SpecMap) → state_at result.1 m ≡ command_faulted_after after (Closed m byte) (command_with command.entry) }
+    ensures reply { (rows : ℕ) (m : SpecMap) →
+        option_map reply_with result.0 ≡ command_faulted_reply rows (Closed m byte)
+        (command_with command.entry) }
+    ensures stage { (m : SpecMap) →
+        state_at result.1 m ≡ command_faulted_after after (Closed m byte)
+        (command_with command.entry) }
 {
     match command {
         Command::Reopen => (Some(Reply::Failed(Failure::Fault)), Stage::Closed(after)),
@@ -135,7 +147,9 @@ fn closed_faulted(byte: u8, after: u8, command: Command) -> (Option<Reply>, Stag
 
 /// What a command is answered that finds no memory while the session is closed, if it can.
 fn closed_short(byte: u8, command: Command) -> Option<Reply>
-    ensures { (m : SpecMap) → option_map reply_with result ≡ command_short_reply (Closed m byte) (command_with command.entry) }
+    ensures { (m : SpecMap) →
+        option_map reply_with result ≡ command_short_reply (Closed m byte)
+        (command_with command.entry) }
 {
     match command {
         Command::Reopen => {
@@ -178,8 +192,14 @@ impl Session {
         shape: &Shape,
         command: Command,
     ) -> Result<Reply, AllocError>
-        ensures answer { (m : SpecMap) → Stands self.old.map m → self.old.stage ≡ stage.Open → IfOk result (λ reply. (reply_with reply ≡ command_reply (shape_of shape.now) (Open m) (command_with command.entry)) × SessionStands self.new (command_after (shape_of shape.now) (Open m) (command_with command.entry))) }
-        ensures kept { (m : SpecMap) → Stands self.old.map m → OnErr result (Stands self.new.map m × (self.new.stage ≡ self.old.stage)) }
+        ensures answer { (m : SpecMap) → Stands self.old.map m → self.old.stage ≡ stage.Open →
+            IfOk result (λ reply.
+            (reply_with reply ≡ command_reply (shape_of shape.now) (Open m)
+            (command_with command.entry))
+            × SessionStands self.new
+            (command_after (shape_of shape.now) (Open m) (command_with command.entry))) }
+        ensures kept { (m : SpecMap) → Stands self.old.map m →
+            OnErr result (Stands self.new.map m × (self.new.stage ≡ self.old.stage)) }
     {
         match command {
             Command::Put(key, value) => Ok(Reply::Put(self.map.put(alloc, shape, key, value)?)),
@@ -207,8 +227,13 @@ impl Session {
         shape: &Shape,
         request: Option<Command>,
     ) -> Result<Reply, AllocError>
-        ensures answer { (state : State) → SessionStands self.old state → IfOk result (λ reply. (reply_with reply ≡ plain_reply (shape_of shape.now) state (request_with request.entry)) × SessionStands self.new (plain_after (shape_of shape.now) state (request_with request.entry))) }
-        ensures kept { (state : State) → SessionStands self.old state → OnErr result (SessionStands self.new state) }
+        ensures answer { (state : State) → SessionStands self.old state →
+            IfOk result (λ reply.
+            (reply_with reply ≡ plain_reply (shape_of shape.now) state (request_with request.entry))
+            × SessionStands self.new
+            (plain_after (shape_of shape.now) state (request_with request.entry))) }
+        ensures kept { (state : State) → SessionStands self.old state →
+            OnErr result (SessionStands self.new state) }
     {
         let Some(command) = request else {
             return Ok(Reply::Bad);
@@ -236,7 +261,12 @@ impl Session {
         command: Command,
         rows: usize,
     ) -> Result<(Option<Reply>, Stage), AllocError>
-        ensures { (m : SpecMap) → Stands self.now.map m → IfOk result (λ step. (option_map reply_with step.0 ≡ command_faulted_reply rows (Open m) (command_with command.entry)) × ((byte : ℕ) → state_at step.1 m ≡ command_faulted_after byte (Open m) (command_with command.entry))) }
+        ensures { (m : SpecMap) → Stands self.now.map m →
+            IfOk result (λ step.
+            (option_map reply_with step.0 ≡ command_faulted_reply rows (Open m)
+            (command_with command.entry))
+            × ((byte : ℕ) →
+            state_at step.1 m ≡ command_faulted_after byte (Open m) (command_with command.entry))) }
     {
         match command {
             Command::Put(_, _) => Ok((Some(Reply::Failed(Failure::Fault)), Stage::Open)),
@@ -269,7 +299,10 @@ impl Session {
         rows: usize,
         byte: u8,
     ) -> Result<Option<Reply>, AllocError>
-        ensures step { (state : State) → SessionStands self.old state → IfOk result (λ reply. (option_map reply_with reply ≡ faulted_reply rows state (request_with request.entry)) × SessionStands self.new (faulted_after byte state (request_with request.entry))) }
+        ensures step { (state : State) → SessionStands self.old state →
+            IfOk result (λ reply.
+            (option_map reply_with reply ≡ faulted_reply rows state (request_with request.entry))
+            × SessionStands self.new (faulted_after byte state (request_with request.entry))) }
         ensures kept { OnErr result (self.new ≡ self.old) }
     {
         let Some(command) = request else {
@@ -293,7 +326,8 @@ impl Session {
     /// The reply to a request that finds no memory, after which the session is as it was. `None` exactly
     /// where that cannot be.
     pub fn short_of_memory(&self, request: Option<Command>) -> Option<Reply>
-        ensures { (state : State) → SessionStands self.now state → option_map reply_with result ≡ short_reply state (request_with request.entry) }
+        ensures { (state : State) → SessionStands self.now state →
+            option_map reply_with result ≡ short_reply state (request_with request.entry) }
     {
         let Some(command) = request else {
             return None;
@@ -313,8 +347,19 @@ impl Session {
         shape: &Shape,
         raw: &[u8],
     ) -> Result<Vec<u8>, AllocError>
-        ensures text { (state : State) → SessionStands self.old state → IfOk result (λ text. (text.items ≡ turns_text false (plain_turns (shape_of shape.now) state (line_requests (shape_of shape.now) (line_of raw.now)))) × SessionStands self.new (plain_last (shape_of shape.now) state (line_requests (shape_of shape.now) (line_of raw.now)))) }
-        ensures refused { (state : State) → SessionStands self.old state → OnErr result (SessionStands self.new state ⊎ SessionStands self.new (plain_last (shape_of shape.now) state (line_requests (shape_of shape.now) (line_of raw.now)))) }
+        ensures text { (state : State) → SessionStands self.old state →
+            IfOk result (λ text.
+            (text.items ≡ turns_text false
+            (plain_turns (shape_of shape.now) state
+            (line_requests (shape_of shape.now) (line_of raw.now))))
+            × SessionStands self.new
+            (plain_last (shape_of shape.now) state
+            (line_requests (shape_of shape.now) (line_of raw.now)))) }
+        ensures refused { (state : State) → SessionStands self.old state →
+            OnErr result (SessionStands self.new state
+            ⊎ SessionStands self.new
+            (plain_last (shape_of shape.now) state
+            (line_requests (shape_of shape.now) (line_of raw.now)))) }
     {
         match asked(alloc, shape, raw)? {
             Some(request) => {
@@ -328,8 +373,19 @@ impl Session {
     /// The texts of the replies to the lines of a list of bytes. An error comes only for want of memory;
     /// some first lines are then carried out, and the others are not.
     pub fn run(&mut self, alloc: Global, shape: &Shape, bytes: &[u8]) -> Result<Vec<u8>, AllocError>
-        ensures text { (state : State) → SessionStands self.old state → IfOk result (λ text. (text.items ≡ turns_text false (plain_turns (shape_of shape.now) state (requests (shape_of shape.now) (raw_lines bytes.now)))) × SessionStands self.new (plain_last (shape_of shape.now) state (requests (shape_of shape.now) (raw_lines bytes.now)))) }
-        ensures refused { (state : State) → SessionStands self.old state → OnErr result ((lines : ℕ) × SessionStands self.new (plain_last (shape_of shape.now) state (requests (shape_of shape.now) (take lines (raw_lines bytes.now))))) }
+        ensures text { (state : State) → SessionStands self.old state →
+            IfOk result (λ text.
+            (text.items ≡ turns_text false
+            (plain_turns (shape_of shape.now) state
+            (requests (shape_of shape.now) (raw_lines bytes.now))))
+            × SessionStands self.new
+            (plain_last (shape_of shape.now) state
+            (requests (shape_of shape.now) (raw_lines bytes.now)))) }
+        ensures refused { (state : State) → SessionStands self.old state →
+            OnErr result ((lines : ℕ)
+            × SessionStands self.new
+            (plain_last (shape_of shape.now) state
+            (requests (shape_of shape.now) (take lines (raw_lines bytes.now))))) }
     {
         let lines = raw_lines(alloc, bytes)?;
         let mut text = Vec::new(alloc);
@@ -344,7 +400,10 @@ impl Session {
 /// The texts of the replies of a session over a map of at most `limit` keys, which begins empty and has no
 /// stamps, to the lines of a list of bytes. An error comes only for want of memory.
 pub fn mem_session(alloc: Global, limit: usize, bytes: &[u8]) -> Result<Vec<u8>, AllocError>
-    ensures { IfOk result (λ text. text.items ≡ turns_text false (plain_turns (small_shape limit) (Open empty_map) (requests (small_shape limit) (raw_lines bytes.now)))) }
+    ensures { IfOk result
+        (λ text. text.items ≡ turns_text false
+        (plain_turns (small_shape limit) (Open empty_map)
+        (requests (small_shape limit) (raw_lines bytes.now)))) }
 {
     let shape = Shape {
         limit,

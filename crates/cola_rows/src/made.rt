@@ -275,7 +275,7 @@ fn without_faults(alloc: Global, device: Watched) -> Result<Watched, AllocError>
     device_of(alloc, device.device.into_bytes(), 0, Vec::new(alloc))
 }
 
-/// Compares a session over a device with failing calls with a run of the machine that has a fault for each reply `fault`.
+/// Compares a session over a device with failing calls with a history of the machine that has a fault for each reply `fault`.
 /// Where it ended well, the file serves the map of that run. It gives the number of faults too.
 fn serves_with_faults(
     alloc: Global,

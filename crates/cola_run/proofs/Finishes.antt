@@ -10,7 +10,7 @@ use Rattle.cola_device.specs.Bytes.{splice, WroteSome}
 use Rattle.cola_front.specs.Front.{FrontCells, cell_bytes}
 use Rattle.cola_layout.specs.declared.geometry.Geometry.{Geometry}
 use Rattle.cola_layout.proofs.Places.{slot-blocks}
-use Rattle.cola_run.specs.Cells.{IsOnDevice, Lower, block_cells, block_bytes, file_bytes, block_number, tail_number, is_in_tail, device_cell, spots_of, IsShadow, IsShape, IsSaved, IsBacked}
+use Rattle.cola_run.specs.Cells.{IsOnDevice, Lower, block_cells, block_bytes, file_bytes, block_number, tail_number, is_in_tail, device_cell, spots_of, IsShadow, IsShape, IsSaved, IsBacked, cells_by}
 use Rattle.cola_run.specs.Parts.{tail_of, TailFinished, IsFinished}
 use Rattle.cola_run.proofs.Spots.{both-so, both-same, both-with, both-second, in-tail, device-in, device-out, device-is, spots-stay}
 use Rattle.cola_run.proofs.Steps.{tail-many, tail-cell, written-there}
@@ -104,7 +104,7 @@ module _ (g : Geometry) (front : FrontCells) (old new : Lower) (level : ℕ) {T 
 
   -- what is told of every place stays, but for those behind the shadow in its slot
   pub finish-stays : IfSome old.told (IsBacked g old.shadows old.tails) → (l s i : ℕ) → (l ≢ level) ⊎ (s ≢ shadow.slot) ⊎ (i < shadow.len) →
-      spots_of (record { geometry = g; front = front; lower = new }) l s i ≡ spots_of (record { geometry = g; front = front; lower = old }) l s i
+      spots_of (cells_by g front new) l s i ≡ spots_of (cells_by g front old) l s i
   finish-stays backed l s i apart =
       spots-stay g front front old new l s i (λ p low. refl)
       (both-so old.told new.told (λ b c. IsBacked g old.shadows old.tails b × Way g old.tails b c level shadow (is_ok result))

@@ -14,8 +14,8 @@ use Rattle.cola_device.specs.Bytes.{WroteSome}
 use Rattle.cola_front.specs.Front.{FrontCells}
 use Rattle.cola_layout.specs.declared.geometry.Geometry.{Geometry}
 use Rattle.cola_layout.proofs.Powers.{power-le}
-use Rattle.cola_run.specs.Cells.{IsOnDevice, Lower, block_bytes, block_number, spots_of, IsShape}
-use Rattle.cola_run.specs.Store.{Store, IsStore, cells_of, held_of, spent_of, kept_of, beside}
+use Rattle.cola_run.specs.Cells.{IsOnDevice, Lower, block_bytes, block_number, spots_of, IsShape, cells_by}
+use Rattle.cola_run.specs.Store.{Store, IsStore, cells_of, held_of, state_of, kept_of, beside}
 use Rattle.cola_run.specs.Parts.{TailFinished, tail_of, MetFault, IsFinished}
 use Rattle.cola_run.specs.Turns.{Writing}
 use Rattle.cola_run.proofs.Steps.{tail-many}
@@ -75,8 +75,8 @@ module _ {D K T : Type 0} (bytes : D → Option (List ℕ)) (counts : D → Coun
           (tail-many g store.tails level shape.block device shape.tails_many) (long-of g store.shadows store.tails (bytes store.buffers.cache.device) sound.cells.backed) w
       by-test true e w = ap (λ (x : Option (List ℕ)). option_map (beside g) x) w.0
 
-  spots-now : (l s i : ℕ) → spots_of (cells_of (bytes now.buffers.cache.device) now) l s i ≡ spots_of (record { geometry = g; front = store.front; lower = lower-now }) l s i
-  spots-now l s i = ap (λ (x : Geometry). spots_of (record { geometry = x; front = now.front; lower = lower-now }) l s i) same ∙ ap (λ (x : FrontCells). spots_of (record { geometry = g; front = x; lower = lower-now }) l s i) front
+  spots-now : (l s i : ℕ) → spots_of (cells_of (bytes now.buffers.cache.device) now) l s i ≡ spots_of (cells_by g store.front lower-now) l s i
+  spots-now l s i = ap (λ (x : Geometry). spots_of (cells_by x now.front lower-now) l s i) same ∙ ap (λ (x : FrontCells). spots_of (cells_by g x lower-now) l s i) front
 
   answers : (r : Result T PushFault) → r ≡ result → MetFault r → HasCauseOf r (counts store.buffers.cache.device).faults (counts now.buffers.cache.device).faults →
       FinishAnswers (held_of bytes store) (counts store.buffers.cache.device).faults (counts now.buffers.cache.device).faults level r
@@ -91,7 +91,7 @@ module _ {D K T : Type 0} (bytes : D → Option (List ℕ)) (counts : D → Coun
   pub finished-stays : (l s i : ℕ) → (l ≢ level) ⊎ (s ≢ shadow.slot) ⊎ (i < shadow.len) → (held_of bytes now).spots l s i ≡ (held_of bytes store).spots l s i
   finished-stays l s i apart = spots-now l s i ∙ finish-stays g store.front lower lower-now level result shape device finished sound.cells.backed l s i apart
 
-  pub finished-meets : Finishes (held_of bytes store) (held_of bytes now) (spent_of counts store) (spent_of counts now) level result
+  pub finished-meets : Finishes (state_of bytes counts store) (state_of bytes counts now) level result
   finished-meets = record {
     around = around-by bytes store now level same writing.stays.made (λ l apart. finished.shadow.others l apart) told-both;
     answer = answers result refl finished.fault (cause-of result writing.called);
@@ -100,7 +100,7 @@ module _ {D K T : Type 0} (bytes : D → Option (List ℕ)) (counts : D → Coun
     others_stay = finished-stays;
   }
 
-  pub finished-spends : FinishSpends (held_of bytes store) (spent_of counts store) (spent_of counts now) level
+  pub finished-spends : FinishSpends (state_of bytes counts store) (state_of bytes counts now) level
   finished-spends = record {
     writes = spends-writes counts kept store now level shadow.slot shadow.len (not shadow.saved) result 0 shape.block device.whole place writing same ticked;
     only_needed = λ kept_is. spends-nothing counts kept store now level shadow.slot shadow.len (not shadow.saved) result 0 shape.block device.whole place writing same ticked (saved-of kept_is);

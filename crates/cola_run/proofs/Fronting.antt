@@ -15,8 +15,8 @@ use Rattle.cola_front.specs.Front.{FrontCells}
 use Rattle.cola_layout.specs.declared.geometry.Geometry.{Geometry}
 use Rattle.cola_layout.proofs.Powers.{power-le}
 use Rattle.cola_cache.specs.Blocks.{Blocks}
-use Rattle.cola_run.specs.Cells.{Lower, block_bytes, file_blocks, device_levels, spots_of, IsShadow, IsShape, IsBacked}
-use Rattle.cola_run.specs.Store.{Store, IsStore, cells_of, held_of, spent_of, kept_of, beside}
+use Rattle.cola_run.specs.Cells.{Lower, block_bytes, file_blocks, device_levels, spots_of, IsShadow, IsShape, IsBacked, cells_by}
+use Rattle.cola_run.specs.Store.{Store, IsStore, cells_of, held_of, state_of, kept_of, beside}
 use Rattle.cola_run.specs.Parts.{OneShadow, fills}
 use Rattle.cola_run.proofs.Reading.{span-is}
 use Rattle.cola_run.proofs.Spots.{both-same}
@@ -48,11 +48,11 @@ module _ {D K : Type 0} (bytes : D → Option (List ℕ)) (counts : D → Counts
       around-by bytes store now level same (ap (λ (b : Blocks D). b.made) buffers) (λ l apart. one.others l apart)
       (subst (λ (x : Option (List ℕ)). Both (bytes store.buffers.cache.device) x (λ _ _. Unit {0})) (sym told-same) (both-same (bytes store.buffers.cache.device) (λ _ _. Unit {0}) (λ _. tt)))
 
-  spots-now : (l s i : ℕ) → spots_of (cells_of (bytes now.buffers.cache.device) now) l s i ≡ spots_of (record { geometry = g; front = now.front; lower = lower-now }) l s i
-  spots-now l s i = ap (λ (x : Geometry). spots_of (record { geometry = x; front = now.front; lower = lower-now }) l s i) same
+  spots-now : (l s i : ℕ) → spots_of (cells_of (bytes now.buffers.cache.device) now) l s i ≡ spots_of (cells_by g now.front lower-now) l s i
+  spots-now l s i = ap (λ (x : Geometry). spots_of (cells_by x now.front lower-now) l s i) same
 
-  front-now : now.front ≡ store.front → (l s i : ℕ) → spots_of (cells_of (bytes now.buffers.cache.device) now) l s i ≡ spots_of (record { geometry = g; front = store.front; lower = lower-now }) l s i
-  front-now front l s i = spots-now l s i ∙ ap (λ (x : FrontCells). spots_of (record { geometry = g; front = x; lower = lower-now }) l s i) front
+  front-now : now.front ≡ store.front → (l s i : ℕ) → spots_of (cells_of (bytes now.buffers.cache.device) now) l s i ≡ spots_of (cells_by g store.front lower-now) l s i
+  front-now front l s i = spots-now l s i ∙ ap (λ (x : FrontCells). spots_of (cells_by g x lower-now) l s i) front
 
   sound-same : now.front ≡ store.front → IsShape g store.front now.shadows now.tails → IfSome (bytes now.buffers.cache.device) (IsBacked g now.shadows now.tails) → IsStore (bytes now.buffers.cache.device) now
   sound-same front shape backed =
@@ -95,7 +95,7 @@ module _ {D K : Type 0} (bytes : D → Option (List ℕ)) (counts : D → Counts
         (front-shape g store.front store.front lower lower-now level shadow-now sound.cells.shape told-same tails one low (subst (λ (x : Shadow). IsShadow level x) (sym is) (record { slot_in = stands.slot_in; within = stands.within })))
         (front-backed g store.front store.front lower lower-now level shadow-now sound.cells.shape told-same tails one low sound.cells.backed)
 
-    pub front-finished-meets : Finishes (held_of bytes store) (held_of bytes now) (spent_of counts store) (spent_of counts now) level result
+    pub front-finished-meets : Finishes (state_of bytes counts store) (state_of bytes counts now) level result
     front-finished-meets = record {
       around = same-around;
       answer = by-answer result accepted;
@@ -115,7 +115,7 @@ module _ {D K : Type 0} (bytes : D → Option (List ℕ)) (counts : D → Counts
         by-calm (Ok value) e = faults
         by-calm (Err fault) e = absurd (false≢true e)
 
-    pub front-finished-spends : FinishSpends (held_of bytes store) (spent_of counts store) (spent_of counts now) level
+    pub front-finished-spends : FinishSpends (state_of bytes counts store) (state_of bytes counts now) level
     front-finished-spends =
         let w = writes-none counts store now 0 (block_of (8 * 2 ^ (g.block_exp - 3)) level (shadow_at store.shadows level).slot (shadow_at store.shadows level).len) buffers same ticked in
         record { writes = w.0; only_needed = λ _. w.1 }
@@ -159,10 +159,10 @@ module _ {D K : Type 0} (bytes : D → Option (List ℕ)) (counts : D → Counts
           buffers_many = ap (λ (b : Blocks D). length b.lasts) buffers ∙ sound.buffers_many ∙ ap (λ (x : Geometry). 1 + 3 * device_levels x) (sym same);
         }
 
-    put-now : (l s i : ℕ) → spots_of (cells_of (bytes now.buffers.cache.device) now) l s i ≡ spots_of (record { geometry = g; front = put; lower = lower-now }) l s i
-    put-now l s i = spots-now l s i ∙ ap (λ (x : FrontCells). spots_of (record { geometry = g; front = x; lower = lower-now }) l s i) front
+    put-now : (l s i : ℕ) → spots_of (cells_of (bytes now.buffers.cache.device) now) l s i ≡ spots_of (cells_by g put lower-now) l s i
+    put-now l s i = spots-now l s i ∙ ap (λ (x : FrontCells). spots_of (cells_by g x lower-now) l s i) front
 
-    pub front-pushed-meets : Pushes (held_of bytes store) (held_of bytes now) (spent_of counts store) (spent_of counts now) level cell result
+    pub front-pushed-meets : Pushes (state_of bytes counts store) (state_of bytes counts now) level cell result
     front-pushed-meets = record {
       around = same-around;
       answer = by-answer result accepted;
@@ -171,7 +171,7 @@ module _ {D K : Type 0} (bytes : D → Option (List ℕ)) (counts : D → Counts
       others_stay = λ l s i apart. put-now l s i ∙ front-stays g store.front put lower lower-now level shadow-now sound.cells.shape told-same tails one low l s i (λ p _. put-elsewhere g store.front cell level shadow.slot shadow.len l s i place apart p);
     }
       where
-        by-answer : (r : Result T PushFault) → is_ok r ≡ true → PushAnswers (held_of bytes store) (held_of bytes now) (spent_of counts store) (spent_of counts now) level cell r
+        by-answer : (r : Result T PushFault) → is_ok r ≡ true → PushAnswers (state_of bytes counts store) (state_of bytes counts now) level cell r
         by-answer (Ok value) e = (room, put-now level shadow.slot shadow.len ∙ put-end g store.front cell lower lower-now level shadow.slot shadow.len place low inside told-same)
         by-answer (Err fault) e = absurd (false≢true e)
 
@@ -183,10 +183,10 @@ module _ {D K : Type 0} (bytes : D → Option (List ℕ)) (counts : D → Counts
         by-shadow (Ok value) e = ap (λ (n : ℕ). record { slot = shadow.slot; len = shadow.len + 1; saved = (shadow.len + 1) % n == 0 }) (sym (span-is g sound.cells.shape.block))
         by-shadow (Err fault) e = absurd (false≢true e)
 
-    pub front-pushed-spends : PushSpends (held_of bytes store) (spent_of counts store) (spent_of counts now) level result
+    pub front-pushed-spends : PushSpends (state_of bytes counts store) (state_of bytes counts now) level result
     front-pushed-spends = by-result result accepted
       where
-        by-result : (r : Result T PushFault) → is_ok r ≡ true → PushSpends (held_of bytes store) (spent_of counts store) (spent_of counts now) level r
+        by-result : (r : Result T PushFault) → is_ok r ≡ true → PushSpends (state_of bytes counts store) (state_of bytes counts now) level r
         by-result (Ok value) e =
             let w = writes-none counts store now 1 (block_of (8 * 2 ^ (g.block_exp - 3)) level shadow.slot shadow.len) buffers same ticked in
             record { writes = w.0; only_full = λ _. w.1 }

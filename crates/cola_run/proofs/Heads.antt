@@ -19,7 +19,7 @@ use Rattle.cola_layout.specs.declared.geometry.Geometry.{Geometry}
 use Rattle.cola_layout.specs.Geometry.{IsBlock}
 use Rattle.cola_layout.proofs.Places.{device-behind, place-behind, front-below}
 use Rattle.cola_layout.proofs.Powers.{next_power, power-le}
-use Rattle.cola_run.specs.Cells.{Lower, block_cells, block_bytes, file_bytes, device_cell, known_spot, told_spot, spots_of, IsShape, IsBacked}
+use Rattle.cola_run.specs.Cells.{Lower, block_cells, block_bytes, file_bytes, device_cell, known_spot, told_spot, spots_of, IsShape, IsBacked, cells_by}
 use Rattle.cola_run.specs.Saving.{AreFileSpots, AreLevelSpots, SameLevels, SameBehind}
 use Rattle.cola_image.specs.Cells.{file_spots}
 use Rattle.cola_run.specs.Loading.{StaySound, AreSavedBelow}
@@ -139,11 +139,11 @@ wrote-then {E = E} value result at from (Some x) (Some y) z same w =
 
 -- the cells of the levels on the device are those of the file where each shadow is there
 pub level-spots : (g : Geometry) (front : FrontCells) (lower : Lower) (bytes : List ℕ) → IsBacked g lower.shadows lower.tails bytes → AreSavedBelow g lower.shadows (g.bottom + 1)
-    → AreLevelSpots g (known_spot (record { geometry = g; front = front; lower = lower }) bytes) bytes
+    → AreLevelSpots g (known_spot (cells_by g front lower) bytes) bytes
 level-spots g front lower bytes backed saved l s i on p =
     let low : l < g.bottom + 1 = p.level_in in
-    spot-there (record { geometry = g; front = front; lower = lower }) bytes l s i p
-    ∙ spot-device (record { geometry = g; front = front; lower = lower }) bytes l s i on.whole
+    spot-there (cells_by g front lower) bytes l s i p
+    ∙ spot-device (cells_by g front lower) bytes l s i on.whole
     ∙ ap (λ (x : List ℕ). spot_of_bytes g.format x)
     (sym (device-is g lower.shadows lower.tails bytes l s i (cell_bytes g.format bytes (number_of l s i))
     (λ q.
@@ -155,7 +155,7 @@ level-spots g front lower bytes backed saved l s i on p =
 -- a cell of a store is that of its file where each shadow is on the device, and the file has it if it is one of the front
 pub place-spots : (g : Geometry) (front : FrontCells) (lower : Lower) (bytes : List ℕ) → IsShape g front lower.shadows lower.tails → IsBacked g lower.shadows lower.tails bytes → AreSavedBelow g lower.shadows (g.bottom + 1)
     → (l s i : ℕ) → IsPlace (g.bottom + 1) l s i → (number_of l s i < 2 * front.block → cell_at front (number_of l s i) ≡ decoded front.format (cell_bytes front.format bytes (number_of l s i)))
-    → known_spot (record { geometry = g; front = front; lower = lower }) bytes l s i ≡ file_spots g.format bytes l s i
+    → known_spot (cells_by g front lower) bytes l s i ≡ file_spots g.format bytes l s i
 place-spots g front lower bytes shape backed saved l s i p there =
     elim (cases_lt (l + 2) g.block_exp) [
       | inl low ↦
@@ -163,8 +163,8 @@ place-spots g front lower bytes shape backed saved l s i p there =
           let below : number_of l s i < 2 ^ (g.block_exp + 1) = front-below g.block_exp l s i (omega (arith, slot)) p.index_in low in
           let twice : 2 ^ (g.block_exp + 1) ≡ 2 ^ g.block_exp + 2 ^ g.block_exp = next_power g.block_exp (g.block_exp + 1) (omega arith) in
           let block = shape.front_block in
-          spot-there (record { geometry = g; front = front; lower = lower }) bytes l s i p
-          ∙ spot-front (record { geometry = g; front = front; lower = lower }) bytes l s i low
+          spot-there (cells_by g front lower) bytes l s i p
+          ∙ spot-front (cells_by g front lower) bytes l s i low
           ∙ ap (λ (c : Option Cell). spot_of c) (there (omega (arith, below, twice, block)))
           ∙ ap (λ (f : Format). spot_of (decoded f (cell_bytes f bytes (number_of l s i)))) shape.format
       | inr high ↦ level-spots g front lower bytes backed saved l s i (on-device g l s i p high) p
@@ -172,7 +172,7 @@ place-spots g front lower bytes shape backed saved l s i p there =
 
 -- the cells of a store are those of its file where each shadow is on the device, and the front is as the file has it
 pub saved-spots : (g : Geometry) (front : FrontCells) (lower : Lower) (bytes : List ℕ) → IsShape g front lower.shadows lower.tails → IsBacked g lower.shadows lower.tails bytes → AreSavedBelow g lower.shadows (g.bottom + 1)
-    → IsLoaded bytes front → (l s i : ℕ) → IsPlace (g.bottom + 1) l s i → known_spot (record { geometry = g; front = front; lower = lower }) bytes l s i ≡ file_spots g.format bytes l s i
+    → IsLoaded bytes front → (l s i : ℕ) → IsPlace (g.bottom + 1) l s i → known_spot (cells_by g front lower) bytes l s i ≡ file_spots g.format bytes l s i
 saved-spots g front lower bytes shape backed saved loaded l s i p =
     place-spots g front lower bytes shape backed saved l s i p (λ within. loaded (number_of l s i) (place-behind l s i) within)
 
@@ -189,9 +189,9 @@ block-least g fits = by-format g.format (let h : 2 ^ 3 ≤ 2 ^ g.block_exp = pow
     by-format Two h = omega (arith, h)
 
 pub saved-told : (g : Geometry) (front : FrontCells) (lower : Lower) → IsShape g front lower.shadows lower.tails → IfSome lower.told (IsBacked g lower.shadows lower.tails) → AreSavedBelow g lower.shadows (g.bottom + 1)
-    → IfSome lower.told (λ bytes. IsLoaded bytes front) → IfSome lower.told (AreFileSpots g (spots_of (record { geometry = g; front = front; lower = lower })))
+    → IfSome lower.told (λ bytes. IsLoaded bytes front) → IfSome lower.told (AreFileSpots g (spots_of (cells_by g front lower)))
 saved-told g front lower shape backed saved loaded = by-case lower.told backed loaded
   where
-    by-case : (x : Option (List ℕ)) → IfSome x (IsBacked g lower.shadows lower.tails) → IfSome x (λ bytes. IsLoaded bytes front) → IfSome x (AreFileSpots g (λ l s i. told_spot (record { geometry = g; front = front; lower = lower }) x l s i))
+    by-case : (x : Option (List ℕ)) → IfSome x (IsBacked g lower.shadows lower.tails) → IfSome x (λ bytes. IsLoaded bytes front) → IfSome x (AreFileSpots g (λ l s i. told_spot (cells_by g front lower) x l s i))
     by-case None b f = tt
     by-case (Some bytes) b f = λ l s i p. saved-spots g front lower bytes shape b saved f l s i p

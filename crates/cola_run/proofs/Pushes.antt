@@ -18,7 +18,7 @@ use Rattle.cola_device.specs.Bytes.{splice, WroteSome}
 use Rattle.cola_front.specs.Front.{FrontCells, cell_bytes}
 use Rattle.cola_layout.specs.declared.geometry.Geometry.{Geometry}
 use Rattle.cola_layout.proofs.Powers.{power-le}
-use Rattle.cola_run.specs.Cells.{IsOnDevice, Lower, block_cells, block_bytes, file_bytes, block_number, tail_number, device_cell, Cells, known_spot, told_spot, spots_of, IsShadow, IsShape, IsSaved, IsBacked}
+use Rattle.cola_run.specs.Cells.{IsOnDevice, Lower, block_cells, block_bytes, file_bytes, block_number, tail_number, device_cell, Cells, known_spot, told_spot, spots_of, IsShadow, IsShape, IsSaved, IsBacked, cells_by}
 use Rattle.cola_run.specs.Parts.{tail_of, fills, TailPushed, MetFault, IsPushed}
 use Rattle.cola_run.proofs.Numbers.{IsMore, IsFull, next-split, one-place, last-place, first-place}
 use Rattle.cola_run.proofs.Spots.{both-so, both-same, both-with, both-second, with-told, IsInTail, in-tail, device-in, device-out, device-is, spot-there, spot-device, spots-stay, known-told}
@@ -228,7 +228,7 @@ module _ (g : Geometry) (front : FrontCells) (old new : Lower) (level : ℕ) (ce
 
   -- what is told of every other place stays
   pub push-stays : IfSome old.told (IsBacked g old.shadows old.tails) → (l s i : ℕ) → IsElsewhere level shadow.slot shadow.len l s i →
-      spots_of (record { geometry = g; front = front; lower = new }) l s i ≡ spots_of (record { geometry = g; front = front; lower = old }) l s i
+      spots_of (cells_by g front new) l s i ≡ spots_of (cells_by g front old) l s i
   push-stays backed l s i apart =
       spots-stay g front front old new l s i (λ p low. refl)
       (both-so old.told new.told (λ b c. IsBacked g old.shadows old.tails b × Way g new.tails b c level shadow now)
@@ -250,7 +250,7 @@ module _ (g : Geometry) (front : FrontCells) (old new : Lower) (level : ℕ) (ce
 
   -- what is told of the shadow's end is the cell
   pub push-end : IfSome old.told (IsBacked g old.shadows old.tails) → (value : T) → result ≡ Ok value →
-      spots_of (record { geometry = g; front = front; lower = new }) level shadow.slot shadow.len ≡ with_cell (spots_of (record { geometry = g; front = front; lower = old }) level shadow.slot shadow.len) (as_cell cell)
+      spots_of (cells_by g front new) level shadow.slot shadow.len ≡ with_cell (spots_of (cells_by g front old) level shadow.slot shadow.len) (as_cell cell)
   push-end backed value ok = by-case old.told new.told (ways backed)
     where
       by-case : (x y : Option (List ℕ)) → Both x y (λ b c. IsBacked g old.shadows old.tails b × Way g new.tails b c level shadow now)

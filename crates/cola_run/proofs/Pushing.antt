@@ -15,8 +15,8 @@ use Rattle.cola_device.specs.declared.counts.Counts.{Counts}
 use Rattle.cola_device.specs.Bytes.{WroteSome}
 use Rattle.cola_front.specs.Front.{FrontCells}
 use Rattle.cola_layout.specs.declared.geometry.Geometry.{Geometry}
-use Rattle.cola_run.specs.Cells.{IsOnDevice, Lower, block_cells, block_bytes, device_levels, block_number, spots_of, IsShape}
-use Rattle.cola_run.specs.Store.{Store, IsStore, cells_of, held_of, spent_of, kept_of, beside}
+use Rattle.cola_run.specs.Cells.{IsOnDevice, Lower, block_cells, block_bytes, device_levels, block_number, spots_of, IsShape, cells_by}
+use Rattle.cola_run.specs.Store.{Store, IsStore, cells_of, held_of, state_of, kept_of, beside}
 use Rattle.cola_run.specs.Parts.{fills, TailPushed, tail_of, MetFault, IsPushed}
 use Rattle.cola_run.specs.Turns.{Writing}
 use Rattle.cola_run.proofs.Steps.{tail-many}
@@ -79,18 +79,18 @@ module _ {D K T : Type 0} (bytes : D → Option (List ℕ)) (counts : D → Coun
       by-test false w = ap (λ (x : Option (List ℕ)). option_map (beside g) x) w.0
 
   -- what the cells of the store were and are, with one geometry and one front
-  spots-now : (l s i : ℕ) → spots_of (cells_of (bytes now.buffers.cache.device) now) l s i ≡ spots_of (record { geometry = g; front = store.front; lower = lower-now }) l s i
-  spots-now l s i = ap (λ (x : Geometry). spots_of (record { geometry = x; front = now.front; lower = lower-now }) l s i) same ∙ ap (λ (x : FrontCells). spots_of (record { geometry = g; front = x; lower = lower-now }) l s i) front
+  spots-now : (l s i : ℕ) → spots_of (cells_of (bytes now.buffers.cache.device) now) l s i ≡ spots_of (cells_by g store.front lower-now) l s i
+  spots-now l s i = ap (λ (x : Geometry). spots_of (cells_by x now.front lower-now) l s i) same ∙ ap (λ (x : FrontCells). spots_of (cells_by g x lower-now) l s i) front
 
   pub pushed-around : StaysAround (held_of bytes store) (held_of bytes now) level
   pushed-around = around-by bytes store now level same writing.stays.made (λ l apart. pushed.shadow.others l apart) told-both
 
-  answers : (r : Result T PushFault) → r ≡ result → MetFault r → HasCauseOf r (counts store.buffers.cache.device).faults (counts now.buffers.cache.device).faults → PushAnswers (held_of bytes store) (held_of bytes now) (spent_of counts store) (spent_of counts now) level cell r
+  answers : (r : Result T PushFault) → r ≡ result → MetFault r → HasCauseOf r (counts store.buffers.cache.device).faults (counts now.buffers.cache.device).faults → PushAnswers (state_of bytes counts store) (state_of bytes counts now) level cell r
   answers (Ok value) e fault cause = (room, spots-now level shadow.slot shadow.len ∙ push-end g store.front lower lower-now level cell result shape device room pushed sound.cells.backed value (sym e))
   answers (Err Device) e fault cause = (room, cause)
   answers (Err (Overfull l)) e fault cause = absurd fault
 
-  pub pushed-meets : Pushes (held_of bytes store) (held_of bytes now) (spent_of counts store) (spent_of counts now) level cell result
+  pub pushed-meets : Pushes (state_of bytes counts store) (state_of bytes counts now) level cell result
   pushed-meets = record {
     around = pushed-around;
     answer = answers result refl pushed.fault (cause-of result writing.called);
@@ -99,7 +99,7 @@ module _ {D K T : Type 0} (bytes : D → Option (List ℕ)) (counts : D → Coun
     others_stay = λ l s i apart. spots-now l s i ∙ push-stays g store.front lower lower-now level cell result shape device room pushed sound.cells.backed l s i apart;
   }
 
-  pub pushed-spends : PushSpends (held_of bytes store) (spent_of counts store) (spent_of counts now) level result
+  pub pushed-spends : PushSpends (state_of bytes counts store) (state_of bytes counts now) level result
   pushed-spends = record {
     writes = spends-writes counts kept store now level shadow.slot shadow.len (fills g shadow.len) result (push_ticks result) shape.block device.whole (λ _. place) writing same ticked;
     only_full = λ part.

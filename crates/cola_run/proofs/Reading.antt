@@ -12,16 +12,18 @@ use Rattle.cola_cell.specs.Flat.{found, spot_of, shadow_at}
 use Rattle.cola_cell.specs.Format.{CellFits}
 use Rattle.cola_cell.specs.Held.{Held, Spot, Bad, Told, Tells, as_cell, span}
 use Rattle.cola_cell.specs.Places.{slot_size, number_of, IsPlace, block_of}
-use Rattle.cola_cell.specs.Spent.{Buffer, Spent, Ticks, StaysAt, ReadAnswers, ReadCalm, Reads}
+use Rattle.cola_cell.specs.Spent.{Buffer, Ticks, StaysAt, ReadAnswers, ReadCalm}
+use Rattle.cola_cell.specs.Reads.{Reads}
+use Rattle.cola_cell.specs.State.{State}
 use Rattle.cola_device.specs.declared.counts.Counts.{Counts}
 use Rattle.cola_front.specs.Front.{cell_at, cell_bytes, ComesBack}
 use Rattle.cola_front.proofs.FrontLemmas.{spelled_back}
 use Rattle.cola_layout.specs.declared.geometry.Geometry.{Geometry}
 use Rattle.cola_layout.specs.Geometry.{IsBlock}
 use Rattle.cola_layout.proofs.Powers.{power-le}
-use Rattle.cola_cache.specs.Blocks.{Blocks, last_in}
-use Rattle.cola_run.specs.Cells.{IsOnDevice, Cells, block_cells, block_number, tail_number, known_spot, told_spot, device_levels}
-use Rattle.cola_run.specs.Store.{Store, cells_of, held_of, spent_of, last_block, last_of}
+use Rattle.cola_cache.specs.Blocks.{Blocks, Made, last_in}
+use Rattle.cola_run.specs.Cells.{IsOnDevice, Cells, block_cells, block_number, tail_number, known_spot, told_spot, spots_of, device_levels}
+use Rattle.cola_run.specs.Store.{Store, cells_of, held_of, spent_of, state_of, last_block, last_of}
 use Rattle.cola_run.specs.Parts.{Finds}
 use Rattle.cola_run.specs.Turns.{buffer_for, buffer_index, turned_last, Turns}
 use Rattle.cola_run.proofs.Calls.{spelled-fits}
@@ -69,12 +71,13 @@ calm-same faults (Ok cell) = refl
 calm-same faults (Err Device) = tt
 calm-same faults (Err (BadCell n)) = refl
 
-pub reads-memory : (held : Held) (old : Spent) (ticked : ℕ) (buffer : Buffer) (l s i : ℕ) (result : Result Cell ReadFault) → Ticks old.ticked ticked 1 → ReadAnswers held old.faults old.faults l s i result →
-    Reads held old (record old { ticked = ticked }) buffer l s i result
-reads-memory held old ticked buffer l s i result ticks answer = record {
+pub reads-memory : (old : State) (ticked : ℕ) (buffer : Buffer) (l s i : ℕ) (result : Result Cell ReadFault) → Ticks old.spent.ticked ticked 1
+    → ReadAnswers old.held old.spent.faults old.spent.faults l s i result → Reads old (record old { spent = record old.spent { ticked = ticked } }) buffer l s i result
+reads-memory old ticked buffer l s i result ticks answer = record {
+  cells_stay = refl;
   answer = answer;
   faults_stay = omega arith;
-  calm = calm-same old.faults result;
+  calm = calm-same old.spent.faults result;
   one_tick = ticks;
   written_is = refl;
   turned_stays = omega arith;
@@ -118,7 +121,7 @@ module _ {D : Type 0} (bytes : D → Option (List ℕ)) (counts : D → Counts) 
     (fits : IsBlock store.geometry.block_exp store.geometry.bottom) (many : length store.buffers.lasts ≡ 1 + 3 * device_levels store.geometry)
     (p : IsPlace (store.geometry.bottom + 1) l s i) (device : IsOnDevice store.geometry l) (outside : IsInTail (block_cells store.geometry) (shadow_at store.shadows l) s i → ⊥)
     (finds : Finds (bytes store.buffers.cache.device) store.geometry.format (number_of l s i) result)
-    (turns : Turns counts store.buffers now (buffer_index store.geometry reader l) (block_number store.geometry l s i) result) (ticks : Ticks store.ticked ticked 1) where
+    (turns : Turns counts store.buffers now (buffer_index store.geometry reader l) (block_number store.geometry l s i) result) (told_stays : bytes now.cache.device ≡ bytes store.buffers.cache.device) (ticks : Ticks store.ticked ticked 1) where
   abbrev g : Geometry
   g = store.geometry
 
@@ -172,8 +175,12 @@ module _ {D : Type 0} (bytes : D → Option (List ℕ)) (counts : D → Counts) 
       let more : 2 ^ g.block_exp ≤ 2 ^ (l + 2) = power-le g.block_exp (l + 2) device.whole in
       omega (arith, h, e, more)
 
-  pub reads-device : Reads (held_of bytes store) (spent_of counts store) (spent_of counts (record store { buffers = now; ticked = ticked })) (buffer_for reader l) l s i result
+  abbrev held-by : Made → Option (List ℕ) → Held
+  held-by made told = record (held_of bytes store) { fixed = record (held_of bytes store).fixed { made = record { reads = made.reads; faults = made.faults } }; spots = spots_of (cells_of told store) }
+
+  pub reads-device : Reads (state_of bytes counts store) (state_of bytes counts (record store { buffers = now; ticked = ticked })) (buffer_for reader l) l s i result
   reads-device = record {
+    cells_stay = ap (λ (made : Made). held-by made (bytes now.cache.device)) turns.stays.made ∙ ap (λ (told : Option (List ℕ)). held-by store.buffers.made told) told_stays;
     answer = answers result finds turns;
     faults_stay = turns.faults_stay;
     calm = turns.calm;

@@ -11,7 +11,7 @@ use Rattle.cola_cell.specs.Places.{slot_size, number_of, IsPlace}
 use Rattle.cola_cell.proofs.DecodedLemmas.{spot_is_told}
 use Rattle.cola_front.specs.Front.{FrontCells, cell_at, cell_bytes}
 use Rattle.cola_layout.specs.declared.geometry.Geometry.{Geometry}
-use Rattle.cola_run.specs.Cells.{block_cells, tail_number, is_in_tail, device_cell, Lower, Cells, standing_spot, known_spot, told_spot, spots_of}
+use Rattle.cola_run.specs.Cells.{block_cells, tail_number, is_in_tail, device_cell, Lower, Cells, standing_spot, known_spot, told_spot, spots_of, cells_by}
 
 -- a choice by a test that is true, and by one that is false
 pub choose-then : {A : Type 0} (t : Bool) (x y : A) → t ≡ true → (if t then x else y) ≡ x
@@ -141,7 +141,7 @@ module _ (g : Geometry) (front now : FrontCells) (old new : Lower) (l s i : ℕ)
   told-stays (Some b) (Some c) h = known-stays b c h
 
   pub spots-stay : Both old.told new.told (λ b c. IsPlace (g.bottom + 1) l s i → g.block_exp ≤ l + 2 → device_cell g new.shadows new.tails c l s i ≡ device_cell g old.shadows old.tails b l s i) →
-      spots_of (record { geometry = g; front = now; lower = new }) l s i ≡ spots_of (record { geometry = g; front = front; lower = old }) l s i
+      spots_of (cells_by g now new) l s i ≡ spots_of (cells_by g front old) l s i
   spots-stay h = told-stays old.told new.told h
 
 -- a place is told where the device tells its bytes, and only there

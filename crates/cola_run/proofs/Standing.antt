@@ -12,7 +12,7 @@ use Rattle.cola_cell.specs.Shadows.{emptied}
 use Rattle.cola_front.specs.Front.{FrontCells, cell_at, cell_bytes}
 use Rattle.cola_layout.specs.declared.geometry.Geometry.{Geometry}
 use Rattle.cola_layout.proofs.Places.{place-differ}
-use Rattle.cola_run.specs.Cells.{IsOnDevice, Lower, Cells, block_cells, tail_number, device_cell, known_spot, told_spot, spots_of, IsShadow, IsShape, IsSaved, IsBacked}
+use Rattle.cola_run.specs.Cells.{IsOnDevice, Lower, Cells, block_cells, tail_number, device_cell, known_spot, told_spot, spots_of, IsShadow, IsShape, IsSaved, IsBacked, cells_by}
 use Rattle.cola_run.specs.Parts.{OneShadow}
 use Rattle.cola_run.proofs.Spots.{IsInTail, in-tail, tail-is, device-out, device-is, spot-there, spot-front, spots-stay, known-told, with-told}
 use Rattle.cola_run.proofs.Lowers.{around-same, other-cell, backed-by, shape-by, TailsStay}
@@ -33,7 +33,7 @@ module _ (g : Geometry) (front now : FrontCells) (old new : Lower) (level : ℕ)
   -- what is told stays where the front does, and at this level where the bytes do
   pub shadow-stays : (l s i : ℕ) → (IsPlace (g.bottom + 1) l s i → l + 2 < g.block_exp → cell_at now (number_of l s i) ≡ cell_at front (number_of l s i)) →
       IfSome old.told (λ b. l ≡ level → IsPlace (g.bottom + 1) level s i → g.block_exp ≤ level + 2 → device_cell g new.shadows new.tails b level s i ≡ device_cell g old.shadows old.tails b level s i) →
-      spots_of (record { geometry = g; front = now; lower = new }) l s i ≡ spots_of (record { geometry = g; front = front; lower = old }) l s i
+      spots_of (cells_by g now new) l s i ≡ spots_of (cells_by g front old) l s i
   shadow-stays l s i fronts own =
       spots-stay g front now old new l s i fronts
       (subst (λ (x : Option (List ℕ)). Both old.told x (λ b c. IsPlace (g.bottom + 1) l s i → g.block_exp ≤ l + 2 → device_cell g new.shadows new.tails c l s i ≡ device_cell g old.shadows old.tails b l s i)) (sym told)
@@ -70,7 +70,7 @@ module _ (g : Geometry) (front : FrontCells) (old new : Lower) (level slot : ℕ
 
   -- the cells that are not in its tail stay
   pub restart-others : (l s i : ℕ) → (l ≢ level) ⊎ (s ≢ (shadow_at old.shadows level).slot) ⊎ ((shadow_at old.shadows level).len ≤ i) →
-      spots_of (record { geometry = g; front = front; lower = new }) l s i ≡ spots_of (record { geometry = g; front = front; lower = old }) l s i
+      spots_of (cells_by g front new) l s i ≡ spots_of (cells_by g front old) l s i
   restart-others l s i apart =
       shadow-stays g front front old new level (emptied slot) shape told tails one l s i (λ p low. refl)
       (if-told old.told (λ b same p high.
@@ -85,7 +85,7 @@ module _ (g : Geometry) (front : FrontCells) (old new : Lower) (level slot : ℕ
 
   -- all of them do where those of its tail are on the device
   pub restart-kept : IfSome old.told (IsBacked g old.shadows old.tails) → (g.block_exp ≤ level + 2 → (shadow_at old.shadows level).saved ≡ true) → (l s i : ℕ) →
-      spots_of (record { geometry = g; front = front; lower = new }) l s i ≡ spots_of (record { geometry = g; front = front; lower = old }) l s i
+      spots_of (cells_by g front new) l s i ≡ spots_of (cells_by g front old) l s i
   restart-kept backed saved l s i =
       shadow-stays g front front old new level (emptied slot) shape told tails one l s i (λ p low. refl) (by-case old.told backed)
     where
@@ -117,7 +117,7 @@ module _ (g : Geometry) (front : FrontCells) (old new : Lower) (level slot : ℕ
 module _ (g : Geometry) (front now : FrontCells) (old new : Lower) (level : ℕ) (shadow : Shadow) (shape : IsShape g front old.shadows old.tails)
     (told : new.told ≡ old.told) (tails : new.tails ≡ old.tails) (one : OneShadow old.shadows new.shadows level shadow) (low : level + 2 < g.block_exp) where
   pub front-stays : (l s i : ℕ) → (IsPlace (g.bottom + 1) l s i → l + 2 < g.block_exp → cell_at now (number_of l s i) ≡ cell_at front (number_of l s i)) →
-      spots_of (record { geometry = g; front = now; lower = new }) l s i ≡ spots_of (record { geometry = g; front = front; lower = old }) l s i
+      spots_of (cells_by g now new) l s i ≡ spots_of (cells_by g front old) l s i
   front-stays l s i fronts = shadow-stays g front now old new level shadow shape told tails one l s i fronts (by-case old.told)
     where
       by-case : (x : Option (List ℕ)) → IfSome x (λ b. l ≡ level → IsPlace (g.bottom + 1) level s i → g.block_exp ≤ level + 2 → device_cell g new.shadows new.tails b level s i ≡ device_cell g old.shadows old.tails b level s i)
@@ -145,7 +145,7 @@ put-elsewhere g front cell level slot index l s i place apart p =
 
 pub put-end : (g : Geometry) (front : FrontCells) (cell : Cell) (old new : Lower) (level slot index : ℕ) → IsPlace (g.bottom + 1) level slot index → level + 2 < g.block_exp → number_of level slot index < length front.cells → new.told ≡ old.told →
     spots_of (record { geometry = g; front = record front { cells = set front.cells (number_of level slot index) (Some cell) }; lower = new }) level slot index
-    ≡ with_cell (spots_of (record { geometry = g; front = front; lower = old }) level slot index) (as_cell cell)
+    ≡ with_cell (spots_of (cells_by g front old) level slot index) (as_cell cell)
 put-end g front cell old new level slot index place low within told = ap (λ (x : Option (List ℕ)). told_spot after x level slot index) told ∙ by-case old.told
   where
     after : Cells

@@ -21,15 +21,28 @@ use Rattle.cola_run.specs.Cells.{IsOnDevice, block_bytes, block_cells, file_byte
 
 -- these spots are those of the file at every place
 abbrev pub AreFileSpots : Geometry → Spots → List ℕ → Type 0
-AreFileSpots geometry spots bytes = (level slot index : ℕ) → IsPlace (geometry.bottom + 1) level slot index → spots level slot index ≡ file_spots geometry.format bytes level slot index
+AreFileSpots geometry spots bytes = (level slot index : ℕ) → IsPlace (geometry.bottom + 1) level slot index →
+    spots level slot index ≡ file_spots geometry.format bytes level slot index
 
 -- how the shadow of a level stands by a header: beside the visible run, with the length of its marks, and on the device
 abbrev pub header_shadow : Header → ℕ → Shadow
-header_shadow header level = record { slot = 1 - visible_slot header.clock level; len = (marks_of header.levels.items level).shadow; saved = true }
+header_shadow header level =
+    record {
+      slot = 1 - visible_slot header.clock level;
+      len = (marks_of header.levels.items level).shadow;
+      saved = true;
+    }
+
+-- the shadow of each level down to the last stands as a header has it
+abbrev pub AreHeaderShadows : (bottom : ℕ) → Header → (ℕ → Shadow) → Type 0
+AreHeaderShadows bottom header shadows = (level : ℕ) → level ≤ bottom → shadows level ≡ header_shadow header level
 
 -- how many cells the run in a slot has by a header
 abbrev pub run_len : Header → ℕ → ℕ → ℕ
-run_len header level slot = if slot == visible_slot header.clock level then (marks_of header.levels.items level).visible else (marks_of header.levels.items level).shadow
+run_len header level slot =
+    if slot == visible_slot header.clock level
+    then (marks_of header.levels.items level).visible
+    else (marks_of header.levels.items level).shadow
 
 -- a place of a run in the front
 pub record IsFrontRun (header : Header) (level slot index : ℕ) : Type 0 where
@@ -51,11 +64,14 @@ pub record IsLowestBad (header : Header) (spots : Spots) (number : ℕ) : Type 0
   pub bad : spots level slot index ≡ Bad
   pub lowest : (l s i : ℕ) → IsFrontRun header l s i → number_of l s i < number → spots l s i ≢ Bad
 
--- what a load says by its answer, of the bytes of the device where it tells them: the runs of the front are spelled; or the device failed; or this cell of theirs is the lowest that is not
+-- what a load says by its answer, of the bytes of the device where it tells them: the runs of the front are spelled; or the
+-- device failed; or this cell of theirs is the lowest that is not
 abbrev pub LoadAnswers : Header → Option (List ℕ) → (before now : ℕ) → Result (Unit {0}) ReadFault → Type 0
-LoadAnswers header told before now (Ok _) = IfSome told (λ bytes. AreFrontRunsSpelled header (file_spots header.geometry.format bytes))
+LoadAnswers header told before now (Ok _) =
+    IfSome told (λ bytes. AreFrontRunsSpelled header (file_spots header.geometry.format bytes))
 LoadAnswers header told before now (Err Device) = Rose before now
-LoadAnswers header told before now (Err (BadCell number)) = IfSome told (λ bytes. IsLowestBad header (file_spots header.geometry.format bytes) number)
+LoadAnswers header told before now (Err (BadCell number)) =
+    IfSome told (λ bytes. IsLowestBad header (file_spots header.geometry.format bytes) number)
 
 -- what a load spends: at most so many reads of the device, and no other call
 pub record LoadSpends (before now : Counts) (reads : ℕ) (result : Result (Unit {0}) ReadFault) : Type 0 where
@@ -69,23 +85,28 @@ pub record LoadSpends (before now : Counts) (reads : ℕ) (result : Result (Unit
 -- the cells that a store holds after a load: those of the file, and each shadow as the header has it
 pub record IsLoaded (header : Header) (held : Held) (told : Option (List ℕ)) : Type 0 where
   pub spots : IfSome told (AreFileSpots header.geometry held.spots)
-  pub shadows : (level : ℕ) → level ≤ header.geometry.bottom → held.shadows level ≡ header_shadow header level
+  pub shadows : AreHeaderShadows header.geometry.bottom header held.shadows
 
--- what a store reads stays: its shadows, but for what of them is on the device, and all its cells but those behind a shadow in its slot
+-- what a store reads stays: its shadows, but for what of them is on the device, and all its cells but those behind a shadow
+-- in its slot
 pub record SameReads (old new : Held) : Type 0 where
   pub fixed_is : new.fixed ≡ old.fixed
   pub slots_stay : (level : ℕ) → (new.shadows level).slot ≡ (old.shadows level).slot
   pub lens_stay : (level : ℕ) → (new.shadows level).len ≡ (old.shadows level).len
-  pub spots_stay : (level slot index : ℕ) → (slot ≢ (old.shadows level).slot) ⊎ (index < (old.shadows level).len) → new.spots level slot index ≡ old.spots level slot index
+  pub spots_stay : (level slot index : ℕ) → (slot ≢ (old.shadows level).slot) ⊎ (index < (old.shadows level).len) →
+      new.spots level slot index ≡ old.spots level slot index
 
 -- a file that has a store's header and cells: the header's cells are its bytes and zeros, and every cell is the store's
 pub record IsFlushed (geometry : Geometry) (header : List ℕ) (spots : Spots) (bytes : List ℕ) : Type 0 where
-  pub header_is : take (8 * width geometry.format) bytes ≡ header ++ replicate (8 * width geometry.format - 512) 0
+  pub header_is : take (8 * width geometry.format) bytes ≡
+      header ++ replicate (8 * width geometry.format - 512) 0
   pub cells_are : AreFileSpots geometry spots bytes
 
 -- these spots are those of the file at every place of a level on the device
 abbrev pub AreLevelSpots : Geometry → Spots → List ℕ → Type 0
-AreLevelSpots geometry spots bytes = (level slot index : ℕ) → IsOnDevice geometry level → IsPlace (geometry.bottom + 1) level slot index → spots level slot index ≡ file_spots geometry.format bytes level slot index
+AreLevelSpots geometry spots bytes = (level slot index : ℕ) →
+    IsOnDevice geometry level → IsPlace (geometry.bottom + 1) level slot index →
+    spots level slot index ≡ file_spots geometry.format bytes level slot index
 
 -- the front's two blocks are as before
 abbrev pub SameFront : Geometry → (before now : List ℕ) → Type 0
@@ -97,11 +118,14 @@ SameLevels geometry before now = drop (2 * block_bytes geometry) now ≡ drop (2
 
 -- these spots are those of the file at every place behind block 0
 abbrev pub AreSpotsBehind : Geometry → Spots → List ℕ → Type 0
-AreSpotsBehind geometry spots bytes = (level slot index : ℕ) → IsPlace (geometry.bottom + 1) level slot index → block_cells geometry ≤ number_of level slot index → spots level slot index ≡ file_spots geometry.format bytes level slot index
+AreSpotsBehind geometry spots bytes = (level slot index : ℕ) →
+    IsPlace (geometry.bottom + 1) level slot index → block_cells geometry ≤ number_of level slot index →
+    spots level slot index ≡ file_spots geometry.format bytes level slot index
 
 -- block 0 comes last: it is as before, or every cell behind it is in the file
 abbrev pub IsFirstLast : Geometry → Spots → (before now : List ℕ) → Type 0
-IsFirstLast geometry spots before now = (take (block_bytes geometry) now ≡ take (block_bytes geometry) before) ⊎ AreSpotsBehind geometry spots now
+IsFirstLast geometry spots before now =
+    (take (block_bytes geometry) now ≡ take (block_bytes geometry) before) ⊎ AreSpotsBehind geometry spots now
 
 -- the front waited for the levels: a device in between settled, with the front's two blocks as before and all behind them as
 -- now; every cell of the levels on the device is in the file; and block 0 came last
@@ -115,7 +139,8 @@ pub record FrontWaited {D : Type 0} (d : device.Ghosts D) (geometry : Geometry) 
 
 -- the front comes last: its two blocks are as before, or it waited
 abbrev pub IsFrontLast : {D : Type 0} (d : device.Ghosts D) → Geometry → Spots → (before now : D) → Type 0
-IsFrontLast d geometry spots before now = Both (d.bytes before) (d.bytes now) (SameFront geometry) ⊎ FrontWaited d geometry spots before now
+IsFrontLast d geometry spots before now =
+    Both (d.bytes before) (d.bytes now) (SameFront geometry) ⊎ FrontWaited d geometry spots before now
 
 -- bytes of which none at or behind the end of a store's file changed
 pub record SameBehind (geometry : Geometry) (before now : List ℕ) : Type 0 where

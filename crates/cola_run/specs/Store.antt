@@ -4,16 +4,16 @@ use Rattle.cola_cell.specs.declared.cell.Reader.{Reader}
 use Rattle.cola_cell.specs.declared.cell.Reader.TheVariants.{Own, Incoming, Sample}
 use Rattle.cola_cell.specs.declared.sink.Shadow.{Shadow}
 use Rattle.cola_cell.specs.Flat.{shadow_at}
-use Rattle.cola_cell.specs.Format.{width}
 use Rattle.cola_cell.specs.Held.{Held}
 use Rattle.cola_cell.specs.Places.{Block}
 use Rattle.cola_cell.specs.Shadows.{emptied}
+use Rattle.cola_cell.specs.State.{State}
 use Rattle.cola_cell.specs.Spent.{Buffer, Search, By, Spent}
 use Rattle.cola_cache.specs.Blocks.{Blocks, last_in, new_blocks}
 use Rattle.cola_device.specs.declared.counts.Counts.{Counts}
 use Rattle.cola_front.specs.Front.{FrontCells, new_front}
 use Rattle.cola_layout.specs.declared.geometry.Geometry.{Geometry}
-use Rattle.cola_run.specs.Cells.{Cells, AreCells, block_cells, block_bytes, file_bytes, file_blocks, device_levels, spots_of}
+use Rattle.cola_run.specs.Cells.{Cells, Lower, AreCells, cells_by, block_bytes, file_bytes, file_blocks, device_levels, tails_bytes, spots_of}
 
 -- the blocks of the device with their buffers; the geometry; the front; the shadow of each level; the tails; and the ticks made
 pub record Store (D : Type 0) : Type 0 where
@@ -24,9 +24,18 @@ pub record Store (D : Type 0) : Type 0 where
   pub tails : List ℕ
   pub ticked : ℕ
 
+-- what lies below the front: what the device of these buffers tells, the shadows and the tails
+abbrev pub lower_of : {D : Type 0} → (D → Option (List ℕ)) → Blocks D → List Shadow → List ℕ → Lower
+lower_of bytes buffers shadows tails = record { told = bytes buffers.cache.device; shadows = shadows; tails = tails }
+
+-- the device of a store
+abbrev pub device_of : {D : Type 0} → Store D → D
+device_of store = store.buffers.cache.device
+
 -- the cells of a store whose device tells these bytes
 abbrev pub cells_of : {D : Type 0} → Option (List ℕ) → Store D → Cells
-cells_of told store = record { geometry = store.geometry; front = store.front; lower = record { told = told; shadows = store.shadows; tails = store.tails } }
+cells_of told store =
+    cells_by store.geometry store.front (record { told = told; shadows = store.shadows; tails = store.tails })
 
 -- what it holds: its levels, in blocks of its geometry, and what its device had counted when it was made
 abbrev pub held_of : {D : Type 0} → (D → Option (List ℕ)) → Store D → Held
@@ -86,6 +95,10 @@ spent_of counts store =
       lasts = last_of store.geometry store.buffers.lasts;
     }
 
+-- its state
+abbrev pub state_of : {D : Type 0} → (D → Option (List ℕ)) → (D → Counts) → Store D → State
+state_of bytes counts store = record { held = held_of bytes store; spent = spent_of counts store }
+
 -- what a device has beside the levels on it: its size, the two blocks of the front, and the bytes behind the store's file
 pub record Beside : Type 0 where
   pub size : ℕ
@@ -94,9 +107,15 @@ pub record Beside : Type 0 where
 
 -- what these bytes have beside the levels on the device
 abbrev pub beside : Geometry → List ℕ → Beside
-beside geometry bytes = record { size = length bytes; front = take (2 * block_bytes geometry) bytes; behind = drop (file_bytes geometry) bytes }
+beside geometry bytes =
+    record {
+      size = length bytes;
+      front = take (2 * block_bytes geometry) bytes;
+      behind = drop (file_bytes geometry) bytes;
+    }
 
--- what a store has beside its cells and counts: its geometry, how many blocks its cache may keep, what its device keeps, what that has beside the levels on it, where it tells its bytes, and how many calls it counted that neither read nor write
+-- what a store has beside its cells and counts: its geometry, how many blocks its cache may keep, what its device keeps, what that has beside the levels on it,
+-- where it tells its bytes, and how many calls it counted that neither read nor write
 pub record Kept (K : Type 0) : Type 0 where
   pub geometry : Geometry
   pub cache : ℕ
@@ -130,6 +149,6 @@ new_store device counts geometry cache =
       geometry = geometry;
       front = new_front geometry.block_exp geometry.format;
       shadows = replicate (geometry.bottom + 1) (emptied 1);
-      tails = replicate (width geometry.format * (block_cells geometry * device_levels geometry)) 0;
+      tails = replicate (tails_bytes geometry) 0;
       ticked = 0;
     }

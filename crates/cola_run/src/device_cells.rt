@@ -1,14 +1,15 @@
 //! The cells of the levels on the device: in the tail of a shadow, or in a block.
-ghost use Rattle.std.specs.Prelude.{◌≡◌, ◌+◌, ◌*◌, ◌/◌, ◌%◌, ◌^◌, ◌≤◌, ◌<◌, ◌==◌, not, true, false, if◌then◌else◌, ℕ, Option, Some, None, length, slice_set};
+ghost use Rattle.std.specs.Prelude.{◌≡◌, ◌+◌, ◌*◌, ◌/◌, ◌%◌, ◌^◌, ◌≤◌, ◌<◌, ◌==◌, not, true, false, if◌then◌else◌, Some, None, length};
 ghost use Rattle.cola_cell.specs.Flat.{shadow_at, found};
 ghost use Rattle.cola_cell.specs.declared.cell.Cell.{Cell};
 ghost use Rattle.cola_cell.specs.Format.{width, CellFits};
 ghost use Rattle.cola_cell.specs.Packed.{given, passed, MayPass};
 ghost use Rattle.cola_cell.specs.Places.{slot_size, number_of, IsPlace};
-ghost use Rattle.cola_cache.specs.Blocks.{last_in};
-ghost use Rattle.cola_run.specs.Cells.{IsOnDevice, block_cells, block_bytes, file_blocks, device_levels, tail_number, block_number, is_in_tail};
-ghost use Rattle.cola_run.specs.Parts.{Finds, OneShadow, WroteTail, MetFault, IsPushed, IsFinished, fills};
+ghost use Rattle.cola_run.specs.Cells.{IsOnDevice, block_cells, block_bytes, file_blocks, device_levels, tail_number, block_number, is_in_tail, tails_bytes, HasRoom, end_block, end_number};
+ghost use Rattle.cola_run.specs.Parts.{Finds, OneShadow, WroteTail, MetFault, IsPushed, IsFinished, fills, lengthened};
 ghost use Rattle.cola_run.specs.Turns.{Turns, Writing};
+ghost use Rattle.cola_front.specs.Front.{front_with};
+ghost use Rattle.cola_run.specs.Store.{lower_of};
 
 use cola_cache::Buffers;
 use cola_cell::{Packed, Pass, PushFault, ReadFault, Shadow};
@@ -61,7 +62,7 @@ pub(crate) fn place_in_tails(geometry: &Geometry, level: u8, index: u32) -> usiz
 pub(crate) fn begin_of_tail(geometry: &Geometry, level: u8) -> usize
     requires { IsOnDevice geometry.now level }
     ensures value { result ≡ width geometry.now.format * tail_number geometry.now level 0 }
-    ensures fits { result + block_bytes geometry.now ≤ width geometry.now.format * (block_cells geometry.now * device_levels geometry.now) }
+    ensures fits { result + block_bytes geometry.now ≤ tails_bytes geometry.now }
     ensures few { result ≤ 1376256 }
 {
     geometry.format.width() * place_in_tails(geometry, level, 0)
@@ -115,7 +116,8 @@ pub(crate) fn block_at(geometry: &Geometry, level: u8, slot: u8, index: u32) -> 
 /// The answer of a read by whether a cell was taken: the number of the cell whose bytes spell none.
 #[inline]
 pub(crate) fn taken_or_bad(taken: bool, number: u64) -> Result<(), ReadFault>
-    ensures { (cell : Cell) → given cell result ≡ found number (if taken then Some cell else None) }
+    ensures { (cell : Cell) →
+        given cell result ≡ found number (if taken then Some cell else None) }
 {
     if taken {
         Ok(())
@@ -139,8 +141,10 @@ pub(crate) fn read_by_buffer<D: Device>(
     requires place { IsPlace (geometry.now.bottom + 1) level slot index }
     requires size { buffers.old.cache.size ≡ block_bytes geometry.now }
     requires many { buffers.old.many ≡ file_blocks geometry.now }
-    ensures finds { Finds (D.bytes buffers.old.cache.device) geometry.now.format (number_of level slot index) (given into.new result) }
-    ensures turns { Turns D.counts buffers.old buffers.new buffer (block_number geometry.now level slot index) (given into.new result) }
+    ensures finds { Finds (D.bytes buffers.old.cache.device) geometry.now.format
+        (number_of level slot index) (given into.new result) }
+    ensures turns { Turns D.counts buffers.old buffers.new buffer
+        (block_number geometry.now level slot index) (given into.new result) }
     ensures bytes_stay { D.bytes buffers.new.cache.device ≡ D.bytes buffers.old.cache.device }
     ensures kept { D.kept buffers.new.cache.device ≡ D.kept buffers.old.cache.device }
 {
@@ -167,11 +171,13 @@ pub(crate) fn write_tail<D: Device>(
 ) -> Result<(), PushFault>
     requires level { IsOnDevice geometry.now level }
     requires place { IsPlace (geometry.now.bottom + 1) level slot index }
-    requires tails { length tails.now ≡ width geometry.now.format * (block_cells geometry.now * device_levels geometry.now) }
+    requires tails { length tails.now ≡ tails_bytes geometry.now }
     requires size { buffers.old.cache.size ≡ block_bytes geometry.now }
     requires many { buffers.old.many ≡ file_blocks geometry.now }
-    ensures wrote { WroteTail result geometry.now tails.now level slot index (D.bytes buffers.old.cache.device) (D.bytes buffers.new.cache.device) }
-    ensures writing { Writing D.counts D.kept true buffers.old buffers.new (block_number geometry.now level slot index) result }
+    ensures wrote { WroteTail result geometry.now tails.now level slot index
+        (D.bytes buffers.old.cache.device) (D.bytes buffers.new.cache.device) }
+    ensures writing { Writing D.counts D.kept true buffers.old buffers.new
+        (block_number geometry.now level slot index) result }
     ensures fault { MetFault result }
 {
     let size = buffers.block_size();
@@ -194,7 +200,7 @@ fn fills_block(geometry: &Geometry, len: u32) -> bool
 /// A shadow that is one cell longer: it is on the device where its last block is full.
 pub(crate) fn longer(geometry: &Geometry, shadow: Shadow) -> Shadow
     requires { shadow.len < 2 ^ 24 }
-    ensures { result ≡ record { slot = shadow.slot; len = shadow.len + 1; saved = fills geometry.now shadow.len } }
+    ensures { result ≡ lengthened geometry.now shadow }
 {
     Shadow {
         slot: shadow.slot,
@@ -215,16 +221,16 @@ pub(crate) fn push_on_device<D: Device>(
 ) -> Result<(), PushFault>
     requires level { IsOnDevice geometry.now level }
     requires shadows { level < length shadows.old }
-    requires place { IsPlace (geometry.now.bottom + 1) level (shadow_at shadows.old level).slot (shadow_at shadows.old level).len }
+    requires place { HasRoom geometry.now shadows.old level }
     requires may { MayPass pass cell.now }
     requires fits { CellFits geometry.now.format cell.now }
-    requires tails { length tails.old ≡ width geometry.now.format * (block_cells geometry.now * device_levels geometry.now) }
+    requires tails { length tails.old ≡ tails_bytes geometry.now }
     requires size { buffers.old.cache.size ≡ block_bytes geometry.now }
     requires many { buffers.old.many ≡ file_blocks geometry.now }
-    ensures pushed { IsPushed geometry.now (record { told = D.bytes buffers.old.cache.device; shadows = shadows.old; tails = tails.old })
-        (record { told = D.bytes buffers.new.cache.device; shadows = shadows.new; tails = tails.new }) level (passed pass cell.now) result }
-    ensures writing { Writing D.counts D.kept (fills geometry.now (shadow_at shadows.old level).len) buffers.old buffers.new
-        (block_number geometry.now level (shadow_at shadows.old level).slot (shadow_at shadows.old level).len) result }
+    ensures pushed { IsPushed geometry.now (lower_of D.bytes buffers.old shadows.old tails.old)
+        (lower_of D.bytes buffers.new shadows.new tails.new) level (passed pass cell.now) result }
+    ensures writing { Writing D.counts D.kept (fills geometry.now (shadow_at shadows.old level).len)
+        buffers.old buffers.new (end_block geometry.now shadows.old level) result }
 {
     let shadow = shadow_of(shadows, level);
     // Until the cell is counted, not all of the tail is on the device.
@@ -254,14 +260,14 @@ pub(crate) fn finish_on_device<D: Device>(
 ) -> Result<(), PushFault>
     requires level { IsOnDevice geometry.now level }
     requires shadows { level < length shadows.old }
-    requires place { (shadow_at shadows.old level).saved ≡ false → IsPlace (geometry.now.bottom + 1) level (shadow_at shadows.old level).slot (shadow_at shadows.old level).len }
-    requires tails { length tails.now ≡ width geometry.now.format * (block_cells geometry.now * device_levels geometry.now) }
+    requires place { (shadow_at shadows.old level).saved ≡ false → HasRoom geometry.now shadows.old level }
+    requires tails { length tails.now ≡ tails_bytes geometry.now }
     requires size { buffers.old.cache.size ≡ block_bytes geometry.now }
     requires many { buffers.old.many ≡ file_blocks geometry.now }
-    ensures finished { IsFinished geometry.now (record { told = D.bytes buffers.old.cache.device; shadows = shadows.old; tails = tails.now })
-        (record { told = D.bytes buffers.new.cache.device; shadows = shadows.new; tails = tails.now }) level result }
-    ensures writing { Writing D.counts D.kept (not (shadow_at shadows.old level).saved) buffers.old buffers.new
-        (block_number geometry.now level (shadow_at shadows.old level).slot (shadow_at shadows.old level).len) result }
+    ensures finished { IsFinished geometry.now (lower_of D.bytes buffers.old shadows.old tails.now)
+        (lower_of D.bytes buffers.new shadows.new tails.now) level result }
+    ensures writing { Writing D.counts D.kept (not (shadow_at shadows.old level).saved)
+        buffers.old buffers.new (end_block geometry.now shadows.old level) result }
 {
     let shadow = shadow_of(shadows, level);
     if shadow.saved {
@@ -287,14 +293,15 @@ pub(crate) fn push_in_front(
 )
     requires level { level + 2 < geometry.now.block_exp }
     requires shadows { level < length shadows.old }
-    requires place { IsPlace (geometry.now.bottom + 1) level (shadow_at shadows.old level).slot (shadow_at shadows.old level).len }
+    requires place { HasRoom geometry.now shadows.old level }
     requires format { front.old.format ≡ geometry.now.format }
     requires block { front.old.block ≡ block_cells geometry.now }
     requires may { MayPass pass cell.now }
     requires fits { CellFits geometry.now.format cell.now }
-    ensures front { front.new ≡ record front.old { cells = slice_set front.old.cells (number_of level (shadow_at shadows.old level).slot (shadow_at shadows.old level).len) (Some (passed pass cell.now)) } }
-    ensures shadow { OneShadow shadows.old shadows.new level (record { slot = (shadow_at shadows.old level).slot; len = (shadow_at shadows.old level).len + 1; saved = fills geometry.now (shadow_at shadows.old level).len }) }
-    ensures within { number_of level (shadow_at shadows.old level).slot (shadow_at shadows.old level).len < length front.old.cells }
+    ensures front { front.new ≡ front_with front.old (end_number shadows.old level) (passed pass cell.now) }
+    ensures shadow { OneShadow shadows.old shadows.new level
+        (lengthened geometry.now (shadow_at shadows.old level)) }
+    ensures within { end_number shadows.old level < length front.old.cells }
 {
     let shadow = shadow_of(shadows, level);
     front.write_as(geometry.place(level, shadow.slot, shadow.len), cell, pass);

@@ -1,13 +1,11 @@
 //! The cells of a store over a device.
-ghost use Rattle.std.specs.Prelude.{◌≡◌, ◌+◌, ◌*◌, ◌^◌, ◌≤◌, ◌<◌, ℕ, Option, List, IfOk, IfErr, length, replicate};
+ghost use Rattle.std.specs.Prelude.{◌≡◌, ◌+◌, ◌*◌, ◌^◌, ◌≤◌, ◌<◌, IfOk, IfErr, replicate};
 ghost use Rattle.std.specs.Box.{boxed_slice_items};
-ghost use Rattle.cola_cell.specs.Flat.{shadow_at};
-ghost use Rattle.cola_cell.specs.Format.{width};
 ghost use Rattle.cola_cell.specs.Shadows.{emptied};
 ghost use Rattle.cola_device.specs.Bytes.{HasRange};
 ghost use Rattle.cola_cache.specs.Blocks.{AreFew};
 ghost use Rattle.cola_front.specs.Front.{new_front};
-ghost use Rattle.cola_run.specs.Cells.{block_cells, block_bytes, file_bytes, file_blocks, device_levels};
+ghost use Rattle.cola_run.specs.Cells.{block_bytes, file_bytes, device_levels, tails_bytes};
 ghost use Rattle.cola_run.specs.Store.{Store, IsStore, new_store};
 
 use crate::device_cells::cells_of_block;
@@ -86,9 +84,12 @@ fn parts(
     alloc: Global,
     geometry: &Geometry,
 ) -> Result<(Front, BoxedSlice<Shadow>, BoxedSlice<u8>), AllocError>
-    ensures front { IfOk result (λ made. made.0 ≡ new_front geometry.now.block_exp geometry.now.format) }
-    ensures shadows { IfOk result (λ made. boxed_slice_items made.1 ≡ replicate (geometry.now.bottom + 1) (emptied 1)) }
-    ensures tails { IfOk result (λ made. boxed_slice_items made.2 ≡ replicate (width geometry.now.format * (block_cells geometry.now * device_levels geometry.now)) 0) }
+    ensures front { IfOk result (λ made.
+        made.0 ≡ new_front geometry.now.block_exp geometry.now.format) }
+    ensures shadows { IfOk result (λ made.
+        boxed_slice_items made.1 ≡ replicate (geometry.now.bottom + 1) (emptied 1)) }
+    ensures tails { IfOk result (λ made.
+        boxed_slice_items made.2 ≡ replicate (tails_bytes geometry.now) 0) }
 {
     let front = Front::new(alloc, geometry.block_exp, geometry.format)?;
     let empty = Shadow {
@@ -114,7 +115,8 @@ impl<D: Device> RunStore<D> {
     ) -> Result<RunStore<D>, (D, AllocError)>
         requires cache { cache ≤ 4096 }
         requires inside { HasRange (D.bytes device) 0 (file_bytes geometry) }
-        ensures made { IfOk result (λ store. store ≡ new_store device (D.counts device) geometry cache) }
+        ensures made { IfOk result (λ store.
+            store ≡ new_store device (D.counts device) geometry cache) }
         ensures back { IfErr result (λ error. error.0 ≡ device) }
     {
         let (front, shadows, tails) = match parts(alloc, &geometry) {

@@ -1,22 +1,20 @@
 //! Loading a store from its file, and flushing it to that.
-ghost use Rattle.std.specs.Prelude.{◌≡◌, ◌≢◌, ◌⊎◌, ℕ, ◌+◌, ◌*◌, ◌^◌, ◌≤◌, ◌<◌, [], ◌∷◌, Option, IfSome, None, OnOk, OnErr, MatchResult, is_ok, length, true, false};
+ghost use Rattle.std.specs.Prelude.{◌≡◌, ◌≢◌, ℕ, ◌+◌, ◌≤◌, ◌<◌, [], ◌∷◌, Option, IfSome, None, OnOk, length, true, false};
 ghost use Rattle.cola_outside.specs.Told.{Both};
 ghost use Rattle.cola_cell.specs.Flat.{shadow_at};
-ghost use Rattle.cola_cell.specs.Format.{width};
-ghost use Rattle.cola_cell.specs.Places.{slot_size, number_of, IsPlace};
+ghost use Rattle.cola_cell.specs.Places.{slot_size, number_of};
 ghost use Rattle.cola_cell.specs.Shadows.{emptied};
 ghost use Rattle.cola_device.specs.Bytes.{splice, Wrote};
 ghost use Rattle.cola_device.specs.Counts.{Called};
 ghost use Rattle.cola_device.specs.Settling.{IsSettled};
 ghost use Rattle.cola_cache.specs.Blocks.{Stays};
-ghost use Rattle.cola_front.specs.Front.{FrontCells, IsFront, InOrder, SameShape, IsLoaded as IsFrontLoaded, block_size, cell_at, image};
+ghost use Rattle.cola_front.specs.Front.{IsFront, InOrder, SameShape, IsLoaded as IsFrontLoaded, block_size, cell_at, image};
 ghost use Rattle.cola_clock.specs.Clock.{visible_slot};
 ghost use Rattle.cola_layout.specs.Marks.{marks_of};
-ghost use Rattle.cola_layout.specs.declared.header.Header.{Header as AnyHeader};
-ghost use Rattle.cola_run.specs.Cells.{IsOnDevice, IsShadow, IsShape, IsBacked, AreCells, spots_of, block_cells, block_bytes, file_blocks, device_levels};
-ghost use Rattle.cola_run.specs.Store.{IsStore, held_of, kept_of};
+ghost use Rattle.cola_run.specs.Cells.{IsOnDevice, IsShadow, IsShape, IsBacked, AreCells, spots_of, block_cells, block_bytes, file_blocks, tails_bytes, HasRoom, cells_by};
+ghost use Rattle.cola_run.specs.Store.{held_of, kept_of, lower_of, device_of};
 ghost use Rattle.cola_run.specs.Parts.{OneShadow};
-ghost use Rattle.cola_run.specs.Saving.{header_shadow, run_len, IsFrontRun, LoadAnswers, LoadSpends, IsLoaded, SameReads, IsFlushed, IsFrontLast, SameBehind, SettlesTwice};
+ghost use Rattle.cola_run.specs.Saving.{header_shadow, run_len, LoadAnswers, LoadSpends, IsLoaded, SameReads, IsFlushed, IsFrontLast, SameBehind, SettlesTwice, AreHeaderShadows};
 ghost use Rattle.cola_run.specs.Loading.{BadInRun, BadInLevel, BadInFront, NoneBadInFront, IsReading, IsWriting, loaded_shadow, StaySound, StayRead, SameCells, AreSavedBelow};
 
 use crate::device_cells::{begin_of_tail, block_at, cells_of_block, finish_on_device, set_shadow};
@@ -81,7 +79,8 @@ fn bad_in_run(front: &Front, geometry: &Geometry, level: u8, slot: u8, len: u32)
     requires len { len ≤ slot_size level }
     requires block { front.now.block ≡ block_cells geometry.now }
     ensures some { IfSome result (λ number. BadInRun front.now level slot len number) }
-    ensures none { result ≡ None → (index : ℕ) → index < len → cell_at front.now (number_of level slot index) ≢ None }
+    ensures none { result ≡ None → (index : ℕ) → index < len →
+        cell_at front.now (number_of level slot index) ≢ None }
 {
     for index in 0..len {
         let number = geometry.place(level, slot, index);
@@ -99,7 +98,8 @@ fn bad_in_level(front: &Front, geometry: &Geometry, header: &Header, level: u8) 
     requires geometry { header.now.geometry ≡ geometry.now }
     requires block { front.now.block ≡ block_cells geometry.now }
     ensures some { IfSome result (λ number. BadInLevel header.now front.now level number) }
-    ensures none { result ≡ None → (slot index : ℕ) → slot < 2 → index < run_len header.now level slot → cell_at front.now (number_of level slot index) ≢ None }
+    ensures none { result ≡ None → (slot index : ℕ) → slot < 2 → index < run_len header.now level slot →
+        cell_at front.now (number_of level slot index) ≢ None }
 {
     match bad_in_run(front, geometry, level, 0, len_of_run(header, level, 0)) {
         Some(number) => Some(number),
@@ -128,7 +128,8 @@ fn load_front<D: Device>(buffers: &mut Buffers<D>, front: &mut Front) -> Result<
     requires buffer { 0 < length buffers.old.lasts }
     requires many { 1 < buffers.old.many }
     requires size { buffers.old.cache.size ≡ block_size front.old }
-    ensures loaded { OnOk result (IfSome (D.bytes buffers.old.cache.device) (λ bytes. IsFrontLoaded bytes front.new)) }
+    ensures loaded { OnOk result
+        (IfSome (D.bytes buffers.old.cache.device) (λ bytes. IsFrontLoaded bytes front.new)) }
     ensures shape { SameShape front.old front.new }
     ensures reading { IsReading D.bytes D.counts D.kept buffers.old buffers.new 2 result }
 {
@@ -177,13 +178,13 @@ fn load_shadow<D: Device>(
     requires shadows { level < length shadows.old }
     requires stands { IsShadow level shadow }
     requires saved { shadow.saved ≡ true }
-    requires tails { length tails.old ≡ width geometry.now.format * (block_cells geometry.now * device_levels geometry.now) }
+    requires tails { length tails.old ≡ tails_bytes geometry.now }
     requires buffer { 0 < length buffers.old.lasts }
     requires size { buffers.old.cache.size ≡ block_bytes geometry.now }
     requires many { buffers.old.many ≡ file_blocks geometry.now }
     ensures one { OneShadow shadows.old shadows.new level (loaded_shadow result shadow) }
-    ensures sound { StaySound geometry.now (record { told = D.bytes buffers.old.cache.device; shadows = shadows.old; tails = tails.old })
-        (record { told = D.bytes buffers.new.cache.device; shadows = shadows.new; tails = tails.new }) }
+    ensures sound { StaySound geometry.now (lower_of D.bytes buffers.old shadows.old tails.old)
+        (lower_of D.bytes buffers.new shadows.new tails.new) }
     ensures tails { length tails.new ≡ length tails.old }
     ensures reading { IsReading D.bytes D.counts D.kept buffers.old buffers.new 1 result }
 {
@@ -216,15 +217,17 @@ fn load_shadows<D: Device>(
 ) -> Result<(), DeviceFault>
     requires geometry { header.now.geometry ≡ geometry.now }
     requires shadows { length shadows.old ≡ geometry.now.bottom + 1 }
-    requires tails { length tails.old ≡ width geometry.now.format * (block_cells geometry.now * device_levels geometry.now) }
+    requires tails { length tails.old ≡ tails_bytes geometry.now }
     requires buffer { 0 < length buffers.old.lasts }
     requires size { buffers.old.cache.size ≡ block_bytes geometry.now }
     requires many { buffers.old.many ≡ file_blocks geometry.now }
-    ensures loaded { OnOk result ((level : ℕ) → level ≤ geometry.now.bottom → shadow_at shadows.new level ≡ header_shadow header.now level) }
-    ensures sound { StaySound geometry.now (record { told = D.bytes buffers.old.cache.device; shadows = shadows.old; tails = tails.old })
-        (record { told = D.bytes buffers.new.cache.device; shadows = shadows.new; tails = tails.new }) }
+    ensures loaded { OnOk result
+        (AreHeaderShadows geometry.now.bottom header.now (shadow_at shadows.new)) }
+    ensures sound { StaySound geometry.now (lower_of D.bytes buffers.old shadows.old tails.old)
+        (lower_of D.bytes buffers.new shadows.new tails.new) }
     ensures tails { length tails.new ≡ length tails.old }
-    ensures reading { IsReading D.bytes D.counts D.kept buffers.old buffers.new (geometry.now.bottom + 1) result }
+    ensures reading { IsReading D.bytes D.counts D.kept buffers.old buffers.new
+        (geometry.now.bottom + 1) result }
 {
     for level in 0..geometry.levels() {
         match load_shadow(
@@ -250,16 +253,18 @@ fn save_tails<D: Device>(
     tails: &[u8],
 ) -> Result<(), DeviceFault>
     requires shadows { length shadows.old ≡ geometry.now.bottom + 1 }
-    requires shape { (level : ℕ) → IsOnDevice geometry.now level → (shadow_at shadows.old level).saved ≡ false → IsPlace (geometry.now.bottom + 1) level (shadow_at shadows.old level).slot (shadow_at shadows.old level).len }
-    requires tails { length tails.now ≡ width geometry.now.format * (block_cells geometry.now * device_levels geometry.now) }
+    requires shape { (level : ℕ) → IsOnDevice geometry.now level →
+        (shadow_at shadows.old level).saved ≡ false → HasRoom geometry.now shadows.old level }
+    requires tails { length tails.now ≡ tails_bytes geometry.now }
     requires size { buffers.old.cache.size ≡ block_bytes geometry.now }
     requires many { buffers.old.many ≡ file_blocks geometry.now }
     ensures saved { OnOk result (AreSavedBelow geometry.now shadows.new (geometry.now.bottom + 1)) }
-    ensures sound { StaySound geometry.now (record { told = D.bytes buffers.old.cache.device; shadows = shadows.old; tails = tails.now })
-        (record { told = D.bytes buffers.new.cache.device; shadows = shadows.new; tails = tails.now }) }
-    ensures stays { StayRead geometry.now (record { told = D.bytes buffers.old.cache.device; shadows = shadows.old; tails = tails.now })
-        (record { told = D.bytes buffers.new.cache.device; shadows = shadows.new; tails = tails.now }) }
-    ensures writing { IsWriting D.counts D.kept buffers.old buffers.new (geometry.now.bottom + 1) 0 result }
+    ensures sound { StaySound geometry.now (lower_of D.bytes buffers.old shadows.old tails.now)
+        (lower_of D.bytes buffers.new shadows.new tails.now) }
+    ensures stays { StayRead geometry.now (lower_of D.bytes buffers.old shadows.old tails.now)
+        (lower_of D.bytes buffers.new shadows.new tails.now) }
+    ensures writing { IsWriting D.counts D.kept buffers.old buffers.new
+        (geometry.now.bottom + 1) 0 result }
 {
     for level in geometry.front_levels()..geometry.levels() {
         match finish_on_device(buffers, geometry, shadows, tails, level) {
@@ -278,8 +283,10 @@ fn save_front<D: Device>(
 ) -> Result<(), DeviceFault>
     requires many { 1 < buffers.old.many }
     requires size { buffers.old.cache.size ≡ block_size front.now }
-    ensures wrote { Wrote result 0 (image front.now header.now) (D.bytes buffers.old.cache.device) (D.bytes buffers.new.cache.device) }
-    ensures in_order { Both (D.bytes buffers.old.cache.device) (D.bytes buffers.new.cache.device) (InOrder result front.now) }
+    ensures wrote { Wrote result 0 (image front.now header.now)
+        (D.bytes buffers.old.cache.device) (D.bytes buffers.new.cache.device) }
+    ensures in_order { Both (D.bytes buffers.old.cache.device) (D.bytes buffers.new.cache.device)
+        (InOrder result front.now) }
     ensures sound { IsFront front.now }
     ensures writing { IsWriting D.counts D.kept buffers.old buffers.new 2 0 result }
 {
@@ -310,17 +317,21 @@ fn load_parts<D: Device>(
     requires buffer { 0 < length buffers.old.lasts }
     requires size { buffers.old.cache.size ≡ block_bytes geometry.now }
     requires many { buffers.old.many ≡ file_blocks geometry.now }
-    ensures front { OnOk result (IfSome (D.bytes buffers.old.cache.device) (λ bytes. IsFrontLoaded bytes front.new)) }
-    ensures shadows { OnOk result ((level : ℕ) → level ≤ geometry.now.bottom → shadow_at shadows.new level ≡ header_shadow header.now level) }
-    ensures answer { LoadAnswers header.now (D.bytes buffers.old.cache.device) (D.counts buffers.old.cache.device).faults (D.counts buffers.new.cache.device).faults result }
+    ensures front { OnOk result
+        (IfSome (D.bytes buffers.old.cache.device) (λ bytes. IsFrontLoaded bytes front.new)) }
+    ensures shadows { OnOk result
+        (AreHeaderShadows geometry.now.bottom header.now (shadow_at shadows.new)) }
+    ensures answer { LoadAnswers header.now (D.bytes buffers.old.cache.device)
+        (D.counts buffers.old.cache.device).faults (D.counts buffers.new.cache.device).faults result }
     ensures shape { SameShape front.old front.new }
-    ensures sound { StaySound geometry.now (record { told = D.bytes buffers.old.cache.device; shadows = shadows.old; tails = tails.old })
-        (record { told = D.bytes buffers.new.cache.device; shadows = shadows.new; tails = tails.new }) }
+    ensures sound { StaySound geometry.now (lower_of D.bytes buffers.old shadows.old tails.old)
+        (lower_of D.bytes buffers.new shadows.new tails.new) }
     ensures bytes_stay { D.bytes buffers.new.cache.device ≡ D.bytes buffers.old.cache.device }
     ensures kept { D.kept buffers.new.cache.device ≡ D.kept buffers.old.cache.device }
     ensures stays { Stays buffers.old buffers.new }
     ensures lasts { length buffers.new.lasts ≡ length buffers.old.lasts }
-    ensures spends { LoadSpends (D.counts buffers.old.cache.device) (D.counts buffers.new.cache.device) (geometry.now.bottom + 3) result }
+    ensures spends { LoadSpends (D.counts buffers.old.cache.device) (D.counts buffers.new.cache.device)
+        (geometry.now.bottom + 3) result }
 {
     match load_front(buffers, front) {
         Ok(()) => match load_shadows(buffers, geometry, shadows, tails, header) {
@@ -344,18 +355,25 @@ fn flush_parts<D: Device>(
     header: &[u8; 512],
 ) -> Result<(), DeviceFault>
     requires shape { IsShape geometry.now front.now shadows.old tails.now }
-    requires backed { IfSome (D.bytes buffers.old.cache.device) (IsBacked geometry.now shadows.old tails.now) }
+    requires backed { IfSome (D.bytes buffers.old.cache.device)
+        (IsBacked geometry.now shadows.old tails.now) }
     requires size { buffers.old.cache.size ≡ block_bytes geometry.now }
     requires many { buffers.old.many ≡ file_blocks geometry.now }
-    ensures flushed { OnOk result (IfSome (D.bytes buffers.new.cache.device) (IsFlushed geometry.now header.now
-        (spots_of (record { geometry = geometry.now; front = front.now; lower = record { told = D.bytes buffers.new.cache.device; shadows = shadows.new; tails = tails.now } })))) }
-    ensures cells { AreCells (record { geometry = geometry.now; front = front.now; lower = record { told = D.bytes buffers.new.cache.device; shadows = shadows.new; tails = tails.now } }) }
-    ensures reads { SameCells geometry.now front.now (record { told = D.bytes buffers.old.cache.device; shadows = shadows.old; tails = tails.now })
-        (record { told = D.bytes buffers.new.cache.device; shadows = shadows.new; tails = tails.now }) }
+    ensures flushed { OnOk result (IfSome (D.bytes buffers.new.cache.device)
+        (IsFlushed geometry.now header.now
+        (spots_of (cells_by geometry.now front.now (lower_of D.bytes buffers.new shadows.new tails.now))))) }
+    ensures cells { AreCells
+        (cells_by geometry.now front.now (lower_of D.bytes buffers.new shadows.new tails.now)) }
+    ensures reads { SameCells geometry.now front.now
+        (lower_of D.bytes buffers.old shadows.old tails.now)
+        (lower_of D.bytes buffers.new shadows.new tails.now) }
     ensures order { IsFrontLast D.Device geometry.now
-        (spots_of (record { geometry = geometry.now; front = front.now; lower = record { told = D.bytes buffers.new.cache.device; shadows = shadows.new; tails = tails.now } })) buffers.old.cache.device buffers.new.cache.device }
-    ensures settles { OnOk result (SettlesTwice D.Device geometry.now buffers.old.cache.device buffers.new.cache.device) }
-    ensures writing { IsWriting D.counts D.kept buffers.old buffers.new (geometry.now.bottom + 3) 2 result }
+        (spots_of (cells_by geometry.now front.now (lower_of D.bytes buffers.new shadows.new tails.now)))
+        buffers.old.cache.device buffers.new.cache.device }
+    ensures settles { OnOk result
+        (SettlesTwice D.Device geometry.now buffers.old.cache.device buffers.new.cache.device) }
+    ensures writing { IsWriting D.counts D.kept buffers.old buffers.new
+        (geometry.now.bottom + 3) 2 result }
 {
     match save_tails(buffers, geometry, shadows, tails) {
         Ok(()) => match buffers.settle() {
@@ -376,13 +394,17 @@ impl<D: Device> RunStore<D> {
     /// device changes.
     pub fn load(&mut self, header: &Header) -> Result<(), ReadFault>
         requires { header.now.geometry ≡ self.old.geometry }
-        ensures loaded { OnOk result (IsLoaded header.now (held_of D.bytes self.new) (D.bytes self.old.buffers.cache.device)) }
-        ensures answer { LoadAnswers header.now (D.bytes self.old.buffers.cache.device) (D.counts self.old.buffers.cache.device).faults (D.counts self.new.buffers.cache.device).faults result }
-        ensures bytes_stay { D.bytes self.new.buffers.cache.device ≡ D.bytes self.old.buffers.cache.device }
-        ensures kept { kept_of D.bytes D.counts D.kept self.new ≡ kept_of D.bytes D.counts D.kept self.old }
+        ensures loaded { OnOk result
+            (IsLoaded header.now (held_of D.bytes self.new) (D.bytes (device_of self.old))) }
+        ensures answer { LoadAnswers header.now (D.bytes (device_of self.old))
+            (D.counts (device_of self.old)).faults (D.counts (device_of self.new)).faults result }
+        ensures bytes_stay { D.bytes (device_of self.new) ≡ D.bytes (device_of self.old) }
+        ensures kept { kept_of D.bytes D.counts D.kept self.new ≡
+            kept_of D.bytes D.counts D.kept self.old }
         ensures fixed { (held_of D.bytes self.new).fixed ≡ (held_of D.bytes self.old).fixed }
         ensures ticked { self.new.ticked ≡ self.old.ticked }
-        ensures spends { LoadSpends (D.counts self.old.buffers.cache.device) (D.counts self.new.buffers.cache.device) (self.old.geometry.bottom + 3) result }
+        ensures spends { LoadSpends (D.counts (device_of self.old)) (D.counts (device_of self.new))
+            (self.old.geometry.bottom + 3) result }
     {
         load_parts(
             &mut self.buffers,
@@ -396,16 +418,20 @@ impl<D: Device> RunStore<D> {
 
     /// Writes the state byte of a store in use, and settles. No cell of the store changes.
     pub fn mark_in_use(&mut self) -> Result<(), DeviceFault>
-        ensures wrote { Wrote result 14 (1 ∷ []) (D.bytes self.old.buffers.cache.device) (D.bytes self.new.buffers.cache.device) }
-        ensures settled { OnOk result (IsSettled D.Device self.new.buffers.cache.device) }
+        ensures wrote { Wrote result 14 (1 ∷ [])
+            (D.bytes (device_of self.old)) (D.bytes (device_of self.new)) }
+        ensures settled { OnOk result (IsSettled D.Device (device_of self.new)) }
         ensures fixed { (held_of D.bytes self.new).fixed ≡ (held_of D.bytes self.old).fixed }
-        ensures shadows { (held_of D.bytes self.new).shadows ≡ (held_of D.bytes self.old).shadows }
-        ensures cells_stay { (level slot index : ℕ) → (held_of D.bytes self.new).spots level slot index ≡ (held_of D.bytes self.old).spots level slot index }
+        ensures shadows { (held_of D.bytes self.new).shadows ≡
+            (held_of D.bytes self.old).shadows }
+        ensures cells_stay { (level slot index : ℕ) → (held_of D.bytes self.new).spots level slot index ≡
+            (held_of D.bytes self.old).spots level slot index }
         ensures geometry { self.new.geometry ≡ self.old.geometry }
         ensures cache { self.new.buffers.cache.blocks ≡ self.old.buffers.cache.blocks }
-        ensures kept { D.kept self.new.buffers.cache.device ≡ D.kept self.old.buffers.cache.device }
+        ensures kept { D.kept (device_of self.new) ≡ D.kept (device_of self.old) }
         ensures ticked { self.new.ticked ≡ self.old.ticked }
-        ensures counts { Called (D.counts self.old.buffers.cache.device) (D.counts self.new.buffers.cache.device) 0 1 1 result }
+        ensures counts { Called (D.counts (device_of self.old)) (D.counts (device_of self.new))
+            0 1 1 result }
     {
         let _ = &self.geometry;
         match self.buffers.write_byte(14, 1) {
@@ -420,16 +446,21 @@ impl<D: Device> RunStore<D> {
     /// device were settled with every cell before any of the two was written, and block 0 is as before or the file has
     /// every cell behind it.
     pub fn flush(&mut self, header: &[u8; 512]) -> Result<(), DeviceFault>
-        ensures flushed { OnOk result (IfSome (D.bytes self.new.buffers.cache.device) (IsFlushed self.old.geometry header.now (held_of D.bytes self.new).spots)) }
+        ensures flushed { OnOk result (IfSome (D.bytes (device_of self.new))
+            (IsFlushed self.old.geometry header.now (held_of D.bytes self.new).spots)) }
         ensures reads { SameReads (held_of D.bytes self.old) (held_of D.bytes self.new) }
-        ensures order { IsFrontLast D.Device self.old.geometry (held_of D.bytes self.new).spots self.old.buffers.cache.device self.new.buffers.cache.device }
-        ensures settles { OnOk result (SettlesTwice D.Device self.old.geometry self.old.buffers.cache.device self.new.buffers.cache.device) }
-        ensures behind { Both (D.bytes self.old.buffers.cache.device) (D.bytes self.new.buffers.cache.device) (SameBehind self.old.geometry) }
+        ensures order { IsFrontLast D.Device self.old.geometry (held_of D.bytes self.new).spots
+            (device_of self.old) (device_of self.new) }
+        ensures settles { OnOk result
+            (SettlesTwice D.Device self.old.geometry (device_of self.old) (device_of self.new)) }
+        ensures behind { Both (D.bytes (device_of self.old)) (D.bytes (device_of self.new))
+            (SameBehind self.old.geometry) }
         ensures geometry { self.new.geometry ≡ self.old.geometry }
         ensures cache { self.new.buffers.cache.blocks ≡ self.old.buffers.cache.blocks }
-        ensures kept { D.kept self.new.buffers.cache.device ≡ D.kept self.old.buffers.cache.device }
+        ensures kept { D.kept (device_of self.new) ≡ D.kept (device_of self.old) }
         ensures ticked { self.new.ticked ≡ self.old.ticked }
-        ensures counts { Called (D.counts self.old.buffers.cache.device) (D.counts self.new.buffers.cache.device) 0 (self.old.geometry.bottom + 3) 2 result }
+        ensures counts { Called (D.counts (device_of self.old)) (D.counts (device_of self.new))
+            0 (self.old.geometry.bottom + 3) 2 result }
     {
         flush_parts(
             &mut self.buffers,

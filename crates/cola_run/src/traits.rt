@@ -2,12 +2,13 @@
 ghost use Rattle.std.specs.Prelude.{◌≡◌, ◌+◌, ◌*◌, ◌≤◌, ◌<◌, ℕ, true, Option, length};
 ghost use Rattle.cola_cell.specs.Flat.{shadow_at};
 ghost use Rattle.cola_cell.specs.Places.{slot_size, IsPlace};
-ghost use Rattle.cola_cell.specs.Spent.{Reads, ReadAnswers};
+ghost use Rattle.cola_cell.specs.Reads.{Reads};
+ghost use Rattle.cola_cell.specs.Spent.{ReadAnswers};
 ghost use Rattle.cola_cell.specs.Format.{CellFits};
 ghost use Rattle.cola_cell.specs.Packed.{given, passed, MayPass};
 ghost use Rattle.cola_cell.specs.Shadows.{Restarts, Pushes, PushSpends, push_ticks, Finishes, FinishSpends};
 ghost use Rattle.cola_run.specs.Cells.{IsOnDevice, block_cells, is_in_tail};
-ghost use Rattle.cola_run.specs.Store.{IsStore, held_of, spent_of, Kept, kept_of, buffer_number, reader_number};
+ghost use Rattle.cola_run.specs.Store.{IsStore, held_of, state_of, Kept, kept_of, buffer_number, reader_number};
 ghost use Rattle.cola_run.specs.Turns.{buffer_for, buffer_index};
 
 use crate::device_cells::{
@@ -60,7 +61,8 @@ impl<D: Device> RunStore<D> {
     ) -> Result<(), ReadFault>
         requires place { IsPlace (self.now.geometry.bottom + 1) level slot index }
         requires front { level + 2 < self.now.geometry.block_exp }
-        ensures answer { (faults : ℕ) → ReadAnswers (held_of D.bytes self.now) faults faults level slot index (given into.new result) }
+        ensures answer { (faults : ℕ) → ReadAnswers (held_of D.bytes self.now) faults faults
+            level slot index (given into.new result) }
     {
         let number = self.geometry.place(level, slot, index);
         taken_or_bad(self.front.read_into(number, into), number)
@@ -78,7 +80,8 @@ impl<D: Device> RunStore<D> {
         requires place { IsPlace (self.now.geometry.bottom + 1) level slot index }
         requires device { self.now.geometry.block_exp ≤ level + 2 }
         requires tail { is_in_tail (block_cells self.now.geometry) (shadow_at self.now.shadows level) slot index ≡ true }
-        ensures answer { (faults : ℕ) → ReadAnswers (held_of D.bytes self.now) faults faults level slot index (given into.new result) }
+        ensures answer { (faults : ℕ) → ReadAnswers (held_of D.bytes self.now) faults faults
+            level slot index (given into.new result) }
     {
         let number = self.geometry.place(level, slot, index);
         let place = place_in_tails(&self.geometry, level, index);
@@ -98,10 +101,12 @@ impl<D: Device> RunStore<D> {
         steps: &mut Steps<L>,
     ) -> Result<(), ReadFault>
         requires { IsPlace (self.old.geometry.bottom + 1) level slot index }
-        ensures cells_stay { held_of D.bytes self.new ≡ held_of D.bytes self.old }
-        ensures kept { kept_of D.bytes D.counts D.kept self.new ≡ kept_of D.bytes D.counts D.kept self.old }
+        ensures kept { kept_of D.bytes D.counts D.kept self.new ≡
+            kept_of D.bytes D.counts D.kept self.old }
         ensures one_tick { steps.new ≡ steps.old + 1 }
-        ensures reads { Reads (held_of D.bytes self.old) (spent_of D.counts self.old) (spent_of D.counts self.new) (buffer_for reader level) level slot index (given into.new result) }
+        ensures reads { Reads (state_of D.bytes D.counts self.old)
+            (state_of D.bytes D.counts self.new)
+            (buffer_for reader level) level slot index (given into.new result) }
     {
         steps.tick();
         self.ticked = self.ticked.wrapping_add(1);
@@ -126,9 +131,7 @@ impl<D: Device> RunStore<D> {
 }
 
 impl<D: Device> CellSource for RunStore<D> {
-    ghost held = { held_of D.bytes };
-
-    ghost spent = { spent_of D.counts };
+    ghost state = { state_of D.bytes D.counts };
 
     ghost Kept = { Kept D.Kept };
 

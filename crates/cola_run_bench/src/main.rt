@@ -53,11 +53,11 @@ fn push_all<W: CellSink, L: Ledger>(
     cells: u32,
     steps: &mut Steps<L>,
 ) -> bool
-    requires level_in { level < (W.CellSource.held work.old).fixed.levels }
-    requires format { (W.CellSource.held work.old).fixed.format ≡ One }
-    requires in_slot { slot ≡ ((W.CellSource.held work.old).shadows level).slot }
-    ensures fixed { (W.CellSource.held work.new).fixed ≡ (W.CellSource.held work.old).fixed }
-    ensures slot { ((W.CellSource.held work.new).shadows level).slot ≡ slot }
+    requires level_in { level < (W.CellSource.state work.old).held.fixed.levels }
+    requires format { (W.CellSource.state work.old).held.fixed.format ≡ One }
+    requires in_slot { slot ≡ ((W.CellSource.state work.old).held.shadows level).slot }
+    ensures fixed { (W.CellSource.state work.new).held.fixed ≡ (W.CellSource.state work.old).held.fixed }
+    ensures slot { ((W.CellSource.state work.new).held.shadows level).slot ≡ slot }
 {
     for number in 0..cells {
         if let Some(cell) = cell_of(number) {
@@ -86,8 +86,8 @@ fn is_there<W: CellSource, L: Ledger>(
     at: u32,
     steps: &mut Steps<L>,
 ) -> bool
-    requires { HasPlace (W.held work.old) level slot at }
-    ensures { W.held work.new ≡ W.held work.old }
+    requires { HasPlace (W.state work.old).held level slot at }
+    ensures { (W.state work.new).held ≡ (W.state work.old).held }
 {
     match work.read(level, slot, at, steps) {
         Ok(cell) => cell.link() == at,
@@ -105,11 +105,11 @@ fn read_all<W: CellSource, L: Ledger>(
     stride: u64,
     steps: &mut Steps<L>,
 ) -> u32
-    requires level_in { level < (W.held work.old).fixed.levels }
+    requires level_in { level < (W.state work.old).held.fixed.levels }
     requires slot_in { slot < 2 }
     requires some { 0 < cells }
     requires within { cells ≤ slot_size level }
-    ensures { W.held work.new ≡ W.held work.old }
+    ensures { (W.state work.new).held ≡ (W.state work.old).held }
 {
     let mut found = 0u32;
     for turn in 0..cells {
@@ -127,8 +127,8 @@ fn time_all<W: CellSink, L: Ledger>(
     cells: u32,
     steps: &mut Steps<L>,
 ) -> io::Result<()>
-    requires level_in { level < (W.CellSource.held work.old).fixed.levels }
-    requires format { (W.CellSource.held work.old).fixed.format ≡ One }
+    requires level_in { level < (W.CellSource.state work.old).held.fixed.levels }
+    requires format { (W.CellSource.state work.old).held.fixed.format ≡ One }
 {
     work.restart(level, 0);
     let start = Instant::now(rt)?;

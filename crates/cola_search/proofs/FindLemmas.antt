@@ -14,7 +14,8 @@ use Rattle.cola_cell.specs.declared.cell.Item.{Item as CellItem}
 use Rattle.cola_cell.specs.declared.fault.ReadFault.{ReadFault}
 use Rattle.cola_cell.specs.declared.fault.ReadFault.TheVariants.{Device, BadCell}
 use Rattle.cola_cell.specs.Held.{Held, LawCell, Stamped, as_item}
-use Rattle.cola_cell.specs.Spent.{Buffer, Search, Spent, ReadCalm}
+use Rattle.cola_cell.specs.Spent.{Buffer, Search}
+use Rattle.cola_cell.specs.State.{State}
 use Rattle.cola_cell.specs.Listed.{IsRun}
 use Rattle.cola_cell.specs.Costs.{Costs}
 use Rattle.cola_cell.proofs.CostsLemmas.{costs_none, costs_then, costs_within}
@@ -23,7 +24,9 @@ use Rattle.cola_cell.specs.Order.{key_cmp}
 use Rattle.cola_look.specs.Outcome.{Outcome, Found, BadAt, Open, and_then, Answers}
 use Rattle.cola_look.specs.Runs.{AreRuns, BeginsNear}
 use Rattle.cola_look.specs.Seek.{found_in, as_seat, SeekCause, turns_from}
-use Rattle.cola_look.proofs.SeekLemmas.{found_is_seek, GoesOn, Sought, answers_whole, device_answers}
+use Rattle.cola_look.specs.Seeks.{Seeks}
+use Rattle.cola_look.proofs.SeekLemmas.{found_is_seek, GoesOn, answers_whole, device_answers}
+use Rattle.cola_search.specs.Finds.{Finds}
 use Rattle.cola_search.specs.Find.{length_of_first, item_or, found_in_runs, FindCause}
 
 -- ---- what is told of the runs decides the search
@@ -166,50 +169,37 @@ joined (inr e) (inl f) = inl (e ∙ f)
 joined (inr e) (inr f) = inr (e ∙ f)
 
 -- the search stands before the run of a number: what is left decides it, and so many runs were paid for
-pub record Finding (held : Held) (key : List ℕ) (runs : List Run) (old now : Spent) (before after start i : ℕ) : Type 0 where
-  pub rest : GoesOn (found_in_runs held key 0 runs) (found_in_runs held key start (drop i runs))
-  pub costs : Costs old now before after (8 * i) (2 * i)
-  pub calm : now.faults ≡ old.faults
-  pub few : (lists : List (List LawCell)) → AreRuns held runs lists → laws.AreSampled key_cmp lists → (start % 8 ≡ 0) × (now.turned ≤ old.turned + i)
-  pub others : (buffer : Buffer) → buffer ≢ Search → now.lasts buffer ≡ old.lasts buffer
+pub record Finding (runs : List Run) (key : List ℕ) (old now : State) (before after start i : ℕ) : Type 0 where
+  pub held_is : now.held ≡ old.held
+  pub rest : GoesOn (found_in_runs old.held key 0 runs) (found_in_runs old.held key start (drop i runs))
+  pub costs : Costs old.spent now.spent before after (8 * i) (2 * i)
+  pub few : (lists : List (List LawCell)) → AreRuns old.held runs lists → laws.AreSampled key_cmp lists → (start % 8 ≡ 0) × (now.spent.turned ≤ old.spent.turned + i)
+  pub others : (buffer : Buffer) → buffer ≢ Search → now.spent.lasts buffer ≡ old.spent.lasts buffer
 
 -- it begins
-pub finding_begins : (held : Held) (key : List ℕ) (runs : List Run) (spent : Spent) (steps : ℕ) → Finding held key runs spent spent steps steps 0 0
-finding_begins held key runs spent steps = record {
+pub finding_begins : (runs : List Run) (key : List ℕ) (state : State) (steps : ℕ) → Finding runs key state state steps steps 0 0
+finding_begins runs key state steps = record {
+  held_is = refl;
   rest = inr refl;
-  costs = costs_within (costs_none spent steps) (omega arith) (omega arith);
-  calm = refl;
+  costs = costs_within (costs_none state.spent steps) (omega arith) (omega arith);
   few = λ lists r a. (refl, omega arith);
   others = λ buffer d. refl;
 }
 
--- what each clause says but those on what stays
-pub record FoundOut (held : Held) (key : List ℕ) (runs : List Run) (old new : Spent) (before after : ℕ) (result : Result (Option CellItem) ReadFault) : Type 0 where
-  pub exact : Answers (found_in_runs held key 0 runs) (option_map as_item) result
-  pub told : (lists : List (List LawCell)) → AreRuns held runs lists → Answers (Found (laws.find key_cmp key 0 lists)) (option_map as_item) result
-  pub right : (lists : List (List LawCell)) → AreRuns held runs lists → laws.AreSampled key_cmp lists → BeginsNear key lists →
-      Answers (Found (answer key_cmp key lists)) (option_map as_item) result
-  pub cause : IfErr result (FindCause held runs old.faults new.faults)
-  pub calm : ReadCalm old.faults new.faults result
-  pub costs : Costs old new before after (8 * length runs) (2 * length runs)
-  pub turns : (lists : List (List LawCell)) → AreRuns held runs lists → laws.AreSampled key_cmp lists → new.turned ≤ old.turned + length runs
-  pub others_stay : (buffer : Buffer) → buffer ≢ Search → new.lasts buffer ≡ old.lasts buffer
+-- the search of the same list
+pub finds_same : {runs list : List Run} {key : List ℕ} {old new : State} {before after : ℕ} {result : Result (Option CellItem) ReadFault} → runs ≡ list →
+    Finds runs key old new before after result → Finds list key old new before after result
+finds_same {key = key} {old} {new} {before} {after} {result} e f = let E : List Run → Type 0 = λ xs. Finds xs key old new before after result in subst E e f
 
 -- the runs from a number on
 left_from : (runs : List Run) (i : ℕ) (d : Run) → i < length runs → drop i runs ≡ get_or runs i d ∷ drop (i + 1) runs
 left_from runs i d l = let e : suc i ≡ i + 1 = omega arith in drop-cons runs i d l ∙ ap (λ n. get_or runs i d ∷ drop n runs) e
 
--- a search of a run of the same list and the same object
-pub same_search : {next_len start : ℕ} {key : List ℕ} {old new : Spent} {before after : ℕ} (i : ℕ) (d : Run) (result : Result Seat ReadFault) {held object : Held} {runs list : List Run} → held ≡ object → runs ≡ list →
-    Sought held (get_or runs i d) next_len start key old new before after result → Sought object (get_or list i d) next_len start key old new before after result
-same_search {next_len} {start} {key} {old} {new} {before} {after} i d result {held} {object} {runs} e f s =
-    let E : List Run → Type 0 = λ xs. Sought object (get_or xs i d) next_len start key old new before after result in
-    let F : Held → Type 0 = λ h. Sought h (get_or runs i d) next_len start key old new before after result in
-    subst E f (subst F e s)
-
--- and the length of the run below
-pub same_next : {runs list : List Run} (i : ℕ) {next_len : ℕ} → runs ≡ list → next_len ≡ length_of_first (drop i runs) → next_len ≡ length_of_first (drop i list)
-same_next i f e = e ∙ ap (λ xs. length_of_first (drop i xs)) f
+-- a search of a run, of the cells that stood at first
+seeks_first : (old : State) {mid new : State} {run : Run} {next_len start : ℕ} {key : List ℕ} {before after : ℕ} {result : Result Seat ReadFault} → mid.held ≡ old.held →
+    Seeks run next_len start key mid new before after result → Seeks run next_len start key (record { held = old.held; spent = mid.spent }) new before after result
+seeks_first old {mid} {new} {run} {next_len} {start} {key} {before} {after} {result} e s =
+    let E : Held → Type 0 = λ h. Seeks run next_len start key (record { held = h; spent = mid.spent }) new before after result in subst E e s
 
 -- at most two blocks each
 two_at_most : (start : ℕ) → turns_from start ≤ 2
@@ -219,105 +209,91 @@ two_at_most start = by_eight (start % 8 == 0)
     by_eight true = omega arith
     by_eight false = omega arith
 
-module _ {held : Held} {key : List ℕ} {runs : List Run} {old mid new : Spent} {before between after start i : ℕ} where
+module _ {runs : List Run} {key : List ℕ} {old mid new : State} {before between after start i : ℕ} where
   -- what a search of one more run costs
-  paid : {turns : ℕ} → Finding held key runs old mid before between start i → Costs mid new between after 8 turns → turns ≤ 2 → i < length runs → Costs old new before after (8 * (i + 1)) (2 * (i + 1))
-  paid f s t l = costs_within (costs_then f.costs s) (omega arith) (omega arith)
+  paid : {run : Run} {next_len : ℕ} {result : Result Seat ReadFault} → Finding runs key old mid before between start i → Seeks run next_len start key mid new between after result →
+      Costs old.spent new.spent before after (8 * (i + 1)) (2 * (i + 1))
+  paid f s = let t = two_at_most start in costs_within (costs_then f.costs s.costs) (omega arith) (omega arith)
 
   -- and which blocks it turns to
-  few_turns : Finding held key runs old mid before between start i → Costs mid new between after 8 (turns_from start) →
-      (lists : List (List LawCell)) → AreRuns held runs lists → laws.AreSampled key_cmp lists → new.turned ≤ old.turned + (i + 1)
+  few_turns : {run : Run} {next_len : ℕ} {result : Result Seat ReadFault} → Finding runs key old mid before between start i → Seeks run next_len start key mid new between after result →
+      (lists : List (List LawCell)) → AreRuns old.held runs lists → laws.AreSampled key_cmp lists → new.spent.turned ≤ old.spent.turned + (i + 1)
   few_turns f s lists r a =
       let k = f.few lists r a in
-      let one : turns_from start ≡ 1 = one_turn start k.0 in
-      let m : mid.turned ≤ old.turned + i = k.1 in
-      let t : new.turned ≤ mid.turned + 1 = subst (λ n. new.turned ≤ mid.turned + n) one s.turned_rises in
+      let m : mid.spent.turned ≤ old.spent.turned + i = k.1 in
+      let t : new.spent.turned ≤ mid.spent.turned + 1 = subst (λ n. new.spent.turned ≤ mid.spent.turned + n) (one_turn start k.0) s.costs.turned_rises in
       omega arith
 
-  -- the search goes on below a run that has no item of the key
-  pub finding_goes_on : (d : Run) (next_len : ℕ) (seat : Seat) → Finding held key runs old mid before between start i → i < length runs → next_len ≡ length_of_first (drop (i + 1) runs) →
-      Sought held (get_or runs i d) next_len start key mid new between after (Ok seat) → seat.hit ≡ None →
-      Finding held key runs old new before after seat.link (i + 1)
-  finding_goes_on d next_len seat f l e s none =
-      let exact : Answers (found_in held (get_or runs i d) (length_of_first (drop (i + 1) runs)) start key) as_seat (Ok seat) =
-      subst (λ n. Answers (found_in held (get_or runs i d) n start key) as_seat (Ok seat)) e s.exact in
-      let on : GoesOn (found_in_runs held key start (get_or runs i d ∷ drop (i + 1) runs)) (found_in_runs held key seat.link (drop (i + 1) runs)) =
-      misses held key start (get_or runs i d) (drop (i + 1) runs) seat exact none in
-      record {
-        rest = joined f.rest (subst (λ x. GoesOn (found_in_runs held key start x) (found_in_runs held key seat.link (drop (i + 1) runs))) (sym (left_from runs i d l)) on);
-        costs = paid f s.costs (two_at_most start) l;
-        calm = s.calm ∙ f.calm;
-        few = λ lists r a. (link_is_eight held (get_or runs i d) next_len start key seat (linked_run held runs lists i d r a l) s.exact, few_turns f s.costs lists r a);
-        others = λ buffer b. s.others_stay buffer b ∙ f.others buffer b;
-      }
+  module _ (d : Run) (next_len : ℕ) (f : Finding runs key old mid before between start i) (l : i < length runs) (e : next_len ≡ length_of_first (drop (i + 1) runs)) where
+    -- what the search of the run of this number answers, by the runs that are left
+    exact_here : {result : Result Seat ReadFault} → Seeks (get_or runs i d) next_len start key mid new between after result →
+        Answers (found_in old.held (get_or runs i d) (length_of_first (drop (i + 1) runs)) start key) as_seat result
+    exact_here {result} s = subst (λ n. Answers (found_in old.held (get_or runs i d) n start key) as_seat result) e (seeks_first old f.held_is s).exact
 
-  -- an item of the key in a run is the answer
-  pub found_hit : (d : Run) (next_len : ℕ) (seat : Seat) → Finding held key runs old mid before between start i → i < length runs → next_len ≡ length_of_first (drop (i + 1) runs) →
-      Sought held (get_or runs i d) next_len start key mid new between after (Ok seat) → seat.hit ≢ None →
-      FoundOut held key runs old new before after (Ok seat.hit)
-  found_hit d next_len seat f l e s some =
-      let exact : Answers (found_in held (get_or runs i d) (length_of_first (drop (i + 1) runs)) start key) as_seat (Ok seat) =
-      subst (λ n. Answers (found_in held (get_or runs i d) n start key) as_seat (Ok seat)) e s.exact in
-      let whole : Answers (found_in_runs held key 0 runs) (option_map as_item) (Ok seat.hit) =
-      answers_whole (found_in_runs held key 0 runs) (found_in_runs held key start (drop i runs)) (option_map as_item) (Ok seat.hit) f.rest
-      (subst (λ x. Answers (found_in_runs held key start x) (option_map as_item) (Ok seat.hit)) (sym (left_from runs i d l))
-      (hits held key start (get_or runs i d) (drop (i + 1) runs) seat exact some)) in
-      record {
-        exact = whole;
-        told = answers_told held key runs (Ok seat.hit) whole;
-        right = answers_right held key runs (Ok seat.hit) whole;
-        cause = tt;
-        calm = s.calm ∙ f.calm;
-        costs = costs_within (paid f s.costs (two_at_most start) l) (omega arith) (omega arith);
-        turns = λ lists r a. (let t = few_turns f s.costs lists r a in omega arith);
-        others_stay = λ buffer b. s.others_stay buffer b ∙ f.others buffer b;
-      }
+    -- the search goes on below a run that has no item of the key
+    pub finding_goes_on : (seat : Seat) → new.held ≡ mid.held → Seeks (get_or runs i d) next_len start key mid new between after (Ok seat) → seat.hit ≡ None →
+        Finding runs key old new before after seat.link (i + 1)
+    finding_goes_on seat stays s none =
+        let on : GoesOn (found_in_runs old.held key start (get_or runs i d ∷ drop (i + 1) runs)) (found_in_runs old.held key seat.link (drop (i + 1) runs)) =
+        misses old.held key start (get_or runs i d) (drop (i + 1) runs) seat (exact_here s) none in
+        record {
+          held_is = stays ∙ f.held_is;
+          rest = joined f.rest (subst (λ x. GoesOn (found_in_runs old.held key start x) (found_in_runs old.held key seat.link (drop (i + 1) runs))) (sym (left_from runs i d l)) on);
+          costs = paid f s;
+          few = λ lists r a. (
+            link_is_eight old.held (get_or runs i d) next_len start key seat (linked_run old.held runs lists i d r a l) (seeks_first old f.held_is s).exact,
+            few_turns f s lists r a,
+          );
+          others = λ buffer b. s.others_stay buffer b ∙ f.others buffer b;
+        }
 
-  -- a refusal in a run is one of them all
-  pub found_refused : (d : Run) (next_len : ℕ) (fault : ReadFault) (result : Result (Option CellItem) ReadFault) → Finding held key runs old mid before between start i → i < length runs →
-      next_len ≡ length_of_first (drop (i + 1) runs) → Sought held (get_or runs i d) next_len start key mid new between after (Err fault) → result ≡ Err fault →
-      FoundOut held key runs old new before after result
-  found_refused d next_len fault result f l e s is =
-      let E : Result (Option CellItem) ReadFault → Type 0 = λ x. FoundOut held key runs old new before after x in
-      let exact : Answers (found_in held (get_or runs i d) (length_of_first (drop (i + 1) runs)) start key) as_seat (Err fault) =
-      subst (λ n. Answers (found_in held (get_or runs i d) n start key) as_seat (Err fault)) e s.exact in
-      let whole : Answers (found_in_runs held key 0 runs) (option_map as_item) (Err fault) =
-      answers_whole (found_in_runs held key 0 runs) (found_in_runs held key start (drop i runs)) (option_map as_item) (Err fault) f.rest
-      (subst (λ x. Answers (found_in_runs held key start x) (option_map as_item) (Err fault)) (sym (left_from runs i d l))
-      (refuses held key start (get_or runs i d) (drop (i + 1) runs) fault exact)) in
-      subst E (sym is) (record {
-        exact = whole;
-        told = answers_told held key runs (Err fault) whole;
-        right = answers_right held key runs (Err fault) whole;
-        cause = cause_of_run fault f.calm s.cause;
-        calm = calm_later fault f.calm s.calm;
-        costs = costs_within (paid f s.costs (two_at_most start) l) (omega arith) (omega arith);
-        turns = λ lists r a. (let t = few_turns f s.costs lists r a in omega arith);
-        others_stay = λ buffer b. s.others_stay buffer b ∙ f.others buffer b;
-      })
-    where
-      cause_of_run : (fault : ReadFault) → mid.faults ≡ old.faults → SeekCause held (get_or runs i d) start mid.faults new.faults fault → FindCause held runs old.faults new.faults fault
-      cause_of_run Device h k = subst (λ n. Rose n new.faults) h k
-      cause_of_run (BadCell number) h k = record { run = get_or runs i d; listed = Contains-get_or runs i d l; index = k.index; within = omega (arith, k.within); bad = k.bad }
+    -- the answer of the run, where it is that of them all
+    ends_here : {answer : Result Seat ReadFault} {result : Result (Option CellItem) ReadFault} → Seeks (get_or runs i d) next_len start key mid new between after answer →
+        Answers (found_in_runs old.held key start (get_or runs i d ∷ drop (i + 1) runs)) (option_map as_item) result → IfErr result (FindCause old.held runs old.spent.faults new.spent.faults) →
+        Finds runs key old new before after result
+    ends_here {answer} {result} s exact cause =
+        let whole : Answers (found_in_runs old.held key 0 runs) (option_map as_item) result =
+        answers_whole (found_in_runs old.held key 0 runs) (found_in_runs old.held key start (drop i runs)) (option_map as_item) result f.rest
+        (subst (λ x. Answers (found_in_runs old.held key start x) (option_map as_item) result) (sym (left_from runs i d l)) exact) in
+        record {
+          exact = whole;
+          told = answers_told old.held key runs result whole;
+          right = answers_right old.held key runs result whole;
+          cause = cause;
+          costs = costs_within (paid f s) (omega arith) (omega arith);
+          turns = λ lists r a. (let t = few_turns f s lists r a in omega arith);
+          others_stay = λ buffer b. s.others_stay buffer b ∙ f.others buffer b;
+        }
 
-      calm_later : (fault : ReadFault) → mid.faults ≡ old.faults → ReadCalm {T = Seat} mid.faults new.faults (Err fault) → ReadCalm {T = Option CellItem} old.faults new.faults (Err fault)
-      calm_later Device h k = tt
-      calm_later (BadCell number) h k = k ∙ h
+    -- an item of the key in a run is the answer
+    pub finds_hit : (seat : Seat) → Seeks (get_or runs i d) next_len start key mid new between after (Ok seat) → seat.hit ≢ None → Finds runs key old new before after (Ok seat.hit)
+    finds_hit seat s some = ends_here s (hits old.held key start (get_or runs i d) (drop (i + 1) runs) seat (exact_here s) some) tt
+
+    -- a refusal in a run is one of them all
+    pub finds_refused : (fault : ReadFault) (result : Result (Option CellItem) ReadFault) → mid.spent.faults ≡ old.spent.faults →
+        Seeks (get_or runs i d) next_len start key mid new between after (Err fault) → result ≡ Err fault → Finds runs key old new before after result
+    finds_refused fault result calm s is =
+        let E : Result (Option CellItem) ReadFault → Type 0 = λ x. Finds runs key old new before after x in
+        subst E (sym is) (ends_here s (refuses old.held key start (get_or runs i d) (drop (i + 1) runs) fault (exact_here s))
+        (cause_of_run fault (seeks_first old f.held_is s).cause))
+      where
+        cause_of_run : (fault : ReadFault) → SeekCause old.held (get_or runs i d) start mid.spent.faults new.spent.faults fault → FindCause old.held runs old.spent.faults new.spent.faults fault
+        cause_of_run Device k = subst (λ n. Rose n new.spent.faults) calm k
+        cause_of_run (BadCell number) k = record { run = get_or runs i d; listed = Contains-get_or runs i d l; index = k.index; within = omega (arith, k.within); bad = k.bad }
 
 -- no run has an item of the key
-pub found_none : {held : Held} {key : List ℕ} {runs : List Run} {old now : Spent} {before after start i : ℕ} → Finding held key runs old now before after start i → i ≡ length runs →
-    FoundOut held key runs old now before after (Ok None)
-found_none {held} {key} {runs} {old} {now} {before} {after} {start} {i} f e =
+pub finds_none : {runs : List Run} {key : List ℕ} {old now : State} {before after start i : ℕ} → Finding runs key old now before after start i → i ≡ length runs →
+    Finds runs key old now before after (Ok None)
+finds_none {runs} {key} {old} {now} {start = start} {i} f e =
     let none : drop i runs ≡ [] = drop_all runs i (omega arith) in
-    let whole : Answers (found_in_runs held key 0 runs) (option_map as_item) (Ok None) =
-    answers_whole (found_in_runs held key 0 runs) (found_in_runs held key start (drop i runs)) (option_map as_item) (Ok None) f.rest
-    (subst (λ x. Answers (found_in_runs held key start x) (option_map as_item) (Ok None)) (sym none) refl) in
+    let whole : Answers (found_in_runs old.held key 0 runs) (option_map as_item) (Ok None) =
+    answers_whole (found_in_runs old.held key 0 runs) (found_in_runs old.held key start (drop i runs)) (option_map as_item) (Ok None) f.rest
+    (subst (λ x. Answers (found_in_runs old.held key start x) (option_map as_item) (Ok None)) (sym none) refl) in
     record {
       exact = whole;
-      told = answers_told held key runs (Ok None) whole;
-      right = answers_right held key runs (Ok None) whole;
+      told = answers_told old.held key runs (Ok None) whole;
+      right = answers_right old.held key runs (Ok None) whole;
       cause = tt;
-      calm = f.calm;
       costs = costs_within f.costs (omega arith) (omega arith);
       turns = λ lists r a. (let t = (f.few lists r a).1 in omega arith);
       others_stay = f.others;

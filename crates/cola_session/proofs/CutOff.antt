@@ -3,7 +3,7 @@ use Rattle.std.proofs.Common.{◌≡◌, ℕ, ◌+◌, zero, suc, arith, nat_eq,
 use Rattle.cola_spec.specs.Map.{Shape, Map, count}
 use Rattle.cola_spec.specs.Command.{Command, Put, PutIf, Del, Get, Stamp, Range, Scan, Count, Close, Reopen}
 use Rattle.cola_spec.specs.Reply.{Reply, Failed, Fault, Opened, Refused, NotClosed, NotStore}
-use Rattle.cola_spec.specs.Machine.{State, Open, Closing, Closed, Turn, Kind, PlainStep, FaultedStep, ShortStep, StepOf, Run, kind_of, by_command, reopen_after, faulted_one, faulted_steps, plain_reply, plain_after, command_reply, command_after, open_after, OpenFaulted, CommandFaulted, ShortOfMemory}
+use Rattle.cola_spec.specs.Machine.{State, Open, Closing, Closed, Turn, Kind, PlainStep, FaultedStep, ShortStep, StepOf, History, kind_of, by_command, reopen_after, faulted_one, faulted_steps, plain_reply, plain_after, command_reply, command_after, open_after, OpenFaulted, CommandFaulted, ShortOfMemory}
 use Rattle.cola_session.specs.Home.{cut_by, cut_by_request, cut_after}
 
 -- a closed store has the state byte 0, but behind an opening that met a fault
@@ -175,7 +175,7 @@ safe-step shape (Closed m byte) request answer ticks next ShortStep cut step saf
     good-safe next (cut_by_request request answer cut) (good-is (Closed m byte) next only.1.0 (quiet-good (Closed m byte) only.1.1))
 
 -- a run
-pub safe-run : (shape : Shape) (state : State) (turns : List Turn) (last : State) (cut : Bool) → Run shape state turns last → Safe state cut → Safe last (cut_after turns cut)
+pub safe-run : (shape : Shape) (state : State) (turns : List Turn) (last : State) (cut : Bool) → History shape state turns last → Safe state cut → Safe last (cut_after turns cut)
 safe-run shape state [] last cut same safe = subst (λ s. Safe s cut) (sym same) safe
 safe-run shape state (turn ∷ turns) last cut (next, step, rest) safe =
     safe-run shape next turns last (cut_by_request turn.request turn.answer cut) rest (safe-step shape state turn.request turn.answer turn.ticks next (kind_of turn.answer) cut step safe)
@@ -214,7 +214,7 @@ not-faulted FaultedStep more none is = omega (arith, none)
 not-faulted ShortStep more none is = cc
 
 -- a run
-pub quiet-run : (shape : Shape) (state : State) (turns : List Turn) (last : State) → Run shape state turns last → faulted_steps turns ≡ 0 → Quiet state → Quiet last
+pub quiet-run : (shape : Shape) (state : State) (turns : List Turn) (last : State) → History shape state turns last → faulted_steps turns ≡ 0 → Quiet state → Quiet last
 quiet-run shape state [] last same none quiet = quiet-is state last same quiet
 quiet-run shape state (turn ∷ turns) last (next, step, rest) none quiet =
     quiet-run shape next turns last rest (omega (arith, none))

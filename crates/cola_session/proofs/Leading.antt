@@ -12,10 +12,10 @@ use Rattle.cola_spec.specs.Lines.{Line, Text}
 use Rattle.cola_spec.specs.Command.{Command, line_requests, command_of}
 use Rattle.cola_spec.specs.Reply as reply
 use Rattle.cola_spec.specs.Reply.{reply_text}
-use Rattle.cola_spec.specs.Machine.{State, Turn, Step, Run, turn_text}
+use Rattle.cola_spec.specs.Machine.{State, Turn, Step, History, turn_text}
 use Rattle.cola_spec.specs.Bounds.{request_bound}
 use Rattle.cola_table.specs.declared.table.Table as table
-use Rattle.cola_table.specs.Terms.{shape_of}
+use Rattle.cola_cell.specs.Shapes.{shape_of}
 use Rattle.cola_line.specs.Replied.{Wrote}
 use Rattle.cola_session.specs.Home.{Home, Point, point, depth_in, cut_by_request, IsAtSome, Cause, Turned, LineLeads, LinesLead, Leads, AllLead, FrontLead}
 
@@ -36,7 +36,7 @@ empty-text (byte ∷ bytes) none = absurd (by-test (eqb_tells (length (byte ∷ 
 -- One line
 module _ {H T W K : Type 0} (t : table.Ghosts T W) (h : Home H T) (k : sink.Ghosts K) (line : Line) (result : Result (Unit {0}) SinkFault) (old new : H) (sink sink' : K) (steps steps' : ℕ) (state : State) (few : h.few old) where
   module _ (asked : Option Command) (asks : (keys : ℕ) → asked ∷ [] ≡ line_requests (shape_of (h.format old) keys) line) (turn : Turn) (made : Turned t h k state asked result old new sink sink' steps steps' turn) where
-    run-one : (known : Option h.Known) (next : State) → IfSome known (λ known. Step (h.shape known) state turn next) → IfSome known (λ known. Run (h.shape known) state (turn ∷ []) next)
+    run-one : (known : Option h.Known) (next : State) → IfSome known (λ known. Step (h.shape known) state turn next) → IfSome known (λ known. History (h.shape known) state (turn ∷ []) next)
     run-one None next step = tt
     run-one (Some known) next step = (next, step, refl)
 
@@ -102,7 +102,7 @@ leads-none t h k line result home sink steps few keeps empty wrote known state a
   ),
 )
   where
-    no-run : (known : Option h.Known) → IfSome known (λ known. Run (h.shape known) state [] state)
+    no-run : (known : Option h.Known) → IfSome known (λ known. History (h.shape known) state [] state)
     no-run None = tt
     no-run (Some known) = refl
 

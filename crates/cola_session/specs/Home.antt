@@ -9,10 +9,10 @@ use Rattle.cola_spec.specs.Lines.{Line}
 use Rattle.cola_spec.specs.Command.{Command, line_requests}
 use Rattle.cola_spec.specs.Reply as reply
 use Rattle.cola_spec.specs.Reply.{Reply}
-use Rattle.cola_spec.specs.Machine.{State, Turn, Step, Run, kind_of, by_command, turn_text, turns_text, ticks_of}
+use Rattle.cola_spec.specs.Machine.{State, Turn, Step, History, kind_of, by_command, turn_text, turns_text, ticks_of}
 use Rattle.cola_spec.specs.Bounds.{request_bound}
 use Rattle.cola_table.specs.declared.table.Table as table
-use Rattle.cola_table.specs.Terms.{shape_of}
+use Rattle.cola_cell.specs.Shapes.{shape_of}
 use Rattle.cola_line.specs.Given.{Given}
 use Rattle.cola_line.specs.Replied.{Wrote, KindFaults}
 use Rattle.cola_session.specs.Ends.{SessionEnds, UnlessIll}
@@ -122,7 +122,7 @@ pub record Turned {H T W K A E : Type 0} (t : table.Ghosts T W) (h : Home H T) (
 -- Lines
 
 module _ {H T W K : Type 0} (t : table.Ghosts T W) (h : Home H T) (k : sink.Ghosts K) (known : Option h.Known) where
-  -- a line led from one point to the next: it was asked, by the format of the home, each reply has its cause, and its text was written, or some front of it where the sink failed; the cell accesses and the faults are those of its turns; and where the home was at the state, the turns are a run of the session machine to the next
+  -- a line led from one point to the next: it was asked, by the format of the home, each reply has its cause, and its text was written, or some front of it where the sink failed; the cell accesses and the faults are those of its turns; and where the home was at the state, the turns are a history of the session machine to the next
   pub record LineLeads (line : Line) (result : Result (Unit {0}) SinkFault) (turns : List Turn) (old new : Point H K) : Type 0 where
     pub stands : IsAtSome h known old
     pub asks : (keys : ℕ) → map (λ (turn : Turn). turn.request) turns ≡ line_requests (shape_of (h.format old.home) keys) line
@@ -134,7 +134,7 @@ module _ {H T W K : Type 0} (t : table.Ghosts T W) (h : Home H T) (k : sink.Ghos
     pub keeps : h.keeps old.home new.home
     pub cut_off : h.cut_off new.home ≡ cut_after turns (h.cut_off old.home)
     pub few : h.few old.home
-    pub runs : IfSome known (λ known. Run (h.shape known) old.state turns new.state)
+    pub runs : IfSome known (λ known. History (h.shape known) old.state turns new.state)
     pub stays : IsAtSome h known new
 
   -- lines led from one point to another, one after the other, and each reply was written

@@ -50,13 +50,19 @@ pub trait Home {
     ) -> Result<(), SinkFault>
         requires of_table { IsOfTable command.now }
         requires fits { CommandFits (home.format self.old) command.now }
-        ensures turn { (state : State) → (turn : Turn) × Turned Self.Table.Table home K.Sink state (Some (spoken command.now)) result self.old self.new sink.old sink.new steps.old steps.new turn }
+        ensures turn { (state : State) →
+            (turn : Turn)
+            × Turned Self.Table.Table home K.Sink state
+            (Some (spoken command.now)) result self.old self.new sink.old sink.new steps.old steps.new turn }
         ensures faults_counted { CountsFaults result (K.faults sink.old) (K.faults sink.new) }
         ensures faults_kept { K.faults sink.old ≤ K.faults sink.new };
 
     /// Carries out `close`.
     fn close<K: Sink>(self, sink: &mut K) -> (Self, Result<(), SinkFault>)
-        ensures turn { (state : State) (steps : ℕ) → (turn : Turn) × Turned Self.Table.Table home K.Sink state (Some Close) result.1 self result.0 sink.old sink.new steps steps turn }
+        ensures turn { (state : State) (steps : ℕ) →
+            (turn : Turn)
+            × Turned Self.Table.Table home K.Sink state
+            (Some Close) result.1 self result.0 sink.old sink.new steps steps turn }
         ensures faults_counted { CountsFaults result.1 (K.faults sink.old) (K.faults sink.new) }
         ensures faults_kept { K.faults sink.old ≤ K.faults sink.new };
 
@@ -67,7 +73,10 @@ pub trait Home {
         sink: &mut K,
         steps: &mut Steps<L>,
     ) -> (Self, Result<(), SinkFault>)
-        ensures turn { (state : State) → (turn : Turn) × Turned Self.Table.Table home K.Sink state (Some Reopen) result.1 self result.0 sink.old sink.new steps.old steps.new turn }
+        ensures turn { (state : State) →
+            (turn : Turn)
+            × Turned Self.Table.Table home K.Sink state
+            (Some Reopen) result.1 self result.0 sink.old sink.new steps.old steps.new turn }
         ensures faults_counted { CountsFaults result.1 (K.faults sink.old) (K.faults sink.new) }
         ensures faults_kept { K.faults sink.old ≤ K.faults sink.new };
 }

@@ -21,13 +21,17 @@ pub fn all_answered_is_no_line_ahead()
 /// The reads for lines: each asks for 512 bytes or for what is left of 2^40, while no line that has ended is unanswered and
 /// behind reads that gave bytes alone; the source lost the bytes that they gave, and is at its end where the last met it.
 pub fn reads_are_for_lines<S: Source>()
-    ensures last { (answered : List Line) (source source' : S) (read : Read) (earlier : List Read) → ReadFor S.Source answered source (read ∷ earlier) source' →
+    ensures last { (answered : List Line) (source source' : S) (read : Read) (earlier : List Read) →
+        ReadFor S.Source answered source (read ∷ earlier) source' →
         (length (all_ended_lines (bytes_read earlier)) ≤ length answered) × ((read.asked ≡ min 512 (2 ^ 40 - length (bytes_read earlier))) × ((length (bytes_read earlier) < 2 ^ 40) × GaveSome earlier)) }
-    ensures reads { (answered : List Line) (source source' : S) (reads : List Read) → ReadFor S.Source answered source reads source' →
+    ensures reads { (answered : List Line) (source source' : S) (reads : List Read) →
+        ReadFor S.Source answered source reads source' →
         WasRead S.Source source reads source' × (Taken (bytes_read reads) (S.left source) (S.left source') × (met_end reads ≡ true → IsAtEnd (S.left source'))) }
 {}
 
 /// Of a text that was not written whole some front was, of as many bytes at least as are said.
 pub fn fronts_have_the_least()
-    ensures { (text : List ℕ) (least : ℕ) (written written' : Option (List ℕ)) → WroteFront text least written written' → (size : ℕ) × ((least ≤ size) × Appended (take size text) written written') }
+    ensures { (text : List ℕ) (least : ℕ) (written written' : Option (List ℕ)) →
+        WroteFront text least written written' →
+        (size : ℕ) × ((least ≤ size) × Appended (take size text) written written') }
 {}

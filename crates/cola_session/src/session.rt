@@ -25,7 +25,8 @@ pub fn carry_out<H: Home, K: Sink, L: Ledger>(
     sink: &mut K,
     steps: &mut Steps<L>,
 ) -> (H, Result<(), SinkFault>)
-    ensures line { Leads H.Table.Table H.home K.Sink (line_read (option_copied text.entry)) result.1 home result.0 sink.old sink.new steps.old steps.new }
+    ensures line { Leads H.Table.Table H.home K.Sink
+        (line_read (option_copied text.entry)) result.1 home result.0 sink.old sink.new steps.old steps.new }
     ensures faults_counted { CountsFaults result.1 (K.faults sink.old) (K.faults sink.new) }
     ensures faults_kept { K.faults sink.old ≤ K.faults sink.new }
 {

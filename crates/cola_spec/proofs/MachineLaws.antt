@@ -8,7 +8,7 @@ use Rattle.cola_spec.specs.Lines.{Line, Text, TooLong, line_of}
 use Rattle.cola_spec.specs.Command.{Command, Put, PutIf, Del, Get, Stamp, Range, Scan, Count, Close, Reopen, command_of, words_command, verb_of, put_of, put_if_of, del_of, get_of, stamp_of, range_of, scan_of, alone, when, words_of, requests, line_requests, is_number, number_of}
 use Rattle.cola_spec.specs.Reply as reply
 use Rattle.cola_spec.specs.Reply.{Reply, Failed, Refused, reply_text, line}
-use Rattle.cola_spec.specs.Machine.{State, Open, Closing, Closed, Kind, PlainStep, FaultedStep, ShortStep, kind_of, Turn, Step, StepOf, Run, Faulted, OpenFaulted, ReopenFaulted, ShortOfMemory, by_command, plain_reply, plain_after, open_reply, open_after, reopen_reply, reopen_after, plain_turn, plain_turns, plain_last, turns_text}
+use Rattle.cola_spec.specs.Machine.{State, Open, Closing, Closed, Kind, PlainStep, FaultedStep, ShortStep, kind_of, Turn, Step, StepOf, History, Faulted, OpenFaulted, ReopenFaulted, ShortOfMemory, by_command, plain_reply, plain_after, open_reply, open_after, reopen_reply, reopen_after, plain_turn, plain_turns, plain_last, turns_text}
 use Rattle.cola_spec.specs.Laws.{map_of, CommandFits, RequestFits}
 use Rattle.cola_spec.proofs.MapLaws.{after_put_is_map, after_put_if_is_map, after_delete_is_map}
 
@@ -220,14 +220,14 @@ step_of_kind_is_map shape state turn next ShortStep step fits h = subst (IsMap s
 pub step_is_map : (shape : Shape) (state : State) (turn : Turn) (next : State) → Step shape state turn next → RequestFits shape turn.request → IsMap shape (map_of state) → IsMap shape (map_of next)
 step_is_map shape state turn next step fits h = step_of_kind_is_map shape state turn next (kind_of turn.answer) step fits h
 
-pub run_is_map : (shape : Shape) (state : State) (turns : List Turn) (last : State) → Run shape state turns last → All (λ turn. RequestFits shape turn.request) turns → IsMap shape (map_of state) → IsMap shape (map_of last)
+pub run_is_map : (shape : Shape) (state : State) (turns : List Turn) (last : State) → History shape state turns last → All (λ turn. RequestFits shape turn.request) turns → IsMap shape (map_of state) → IsMap shape (map_of last)
 run_is_map shape state [] last run fits h = subst (λ s. IsMap shape (map_of s)) (sym run) h
 run_is_map shape state (turn ∷ turns) last run fits h =
     run_is_map shape run.0 turns last run.2 (All-tail (λ t. RequestFits shape t.request) turn turns fits) (step_is_map shape state turn run.0 run.1 (All-head (λ t. RequestFits shape t.request) turn turns fits) h)
 
 -- The one plain run
 
-pub plain_run : (shape : Shape) (state : State) (asked : List (Option Command)) → Run shape state (plain_turns shape state asked) (plain_last shape state asked)
+pub plain_run : (shape : Shape) (state : State) (asked : List (Option Command)) → History shape state (plain_turns shape state asked) (plain_last shape state asked)
 plain_run shape state [] = refl
 plain_run shape state (request ∷ asked) = (plain_after shape state request, plain_step shape state request, plain_run shape (plain_after shape state request) asked)
 
@@ -237,7 +237,7 @@ answers turns = map (λ turn. turn.answer) turns
 abbrev asked_in : List Turn → List (Option Command)
 asked_in turns = map (λ turn. turn.request) turns
 
-pub plain_run_is_one : (shape : Shape) (state : State) (turns : List Turn) (last : State) → Run shape state turns last → All (λ turn. kind_of turn.answer ≡ PlainStep) turns
+pub plain_run_is_one : (shape : Shape) (state : State) (turns : List Turn) (last : State) → History shape state turns last → All (λ turn. kind_of turn.answer ≡ PlainStep) turns
     → (answers turns ≡ answers (plain_turns shape state (asked_in turns))) × (last ≡ plain_last shape state (asked_in turns))
 plain_run_is_one shape state [] last run plain = (refl, run)
 plain_run_is_one shape state (turn ∷ turns) last run plain =
@@ -269,6 +269,6 @@ texts_by_answers (turn ∷ turns) (other ∷ others) same =
     let rest : answers turns ≡ answers others = cc in
     (λ i. (ap (reply_text false turn.ticks) first ∙ text_without_cost other.answer turn.ticks other.ticks) i ++ texts_by_answers turns others rest i)
 
-pub plain_run_text : (shape : Shape) (state : State) (turns : List Turn) (last : State) → Run shape state turns last → All (λ turn. kind_of turn.answer ≡ PlainStep) turns
+pub plain_run_text : (shape : Shape) (state : State) (turns : List Turn) (last : State) → History shape state turns last → All (λ turn. kind_of turn.answer ≡ PlainStep) turns
     → turns_text false turns ≡ turns_text false (plain_turns shape state (asked_in turns))
 plain_run_text shape state turns last run plain = texts_by_answers turns (plain_turns shape state (asked_in turns)) (plain_run_is_one shape state turns last run plain).0

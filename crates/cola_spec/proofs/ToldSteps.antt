@@ -4,7 +4,7 @@ use Rattle.cola_spec.specs.Map.{Shape, Map, count}
 use Rattle.cola_spec.specs.Command.{Command, Put, PutIf, Del, Get, Stamp, Range, Scan, Count, Close, Reopen}
 use Rattle.cola_spec.specs.Reply as reply
 use Rattle.cola_spec.specs.Reply.{Reply, Failure, Fault, Memory, NotClosed, NotStore, Deleted, Got, Stamped, Cut, Failed, Refused}
-use Rattle.cola_spec.specs.Machine.{State, Open, Closing, Closed, Turn, Kind, PlainStep, FaultedStep, ShortStep, kind_of, Step, StepOf, Run, Faulted, plain_reply, reopen_reply, turns_text}
+use Rattle.cola_spec.specs.Machine.{State, Open, Closing, Closed, Turn, Kind, PlainStep, FaultedStep, ShortStep, kind_of, Step, StepOf, History, Faulted, plain_reply, reopen_reply, turns_text}
 use Rattle.cola_spec.specs.Told.{IsReadableTurn, told, told_turn}
 use Rattle.cola_spec.proofs.StepLaws.{answered_memory}
 use Rattle.cola_spec.proofs.ToldLaws.{told_by_texts}
@@ -152,12 +152,12 @@ answers_of [] tells = []
 answers_of (request ∷ requests) [] = []
 answers_of (request ∷ requests) (tell ∷ tells) = answer_of request tell.0 ∷ answers_of requests tells
 
-run_back : (cost : Bool) (shape : Shape) (state : State) (turns : List Turn) (last : State) → Run shape state turns last → answers_of (asked_in turns) (map (told_turn cost) turns) ≡ answers turns
+run_back : (cost : Bool) (shape : Shape) (state : State) (turns : List Turn) (last : State) → History shape state turns last → answers_of (asked_in turns) (map (told_turn cost) turns) ≡ answers turns
 run_back cost shape state [] last run = refl
 run_back cost shape state (turn ∷ turns) last run = λ i. step_back shape state turn run.0 run.1 i ∷ run_back cost shape run.0 turns last run.2 i
 
 -- two runs over the same requests whose texts are the same have the same replies
-pub runs_are_told : (cost : Bool) (shape other_shape : Shape) (state other_state : State) (turns others : List Turn) (last other_last : State) → Run shape state turns last → Run other_shape other_state others other_last → All IsReadableTurn turns → All IsReadableTurn others
+pub runs_are_told : (cost : Bool) (shape other_shape : Shape) (state other_state : State) (turns others : List Turn) (last other_last : State) → History shape state turns last → History other_shape other_state others other_last → All IsReadableTurn turns → All IsReadableTurn others
     → asked_in turns ≡ asked_in others → turns_text cost turns ≡ turns_text cost others → answers turns ≡ answers others
 runs_are_told cost shape other_shape state other_state turns others last other_last run other_run all other_all asked same =
     sym (run_back cost shape state turns last run) ∙ (λ i. answers_of (asked i) (told_by_texts cost turns others all other_all same i)) ∙ run_back cost other_shape other_state others other_last other_run

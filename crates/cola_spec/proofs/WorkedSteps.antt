@@ -4,7 +4,7 @@ use Rattle.cola_spec.specs.Map.{Map, range, scan}
 use Rattle.cola_spec.specs.Command.{Command, Put, PutIf, Del, Get, Stamp, Range, Scan, Count, Close, Reopen}
 use Rattle.cola_spec.specs.Reply as reply
 use Rattle.cola_spec.specs.Reply.{Reply, Fault, Failed, Cut, Opened, Already, Shut, Bad, Refused, NotClosed, NotStore, Memory}
-use Rattle.cola_spec.specs.Machine.{State, Open, Closing, Closed, Turn, Step, Run, faulted_steps, ticks_of, turns_text}
+use Rattle.cola_spec.specs.Machine.{State, Open, Closing, Closed, Turn, Step, History, faulted_steps, ticks_of, turns_text}
 use Rattle.cola_spec.specs.Kinds.{turn_of}
 use Rattle.cola_spec.proofs.Worked.{stamped_shape}
 
@@ -98,7 +98,7 @@ some_turns =
     turn_of (Some (Put a b)) (Failed Fault) 40 ∷ turn_of (Some Close) (Failed Fault) 0 ∷ turn_of (Some (Get a)) Shut 0 ∷ turn_of None Bad 0 ∷ turn_of (Some Reopen) Already 0 ∷ turn_of (Some Close) reply.Closed 0
     ∷ turn_of (Some Reopen) (Refused Memory) 0 ∷ turn_of (Some Reopen) (Failed Fault) 0 ∷ turn_of (Some Reopen) (Refused NotStore) 0 ∷ turn_of (Some Reopen) (Failed Fault) 0 ∷ turn_of (Some Reopen) (Refused NotClosed) 0 ∷ []
 
-pub a_run : (m : Map) → Run stamped_shape (Open m) some_turns (Closed m 1)
+pub a_run : (m : Map) → History stamped_shape (Open m) some_turns (Closed m 1)
 a_run m = (Open m, (refl, refl), (Closing m, (refl, refl), (Closing m, (refl, refl), (Closing m, (refl, refl), (Closing m, (refl, refl), (Closed m 0, (refl, refl), (Closed m 0, refl, (Closed m 9, (refl, (9, omega arith, refl)), (Closed m 9, (refl, refl), (Closed m 1, (refl, (1, omega arith, refl)), (Closed m 1, (refl, refl), refl)))))))))))
 
 pub faults_of_a_run : faulted_steps some_turns ≡ 4

@@ -150,12 +150,12 @@ StepOf shape state turn next ShortStep = ShortOfMemory state turn.request next
 abbrev pub Step : Shape → State → Turn → State → Type 0
 Step shape state turn next = StepOf shape state turn next (kind_of turn.answer)
 
--- a run: one step a turn
-abbrev pub Run : Shape → State → List Turn → State → Type 0
-Run shape state [] last = last ≡ state
-Run shape state (turn ∷ turns) last = (next : State) × Step shape state turn next × Run shape next turns last
+-- a history: one step a turn
+abbrev pub History : Shape → State → List Turn → State → Type 0
+History shape state [] last = last ≡ state
+History shape state (turn ∷ turns) last = (next : State) × Step shape state turn next × History shape next turns last
 
--- the run with plain steps alone, which costs nothing: its turns and its last state
+-- the history with plain steps alone, which costs nothing: its turns and its last state
 abbrev pub plain_turn : Shape → State → Option Command → Turn
 plain_turn shape state request = record { request = request; answer = plain_reply shape state request; ticks = 0 }
 
@@ -174,7 +174,7 @@ turn_text cost turn = reply_text cost turn.ticks turn.answer
 abbrev pub turns_text : Bool → List Turn → List ℕ
 turns_text cost turns = flat_map (turn_text cost) turns
 
--- how many steps of a run met a fault
+-- how many steps of a history met a fault
 abbrev pub faulted_one : Kind → ℕ
 faulted_one PlainStep = 0
 faulted_one FaultedStep = 1
@@ -184,7 +184,7 @@ abbrev pub faulted_steps : List Turn → ℕ
 faulted_steps [] = 0
 faulted_steps (turn ∷ turns) = faulted_one (kind_of turn.answer) + faulted_steps turns
 
--- the cell accesses of a run
+-- the cell accesses of a history
 abbrev pub ticks_of : List Turn → ℕ
 ticks_of [] = 0
 ticks_of (turn ∷ turns) = turn.ticks + ticks_of turns

@@ -10,8 +10,10 @@ ghost use Rattle.cola_spec.specs.Kinds.{IsFaulted, IsPlain, IsShort, is_for_open
 
 /// A request that is no command is answered bad in every state, meets no fault, and keeps the state.
 pub fn no_command()
-    ensures plain { (shape : Shape) (state next : State) (answer : Reply) (ticks : ℕ) → IsPlain shape state (turn_of None answer ticks) next ↔ ((answer ≡ Bad) × (next ≡ state)) }
-    ensures faulted { (shape : Shape) (state next : State) (answer : Reply) (ticks : ℕ) → IsFaulted shape state (turn_of None answer ticks) next → ⊥ }
+    ensures plain { (shape : Shape) (state next : State) (answer : Reply) (ticks : ℕ) →
+        IsPlain shape state (turn_of None answer ticks) next ↔ ((answer ≡ Bad) × (next ≡ state)) }
+    ensures faulted { (shape : Shape) (state next : State) (answer : Reply) (ticks : ℕ) →
+        IsFaulted shape state (turn_of None answer ticks) next → ⊥ }
 {}
 
 /// An open store answers each command but close and open as its map does, and stays open with the new map.
@@ -23,14 +25,17 @@ pub fn open_plain()
     ensures stamp { (shape : Shape) (m : Map) (key : List ℕ) (next : State) (answer : Reply) (ticks : ℕ) → IsPlain shape (Open m) (turn_of (Some (Stamp key)) answer ticks) next ↔ ((answer ≡ Stamped (stamp_of m key)) × (next ≡ Open m)) }
     ensures range { (shape : Shape) (m : Map) (low high : List ℕ) (next : State) (answer : Reply) (ticks : ℕ) → IsPlain shape (Open m) (turn_of (Some (Range low high)) answer ticks) next ↔ ((answer ≡ Rows (range m low high)) × (next ≡ Open m)) }
     ensures scan { (shape : Shape) (m : Map) (low : List ℕ) (most : ℕ) (next : State) (answer : Reply) (ticks : ℕ) → IsPlain shape (Open m) (turn_of (Some (Scan low most)) answer ticks) next ↔ ((answer ≡ Rows (scan m low most)) × (next ≡ Open m)) }
-    ensures count { (shape : Shape) (m : Map) (next : State) (answer : Reply) (ticks : ℕ) → IsPlain shape (Open m) (turn_of (Some Count) answer ticks) next ↔ ((answer ≡ Counted (count m)) × (next ≡ Open m)) }
+    ensures count { (shape : Shape) (m : Map) (next : State) (answer : Reply) (ticks : ℕ) →
+        IsPlain shape (Open m) (turn_of (Some Count) answer ticks) next
+        ↔ ((answer ≡ Counted (count m)) × (next ≡ Open m)) }
 {}
 
 /// Where the device fails, an open store answers a put, a put that depends on a stamp, a delete, a get or a stamp with fault, and a range or a scan with the first of its rows and then fault; it stays open with the same map. A count meets no fault.
 pub fn open_faulted()
     ensures one_key { (shape : Shape) (m : Map) (command : Command) (next : State) (answer : Reply) (ticks : ℕ) → (is_mutation command || is_look_up command) ≡ true → (IsFaulted shape (Open m) (turn_of (Some command) answer ticks) next ↔ ((answer ≡ Failed Fault) × (next ≡ Open m))) }
     ensures rows { (shape : Shape) (m : Map) (command : Command) (rows : List (List ℕ × List ℕ)) (next : State) (answer : Reply) (ticks : ℕ) → rows_asked m command ≡ Some rows → (IsFaulted shape (Open m) (turn_of (Some command) answer ticks) next ↔ (((most : ℕ) × (answer ≡ Cut (take most rows) Fault)) × (next ≡ Open m))) }
-    ensures count { (shape : Shape) (m : Map) (next : State) (answer : Reply) (ticks : ℕ) → IsFaulted shape (Open m) (turn_of (Some Count) answer ticks) next → ⊥ }
+    ensures count { (shape : Shape) (m : Map) (next : State) (answer : Reply) (ticks : ℕ) →
+        IsFaulted shape (Open m) (turn_of (Some Count) answer ticks) next → ⊥ }
 {}
 
 /// A store that is not open is shut to each command but close and open, meets no fault there, and keeps its state.
@@ -43,9 +48,15 @@ pub fn not_open()
 
 /// A close closes an open store and one whose closing met a fault, with 0 as its state byte. Where it meets a fault it is to be done again. A closed store is closed already, and meets no fault there.
 pub fn closes()
-    ensures open { (shape : Shape) (m : Map) (next : State) (answer : Reply) (ticks : ℕ) → IsPlain shape (Open m) (turn_of (Some Close) answer ticks) next ↔ ((answer ≡ reply.Closed) × (next ≡ Closed m 0)) }
-    ensures open_faulted { (shape : Shape) (m : Map) (next : State) (answer : Reply) (ticks : ℕ) → IsFaulted shape (Open m) (turn_of (Some Close) answer ticks) next ↔ ((answer ≡ Failed Fault) × (next ≡ Closing m)) }
-    ensures closing { (shape : Shape) (m : Map) (next : State) (answer : Reply) (ticks : ℕ) → IsPlain shape (Closing m) (turn_of (Some Close) answer ticks) next ↔ ((answer ≡ reply.Closed) × (next ≡ Closed m 0)) }
+    ensures open { (shape : Shape) (m : Map) (next : State) (answer : Reply) (ticks : ℕ) →
+        IsPlain shape (Open m) (turn_of (Some Close) answer ticks) next
+        ↔ ((answer ≡ reply.Closed) × (next ≡ Closed m 0)) }
+    ensures open_faulted { (shape : Shape) (m : Map) (next : State) (answer : Reply) (ticks : ℕ) →
+        IsFaulted shape (Open m) (turn_of (Some Close) answer ticks) next
+        ↔ ((answer ≡ Failed Fault) × (next ≡ Closing m)) }
+    ensures closing { (shape : Shape) (m : Map) (next : State) (answer : Reply) (ticks : ℕ) →
+        IsPlain shape (Closing m) (turn_of (Some Close) answer ticks) next
+        ↔ ((answer ≡ reply.Closed) × (next ≡ Closed m 0)) }
     ensures closing_faulted { (shape : Shape) (m : Map) (next : State) (answer : Reply) (ticks : ℕ) → IsFaulted shape (Closing m) (turn_of (Some Close) answer ticks) next ↔ ((answer ≡ Failed Fault) × (next ≡ Closing m)) }
     ensures closed { (shape : Shape) (m : Map) (byte : ℕ) (next : State) (answer : Reply) (ticks : ℕ) → IsPlain shape (Closed m byte) (turn_of (Some Close) answer ticks) next ↔ ((answer ≡ Already) × (next ≡ Closed m byte)) }
     ensures closed_faulted { (shape : Shape) (m : Map) (byte : ℕ) (next : State) (answer : Reply) (ticks : ℕ) → IsFaulted shape (Closed m byte) (turn_of (Some Close) answer ticks) next → ⊥ }
@@ -53,12 +64,21 @@ pub fn closes()
 
 /// An open line opens a closed store with state byte 0, with the count of its keys, and refuses one with state byte 1 as not closed and one with a greater byte as no store. Where it meets a fault, any byte may be left. A store that is open or closing is open already, and meets no fault there.
 pub fn opens()
-    ensures open { (shape : Shape) (m : Map) (next : State) (answer : Reply) (ticks : ℕ) → IsPlain shape (Open m) (turn_of (Some Reopen) answer ticks) next ↔ ((answer ≡ Already) × (next ≡ Open m)) }
-    ensures open_faulted { (shape : Shape) (m : Map) (next : State) (answer : Reply) (ticks : ℕ) → IsFaulted shape (Open m) (turn_of (Some Reopen) answer ticks) next → ⊥ }
-    ensures closing { (shape : Shape) (m : Map) (next : State) (answer : Reply) (ticks : ℕ) → IsPlain shape (Closing m) (turn_of (Some Reopen) answer ticks) next ↔ ((answer ≡ Already) × (next ≡ Closing m)) }
+    ensures open { (shape : Shape) (m : Map) (next : State) (answer : Reply) (ticks : ℕ) →
+        IsPlain shape (Open m) (turn_of (Some Reopen) answer ticks) next
+        ↔ ((answer ≡ Already) × (next ≡ Open m)) }
+    ensures open_faulted { (shape : Shape) (m : Map) (next : State) (answer : Reply) (ticks : ℕ) →
+        IsFaulted shape (Open m) (turn_of (Some Reopen) answer ticks) next → ⊥ }
+    ensures closing { (shape : Shape) (m : Map) (next : State) (answer : Reply) (ticks : ℕ) →
+        IsPlain shape (Closing m) (turn_of (Some Reopen) answer ticks) next
+        ↔ ((answer ≡ Already) × (next ≡ Closing m)) }
     ensures closing_faulted { (shape : Shape) (m : Map) (next : State) (answer : Reply) (ticks : ℕ) → IsFaulted shape (Closing m) (turn_of (Some Reopen) answer ticks) next → ⊥ }
-    ensures closed { (shape : Shape) (m : Map) (next : State) (answer : Reply) (ticks : ℕ) → IsPlain shape (Closed m 0) (turn_of (Some Reopen) answer ticks) next ↔ ((answer ≡ Opened (count m)) × (next ≡ Open m)) }
-    ensures not_closed { (shape : Shape) (m : Map) (next : State) (answer : Reply) (ticks : ℕ) → IsPlain shape (Closed m 1) (turn_of (Some Reopen) answer ticks) next ↔ ((answer ≡ Refused NotClosed) × (next ≡ Closed m 1)) }
+    ensures closed { (shape : Shape) (m : Map) (next : State) (answer : Reply) (ticks : ℕ) →
+        IsPlain shape (Closed m 0) (turn_of (Some Reopen) answer ticks) next
+        ↔ ((answer ≡ Opened (count m)) × (next ≡ Open m)) }
+    ensures not_closed { (shape : Shape) (m : Map) (next : State) (answer : Reply) (ticks : ℕ) →
+        IsPlain shape (Closed m 1) (turn_of (Some Reopen) answer ticks) next
+        ↔ ((answer ≡ Refused NotClosed) × (next ≡ Closed m 1)) }
     ensures not_store { (shape : Shape) (m : Map) (byte : ℕ) (next : State) (answer : Reply) (ticks : ℕ) → 1 < byte → (IsPlain shape (Closed m byte) (turn_of (Some Reopen) answer ticks) next ↔ ((answer ≡ Refused NotStore) × (next ≡ Closed m byte))) }
     ensures closed_faulted { (shape : Shape) (m : Map) (byte : ℕ) (next : State) (answer : Reply) (ticks : ℕ) → IsFaulted shape (Closed m byte) (turn_of (Some Reopen) answer ticks) next ↔ ((answer ≡ Failed Fault) × ((left : ℕ) × (left < 256) × (next ≡ Closed m left))) }
 {}

@@ -28,11 +28,13 @@ use Rattle.cola_spec.proofs.Entries.{same_key}
 use Rattle.cola_spec.proofs.OrderLaws.{pair_fits}
 use Rattle.cola_table.specs.declared.PutFault.{PutFault}
 use Rattle.cola_table.specs.Answers.{put_answer, PutRefused, OnlyDevice}
-use Rattle.cola_table.specs.Stamps.{stamped_of}
-use Rattle.cola_table.specs.Terms.{shape_of, shape}
+use Rattle.cola_cell.specs.Shapes.{stamped_of}
+use Rattle.cola_cell.specs.Shapes.{shape_of}
+use Rattle.cola_table.specs.Terms.{shape}
 use Rattle.cola_image.specs.Standing.{found_in}
 use Rattle.cola_mutation.proofs.MapLemmas.{found-put}
-use Rattle.cola_store.specs.Calls.{decided, refusal_of, count_with, next_number, worn_at, put_of, put_fault, Writes, Concludes, held_by, stamp_or_zero}
+use Rattle.cola_table.specs.Replies.{put_of_step}
+use Rattle.cola_store.specs.Calls.{decided, refusal_of, count_with, next_number, worn_at, put_of, Writes, Concludes, held_by, stamp_or_zero}
 use Rattle.cola_store.specs.Store.{Stored, terms_of}
 
 -- Puts
@@ -105,7 +107,7 @@ module _ (format : Format) (limit : ℕ) (m : Map) (key new : List ℕ) (c l : �
       (number_is ∙ ap (next_number s) l_is ∙ next-last s.stamped m.last is_map.unstamped)
 
 -- a step that the device refused
-pub device-refuses : (o : PutOutcome) (f : StepFault) (r : PutFault) → r ≡ put_fault f → OnlyDevice f → PutRefused o r
+pub device-refuses : (o : PutOutcome) (f : StepFault) (r : PutFault) → r ≡ put_of_step f → OnlyDevice f → PutRefused o r
 device-refuses o step.Device r is only = subst (λ (x : PutFault). PutRefused o x) (sym is) tt
 device-refuses o (step.BadCell n) r is only = absurd only
 device-refuses o (step.Overfull n) r is only = absurd only

@@ -27,33 +27,35 @@ use Rattle.cola_spec.specs.Bounds.{get_bound}
 use Rattle.cola_spec.specs.Map.{Map, IsMap, count, Stored as Entry}
 use Rattle.cola_spec.specs.Map as map
 use Rattle.cola_spec.specs.Reply as reply
-use Rattle.cola_table.specs.Answers.{OnlyDevice, KeepsWalks}
+use Rattle.cola_table.specs.Answers.{OnlyDevice, StepFaults}
 use Rattle.cola_table.specs.Terms.{Terms, shape, Call}
-use Rattle.cola_table.specs.Stamps.{stamped_of}
+use Rattle.cola_cell.specs.Shapes.{stamped_of}
 use Rattle.cola_image.specs.Standing.{found_in}
 use Rattle.cola_look.specs.Outcome.{Found, Answers}
 use Rattle.cola_look.specs.Runs.{AreRuns}
-use Rattle.cola_search.specs.Find.{found_in_runs, FindCause}
+use Rattle.cola_search.specs.Finds.{Finds}
 use Rattle.cola_cursor.specs.Standing as standing
 use Rattle.cola_cursor.specs.declared.line.Line.{Line}
 use Rattle.cola_cursor.proofs.Staying.{stands_stay, ahead_stays}
 use Rattle.cola_level.specs.declared.level.Level.{Level}
 use Rattle.cola_level.specs.Work.{IsDevice}
+use Rattle.cola_merge.specs.States.{StepCalm}
 use Rattle.cola_level.specs.Aims.{visible_run}
-use Rattle.cola_mutation.specs.Standing.{StandsFor, KeepsProgress}
+use Rattle.cola_mutation.specs.Standing.{StandsFor, KeepsProgress, HasRefusal}
 use Rattle.cola_mutation.specs.Steps.{IsMapOf, ChangesMap, KeepsMap, with_item}
+use Rattle.cola_mutation.proofs.Causes.{device_rose}
 use Rattle.cola_mutation.proofs.MapLemmas.{few-found}
-use Rattle.cola_mutation.specs.Work.{HaveTurned}
+use Rattle.cola_mutation.specs.Work.{WorkState, HaveTurned}
 use Rattle.cola_run.specs.Store as run
 use Rattle.cola_chain.specs.Contents as chain
 use Rattle.cola_chain.specs.Contents.{Contents}
-use Rattle.cola_chain.specs.Runs.{visible_runs}
+use Rattle.cola_chain.specs.Runs.{visible_runs, visible_lists, AreSearched}
 use Rattle.cola_chain.specs.Account.{IsPaid, CountsStep, added}
 use Rattle.cola_chain.proofs.Account.{paid-stays}
 use Rattle.cola_store.specs.declared.account.Account.{Account}
-use Rattle.cola_store.specs.Store.{Stored, IsStored, IsMadeAfter, HasWritten, Holds, held_of, spent_of, geometry_of, levels_of, runs_of, terms_of, kept_of}
-use Rattle.cola_store.specs.Calls.{stamped_found, FindsIn, TicksWithin, Same, Searches, with_search, with_refusal, value_found, stamp_found}
-use Rattle.cola_store.specs.Walks.{Stands, Ahead}
+use Rattle.cola_store.specs.Store.{Stored, IsStored, IsMadeAfter, HasWritten, Holds, held_of, spent_of, state_of, geometry_of, levels_of, runs_of, terms_of, kept_of}
+use Rattle.cola_store.specs.Calls.{stamped_found, FindsIn, TicksWithin, ReadsWithin, Same, Searches, with_search, with_refusal, value_found, stamp_found}
+use Rattle.cola_store.specs.Walks.{WalksStay}
 
 -- Searches
 
@@ -98,33 +100,25 @@ module _ {D K : Type 0} (bytes : D → Option (List ℕ)) (counts : D → Counts
 
   pub searched : (store : Stored D) (now : Contents D) (runs : List Run) (key : List ℕ) (result : Result (Option Item) ReadFault) (before after : ℕ) → IsStored bytes counts store → runs ≡ runs_of store →
       chain.held_of bytes now ≡ held_of bytes store → chain.kept_of bytes counts kept now ≡ chain.kept_of bytes counts kept store.chain →
-      Answers (found_in_runs (held_of bytes store) key 0 runs) (option_map as_item) result →
-      IfErr result (FindCause (held_of bytes store) runs (spent_of counts store).faults (chain.spent_of counts now).faults) →
-      Costs (spent_of counts store) (chain.spent_of counts now) before after (8 * length runs) (2 * length runs) →
-      ((lists : List (List LawCell)) → AreRuns (held_of bytes store) runs lists → AreSampled key_cmp lists → (chain.spent_of counts now).turned ≤ (spent_of counts store).turned + length runs) →
-      ((m : Map) → Holds bytes store m → (chain.spent_of counts now).turned ≤ (spent_of counts store).turned + length runs) →
+      Finds runs key (state_of bytes counts store) (chain.state_of bytes counts now) before after result →
+      ((m : Map) → Holds bytes store m → AreSearched (held_of bytes store) runs (visible_lists (held_of bytes store) store.chain.clock store.chain.levels) (found_in m)) →
       Searches bytes counts store (searched_store store now) key result
-  searched store now runs key result before after is runs_are held_is kept_is exact cause costs turns on_map =
-      let n = many-runs store runs is runs_are in
-      let rises = costs.turned_rises in
+  searched store now runs key result before after is runs_are held_is kept_is finds ready =
+      let n = many-runs store (runs_of store) is refl in
+      let f = subst (λ (rs : List Run). Finds rs key (state_of bytes counts store) (chain.state_of bytes counts now) before after result) runs_are finds in
+      let within : (turns : ℕ) → (chain.spent_of counts now).turned ≤ (spent_of counts store).turned + turns → ReadsWithin (spent_of counts store) (chain.spent_of counts now) turns =
+      (λ turns rises. record { turned_stays = f.costs.turned_stays; turned_rises = rises; written_is = f.costs.written_is }) in
+      let one : (chain.spent_of counts now).turned ≤ (spent_of counts store).turned + length (runs_of store) → ReadsWithin (spent_of counts store) (chain.spent_of counts now) (levels_of store) =
+      (λ rises. within (levels_of store) (subst (λ (k : ℕ). (chain.spent_of counts now).turned ≤ (spent_of counts store).turned + k) n rises)) in
       record {
-        exact = subst (λ (rs : List Run). Answers (found_in_runs (held_of bytes store) key 0 rs) (option_map as_item) result) runs_are exact;
-        cause = subst (λ (rs : List Run). IfErr result (FindCause (held_of bytes store) rs (spent_of counts store).faults (chain.spent_of counts now).faults)) runs_are cause;
-        reads = record {
-          turned_stays = costs.turned_stays;
-          turned_rises = subst (λ (k : ℕ). (chain.spent_of counts now).turned ≤ (spent_of counts store).turned + 2 * k) n rises;
-          written_is = costs.written_is;
-        };
-        standing = λ lists told sampled. record {
-          turned_stays = costs.turned_stays;
-          turned_rises = subst (λ (k : ℕ). (chain.spent_of counts now).turned ≤ (spent_of counts store).turned + k) n (turns lists (subst (λ (rs : List Run). AreRuns (held_of bytes store) rs lists) (sym runs_are) told) sampled);
-          written_is = costs.written_is;
-        };
-        on_map = λ m holds. record {
-          turned_stays = costs.turned_stays;
-          turned_rises = subst (λ (k : ℕ). (chain.spent_of counts now).turned ≤ (spent_of counts store).turned + k) n (on_map m holds);
-          written_is = costs.written_is;
-        };
+        exact = f.exact;
+        cause = f.cause;
+        reads = within (2 * levels_of store) (subst (λ (k : ℕ). (chain.spent_of counts now).turned ≤ (spent_of counts store).turned + 2 * k) n f.costs.turned_rises);
+        standing = λ lists told sampled. one (f.turns lists told sampled);
+        on_map = λ m holds.
+            let lists = visible_lists (held_of bytes store) store.chain.clock store.chain.levels in
+            let r = subst (λ (rs : List Run). AreSearched (held_of bytes store) rs lists (found_in m)) runs_are (ready m holds) in
+            one (f.turns lists r.told r.sampled);
         same = same store now (with_search store.account) held_is kept_is;
         counted = refl;
       }
@@ -202,6 +196,13 @@ only : (fault : StepFault) → IsDevice fault → OnlyDevice fault
 only step.Device is = tt
 only (step.BadCell number) is = is
 only (step.Overfull level) is = is
+
+-- what a refused step counts, by its cause
+pub step-faults : (A : Type 0) {t : ℕ} {key : List ℕ} {item : Item} {s u : WorkState} {ls ms : List Level} (fault : StepFault) → HasRefusal t key item s u ls ms fault →
+    StepCalm s.spent.faults u.spent.faults fault → StepFaults {A = A} (Err fault) s.spent.faults u.spent.faults
+step-faults A {t} {key} {item} {s} {u} {ls} {ms} step.Device cause calm = device_rose t key item s u ls ms cause
+step-faults A (step.BadCell number) cause calm = calm
+step-faults A (step.Overfull level) cause calm = calm
 
 -- the terms of a store with this geometry
 abbrev pub terms_at : Geometry → Terms
@@ -316,7 +317,7 @@ module _ {D K : Type 0} (bytes : D → Option (List ℕ)) (counts : D → Counts
     is_map = subst (λ (q : Geometry). IsMap (shape (terms_at q)) m) (sym same.geometry_is) holds.is_map;
   }
 
-  pub walks-same : KeepsWalks (Stands bytes old) (Stands bytes new) (Ahead bytes old) (Ahead bytes new)
+  pub walks-same : WalksStay bytes old new
   walks-same = record {
     standing = λ walk stands. record {
       cursor = subst (λ (h : Held). standing.Stands h walk) (sym same.held_is) stands.cursor;
@@ -399,7 +400,7 @@ module _ {D : Type 0} (bytes : D → Option (List ℕ)) (store : Stored D) (now 
   runs-kept : visible_runs now.clock 0 now.levels ≡ runs_of store
   runs-kept = ap (λ (t : ℕ). visible_runs t 0 now.levels) clock ∙ kept-runs store.chain.clock store.chain.levels now.levels progress
 
-  pub walks-refused : (account : Account) → KeepsWalks (Stands bytes store) (Stands bytes (record { chain = now; count = store.count; last = store.last; account = account })) (Ahead bytes store) (Ahead bytes (record { chain = now; count = store.count; last = store.last; account = account }))
+  pub walks-refused : (account : Account) → WalksStay bytes store (record { chain = now; count = store.count; last = store.last; account = account })
   walks-refused account = record {
     standing = λ walk stands. record {
       cursor = stands_stay (held_of bytes store) (chain.held_of bytes now) walk (ap (λ (f : Fixed). f.levels) fixed) (lines-stay (held_of bytes store) (chain.held_of bytes now) store.chain.clock 0 store.chain.levels walk.lines.items stands.visible (λ level index h. stay level index (omega (arith, h)))) stands.cursor;

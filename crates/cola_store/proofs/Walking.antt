@@ -21,7 +21,7 @@ use Rattle.cola_abstract.specs.Cell as laws
 use Rattle.cola_spec.specs.Map as spec
 use Rattle.cola_spec.specs.Map.{Map, pairs_between, is_before}
 use Rattle.cola_table.specs.Answers.{OnlyDeviceRead, RangeAnswers, NextAnswers}
-use Rattle.cola_table.specs.Stamps.{stamped_of}
+use Rattle.cola_cell.specs.Shapes.{stamped_of}
 use Rattle.cola_image.specs.Standing.{found_in}
 use Rattle.cola_device.specs.declared.counts.Counts.{Counts}
 use Rattle.cola_level.specs.declared.level.Level.{Level}

@@ -1,5 +1,5 @@
 -- What each call on a store says by its answer, on every file, sound or not.
-use Rattle.std.specs.Prelude.{◌≡◌, ℕ, ◌+◌, ◌-◌, ◌*◌, ◌%◌, ◌^◌, ◌≤◌, Bool, false, ◌&&◌, nat_eq, nat_le, if◌then◌else◌, List, length, Option, None, Some, Result, Ok, Err, IfErr}
+use Rattle.std.specs.Prelude.{◌≡◌, ℕ, ◌+◌, ◌-◌, ◌*◌, ◌/◌, ◌%◌, ◌^◌, ◌≤◌, Bool, false, ◌&&◌, nat_eq, nat_le, if◌then◌else◌, List, length, Option, None, Some, Result, Ok, Err, IfErr}
 use Rattle.std.specs.Option.{option_map, unwrap_or}
 use Rattle.cola_runs.specs.Search.{AreSampled}
 use Rattle.cola_laws.specs.Plain.{next_clock}
@@ -8,8 +8,6 @@ use Rattle.cola_cell.specs.declared.cell.Item.TheVariants.{Value, Tombstone}
 use Rattle.cola_cell.specs.declared.format.Format.{Format}
 use Rattle.cola_cell.specs.declared.fault.ReadFault.{ReadFault}
 use Rattle.cola_cell.specs.declared.fault.StepFault.{StepFault}
-use Rattle.cola_cell.specs.declared.fault.ReadFault.TheVariants as read
-use Rattle.cola_cell.specs.declared.fault.StepFault.TheVariants as step
 use Rattle.cola_cell.specs.Format.{key_limit}
 use Rattle.cola_cell.specs.Held.{LawCell, Stamped, as_item}
 use Rattle.cola_cell.specs.Order.{key_cmp}
@@ -28,16 +26,15 @@ use Rattle.cola_table.specs.declared.PutFault.{PutFault}
 use Rattle.cola_table.specs.declared.PutFault.TheVariants as fault
 use Rattle.cola_table.specs.Answers.{OnlyDeviceRead}
 use Rattle.cola_table.specs.Replies.{read_failure, step_failure}
-use Rattle.cola_table.specs.Terms.{shape}
 use Rattle.cola_look.specs.Outcome.{Answers}
 use Rattle.cola_look.specs.Runs.{AreRuns}
 use Rattle.cola_search.specs.Find.{found_in_runs, FindCause}
-use Rattle.cola_mutation.specs.Work.{state_of}
-use Rattle.cola_mutation.specs.Standing.{HasRefusal, KeepsProgress, KeepsVisible}
+use Rattle.cola_mutation.specs.Work as work
+use Rattle.cola_mutation.specs.Standing.{new_cell, HasRefusal, KeepsProgress, KeepsVisible, AllTake}
 use Rattle.cola_mutation.specs.Steps.{ChangesMap}
 use Rattle.cola_chain.specs.Account.{added, CountsStep}
 use Rattle.cola_store.specs.declared.account.Account.{Account}
-use Rattle.cola_store.specs.Store.{Stored, Holds, held_of, spent_of, geometry_of, levels_of, runs_of, terms_of}
+use Rattle.cola_store.specs.Store.{Stored, Holds, held_of, spent_of, state_of, faults_of, transferred, geometry_of, levels_of, runs_of, map_shape}
 
 -- What was found
 
@@ -79,6 +76,14 @@ abbrev pub decided_if : Shape → (count last seen : ℕ) → Option Stamped →
 decided_if shape count last seen found =
     if nat_eq (stamp_or_zero found) seen then decided shape count last found else Other (stamp_or_zero found)
 
+-- how a store decides a put to a key that has this
+abbrev pub decided_by : {D : Type 0} → Stored D → Option Stamped → PutOutcome
+decided_by store found = decided (map_shape store) store.count store.last found
+
+-- and one that depends on the stamp seen
+abbrev pub decided_if_by : {D : Type 0} → Stored D → ℕ → Option Stamped → PutOutcome
+decided_if_by store seen found = decided_if (map_shape store) store.count store.last seen found
+
 -- why a put is refused that is decided so, or no reason
 abbrev pub refusal_of : PutOutcome → Option PutFault
 refusal_of New = None
@@ -91,6 +96,10 @@ refusal_of (Other stamp) = None
 abbrev pub next_number : Shape → ℕ → ℕ
 next_number shape last = if shape.stamped then last + 1 else 0
 
+-- the number that a store gives next
+abbrev pub number_by : {D : Type 0} → Stored D → ℕ
+number_by store = next_number (map_shape store) store.last
+
 -- how many keys there are after a put to a key that has this
 abbrev pub count_with : ℕ → Option Stamped → ℕ
 count_with count None = count + 1
@@ -102,17 +111,6 @@ count_with count (Some s) = count
 abbrev pub with_ticks : {A E : Type 0} → Result A E → Result (A × ℕ) E
 with_ticks (Ok answer) = Ok (answer, 0)
 with_ticks (Err fault) = Err fault
-
--- why a put was refused whose step was
-abbrev pub put_fault : StepFault → PutFault
-put_fault step.Device = fault.Device
-put_fault (step.BadCell cell) = fault.BadCell cell
-put_fault (step.Overfull level) = fault.Overfull level
-
--- why a delete was refused whose search was
-abbrev pub step_fault_read : ReadFault → StepFault
-step_fault_read read.Device = step.Device
-step_fault_read (read.BadCell cell) = step.BadCell cell
 
 -- what an accepted put answers to a key that had this value, or none
 abbrev pub put_of : Option (List ℕ) → put.Put
@@ -150,6 +148,15 @@ pub record TicksWithin (old new : Spent) (before after most : ℕ) : Type 0 wher
   pub ticked_is : (new.ticked + before) % 2 ^ 64 ≡ (old.ticked + after) % 2 ^ 64
   pub faults_stay : old.faults ≤ new.faults
 
+-- the same of a call on a store, within a bound by the number of its levels
+abbrev pub TicksBy : {D : Type 0} → (D → Counts) → (ℕ → ℕ) → (old new : Stored D) → (before after : ℕ) → Type 0
+TicksBy counts bound old new before after =
+    TicksWithin (spent_of counts old) (spent_of counts new) before after (bound (levels_of old))
+
+-- one step reads and writes at most one block for each tick that it may make, and one more for each level that works
+abbrev pub StepTransfers : {D : Type 0} → (D → Counts) → (old new : Stored D) → Type 0
+StepTransfers counts old new = transferred counts new ≤ transferred counts old + (9 + 60 * (levels_of old / 2))
+
 -- the device turned to so many blocks more at most, and wrote none
 pub record ReadsWithin (old new : Spent) (turns : ℕ) : Type 0 where
   pub turned_stays : old.turned ≤ new.turned
@@ -177,31 +184,43 @@ module _ {D : Type 0} (bytes : D → Option (List ℕ)) (counts : D → Counts) 
     pub count_is : new.count ≡ old.count
     pub last_is : new.last ≡ old.last
 
+  -- a call turned to so many blocks more at most, and wrote none
+  abbrev pub ReadsBy : (old new : Stored D) → ℕ → Type 0
+  ReadsBy old new turns = ReadsWithin (spent_of counts old) (spent_of counts new) turns
+
   -- a search of the store for a key answers what the cells of its visible runs say, as far as they are told, and is refused where the device failed or a cell of these runs is bad. It turns to two blocks for each level at most, and to one where the runs are in order, as those of a store that holds a map are
   pub record Searches (old new : Stored D) (key : List ℕ) (search : Result (Option Item) ReadFault) : Type 0 where
-    pub exact : Answers (found_in_runs (held_of bytes old) key 0 (runs_of old)) (option_map as_item) search
-    pub cause : IfErr search (FindCause (held_of bytes old) (runs_of old) (spent_of counts old).faults (spent_of counts new).faults)
-    pub reads : ReadsWithin (spent_of counts old) (spent_of counts new) (2 * levels_of old)
-    pub standing : (lists : List (List LawCell)) → AreRuns (held_of bytes old) (runs_of old) lists → AreSampled key_cmp lists → ReadsWithin (spent_of counts old) (spent_of counts new) (levels_of old)
-    pub on_map : (m : Map) → Holds bytes old m → ReadsWithin (spent_of counts old) (spent_of counts new) (levels_of old)
+    pub exact : Answers (found_in_runs (held_of bytes old) key 0 (runs_of old))
+        (option_map as_item) search
+    pub cause : IfErr search (FindCause (held_of bytes old) (runs_of old) (faults_of counts old) (faults_of counts new))
+    pub reads : ReadsBy old new (2 * levels_of old)
+    pub standing : (lists : List (List LawCell)) → AreRuns (held_of bytes old) (runs_of old) lists →
+        AreSampled key_cmp lists → ReadsBy old new (levels_of old)
+    pub on_map : (m : Map) → Holds bytes old m → ReadsBy old new (levels_of old)
     pub same : Same old new
     pub counted : new.account ≡ with_search old.account
 
-  -- the key got this item by one step of the chain, and there are so many keys and this last number
+  -- the key got this item by one step of the chain, which left out no step of a merge, and there are so many keys and this last number
   pub record Changed (old new : Stored D) (key : List ℕ) (item : Item) (count last : ℕ) : Type 0 where
     pub clock_is : new.chain.clock ≡ next_clock (levels_of old) old.chain.clock
-    pub changes : ChangesMap (held_of bytes old) (held_of bytes new) old.chain.clock new.chain.clock key item old.chain.levels new.chain.levels
+    pub changes : ChangesMap (held_of bytes old) (held_of bytes new) old.chain.clock new.chain.clock
+        key item old.chain.levels new.chain.levels
+    pub takes : AllTake old.chain.clock (new_cell key item) (held_of bytes old) (held_of bytes new)
+        old.chain.levels new.chain.levels
     pub count_is : new.count ≡ count
     pub last_is : new.last ≡ last
     pub account_is : new.account ≡ old.account
 
-  -- the step was refused for this reason: every visible run, the clock, the count of keys and the last number stay
-  pub record Unchanged (old new : Stored D) (fault : StepFault) : Type 0 where
+  -- the step by which the key was to get this item was refused for this reason: the count of faults rose; a cell that a merge reads next is bad; or overfull, where a level that works at this clock, or level 0, builds a next run that fills its slot and a step would emit another cell. Every visible run, the clock, the count of keys and the last number stay
+  pub record Unchanged (old new : Stored D) (key : List ℕ) (item : Item) (fault : StepFault) : Type 0 where
+    pub before : ℕ
     pub steps : ℕ
-    pub cause : HasRefusal (state_of (held_of bytes new) (spent_of counts new) steps) (spent_of counts old).faults fault
+    pub cause : HasRefusal old.chain.clock key item (work.state_of (state_of bytes counts old) before)
+        (work.state_of (state_of bytes counts new) steps) old.chain.levels new.chain.levels fault
     pub clock_is : new.chain.clock ≡ old.chain.clock
     pub progress : KeepsProgress old.chain.clock old.chain.levels new.chain.levels
-    pub visible : KeepsVisible old.chain.clock (levels_of old) (held_of bytes old) (held_of bytes new)
+    pub visible : KeepsVisible old.chain.clock (levels_of old)
+        (held_of bytes old) (held_of bytes new)
     pub count_is : new.count ≡ old.count
     pub last_is : new.last ≡ old.last
     pub account_is : new.account ≡ with_refusal old.account
@@ -209,7 +228,7 @@ module _ {D : Type 0} (bytes : D → Option (List ℕ)) (counts : D → Counts) 
   -- one step of the chain, or its refusal
   abbrev pub StepsBy : {A : Type 0} → (old new : Stored D) → List ℕ → Item → (count last : ℕ) → Result A StepFault → Type 0
   StepsBy old new key item count last (Ok a) = Changed old new key item count last
-  StepsBy old new key item count last (Err fault) = Unchanged old new fault
+  StepsBy old new key item count last (Err fault) = Unchanged old new key item fault
 
   -- the same, over the same geometry; how the chain counts it; and the device's counts of reads and writes do not fall
   pub record Steps {A : Type 0} (old new : Stored D) (key : List ℕ) (item : Item) (count last : ℕ) (result : Result A StepFault) : Type 0 where
@@ -235,9 +254,9 @@ module _ {D : Type 0} (bytes : D → Option (List ℕ)) (counts : D → Counts) 
   -- how a put ends that was decided so, to a key that has this
   abbrev pub Concludes : PutOutcome → (old new : Stored D) → (key value : List ℕ) → Option Stamped → Reply → Type 0
   Concludes New old new key value found answer =
-      Writes old new key (Value value (next_number (shape (terms_of old)) old.last)) (count_with old.count found) (next_number (shape (terms_of old)) old.last) (reply.Put New) answer
+      Writes old new key (Value value (number_by old)) (count_with old.count found) (number_by old) (reply.Put New) answer
   Concludes (Old v) old new key value found answer =
-      Writes old new key (Value value (next_number (shape (terms_of old)) old.last)) (count_with old.count found) (next_number (shape (terms_of old)) old.last) (reply.Put (Old v)) answer
+      Writes old new key (Value value (number_by old)) (count_with old.count found) (number_by old) (reply.Put (Old v)) answer
   Concludes Full old new key value found answer = Refuses old new (reply.Put Full) answer
   Concludes Worn old new key value found answer = Refuses old new (reply.Put Worn) answer
   Concludes (Other stamp) old new key value found answer = Refuses old new (reply.Put (Other stamp)) answer
@@ -246,13 +265,13 @@ module _ {D : Type 0} (bytes : D → Option (List ℕ)) (counts : D → Counts) 
   abbrev pub PutFollows : (old new : Stored D) → (key value : List ℕ) → Result (Option Item) ReadFault → Reply → Type 0
   PutFollows old new key value (Err fault) answer = Refuses old new (reply.Failed (read_failure fault)) answer
   PutFollows old new key value (Ok found) answer =
-      Concludes (decided (shape (terms_of old)) old.count old.last (stamped_found found)) old new key value (stamped_found found) answer
+      Concludes (decided_by old (stamped_found found)) old new key value (stamped_found found) answer
 
   -- the same of a put that depends on the stamp seen
   abbrev pub PutIfFollows : (old new : Stored D) → (key : List ℕ) → ℕ → (value : List ℕ) → Result (Option Item) ReadFault → Reply → Type 0
   PutIfFollows old new key seen value (Err fault) answer = Refuses old new (reply.Failed (read_failure fault)) answer
   PutIfFollows old new key seen value (Ok found) answer =
-      Concludes (decided_if (shape (terms_of old)) old.count old.last seen (stamped_found found)) old new key value (stamped_found found) answer
+      Concludes (decided_if_by old seen (stamped_found found)) old new key value (stamped_found found) answer
 
   -- how a delete ends whose key has this value, or none
   abbrev pub Removes : (old new : Stored D) → List ℕ → Option (List ℕ) → Reply → Type 0
@@ -280,15 +299,17 @@ module _ {D : Type 0} (bytes : D → Option (List ℕ)) (counts : D → Counts) 
 
   -- the reads and writes of a put or a delete are within the bound on its ticks
   pub record TransfersWithin (old new : Stored D) : Type 0 where
-    pub transfers : (spent_of counts new).turned + (spent_of counts new).written
-        ≤ (spent_of counts old).turned + (spent_of counts old).written + put_bound (levels_of old)
+    pub transfers : transferred counts new ≤ transferred counts old + put_bound (levels_of old)
 
   -- the store is asked this, answers so, and is this one afterwards
   abbrev pub AnswersRequest : Option Command → Reply → (old new : Stored D) → Type 0
   AnswersRequest None answer old new = ⊥
-  AnswersRequest (Some (Put key value)) answer old new = SearchesFirst old new key (λ mid search. PutFollows mid new key value search answer) × TransfersWithin old new
-  AnswersRequest (Some (PutIf key seen value)) answer old new = SearchesFirst old new key (λ mid search. PutIfFollows mid new key seen value search answer) × TransfersWithin old new
-  AnswersRequest (Some (Del key)) answer old new = SearchesFirst old new key (λ mid search. DeleteFollows mid new key search answer) × TransfersWithin old new
+  AnswersRequest (Some (Put key value)) answer old new =
+      SearchesFirst old new key (λ mid search. PutFollows mid new key value search answer) × TransfersWithin old new
+  AnswersRequest (Some (PutIf key seen value)) answer old new =
+      SearchesFirst old new key (λ mid search. PutIfFollows mid new key seen value search answer) × TransfersWithin old new
+  AnswersRequest (Some (Del key)) answer old new =
+      SearchesFirst old new key (λ mid search. DeleteFollows mid new key search answer) × TransfersWithin old new
   AnswersRequest (Some (Get key)) answer old new = OnlySearches old new key got answer
   AnswersRequest (Some (Stamp key)) answer old new = OnlySearches old new key stamp_got answer
   AnswersRequest (Some (Range low high)) answer old new = ⊥

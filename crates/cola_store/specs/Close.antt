@@ -12,14 +12,15 @@ use Rattle.cola_opening.specs.Judged.{HasHeader}
 use Rattle.cola_spec.specs.Map.{Map}
 use Rattle.cola_image.specs.Cells.{file_spots}
 use Rattle.cola_image.specs.Standing.{HeaderStandsFor}
-use Rattle.cola_run.specs.Store.{Store, held_of}
+use Rattle.cola_run.specs.Store.{Store, held_of, device_of}
 use Rattle.cola_run.specs.Saving.{SameReads, IsFrontLast, SameBehind, SettlesTwice}
 use Rattle.cola_store.specs.Runs.{StoreStandsFor}
 
 -- the file has each cell of the store that it reads: all but those behind a shadow in its slot
 abbrev pub HasCells : Header → Held → List ℕ → Type 0
-HasCells header held bytes = (level slot index : ℕ) → IsPlace (header.geometry.bottom + 1) level slot index → (slot ≢ (held.shadows level).slot) ⊎ (index < (held.shadows level).len)
-    → file_spots header.geometry.format bytes level slot index ≡ held.spots level slot index
+HasCells header held bytes = (level slot index : ℕ) → IsPlace (header.geometry.bottom + 1) level slot index →
+    (slot ≢ (held.shadows level).slot) ⊎ (index < (held.shadows level).len) →
+    file_spots header.geometry.format bytes level slot index ≡ held.spots level slot index
 
 -- the file of a store that was closed: it has the header and the cells, and stands for the map that these stood for
 pub record IsFileOf (header : Header) (held : Held) (bytes : List ℕ) : Type 0 where
@@ -36,20 +37,24 @@ module _ {D : Type 0} (d : device.Ghosts D) (header : Header) (before : Store D)
   -- front was written and at the end
   pub record IsClosed (now : D) : Type 0 where
     pub file : IfSome (d.bytes now) (IsFileOf header (held_of d.bytes before))
-    pub behind : Both (d.bytes before.buffers.cache.device) (d.bytes now) (SameBehind header.geometry)
-    pub settles : SettlesTwice d header.geometry before.buffers.cache.device now
-    pub spends : Spends (d.counts before.buffers.cache.device) (d.counts now) 0 (closing_writes header) 2
-    pub no_fault : (d.counts now).faults ≡ (d.counts before.buffers.cache.device).faults
+    pub behind : Both (d.bytes (device_of before)) (d.bytes now) (SameBehind header.geometry)
+    pub settles : SettlesTwice d header.geometry (device_of before) now
+    pub spends : Spends (d.counts (device_of before)) (d.counts now) 0 (closing_writes header) 2
+    pub no_fault : (d.counts now).faults ≡ (d.counts (device_of before)).faults
 
   -- the device failed, and all that is owed to the file still is: the cells that are read, and the header; the first two
   -- blocks of the file are as before, or the device had settled with every other cell before the first of them was written,
   -- and block 0 is as before or every cell behind it is in the file
   pub record StillOwes (now : Store D) (kept_header : Header) : Type 0 where
-    pub cause : Rose (d.counts before.buffers.cache.device).faults (d.counts now.buffers.cache.device).faults
+    pub cause : Rose (d.counts (device_of before)).faults (d.counts (device_of now)).faults
     pub header_is : kept_header ≡ header
     pub reads : SameReads (held_of d.bytes before) (held_of d.bytes now)
     pub geometry : now.geometry ≡ before.geometry
-    pub order : IsFrontLast d header.geometry (held_of d.bytes now).spots before.buffers.cache.device now.buffers.cache.device
-    pub behind : Both (d.bytes before.buffers.cache.device) (d.bytes now.buffers.cache.device) (SameBehind header.geometry)
-    pub spends : Spends (d.counts before.buffers.cache.device) (d.counts now.buffers.cache.device) 0 (closing_writes header) 2
-    pub stands : (m : Map) → StoreStandsFor header (held_of d.bytes before) m → StoreStandsFor header (held_of d.bytes now) m
+    pub order : IsFrontLast d header.geometry (held_of d.bytes now).spots
+        (device_of before) (device_of now)
+    pub behind : Both (d.bytes (device_of before)) (d.bytes (device_of now))
+        (SameBehind header.geometry)
+    pub spends : Spends (d.counts (device_of before)) (d.counts (device_of now))
+        0 (closing_writes header) 2
+    pub stands : (m : Map) → StoreStandsFor header (held_of d.bytes before) m →
+        StoreStandsFor header (held_of d.bytes now) m

@@ -8,15 +8,30 @@ use Rattle.cola_layout.specs.declared.header.Header.{Header}
 use Rattle.cola_layout.specs.Fields.{fields_of}
 use Rattle.cola_opening.specs.Counted.{Spends}
 use Rattle.cola_opening.specs.Judged.{HasHeader, IsSmall, IsNoStore, IsSeen, IsInUse}
-use Rattle.cola_spec.specs.Map.{Map}
 use Rattle.cola_image.specs.Cells.{file_spots}
-use Rattle.cola_image.specs.Standing.{FileStandsFor, with_state}
-use Rattle.cola_run.specs.Store.{Store, held_of}
-use Rattle.cola_run.specs.Saving.{AreFileSpots, AreFrontRunsSpelled, IsLowestBad, IsLoaded, header_shadow}
+use Rattle.cola_image.specs.Standing.{with_state}
+use Rattle.cola_run.specs.Store.{Store, held_of, device_of}
+use Rattle.cola_run.specs.Saving.{AreFileSpots, AreFrontRunsSpelled, IsLowestBad, IsLoaded}
 use Rattle.cola_store.specs.declared.fault.OpenFault.{OpenFault}
 use Rattle.cola_store.specs.declared.fault.OpenFault.TheVariants.{NotStore, NotClosed, Small, Device, OutOfMemory, BadCell}
-use Rattle.cola_store.specs.Runs.{StoreStandsFor}
+use Rattle.cola_store.specs.Runs.{HasShadowsOf, StandsForFile}
 use Rattle.cola_store.specs.Store.{IsMadeAfter}
+
+-- the bytes are those before, with any state byte
+abbrev pub ButState : (old new : List ℕ) → Type 0
+ButState old new = (state : ℕ) × (new ≡ with_state state old)
+
+-- they are those before, with the state byte of a store in use
+abbrev pub InUse : (old new : List ℕ) → Type 0
+InUse old new = new ≡ with_state 1 old
+
+-- every cell of the runs of a file's first two blocks is spelled
+abbrev pub IsFrontSpelled : Header → List ℕ → Type 0
+IsFrontSpelled header bytes = AreFrontRunsSpelled header (file_spots header.geometry.format bytes)
+
+-- this cell is the lowest of these runs that is not spelled
+abbrev pub HasLowestBad : Header → ℕ → List ℕ → Type 0
+HasLowestBad header number bytes = IsLowestBad header (file_spots header.geometry.format bytes) number
 
 -- a file has this header and all cells, and its store was closed
 pub record WasClosed (header : Header) (bytes : List ℕ) : Type 0 where
@@ -26,12 +41,12 @@ pub record WasClosed (header : Header) (bytes : List ℕ) : Type 0 where
 -- a file of a closed store with this header, of which every cell of the runs of the first two blocks is spelled
 pub record IsReady (header : Header) (bytes : List ℕ) : Type 0 where
   pub was : WasClosed header bytes
-  pub spelled : AreFrontRunsSpelled header (file_spots header.geometry.format bytes)
+  pub spelled : IsFrontSpelled header bytes
 
 -- such a file, of which this cell is the lowest of these runs that is not spelled
 pub record HasBadCell (header : Header) (number : ℕ) (bytes : List ℕ) : Type 0 where
   pub was : WasClosed header bytes
-  pub bad : IsLowestBad header (file_spots header.geometry.format bytes) number
+  pub bad : HasLowestBad header number bytes
 
 -- how many reads an opening makes at most by a header: three, and one for each level
 abbrev pub opening_reads : Header → ℕ
@@ -54,7 +69,7 @@ module _ {D : Type 0} (d : device.Ghosts D) (before : D) where
   pub record FailedAtMark (now : D) : Type 0 where
     pub header : Header
     pub was : IfSome (d.bytes before) (IsReady header)
-    pub left : Both (d.bytes before) (d.bytes now) (λ old new. (state : ℕ) × (new ≡ with_state state old))
+    pub left : Both (d.bytes before) (d.bytes now) ButState
     pub spends : Spends (d.counts before) (d.counts now) (opening_reads header) 1 2
 
   -- the device failed
@@ -67,16 +82,16 @@ module _ {D : Type 0} (d : device.Ghosts D) (before : D) where
   pub record IsOpened (cache : ℕ) (store : Store D) (header : Header) : Type 0 where
     pub was : IfSome (d.bytes before) (IsReady header)
     pub closed : header.closed ≡ true
-    pub marked : Both (d.bytes before) (d.bytes store.buffers.cache.device) (λ old new. new ≡ with_state 1 old)
-    pub settled : IsSettled d store.buffers.cache.device
+    pub marked : Both (d.bytes before) (d.bytes (device_of store)) InUse
+    pub settled : IsSettled d (device_of store)
     pub geometry : store.geometry ≡ header.geometry
     pub loaded : IsLoaded header (held_of d.bytes store) (d.bytes before)
-    pub stands : IfSome (d.bytes before) (λ bytes. (m : Map) → FileStandsFor bytes m → StoreStandsFor header (held_of d.bytes store) m)
+    pub stands : IfSome (d.bytes before) (StandsForFile header (held_of d.bytes store))
     pub blocks : store.buffers.cache.blocks ≡ cache
     pub made : IsMadeAfter (d.counts before) (held_of d.bytes store)
     pub no_ticks : store.ticked ≡ 0
-    pub spends : Spends (d.counts before) (d.counts store.buffers.cache.device) (opening_reads header) 1 2
-    pub no_fault : (d.counts store.buffers.cache.device).faults ≡ (d.counts before).faults
+    pub spends : Spends (d.counts before) (d.counts (device_of store)) (opening_reads header) 1 2
+    pub no_fault : (d.counts (device_of store)).faults ≡ (d.counts before).faults
 
   -- what an opening answered, with its cause, and what it left
   abbrev pub Opens : ℕ → Result (Store D × Header) (D × OpenFault) → Type 0
@@ -95,7 +110,7 @@ without_room (Err e) = Err e
 
 -- the device after an opening
 abbrev pub device_after : {D : Type 0} → Result (Store D × Header) (D × OpenFault) → D
-device_after (Ok (store, header)) = store.buffers.cache.device
+device_after (Ok (store, header)) = device_of store
 device_after (Err (now, fault)) = now
 
 module _ {D : Type 0} (d : device.Ghosts D) (before now : D) where
@@ -110,30 +125,35 @@ module _ {D : Type 0} (d : device.Ghosts D) (before now : D) where
   FindsClosed (Err (BadCell number)) = ⊥
 
 module _ {D : Type 0} (d : device.Ghosts D) (header : Header) (before now : Store D) where
+  -- at most two reads and one for each level, and so many writes and other calls
+  abbrev pub SpendsLoading : (writes others : ℕ) → Type 0
+  SpendsLoading = Spends (d.counts (device_of before)) (d.counts (device_of now)) (header.geometry.bottom + 3)
+
   -- the cells of the file are loaded by the header, and its state byte says that the store is in use, with which the device settled
   pub record IsMarked : Type 0 where
-    pub spelled : IfSome (d.bytes before.buffers.cache.device) (λ bytes. AreFrontRunsSpelled header (file_spots header.geometry.format bytes))
-    pub marked : Both (d.bytes before.buffers.cache.device) (d.bytes now.buffers.cache.device) (λ old new. new ≡ with_state 1 old)
-    pub settled : IsSettled d now.buffers.cache.device
+    pub spelled : IfSome (d.bytes (device_of before)) (IsFrontSpelled header)
+    pub marked : Both (d.bytes (device_of before)) (d.bytes (device_of now)) InUse
+    pub settled : IsSettled d (device_of now)
     pub geometry : now.geometry ≡ header.geometry
-    pub spots : IfSome (d.bytes before.buffers.cache.device) (AreFileSpots header.geometry (held_of d.bytes now).spots)
-    pub shadows : (level : ℕ) → level ≤ header.geometry.bottom → (held_of d.bytes now).shadows level ≡ header_shadow header level
+    pub spots : IfSome (d.bytes (device_of before))
+        (AreFileSpots header.geometry (held_of d.bytes now).spots)
+    pub shadows : HasShadowsOf header (held_of d.bytes now)
     pub blocks : now.buffers.cache.blocks ≡ before.buffers.cache.blocks
     pub made : (held_of d.bytes now).fixed ≡ (held_of d.bytes before).fixed
     pub ticks : now.ticked ≡ before.ticked
-    pub spends : Spends (d.counts before.buffers.cache.device) (d.counts now.buffers.cache.device) (header.geometry.bottom + 3) 1 1
-    pub no_fault : (d.counts now.buffers.cache.device).faults ≡ (d.counts before.buffers.cache.device).faults
+    pub spends : SpendsLoading 1 1
+    pub no_fault : (d.counts (device_of now)).faults ≡ (d.counts (device_of before)).faults
 
   -- the device failed in one of the reads, and keeps its bytes
   pub record FailedReading : Type 0 where
-    pub bytes_stay : d.bytes now.buffers.cache.device ≡ d.bytes before.buffers.cache.device
-    pub spends : Spends (d.counts before.buffers.cache.device) (d.counts now.buffers.cache.device) (header.geometry.bottom + 3) 0 0
+    pub bytes_stay : d.bytes (device_of now) ≡ d.bytes (device_of before)
+    pub spends : SpendsLoading 0 0
 
   -- the device failed in the write of the state byte, or as it settled
   pub record FailedMarking : Type 0 where
-    pub spelled : IfSome (d.bytes before.buffers.cache.device) (λ bytes. AreFrontRunsSpelled header (file_spots header.geometry.format bytes))
-    pub left : Both (d.bytes before.buffers.cache.device) (d.bytes now.buffers.cache.device) (λ old new. (state : ℕ) × (new ≡ with_state state old))
-    pub spends : Spends (d.counts before.buffers.cache.device) (d.counts now.buffers.cache.device) (header.geometry.bottom + 3) 1 1
+    pub spelled : IfSome (d.bytes (device_of before)) (IsFrontSpelled header)
+    pub left : Both (d.bytes (device_of before)) (d.bytes (device_of now)) ButState
+    pub spends : SpendsLoading 1 1
 
   -- what loading and marking answered
   abbrev pub LoadsAndMarks : Result (Unit {0}) OpenFault → Type 0
@@ -141,7 +161,8 @@ module _ {D : Type 0} (d : device.Ghosts D) (header : Header) (before now : Stor
   LoadsAndMarks (Err NotStore) = ⊥
   LoadsAndMarks (Err NotClosed) = ⊥
   LoadsAndMarks (Err Small) = ⊥
-  LoadsAndMarks (Err Device) = Rose (d.counts before.buffers.cache.device).faults (d.counts now.buffers.cache.device).faults × (FailedReading ⊎ FailedMarking)
+  LoadsAndMarks (Err Device) =
+      Rose (d.counts (device_of before)).faults (d.counts (device_of now)).faults × (FailedReading ⊎ FailedMarking)
   LoadsAndMarks (Err OutOfMemory) = ⊥
   LoadsAndMarks (Err (BadCell number)) =
-      IsSeen d before.buffers.cache.device (λ bytes. IsLowestBad header (file_spots header.geometry.format bytes) number) (header.geometry.bottom + 3) 0 now.buffers.cache.device
+      IsSeen d (device_of before) (HasLowestBad header number) (header.geometry.bottom + 3) 0 (device_of now)

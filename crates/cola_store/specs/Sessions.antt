@@ -1,5 +1,5 @@
 -- What opening and closing a store answer, with its chain, its count, its last number and its account.
-use Rattle.std.specs.Prelude.{◌≡◌, ◌⊎◌, ℕ, true, Result, Ok, Err, IfSome, MatchResult}
+use Rattle.std.specs.Prelude.{◌≡◌, ◌⊎◌, ℕ, true, List, Result, Ok, Err, IfSome, MatchResult}
 use Rattle.std.specs.Result.{IsErrAnd}
 use Rattle.cola_outside.specs.Faults.{Rose}
 use Rattle.cola_device.specs.declared.device.Device as device
@@ -31,6 +31,14 @@ module _ {D : Type 0} (d : device.Ghosts D) where
   abbrev pub Owes : Closing D d → Map → Type 0
   Owes closing m = StoreStandsFor closing.header (run.held_of d.bytes closing.runs) m
 
+  -- the store holds whichever map these bytes stand for
+  abbrev pub HoldsFile : Stored D → List ℕ → Type 0
+  HoldsFile store bytes = (m : Map) → FileStandsFor bytes m → Holds d.bytes store m
+
+  -- these bytes stand for whichever map the store held
+  abbrev pub StandsForStore : Stored D → List ℕ → Type 0
+  StandsForStore store bytes = (m : Map) → Holds d.bytes store m → FileStandsFor bytes m
+
   -- the store is open: its cells are those of the file, it has what the header says, nothing is counted yet but what the device had read, written and refused, and where the file stood for a map, the store holds it
   pub record IsStoreOpened (before : D) (cache : ℕ) (store : Stored D) : Type 0 where
     pub header : Header
@@ -38,7 +46,7 @@ module _ {D : Type 0} (d : device.Ghosts D) where
     pub header_is : IsHeaderOf store header
     pub numbers : (store.chain.accepted ≡ 0) × (store.chain.reads ≡ 0) × (store.chain.writes ≡ 0)
     pub account_is : store.account ≡ new_account (record (d.counts before) { others = 0 })
-    pub holds : IfSome (d.bytes before) (λ bytes. (m : Map) → FileStandsFor bytes m → Holds d.bytes store m)
+    pub holds : IfSome (d.bytes before) (HoldsFile store)
     pub reads : HasRead d.counts store
 
   -- what an opening answered, with its cause, and what it left
@@ -48,7 +56,7 @@ module _ {D : Type 0} (d : device.Ghosts D) where
 
   -- the device after an opening
   abbrev pub device_of : Result (Stored D) (D × OpenFault) → D
-  device_of (Ok store) = store.chain.store.buffers.cache.device
+  device_of (Ok store) = run.device_of store.chain.store
   device_of (Err refusal) = refusal.0
 
   -- the store was closed: its file has its header and its cells, and stands for the map that the store held
@@ -56,7 +64,7 @@ module _ {D : Type 0} (d : device.Ghosts D) where
     pub header : Header
     pub header_is : IsHeaderOf store header
     pub closed : IsClosed d header store.chain.store now
-    pub stands : IfSome (d.bytes now) (λ bytes. (m : Map) → Holds d.bytes store m → FileStandsFor bytes m)
+    pub stands : IfSome (d.bytes now) (StandsForStore store)
 
   -- the device failed, and the header and the cells are owed still, for the map that the store held
   pub record IsStoreOwed (store : Stored D) (closing : Closing D d) : Type 0 where
@@ -77,7 +85,8 @@ module _ {D : Type 0} (d : device.Ghosts D) where
 
   -- it gave a store that holds the map, or there was no memory for one, or the device failed
   abbrev pub OpensTo : D → Map → Result (Stored D) (D × OpenFault) → Type 0
-  OpensTo before m result = MatchResult result (λ store. Holds d.bytes store m) (λ refusal. (refusal.1 ≡ OutOfMemory) ⊎ MetFault before refusal)
+  OpensTo before m result = MatchResult result (λ store. Holds d.bytes store m)
+      (λ refusal. (refusal.1 ≡ OutOfMemory) ⊎ MetFault before refusal)
 
   -- it was refused for this reason, or the device failed
   abbrev pub RefusesAs : D → OpenFault → Result (Stored D) (D × OpenFault) → Type 0

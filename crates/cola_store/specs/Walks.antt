@@ -5,13 +5,14 @@ use Rattle.cola_cell.specs.Held.{LawCell, Stamped}
 use Rattle.cola_cell.specs.Spent.{Spent}
 use Rattle.cola_device.specs.declared.counts.Counts.{Counts}
 use Rattle.cola_look.specs.Runs.{AreRuns}
+use Rattle.cola_table.specs.Answers.{KeepsWalks}
 use Rattle.cola_cursor.specs.declared.cursor.Cursor.{Cursor}
 use Rattle.cola_cursor.specs.Lines.{all_left, all_ahead}
 use Rattle.cola_cursor.specs.Results.{LinesCause}
 use Rattle.cola_cursor.specs.Seeking.{places_from, range_ticks, left_sought, RunsCause}
 use Rattle.cola_cursor.specs.Standing as standing
 use Rattle.cola_cursor.specs.Standing.{AnswerCause, LinesPassed, IsPassed, none_hidden, answered_key, with_stamp}
-use Rattle.cola_store.specs.Store.{Stored, held_of, spent_of, levels_of, runs_of}
+use Rattle.cola_store.specs.Store.{Stored, held_of, spent_of, faults_of, levels_of, runs_of}
 use Rattle.cola_store.specs.Calls.{Same}
 
 -- a pair without its stamp
@@ -49,13 +50,35 @@ module _ {D : Type 0} (bytes : D → Option (List ℕ)) where
     pub pairs_are : pairs ≡ map pair_of stamped
     pub visible : standing.runs_of walk.lines.items ≡ runs_of store
 
+  -- the walks that stand over one store stand over the other, with the same pairs ahead
+  abbrev pub WalksStay : (old new : Stored D) → Type 0
+  WalksStay old new = KeepsWalks (Stands old) (Stands new) (Ahead old) (Ahead new)
+
 module _ {D : Type 0} (bytes : D → Option (List ℕ)) (counts : D → Counts) where
+  -- the blocks turned to and left to turn to by a call on a store
+  abbrev pub TurnsBy : (old new : Stored D) → (left most : ℕ) → Type 0
+  TurnsBy old new left most = TurnsWithin (spent_of counts old) (spent_of counts new) left most
+
+  -- why a range is refused: the count of faults rose, or this cell of a visible run is bad
+  abbrev pub RangeCause : (old new : Stored D) → ReadFault → Type 0
+  RangeCause old new = RunsCause (held_of bytes old) (runs_of old) (faults_of counts old) (faults_of counts new)
+
+  -- why a next is: the count of faults rose, or this cell that a line of the walk reads next is bad
+  abbrev pub NextCause : (old new : Stored D) → Cursor → ReadFault → Type 0
+  NextCause old new walk = LinesCause (held_of bytes old) walk.lines.items (faults_of counts old) (faults_of counts new)
+
+  -- what the lines of a walk pass where a next answers this
+  abbrev pub Passes : Stored D → (walk after : Cursor) → Option (List ℕ × List ℕ × ℕ) → Type 0
+  Passes old walk after answer =
+      LinesPassed (held_of bytes old) (answered_key answer) none_hidden walk.lines.items after.lines.items
+
   -- a range with these ends gives a walk whose place in each visible run is where a search stops, or is refused with its cause
   pub record Begins (old : Stored D) (low : List ℕ) (high : Option (List ℕ)) (result : Result Cursor ReadFault) (new : Stored D) : Type 0 where
     pub ends : IfOk result (λ walk. walk.end ≡ high)
-    pub places : (lists : List (List LawCell)) → AreRuns (held_of bytes old) (runs_of old) lists → IfOk result (λ walk. map (λ line. line.place) walk.lines.items ≡ places_from low 0 lists)
-    pub cause : IfErr result (RunsCause (held_of bytes old) (runs_of old) (spent_of counts old).faults (spent_of counts new).faults)
-    pub turns : TurnsWithin (spent_of counts old) (spent_of counts new) (left_sought result) (range_ticks (levels_of old))
+    pub places : (lists : List (List LawCell)) → AreRuns (held_of bytes old) (runs_of old) lists →
+        IfOk result (λ walk. map (λ line. line.place) walk.lines.items ≡ places_from low 0 lists)
+    pub cause : IfErr result (RangeCause old new)
+    pub turns : TurnsBy old new (left_sought result) (range_ticks (levels_of old))
     pub same : Same bytes counts old new
     pub account_is : new.account ≡ old.account
 
@@ -63,15 +86,17 @@ module _ {D : Type 0} (bytes : D → Option (List ℕ)) (counts : D → Counts) 
   pub record Goes (old : Stored D) (walk : Cursor) (result : Result (Option (List ℕ × List ℕ)) ReadFault) (new : Stored D) (after : Cursor) : Type 0 where
     pub stamp : ℕ
     pub answers : IfOk (with_stamp stamp result) (λ answer. AnswerCause after (answered_key answer))
-    pub pair : IfOk (with_stamp stamp result) (IsPassed (held_of bytes old) walk.lines.items after.lines.items)
-    pub passes : IfOk (with_stamp stamp result) (λ answer. LinesPassed (held_of bytes old) (answered_key answer) none_hidden walk.lines.items after.lines.items)
+    pub pair : IfOk (with_stamp stamp result)
+        (IsPassed (held_of bytes old) walk.lines.items after.lines.items)
+    pub passes : IfOk (with_stamp stamp result) (Passes old walk after)
     pub end_is : after.end ≡ walk.end
-    pub cause : IfErr result (LinesCause (held_of bytes old) walk.lines.items (spent_of counts old).faults (spent_of counts new).faults)
-    pub turns : TurnsWithin (spent_of counts old) (spent_of counts new) (left_after after result) (left_of walk)
+    pub cause : IfErr result (NextCause old new walk)
+    pub turns : TurnsBy old new (left_after after result) (left_of walk)
     pub same : Same bytes counts old new
     pub account_is : new.account ≡ old.account
 
   -- answered calls on a walk, one after another, each on the store and the walk that the one before it left
   pub data GoesOn : Stored D → Cursor → Stored D → Cursor → Type 0 where
     Stays : {store : Stored D} {walk : Cursor} → GoesOn store walk store walk
-    Then : {old mid new : Stored D} {walk after last : Cursor} (answer : Option (List ℕ × List ℕ)) → Goes old walk (Ok answer) mid after → GoesOn mid after new last → GoesOn old walk new last
+    Then : {old mid new : Stored D} {walk after last : Cursor} (answer : Option (List ℕ × List ℕ)) →
+        Goes old walk (Ok answer) mid after → GoesOn mid after new last → GoesOn old walk new last

@@ -3,6 +3,7 @@ ghost use Rattle.std.specs.Prelude.{◌≡◌, ◌≤◌, true, length, IfSome};
 ghost use Rattle.cola_layout.specs.Fields.{fields_of};
 ghost use Rattle.cola_layout.specs.Header.{IsSpelling};
 ghost use Rattle.cola_opening.specs.Judged.{file_size};
+ghost use Rattle.cola_run.specs.Store.{device_of};
 
 use cola_device::Device;
 use cola_layout::Header;
@@ -20,7 +21,8 @@ fn bytes_of(header: &Header) -> [u8; 512]
 
 /// Says that the device of a store has its whole file. Nothing is done.
 fn know_whole_file<D: Device>(runs: &RunStore<D>)
-    ensures { IfSome (D.bytes runs.now.buffers.cache.device) (λ bytes. file_size runs.now.geometry.format runs.now.geometry.bottom ≤ length bytes) }
+    ensures { IfSome (D.bytes (device_of runs.now))
+        (λ bytes. file_size runs.now.geometry.format runs.now.geometry.bottom ≤ length bytes) }
 {
     let (_reads, _writes) = runs.transfers();
 }
@@ -56,11 +58,13 @@ impl<D: Device> Closing<D> {
     /// only where the device refused a call; it still owes all, and may be tried again.
     pub fn close(self) -> Result<D, Closing<D>>
         ensures closed { IfOk result (IsClosed D.Device self.header self.runs) }
-        ensures owes { IfErr result (λ now. StillOwes D.Device self.header self.runs now.runs now.header) }
+        ensures owes { IfErr result
+            (λ now. StillOwes D.Device self.header self.runs now.runs now.header) }
         // where a map is owed, the file stands for it, or it is owed still
-        ensures map { (m : Map) → Owes D.Device self m → MatchResult result (λ now. IfSome (D.bytes now) (λ bytes. FileStandsFor bytes m)) (λ now. Owes D.Device now m) }
-        ensures kept_device { IfOk result (λ now. D.kept now ≡ D.kept self.runs.buffers.cache.device) }
-        ensures kept { IfErr result (λ now. D.kept now.runs.buffers.cache.device ≡ D.kept self.runs.buffers.cache.device) }
+        ensures map { (m : Map) → Owes D.Device self m → MatchResult result
+            (λ now. IfSome (D.bytes now) (λ bytes. FileStandsFor bytes m)) (λ now. Owes D.Device now m) }
+        ensures kept_device { IfOk result (λ now. D.kept now ≡ D.kept (device_of self.runs)) }
+        ensures kept { IfErr result (λ now. D.kept (device_of now.runs) ≡ D.kept (device_of self.runs)) }
     {
         let Closing { mut runs, header } = self;
         let bytes = bytes_of(&header);
@@ -75,7 +79,7 @@ impl<D: Device> Closing<D> {
     /// Gives up, and hands the device back as it is. No call of it is made. Its file is in use where no attempt to close was
     /// made; else it is what the last attempt left.
     pub fn into_device(self) -> D
-        ensures { result ≡ self.runs.buffers.cache.device }
+        ensures { result ≡ device_of self.runs }
     {
         self.runs.into_device()
     }

@@ -1,18 +1,18 @@
 //! Deletes: each searches first.
-ghost use Rattle.std.specs.Prelude.{◌≡◌, ◌+◌, ◌*◌, ◌/◌, ◌-◌, ◌≤◌, if◌then◌else◌, None, Some, IfSome, OnErr};
+ghost use Rattle.std.specs.Prelude.{◌≡◌, ◌-◌, Some, Ok, IfSome, OnErr};
+ghost use Rattle.cola_cell.specs.Fault.{step_of_read};
 ghost use Rattle.cola_cell.specs.Format.{KeyFits};
 ghost use Rattle.cola_cell.specs.declared.cell.Item.TheVariants.{Tombstone};
 ghost use Rattle.cola_spec.specs.Bounds.{put_bound};
 ghost use Rattle.cola_spec.specs.Map.{Map, value_of};
 ghost use Rattle.cola_spec.specs.Reply as reply;
-ghost use Rattle.cola_table.specs.Answers.{DeleteAnswers, StepFaults, KeepsWalks, UnlessDeleted};
+ghost use Rattle.cola_table.specs.Answers.{DeleteAnswers, StepFaults, UnlessDeleted};
 ghost use Rattle.cola_table.specs.Replies.{delete_reply, step_failure, read_failure};
-ghost use Rattle.cola_image.specs.Standing.{found_in};
 ghost use Rattle.cola_mutation.specs.Steps.{step_ticks};
-ghost use Rattle.cola_store.specs.Store.{Holds, spent_of, kept_of, geometry_of, levels_of};
-ghost use Rattle.cola_store.specs.Calls as calls;
-ghost use Rattle.cola_store.specs.Calls.{value_found, stamped_found, held_by, Removes, Writes, DeleteFollows, SearchesFirst, TransfersWithin, TicksWithin, with_ticks};
-ghost use Rattle.cola_store.specs.Walks.{Stands, Ahead};
+ghost use Rattle.cola_store.specs.Store.{Holds, faults_of, kept_by, geometry_of};
+ghost use Rattle.cola_store.specs.Calls.{value_found, held_by, FindsIn, Writes, DeleteFollows, SearchesFirst};
+ghost use Rattle.cola_store.specs.Calls.{TransfersWithin, TicksBy, StepTransfers, with_ticks};
+ghost use Rattle.cola_store.specs.Walks.{WalksStay};
 
 use crate::calls::{ticks_between, value_of};
 use crate::store::Store;
@@ -24,13 +24,10 @@ use std::sync::ledger::Ledger;
 
 /// Why a delete was refused whose search was.
 fn read_step_fault(fault: ReadFault) -> StepFault
-    ensures value { result ≡ calls.step_fault_read fault }
+    ensures value { result ≡ step_of_read fault }
     ensures told { step_failure result ≡ read_failure fault }
 {
-    match fault {
-        ReadFault::Device => StepFault::Device,
-        ReadFault::BadCell(cell) => StepFault::BadCell(cell),
-    }
+    StepFault::from(fault)
 }
 
 impl<D: Device> Store<D> {
@@ -55,14 +52,16 @@ impl<D: Device> Store<D> {
         steps: &mut Steps<L>,
     ) -> Result<Option<Value>, StepFault>
         requires { KeyFits (geometry_of self.old).format key.now }
-        ensures writes { Writes D.bytes D.counts self.old self.new key.now Tombstone (self.old.count - 1) self.old.last (reply.Deleted (Some value.now)) (delete_reply (with_ticks result)) }
-        ensures answer { (m : Map) → Holds D.bytes self.old m → value_of m key.now ≡ Some value.now → DeleteAnswers m key.now (Holds D.bytes self.new) (with_ticks result) }
-        ensures faults { StepFaults result (spent_of D.counts self.old).faults (spent_of D.counts self.new).faults }
-        ensures ticks { TicksWithin (spent_of D.counts self.old) (spent_of D.counts self.new) steps.old steps.new (step_ticks (levels_of self.old)) }
-        ensures transfers { (spent_of D.counts self.new).turned + (spent_of D.counts self.new).written
-            ≤ (spent_of D.counts self.old).turned + (spent_of D.counts self.old).written + (9 + 60 * (levels_of self.old / 2)) }
-        ensures kept { kept_of D.bytes D.counts D.kept self.new ≡ kept_of D.bytes D.counts D.kept self.old }
-        ensures walks { OnErr result (KeepsWalks (Stands D.bytes self.old) (Stands D.bytes self.new) (Ahead D.bytes self.old) (Ahead D.bytes self.new)) }
+        ensures writes { Writes D.bytes D.counts self.old self.new key.now Tombstone (self.old.count - 1) self.old.last
+            (reply.Deleted (Some value.now)) (delete_reply (with_ticks result)) }
+        ensures answer { (m : Map) → Holds D.bytes self.old m → value_of m key.now ≡ Some value.now →
+            DeleteAnswers m key.now (Holds D.bytes self.new) (with_ticks result) }
+        ensures faults { StepFaults result
+            (faults_of D.counts self.old) (faults_of D.counts self.new) }
+        ensures ticks { TicksBy D.counts step_ticks self.old self.new steps.old steps.new }
+        ensures transfers { StepTransfers D.counts self.old self.new }
+        ensures kept { kept_by D.Device self.new ≡ kept_by D.Device self.old }
+        ensures walks { OnErr result (WalksStay D.bytes self.old self.new) }
     {
         let after = self.keys_now().saturating_sub(1);
         let last = self.last();
@@ -79,14 +78,16 @@ impl<D: Device> Store<D> {
         found: &Option<Item>,
         steps: &mut Steps<L>,
     ) -> Result<Option<Value>, StepFault>
-        ensures removes { Removes D.bytes D.counts self.old self.new key.now (held_by (geometry_of self.old).format key.now (value_found found.now)) (delete_reply (with_ticks result)) }
-        ensures answer { (m : Map) → Holds D.bytes self.old m → stamped_found found.now ≡ found_in m key.now → DeleteAnswers m key.now (Holds D.bytes self.new) (with_ticks result) }
-        ensures faults { StepFaults result (spent_of D.counts self.old).faults (spent_of D.counts self.new).faults }
-        ensures ticks { TicksWithin (spent_of D.counts self.old) (spent_of D.counts self.new) steps.old steps.new (step_ticks (levels_of self.old)) }
-        ensures transfers { (spent_of D.counts self.new).turned + (spent_of D.counts self.new).written
-            ≤ (spent_of D.counts self.old).turned + (spent_of D.counts self.old).written + (9 + 60 * (levels_of self.old / 2)) }
-        ensures kept { kept_of D.bytes D.counts D.kept self.new ≡ kept_of D.bytes D.counts D.kept self.old }
-        ensures walks { UnlessDeleted (KeepsWalks (Stands D.bytes self.old) (Stands D.bytes self.new) (Ahead D.bytes self.old) (Ahead D.bytes self.new)) (with_ticks result) }
+        ensures removes { DeleteFollows D.bytes D.counts self.old self.new
+            key.now (Ok found.now) (delete_reply (with_ticks result)) }
+        ensures answer { (m : Map) → Holds D.bytes self.old m → FindsIn m key.now (Ok found.now) →
+            DeleteAnswers m key.now (Holds D.bytes self.new) (with_ticks result) }
+        ensures faults { StepFaults result
+            (faults_of D.counts self.old) (faults_of D.counts self.new) }
+        ensures ticks { TicksBy D.counts step_ticks self.old self.new steps.old steps.new }
+        ensures transfers { StepTransfers D.counts self.old self.new }
+        ensures kept { kept_by D.Device self.new ≡ kept_by D.Device self.old }
+        ensures walks { UnlessDeleted (WalksStay D.bytes self.old self.new) (with_ticks result) }
     {
         match self.held_value(key, found) {
             Some(value) => self.take_out(key, &value, steps),
@@ -100,13 +101,16 @@ impl<D: Device> Store<D> {
         key: &Key,
         steps: &mut Steps<L>,
     ) -> Result<Option<Value>, StepFault>
-        ensures searches { SearchesFirst D.bytes D.counts self.old self.new key.now (λ mid search. DeleteFollows D.bytes D.counts mid self.new key.now search (delete_reply (with_ticks result))) }
+        ensures searches { SearchesFirst D.bytes D.counts self.old self.new key.now
+            (λ mid search. DeleteFollows D.bytes D.counts mid self.new key.now search (delete_reply (with_ticks result))) }
         ensures within { TransfersWithin D.bytes D.counts self.old self.new }
-        ensures answer { (m : Map) → Holds D.bytes self.old m → DeleteAnswers m key.now (Holds D.bytes self.new) (with_ticks result) }
-        ensures faults { StepFaults result (spent_of D.counts self.old).faults (spent_of D.counts self.new).faults }
-        ensures ticks { TicksWithin (spent_of D.counts self.old) (spent_of D.counts self.new) steps.old steps.new (put_bound (levels_of self.old)) }
-        ensures kept { kept_of D.bytes D.counts D.kept self.new ≡ kept_of D.bytes D.counts D.kept self.old }
-        ensures walks { UnlessDeleted (KeepsWalks (Stands D.bytes self.old) (Stands D.bytes self.new) (Ahead D.bytes self.old) (Ahead D.bytes self.new)) (with_ticks result) }
+        ensures answer { (m : Map) → Holds D.bytes self.old m →
+            DeleteAnswers m key.now (Holds D.bytes self.new) (with_ticks result) }
+        ensures faults { StepFaults result
+            (faults_of D.counts self.old) (faults_of D.counts self.new) }
+        ensures ticks { TicksBy D.counts put_bound self.old self.new steps.old steps.new }
+        ensures kept { kept_by D.Device self.new ≡ kept_by D.Device self.old }
+        ensures walks { UnlessDeleted (WalksStay D.bytes self.old self.new) (with_ticks result) }
     {
         match self.search(key, steps) {
             Ok(found) => self.delete_found(key, &found, steps),

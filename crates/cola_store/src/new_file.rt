@@ -16,7 +16,8 @@ use cola_opening::size_of;
 
 /// The spelling of the header of a closed store with no keys.
 fn first_bytes(geometry: Geometry) -> [u8; 512]
-    ensures spelled { IsSpelling (new_header geometry.format geometry.keys geometry.block_exp geometry.bottom) result }
+    ensures spelled { IsSpelling
+        (new_header geometry.format geometry.keys geometry.block_exp geometry.bottom) result }
     ensures size { length result ≡ 512 }
 {
     let mut bytes = [0u8; 512];
@@ -28,9 +29,11 @@ fn first_bytes(geometry: Geometry) -> [u8; 512]
 fn fill<D: Device>(device: &mut D, size: u64, header: &[u8; 512]) -> Result<(), DeviceFault>
     requires empty { IsEmpty (D.bytes device.old) }
     requires room { 512 ≤ size }
-    ensures filled { OnOk result (IfSome (D.bytes device.new) (λ bytes. bytes ≡ header.now ++ replicate (size - 512) 0)) }
+    ensures filled { OnOk result (IfSome (D.bytes device.new)
+        (λ bytes. bytes ≡ header.now ++ replicate (size - 512) 0)) }
     ensures settled { OnOk result (IsSettled D.Device device.new) }
-    ensures left { Both (D.bytes device.old) (D.bytes device.new) (λ _ bytes. length bytes ≤ size) }
+    ensures left { Both (D.bytes device.old) (D.bytes device.new)
+        (λ _ bytes. length bytes ≤ size) }
     ensures kept { D.kept device.new ≡ D.kept device.old }
     ensures counts { Called (D.counts device.old) (D.counts device.new) 0 1 2 result }
 {
@@ -41,7 +44,8 @@ fn fill<D: Device>(device: &mut D, size: u64, header: &[u8; 512]) -> Result<(), 
 
 /// Makes the file of these sizes, on a device that is empty.
 fn make<D: Device>(device: &mut D, geometry: Geometry) -> Result<(), CreateFault>
-    ensures created { Created D.Device geometry.format geometry.keys geometry.block_exp device.old device.new result }
+    ensures created { Created D.Device geometry.format geometry.keys geometry.block_exp
+        device.old device.new result }
     ensures kept { D.kept device.new ≡ D.kept device.old }
     ensures counts { CountsOneWrite (D.counts device.old) (D.counts device.new) }
 {

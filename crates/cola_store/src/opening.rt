@@ -2,7 +2,7 @@
 ghost use Rattle.std.specs.Prelude.{◌≡◌, ◌≤◌, IfOk, IfErr};
 ghost use Rattle.cola_device.specs.Bytes.{HasRange};
 ghost use Rattle.cola_run.specs.Cells.{file_bytes};
-ghost use Rattle.cola_run.specs.Store.{new_store};
+ghost use Rattle.cola_run.specs.Store.{new_store, device_of};
 ghost use Rattle.cola_store.specs.Open.{Opens, without_room, device_after, FindsClosed, LoadsAndMarks};
 
 use crate::fault::OpenFault;
@@ -42,7 +42,8 @@ fn take_memory<D: Device>(
 ) -> Result<(RunStore<D>, Room), D>
     requires cache { cache ≤ 4096 }
     requires inside { HasRange (D.bytes device) 0 (file_bytes geometry) }
-    ensures made { IfOk result (λ taken. taken.0 ≡ new_store device (D.counts device) geometry cache) }
+    ensures made { IfOk result
+        (λ taken. taken.0 ≡ new_store device (D.counts device) geometry cache) }
     ensures back { IfErr result (λ now. now ≡ device) }
 {
     let room = match Room::new(alloc) {
@@ -59,7 +60,7 @@ fn take_memory<D: Device>(
 fn load_and_mark<D: Device>(runs: &mut RunStore<D>, header: &Header) -> Result<(), OpenFault>
     requires { header.now.geometry ≡ runs.old.geometry }
     ensures loaded { LoadsAndMarks D.Device header.now runs.old runs.new result }
-    ensures kept { D.kept runs.new.buffers.cache.device ≡ D.kept runs.old.buffers.cache.device }
+    ensures kept { D.kept (device_of runs.new) ≡ D.kept (device_of runs.old) }
 {
     match runs.load(header) {
         Ok(()) => match runs.mark_in_use() {

@@ -1,22 +1,22 @@
 //! Puts and deletes after their searches.
-ghost use Rattle.std.specs.Prelude.{◌≡◌, ◌+◌, ◌*◌, ◌/◌, ◌-◌, ◌≤◌, false, None, OnErr};
+ghost use Rattle.std.specs.Prelude.{◌≡◌, ◌≤◌, false, None, Ok, OnErr};
+ghost use Rattle.cola_cell.specs.Fault.{step_of_read};
 ghost use Rattle.cola_cell.specs.Format.{KeyFits, ValueFits, stamp_limit};
 ghost use Rattle.cola_spec.specs.Bounds.{put_bound};
 ghost use Rattle.cola_spec.specs.Map.{Map};
 ghost use Rattle.cola_spec.specs.Reply as reply;
-ghost use Rattle.cola_table.specs.Answers.{PutAnswers, PutFaults, KeepsWalks};
-ghost use Rattle.cola_table.specs.Replies.{put_reply, put_refused, step_failure, read_failure};
-ghost use Rattle.cola_table.specs.Terms.{shape};
-ghost use Rattle.cola_image.specs.Standing.{found_in};
+ghost use Rattle.cola_table.specs.Answers.{PutAnswers, PutFaults};
+ghost use Rattle.cola_table.specs.Replies.{put_of_step, put_reply, put_refused, step_failure, read_failure};
 ghost use Rattle.cola_mutation.specs.Steps.{step_ticks};
-ghost use Rattle.cola_store.specs.Store.{Holds, spent_of, kept_of, geometry_of, levels_of, terms_of};
+ghost use Rattle.cola_store.specs.Store.{Holds, faults_of, kept_by, geometry_of, map_shape};
 ghost use Rattle.cola_store.specs.Calls as calls;
-ghost use Rattle.cola_store.specs.Calls.{stamped_found, worn_at, decided, refusal_of, count_with, Concludes, PutFollows, SearchesFirst, TransfersWithin, TicksWithin, with_ticks};
-ghost use Rattle.cola_store.specs.Walks.{Stands, Ahead};
+ghost use Rattle.cola_store.specs.Calls.{stamped_found, worn_at, decided_by, number_by, refusal_of, count_with, FindsIn, PutFollows, SearchesFirst};
+ghost use Rattle.cola_store.specs.Calls.{TransfersWithin, TicksBy, StepTransfers, with_ticks};
+ghost use Rattle.cola_store.specs.Walks.{WalksStay};
 
 use crate::calls::{ticks_between, value_of};
 use crate::store::Store;
-use cola_cell::{Format, Item, Key, ReadFault, StepFault, Value};
+use cola_cell::{Format, Item, Key, LAST_STAMP, ReadFault, StepFault, Value};
 use cola_device::Device;
 use cola_outside::Steps;
 use cola_table::{Put, PutFault, Table};
@@ -24,25 +24,18 @@ use std::sync::ledger::Ledger;
 
 /// Why a put was refused whose step was.
 fn put_fault(fault: StepFault) -> PutFault
-    ensures value { result ≡ calls.put_fault fault }
+    ensures value { result ≡ put_of_step fault }
     ensures told { put_refused result ≡ reply.Failed (step_failure fault) }
 {
-    match fault {
-        StepFault::Device => PutFault::Device,
-        StepFault::BadCell(cell) => PutFault::BadCell(cell),
-        StepFault::Overfull(level) => PutFault::Overfull(level),
-    }
+    PutFault::from(fault)
 }
 
 /// Why a put was refused whose search was.
 pub(crate) fn read_put_fault(fault: ReadFault) -> PutFault
-    ensures value { result ≡ calls.put_fault (calls.step_fault_read fault) }
+    ensures value { result ≡ put_of_step (step_of_read fault) }
     ensures told { put_refused result ≡ reply.Failed (read_failure fault) }
 {
-    match fault {
-        ReadFault::Device => PutFault::Device,
-        ReadFault::BadCell(cell) => PutFault::BadCell(cell),
-    }
+    PutFault::from(fault)
 }
 
 /// What an accepted put answers to a key that had this value, or none.
@@ -58,18 +51,18 @@ fn put_of(old: Option<Value>) -> Put
 impl<D: Device> Store<D> {
     /// Whether no number is left to give.
     fn is_worn(&self) -> bool
-        ensures { result ≡ worn_at (shape (terms_of self.now)) self.now.last }
+        ensures { result ≡ worn_at (map_shape self.now) self.now.last }
     {
         match self.format() {
             Format::One => false,
-            Format::Two => self.last() >= 1 << 63,
+            Format::Two => self.last() >= LAST_STAMP,
         }
     }
 
     /// The number that the value of a put gets, to a key of which this was found.
     fn next_number(&self) -> u64
-        requires { worn_at (shape (terms_of self.now)) self.now.last ≡ false }
-        ensures value { result ≡ calls.next_number (shape (terms_of self.now)) self.now.last }
+        requires { worn_at (map_shape self.now) self.now.last ≡ false }
+        ensures value { result ≡ number_by self.now }
         ensures fits { result ≤ stamp_limit (geometry_of self.now).format }
     {
         match self.format() {
@@ -81,7 +74,7 @@ impl<D: Device> Store<D> {
     /// Why a put to a key of which this was found is refused: full where a new key meets the limit, then worn where no number
     /// is left.
     fn refusal(&self, found: &Option<Item>) -> Option<PutFault>
-        ensures { result ≡ refusal_of (decided (shape (terms_of self.now)) self.now.count self.now.last (stamped_found found.now)) }
+        ensures { result ≡ refusal_of (decided_by self.now (stamped_found found.now)) }
     {
         let old = value_of(found);
         if old.is_none() && self.keys_now() >= self.limit() {
@@ -95,7 +88,7 @@ impl<D: Device> Store<D> {
 
     /// How many keys there are after a put to a key of which this was found.
     fn count_after(&self, found: &Option<Item>) -> u64
-        requires { refusal_of (decided (shape (terms_of self.now)) self.now.count self.now.last (stamped_found found.now)) ≡ None }
+        requires { refusal_of (decided_by self.now (stamped_found found.now)) ≡ None }
         ensures value { result ≡ count_with self.now.count (stamped_found found.now) }
         ensures fits { result ≤ (geometry_of self.now).keys }
     {
@@ -116,14 +109,16 @@ impl<D: Device> Store<D> {
     ) -> Result<Put, PutFault>
         requires key_fits { KeyFits (geometry_of self.old).format key.now }
         requires value_fits { ValueFits (geometry_of self.old).format value.now }
-        ensures concludes { Concludes D.bytes D.counts (decided (shape (terms_of self.old)) self.old.count self.old.last (stamped_found found.now)) self.old self.new key.now value.now (stamped_found found.now) (put_reply (with_ticks result)) }
-        ensures answer { (m : Map) → Holds D.bytes self.old m → stamped_found found.now ≡ found_in m key.now → PutAnswers (shape (terms_of self.old)) m key.now value.now (Holds D.bytes self.new) (with_ticks result) }
-        ensures faults { PutFaults result (spent_of D.counts self.old).faults (spent_of D.counts self.new).faults }
-        ensures ticks { TicksWithin (spent_of D.counts self.old) (spent_of D.counts self.new) steps.old steps.new (step_ticks (levels_of self.old)) }
-        ensures transfers { (spent_of D.counts self.new).turned + (spent_of D.counts self.new).written
-            ≤ (spent_of D.counts self.old).turned + (spent_of D.counts self.old).written + (9 + 60 * (levels_of self.old / 2)) }
-        ensures kept { kept_of D.bytes D.counts D.kept self.new ≡ kept_of D.bytes D.counts D.kept self.old }
-        ensures walks { OnErr result (KeepsWalks (Stands D.bytes self.old) (Stands D.bytes self.new) (Ahead D.bytes self.old) (Ahead D.bytes self.new)) }
+        ensures concludes { PutFollows D.bytes D.counts self.old self.new
+            key.now value.now (Ok found.now) (put_reply (with_ticks result)) }
+        ensures answer { (m : Map) → Holds D.bytes self.old m → FindsIn m key.now (Ok found.now) →
+            PutAnswers (map_shape self.old) m key.now value.now (Holds D.bytes self.new) (with_ticks result) }
+        ensures faults { PutFaults result
+            (faults_of D.counts self.old) (faults_of D.counts self.new) }
+        ensures ticks { TicksBy D.counts step_ticks self.old self.new steps.old steps.new }
+        ensures transfers { StepTransfers D.counts self.old self.new }
+        ensures kept { kept_by D.Device self.new ≡ kept_by D.Device self.old }
+        ensures walks { OnErr result (WalksStay D.bytes self.old self.new) }
     {
         match self.refusal(found) {
             Some(fault) => return Err(fault),
@@ -151,13 +146,16 @@ impl<D: Device> Store<D> {
     ) -> Result<Put, PutFault>
         requires key_fits { KeyFits (geometry_of self.old).format key.now }
         requires value_fits { ValueFits (geometry_of self.old).format value.now }
-        ensures searches { SearchesFirst D.bytes D.counts self.old self.new key.now (λ mid search. PutFollows D.bytes D.counts mid self.new key.now value.now search (put_reply (with_ticks result))) }
+        ensures searches { SearchesFirst D.bytes D.counts self.old self.new key.now
+            (λ mid search. PutFollows D.bytes D.counts mid self.new key.now value.now search (put_reply (with_ticks result))) }
         ensures within { TransfersWithin D.bytes D.counts self.old self.new }
-        ensures answer { (m : Map) → Holds D.bytes self.old m → PutAnswers (shape (terms_of self.old)) m key.now value.now (Holds D.bytes self.new) (with_ticks result) }
-        ensures faults { PutFaults result (spent_of D.counts self.old).faults (spent_of D.counts self.new).faults }
-        ensures ticks { TicksWithin (spent_of D.counts self.old) (spent_of D.counts self.new) steps.old steps.new (put_bound (levels_of self.old)) }
-        ensures kept { kept_of D.bytes D.counts D.kept self.new ≡ kept_of D.bytes D.counts D.kept self.old }
-        ensures walks { OnErr result (KeepsWalks (Stands D.bytes self.old) (Stands D.bytes self.new) (Ahead D.bytes self.old) (Ahead D.bytes self.new)) }
+        ensures answer { (m : Map) → Holds D.bytes self.old m →
+            PutAnswers (map_shape self.old) m key.now value.now (Holds D.bytes self.new) (with_ticks result) }
+        ensures faults { PutFaults result
+            (faults_of D.counts self.old) (faults_of D.counts self.new) }
+        ensures ticks { TicksBy D.counts put_bound self.old self.new steps.old steps.new }
+        ensures kept { kept_by D.Device self.new ≡ kept_by D.Device self.old }
+        ensures walks { OnErr result (WalksStay D.bytes self.old self.new) }
     {
         match self.search(key, steps) {
             Ok(found) => self.put_found(key, value, &found, steps),

@@ -1,6 +1,7 @@
 //! How a store is opened on the file that a device has, and closed.
 ghost use Rattle.std.specs.Prelude.{◌≡◌, ◌≤◌, IfOk, IfErr};
 ghost use Rattle.cola_chain.specs.Account.{IsContents};
+ghost use Rattle.cola_run.specs.Store as run;
 ghost use Rattle.cola_store.specs.Sessions.{OpensStore, ClosesStore, device_of};
 
 use crate::closing::Closing;
@@ -62,8 +63,9 @@ impl<D: Device> Store<D> {
     /// where the device refused a call; what it gives owes all still, and may be closed again.
     pub fn close(self) -> Result<D, Closing<D>>
         ensures closes { ClosesStore D.Device self result }
-        ensures kept_device { IfOk result (λ now. D.kept now ≡ D.kept self.chain.store.buffers.cache.device) }
-        ensures kept { IfErr result (λ now. D.kept now.runs.buffers.cache.device ≡ D.kept self.chain.store.buffers.cache.device) }
+        ensures kept_device { IfOk result (λ now. D.kept now ≡ D.kept (run.device_of self.chain.store)) }
+        ensures kept { IfErr result
+            (λ now. D.kept (run.device_of now.runs) ≡ D.kept (run.device_of self.chain.store)) }
     {
         let (chain, count, last) = self.into_parts();
         know_chain(&chain);

@@ -1,5 +1,5 @@
 //! An open store: its chain, how many keys it has, and the last number that was given to a value.
-ghost use Rattle.std.specs.Prelude.{◌≡◌, ◌+◌, ◌*◌, ◌/◌, ◌%◌, ◌^◌, ◌≤◌, length, OnErr, MatchResult};
+ghost use Rattle.std.specs.Prelude.{◌≡◌, ◌+◌, ◌%◌, ◌^◌, ◌≤◌, length, OnErr, MatchResult};
 ghost use Rattle.cola_laws.specs.Chain.{updated};
 ghost use Rattle.cola_cell.specs.Format.{KeyFits, ItemFits, stamp_limit};
 ghost use Rattle.cola_cell.specs.Held.{as_item};
@@ -7,16 +7,15 @@ ghost use Rattle.cola_cell.specs.Order.{key_cmp};
 ghost use Rattle.cola_spec.specs.Bounds.{get_bound};
 ghost use Rattle.cola_spec.specs.Map as map;
 ghost use Rattle.cola_spec.specs.Map.{Map, IsMap};
-ghost use Rattle.cola_table.specs.Answers.{ReadFaults, StepFaults, OnlyDevice, KeepsWalks};
-ghost use Rattle.cola_table.specs.Terms.{shape};
+ghost use Rattle.cola_table.specs.Answers.{ReadFaults, StepFaults, OnlyDevice};
 ghost use Rattle.cola_image.specs.Standing.{found_in};
 ghost use Rattle.cola_mutation.specs.Steps.{step_ticks};
 ghost use Rattle.cola_chain.specs.Account.{IsPaid};
 ghost use Rattle.cola_chain.specs.Contents as chain_held;
-ghost use Rattle.cola_store.specs.Store.{new_account, IsStored, IsMadeAfter, Holds, spent_of, kept_of, geometry_of, levels_of, terms_of};
-ghost use Rattle.cola_store.specs.Calls.{FindsIn, Searches, TicksWithin};
+ghost use Rattle.cola_store.specs.Store.{new_account, IsStored, IsMadeAfter, Holds, spent_of, faults_of, kept_by, geometry_of, levels_of, map_shape};
+ghost use Rattle.cola_store.specs.Calls.{FindsIn, Searches, TicksBy, StepTransfers};
 ghost use Rattle.cola_store.specs.Calls as calls;
-ghost use Rattle.cola_store.specs.Walks.{Stands, Ahead};
+ghost use Rattle.cola_store.specs.Walks.{WalksStay};
 
 use crate::account::{Account, one_more};
 use cola_cell::{CellSource, Item, Key, ReadFault, StepFault};
@@ -151,9 +150,10 @@ impl<D: Device> Store<D> {
     ) -> Result<Option<Item>, ReadFault>
         ensures searches { Searches D.bytes D.counts self.old self.new key.now result }
         ensures right { (m : Map) → Holds D.bytes self.old m → FindsIn m key.now result }
-        ensures faults { ReadFaults result (spent_of D.counts self.old).faults (spent_of D.counts self.new).faults }
-        ensures ticks { TicksWithin (spent_of D.counts self.old) (spent_of D.counts self.new) steps.old steps.new (get_bound (levels_of self.old)) }
-        ensures kept { kept_of D.bytes D.counts D.kept self.new ≡ kept_of D.bytes D.counts D.kept self.old }
+        ensures faults { ReadFaults result
+            (faults_of D.counts self.old) (faults_of D.counts self.new) }
+        ensures ticks { TicksBy D.counts get_bound self.old self.new steps.old steps.new }
+        ensures kept { kept_by D.Device self.new ≡ kept_by D.Device self.old }
     {
         self.account.searches = one_more(self.account.searches);
         let runs = self.chain.visible();
@@ -176,14 +176,16 @@ impl<D: Device> Store<D> {
         requires last_fits { last ≤ stamp_limit (geometry_of self.old).format }
         ensures steps { calls.Steps D.bytes D.counts self.old self.new key.now item.now count last result }
         // on a store that stands for a map, where the count and the number are those of the map with the item
-        ensures right { (m after : Map) → Holds D.bytes self.old m → IsMap (shape (terms_of self.old)) after → found_in after ≡ updated key_cmp key.now (as_item item.now) (found_in m) →
-            count ≡ map.count after → last ≡ after.last → MatchResult result (λ _. Holds D.bytes self.new after) (λ fault. OnlyDevice fault × Holds D.bytes self.new m) }
-        ensures faults { StepFaults result (spent_of D.counts self.old).faults (spent_of D.counts self.new).faults }
-        ensures ticks { TicksWithin (spent_of D.counts self.old) (spent_of D.counts self.new) steps.old steps.new (step_ticks (levels_of self.old)) }
-        ensures transfers { (spent_of D.counts self.new).turned + (spent_of D.counts self.new).written
-            ≤ (spent_of D.counts self.old).turned + (spent_of D.counts self.old).written + (9 + 60 * (levels_of self.old / 2)) }
-        ensures kept { kept_of D.bytes D.counts D.kept self.new ≡ kept_of D.bytes D.counts D.kept self.old }
-        ensures walks { OnErr result (KeepsWalks (Stands D.bytes self.old) (Stands D.bytes self.new) (Ahead D.bytes self.old) (Ahead D.bytes self.new)) }
+        ensures right { (m after : Map) → Holds D.bytes self.old m → IsMap (map_shape self.old) after →
+            found_in after ≡ updated key_cmp key.now (as_item item.now) (found_in m) →
+            count ≡ map.count after → last ≡ after.last →
+            MatchResult result (λ _. Holds D.bytes self.new after) (λ fault. OnlyDevice fault × Holds D.bytes self.new m) }
+        ensures faults { StepFaults result
+            (faults_of D.counts self.old) (faults_of D.counts self.new) }
+        ensures ticks { TicksBy D.counts step_ticks self.old self.new steps.old steps.new }
+        ensures transfers { StepTransfers D.counts self.old self.new }
+        ensures kept { kept_by D.Device self.new ≡ kept_by D.Device self.old }
+        ensures walks { OnErr result (WalksStay D.bytes self.old self.new) }
     {
         match self.chain.step(key, item, steps) {
             Ok(()) => {

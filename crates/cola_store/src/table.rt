@@ -49,6 +49,10 @@ impl<D: Device> Table for Store<D> {
 
     /// Gives the key a value. Full exactly where a new key meets the limit, and then worn where no number is left to give,
     /// in format Two after `2^63`. A refusal leaves the count, the last number and every visible run.
+    ///
+    /// Its step is refused where the device failed; where a cell that a merge reads next is bad; and as overfull, by the
+    /// number of a level that works at this clock, or of level 0, where the next run of that level fills its slot and a step
+    /// would emit another cell. On a store that stands for a map it is refused by the device alone.
     fn put<L: Ledger>(
         &mut self,
         key: &Key,
@@ -80,7 +84,8 @@ impl<D: Device> Table for Store<D> {
 
     /// Takes the key out, and answers the value that it had. An absent key, a deleted one, and one that does not fit the
     /// format are answered none: no step is made, and the clock stays. A delete takes no number. A refusal leaves the count,
-    /// the last number and every visible run.
+    /// the last number and every visible run. Its step is refused where the step of a put is: as overfull by a level that
+    /// works at this clock, or by level 0, whose next run fills its slot where a step would emit another cell.
     fn delete<L: Ledger>(
         &mut self,
         key: &Key,

@@ -4,4 +4,3 @@ pub mod Replies
 pub mod Flat
 pub mod Walks
 pub mod Slots
-pub mod Stamps

@@ -1,9 +1,9 @@
 -- What the calls of a table answer, as replies and turns of a session.
 use Rattle.std.specs.Prelude.{ℕ, List, Option, Some, Result, Ok, Err}
 use Rattle.cola_cell.specs.declared.fault.ReadFault.{ReadFault}
-use Rattle.cola_cell.specs.declared.fault.ReadFault.TheVariants as read
 use Rattle.cola_cell.specs.declared.fault.StepFault.{StepFault}
 use Rattle.cola_cell.specs.declared.fault.StepFault.TheVariants as step
+use Rattle.cola_cell.specs.Fault.{step_of_read}
 use Rattle.cola_spec.specs.Map as map
 use Rattle.cola_spec.specs.Command.{Command}
 use Rattle.cola_spec.specs.Reply as reply
@@ -36,8 +36,15 @@ step_failure (step.Overfull level) = reply.Overfull level
 
 -- why a reading was refused
 abbrev pub read_failure : ReadFault → reply.Failure
-read_failure read.Device = reply.Fault
-read_failure (read.BadCell cell) = reply.Damaged cell
+read_failure refusal = step_failure (step_of_read refusal)
+
+-- Refusals of a step or a read within a put
+
+-- a put's refusal by a step has the step's cause
+abbrev pub put_of_step : StepFault → PutFault
+put_of_step step.Device = fault.Device
+put_of_step (step.BadCell cell) = fault.BadCell cell
+put_of_step (step.Overfull level) = fault.Overfull level
 
 -- Results as replies: what a call gave beside its number of steps, or why it was refused
 

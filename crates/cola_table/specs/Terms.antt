@@ -1,8 +1,7 @@
 -- What a table is held to: its format, its limit and its levels, which no call changes, and what one call may spend.
-use Rattle.std.specs.Prelude.{ℕ, ◌+◌, ◌≤◌, ◌≡◌, Bool, true, false}
+use Rattle.std.specs.Prelude.{ℕ, ◌+◌, ◌≤◌, ◌≡◌}
 use Rattle.cola_cell.specs.declared.format.Format.{Format}
-use Rattle.cola_cell.specs.declared.format.Format.TheVariants.{One, Two}
-use Rattle.cola_cell.specs.Format.{key_limit, value_limit}
+use Rattle.cola_cell.specs.Shapes.{shape_of}
 use Rattle.cola_spec.specs.Map.{Shape}
 
 -- the format of a table's keys and values, the most keys that it holds, and the number that bounds its cell accesses
@@ -10,15 +9,6 @@ pub record Terms : Type 0 where
   pub format : Format
   pub limit : ℕ
   pub depth : ℕ
-
--- whether puts take stamps: in format Two
-abbrev pub is_stamped : Format → Bool
-is_stamped One = false
-is_stamped Two = true
-
--- the maps of a format with a limit
-abbrev pub shape_of : Format → ℕ → Shape
-shape_of format limit = record { limit = limit; key_limit = key_limit format; value_limit = value_limit format; stamped = is_stamped format }
 
 -- the maps that a table of these terms may stand for
 abbrev pub shape : Terms → Shape

@@ -232,13 +232,17 @@ impl Table for FlatTable {
         high: Option<&Key>,
         steps: &mut Steps<L>,
     ) -> Result<FlatWalk, ReadFault>
-        ensures answer { (m : Map) → m ≡ self.old.map → RangeAnswers m low.now (option_copied high.entry) (λ m'. m' ≡ self.new.map) (Ahead self.new) result }
+        ensures answer { (m : Map) → m ≡ self.old.map →
+            RangeAnswers m low.now (option_copied high.entry) (λ m'. m' ≡ self.new.map)
+            (Ahead self.new) result }
         ensures stands { IfOk result (λ walk. Stands self.new walk) }
         ensures most { IfOk result (λ walk. most_ahead walk < 2 ^ 64) }
-        ensures call { Call (terms_of self.old) (terms_of self.new) 0 0 steps.old steps.new (range_bound 0) }
+        ensures call { Call (terms_of self.old) (terms_of self.new) 0 0 steps.old steps.new
+            (range_bound 0) }
         ensures left { IfOk result (λ _. steps.new + 0 ≤ steps.old + range_bound 0) }
         ensures faults { ReadFaults result 0 0 }
-        ensures walks { KeepsWalks (Stands self.old) (Stands self.new) (Ahead self.old) (Ahead self.new) }
+        ensures walks { KeepsWalks (Stands self.old) (Stands self.new) (Ahead self.old)
+            (Ahead self.new) }
         // Those were the trait's clauses; and no step is made.
         ensures free { steps.new ≡ steps.old }
     {

@@ -7,7 +7,7 @@ mod flat;
 mod law;
 mod table;
 
-use cola_cell::Value;
+use cola_cell::{ReadFault, StepFault, Value};
 pub use flat::{FlatTable, FlatWalk};
 pub use law::{entries_fit_cells, stored_is_stamped};
 pub use table::Table;
@@ -65,4 +65,36 @@ pub enum PutFault {
     /// The next run of this level has no room. Never on a sound table.
     #[error("the next run of level {0} has no room: the file is damaged")]
     Overfull(u8),
+}
+
+impl From<StepFault> for PutFault {
+    ghost use Rattle.std.specs.Prelude.{◌≡◌};
+    ghost use Rattle.cola_spec.specs.Reply.{Failed};
+    ghost use Rattle.cola_table.specs.Replies.{put_of_step, put_refused, step_failure};
+
+    ghost from_gives = { λ fault put. (put ≡ put_of_step fault) × (put_refused put ≡ Failed (step_failure fault)) };
+
+    fn from(fault: StepFault) -> PutFault {
+        match fault {
+            StepFault::Device => PutFault::Device,
+            StepFault::BadCell(cell) => PutFault::BadCell(cell),
+            StepFault::Overfull(level) => PutFault::Overfull(level),
+        }
+    }
+}
+
+impl From<ReadFault> for PutFault {
+    ghost use Rattle.std.specs.Prelude.{◌≡◌};
+    ghost use Rattle.cola_spec.specs.Reply.{Failed};
+    ghost use Rattle.cola_cell.specs.Fault.{step_of_read};
+    ghost use Rattle.cola_table.specs.Replies.{put_of_step, put_refused, read_failure};
+
+    ghost from_gives = { λ fault put. (put ≡ put_of_step (step_of_read fault)) × (put_refused put ≡ Failed (read_failure fault)) };
+
+    fn from(fault: ReadFault) -> PutFault {
+        match fault {
+            ReadFault::Device => PutFault::Device,
+            ReadFault::BadCell(cell) => PutFault::BadCell(cell),
+        }
+    }
 }

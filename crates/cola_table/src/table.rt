@@ -86,13 +86,18 @@ pub trait Table {
     ) -> Result<(Put, u32), PutFault>
         requires key_fits { KeyFits (terms self.old).format key.now }
         requires value_fits { ValueFits (terms self.old).format value.now }
-        ensures answer { (m : Map) → holds self.old m → PutAnswers (shape (terms self.old)) m key.now value.now (holds self.new) result }
-        ensures given { answers self.old (turn_of (spec.Put key.now value.now) (put_reply result) (steps.new - steps.old)) self.new }
-        ensures call { Call (terms self.old) (terms self.new) (faults self.old) (faults self.new) steps.old steps.new (put_bound (terms self.old).depth) }
+        ensures answer { (m : Map) → holds self.old m →
+            PutAnswers (shape (terms self.old)) m key.now value.now (holds self.new) result }
+        ensures given { answers self.old
+            (turn_of (spec.Put key.now value.now) (put_reply result)
+            (steps.new - steps.old)) self.new }
+        ensures call { Call (terms self.old) (terms self.new) (faults self.old)
+            (faults self.new) steps.old steps.new (put_bound (terms self.old).depth) }
         ensures counted { IfOk result (λ answer. steps.new ≡ steps.old + answer.1) }
         ensures faults { PutFaults result (faults self.old) (faults self.new) }
         ensures kept { kept self.new ≡ kept self.old }
-        ensures walks { OnErr result (KeepsWalks (stands self.old) (stands self.new) (ahead self.old) (ahead self.new)) };
+        ensures walks { OnErr result
+            (KeepsWalks (stands self.old) (stands self.new) (ahead self.old) (ahead self.new)) };
 
     /// A put that is made only where the key has the stamp seen, 0 where it is absent. That is tried
     /// before the causes of a put. In format One each stamp is 0.
@@ -105,13 +110,19 @@ pub trait Table {
     ) -> Result<(PutIf, u32), PutFault>
         requires key_fits { KeyFits (terms self.old).format key.now }
         requires value_fits { ValueFits (terms self.old).format value.now }
-        ensures answer { (m : Map) → holds self.old m → PutIfAnswers (shape (terms self.old)) m key.now seen value.now (holds self.new) result }
-        ensures given { answers self.old (turn_of (spec.PutIf key.now seen value.now) (put_if_reply result) (steps.new - steps.old)) self.new }
-        ensures call { Call (terms self.old) (terms self.new) (faults self.old) (faults self.new) steps.old steps.new (put_bound (terms self.old).depth) }
+        ensures answer { (m : Map) → holds self.old m →
+            PutIfAnswers (shape (terms self.old)) m key.now seen value.now (holds self.new) result }
+        ensures given { answers self.old
+            (turn_of (spec.PutIf key.now seen value.now) (put_if_reply result)
+            (steps.new - steps.old)) self.new }
+        ensures call { Call (terms self.old) (terms self.new) (faults self.old)
+            (faults self.new) steps.old steps.new (put_bound (terms self.old).depth) }
         ensures counted { IfOk result (λ answer. steps.new ≡ steps.old + answer.1) }
         ensures faults { PutFaults result (faults self.old) (faults self.new) }
         ensures kept { kept self.new ≡ kept self.old }
-        ensures walks { UnlessPut (KeepsWalks (stands self.old) (stands self.new) (ahead self.old) (ahead self.new)) result };
+        ensures walks { UnlessPut
+            (KeepsWalks (stands self.old) (stands self.new) (ahead self.old)
+            (ahead self.new)) result };
 
     /// Takes the key out, and answers the value that it had.
     fn delete<L: Ledger>(
@@ -119,13 +130,18 @@ pub trait Table {
         key: &Key,
         steps: &mut Steps<L>,
     ) -> Result<(Option<Value>, u32), StepFault>
-        ensures answer { (m : Map) → holds self.old m → DeleteAnswers m key.now (holds self.new) result }
-        ensures given { answers self.old (turn_of (spec.Del key.now) (delete_reply result) (steps.new - steps.old)) self.new }
-        ensures call { Call (terms self.old) (terms self.new) (faults self.old) (faults self.new) steps.old steps.new (put_bound (terms self.old).depth) }
+        ensures answer { (m : Map) → holds self.old m →
+            DeleteAnswers m key.now (holds self.new) result }
+        ensures given { answers self.old
+            (turn_of (spec.Del key.now) (delete_reply result) (steps.new - steps.old)) self.new }
+        ensures call { Call (terms self.old) (terms self.new) (faults self.old)
+            (faults self.new) steps.old steps.new (put_bound (terms self.old).depth) }
         ensures counted { IfOk result (λ answer. steps.new ≡ steps.old + answer.1) }
         ensures faults { StepFaults result (faults self.old) (faults self.new) }
         ensures kept { kept self.new ≡ kept self.old }
-        ensures walks { UnlessDeleted (KeepsWalks (stands self.old) (stands self.new) (ahead self.old) (ahead self.new)) result };
+        ensures walks { UnlessDeleted
+            (KeepsWalks (stands self.old) (stands self.new) (ahead self.old)
+            (ahead self.new)) result };
 
     /// The value of the key.
     fn get<L: Ledger>(
@@ -133,13 +149,17 @@ pub trait Table {
         key: &Key,
         steps: &mut Steps<L>,
     ) -> Result<(Option<Value>, u32), ReadFault>
-        ensures answer { (m : Map) → holds self.old m → GetAnswers m key.now (holds self.new) result }
-        ensures given { answers self.old (turn_of (spec.Get key.now) (get_reply result) (steps.new - steps.old)) self.new }
-        ensures call { Call (terms self.old) (terms self.new) (faults self.old) (faults self.new) steps.old steps.new (get_bound (terms self.old).depth) }
+        ensures answer { (m : Map) → holds self.old m →
+            GetAnswers m key.now (holds self.new) result }
+        ensures given { answers self.old
+            (turn_of (spec.Get key.now) (get_reply result) (steps.new - steps.old)) self.new }
+        ensures call { Call (terms self.old) (terms self.new) (faults self.old)
+            (faults self.new) steps.old steps.new (get_bound (terms self.old).depth) }
         ensures counted { IfOk result (λ answer. steps.new ≡ steps.old + answer.1) }
         ensures faults { ReadFaults result (faults self.old) (faults self.new) }
         ensures kept { kept self.new ≡ kept self.old }
-        ensures walks { KeepsWalks (stands self.old) (stands self.new) (ahead self.old) (ahead self.new) };
+        ensures walks { KeepsWalks (stands self.old) (stands self.new) (ahead self.old)
+            (ahead self.new) };
 
     /// The stamp of the key: the number of the put that gave its value, and 0 in format One.
     fn stamp<L: Ledger>(
@@ -147,13 +167,17 @@ pub trait Table {
         key: &Key,
         steps: &mut Steps<L>,
     ) -> Result<(Option<u64>, u32), ReadFault>
-        ensures answer { (m : Map) → holds self.old m → StampAnswers m key.now (holds self.new) result }
-        ensures given { answers self.old (turn_of (spec.Stamp key.now) (stamp_reply result) (steps.new - steps.old)) self.new }
-        ensures call { Call (terms self.old) (terms self.new) (faults self.old) (faults self.new) steps.old steps.new (get_bound (terms self.old).depth) }
+        ensures answer { (m : Map) → holds self.old m →
+            StampAnswers m key.now (holds self.new) result }
+        ensures given { answers self.old
+            (turn_of (spec.Stamp key.now) (stamp_reply result) (steps.new - steps.old)) self.new }
+        ensures call { Call (terms self.old) (terms self.new) (faults self.old)
+            (faults self.new) steps.old steps.new (get_bound (terms self.old).depth) }
         ensures counted { IfOk result (λ answer. steps.new ≡ steps.old + answer.1) }
         ensures faults { ReadFaults result (faults self.old) (faults self.new) }
         ensures kept { kept self.new ≡ kept self.old }
-        ensures walks { KeepsWalks (stands self.old) (stands self.new) (ahead self.old) (ahead self.new) };
+        ensures walks { KeepsWalks (stands self.old) (stands self.new) (ahead self.old)
+            (ahead self.new) };
 
     /// A walk over the pairs from `low` on and below `high`, by rising keys; with no upper end where
     /// `high` is absent.
@@ -163,15 +187,20 @@ pub trait Table {
         high: Option<&Key>,
         steps: &mut Steps<L>,
     ) -> Result<Self::Walk, ReadFault>
-        ensures answer { (m : Map) → holds self.old m → RangeAnswers m low.now (option_copied high.entry) (holds self.new) (ahead self.new) result }
+        ensures answer { (m : Map) → holds self.old m →
+            RangeAnswers m low.now (option_copied high.entry) (holds self.new)
+            (ahead self.new) result }
         ensures given { begins self.old low.now (option_copied high.entry) result self.new }
         ensures stands { IfOk result (λ walk. stands self.new walk) }
         ensures most { IfOk result (λ walk. most walk < 2 ^ 64) }
-        ensures call { Call (terms self.old) (terms self.new) (faults self.old) (faults self.new) steps.old steps.new (range_bound (terms self.old).depth) }
-        ensures left { IfOk result (λ walk. steps.new + left walk ≤ steps.old + range_bound (terms self.old).depth) }
+        ensures call { Call (terms self.old) (terms self.new) (faults self.old)
+            (faults self.new) steps.old steps.new (range_bound (terms self.old).depth) }
+        ensures left { IfOk result
+            (λ walk. steps.new + left walk ≤ steps.old + range_bound (terms self.old).depth) }
         ensures faults { ReadFaults result (faults self.old) (faults self.new) }
         ensures kept { kept self.new ≡ kept self.old }
-        ensures walks { KeepsWalks (stands self.old) (stands self.new) (ahead self.old) (ahead self.new) };
+        ensures walks { KeepsWalks (stands self.old) (stands self.new) (ahead self.old)
+            (ahead self.new) };
 
     /// The next pair of the walk, or none where none is left. A refused call leaves the walk as it was,
     /// so that it may be asked again.
@@ -181,15 +210,18 @@ pub trait Table {
         steps: &mut Steps<L>,
     ) -> Result<Option<(Key, Value)>, ReadFault>
         requires { stands self.old walk.old }
-        ensures answer { (m : Map) (pairs : List (List ℕ × List ℕ)) → holds self.old m → ahead self.old walk.old pairs → NextAnswers (ahead self.new walk.new) pairs result }
+        ensures answer { (m : Map) (pairs : List (List ℕ × List ℕ)) → holds self.old m →
+            ahead self.old walk.old pairs → NextAnswers (ahead self.new walk.new) pairs result }
         ensures sound { (m : Map) → holds self.old m → holds self.new m }
         ensures given { goes self.old walk.old result self.new walk.new }
         ensures stands { stands self.new walk.new }
-        ensures call { Call (terms self.old) (terms self.new) (faults self.old) (faults self.new) steps.old steps.new (left walk.old) }
+        ensures call { Call (terms self.old) (terms self.new) (faults self.old)
+            (faults self.new) steps.old steps.new (left walk.old) }
         ensures left { OnOk result (steps.new + left walk.new ≤ steps.old + left walk.old) }
         ensures refused { OnErr result (walk.new ≡ walk.old) }
         ensures fewer { IfOk result (λ answer. OnSome answer (most walk.new < most walk.old)) }
         ensures faults { ReadFaults result (faults self.old) (faults self.new) }
         ensures kept { kept self.new ≡ kept self.old }
-        ensures walks { KeepsWalks (stands self.old) (stands self.new) (ahead self.old) (ahead self.new) };
+        ensures walks { KeepsWalks (stands self.old) (stands self.new) (ahead self.old)
+            (ahead self.new) };
 }

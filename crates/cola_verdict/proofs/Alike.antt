@@ -7,7 +7,7 @@ use Rattle.cola_clock.specs.Clock.{period, is_odd}
 use Rattle.cola_laws.specs.Chain.{visibles}
 use Rattle.cola_image.proofs.CellsLemmas.{levels-alike}
 use Rattle.cola_pairs.proofs.Order.{all_change}
-use Rattle.cola_told.specs.Cells.{IsTold}
+use Rattle.cola_cell.specs.ToldCells.{IsTold}
 use Rattle.cola_verdict.specs.Alike.{told_by, AreCellsAlike}
 use Rattle.cola_verdict.specs.Tests.{FileLevel, Tested, IsOfRun, IsLowestBad, EndsOrder, IsFirst, IsLast, IsInOrder, HasSample, HasFew, HasShadow, HasFewLive, levels_in, level_at, below_at, live_pairs}
 use Rattle.cola_verdict.specs.Verdict.{Passes, FailsAt, IsOutOfOrder, earlier, IsVerdict}

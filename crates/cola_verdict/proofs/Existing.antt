@@ -11,7 +11,7 @@ use Rattle.cola_clock.specs.Clock.{visible_slot}
 use Rattle.cola_image.specs.Cells.{cell_bytes}
 use Rattle.cola_laws.specs.Chain.{visibles}
 use Rattle.cola_layout.specs.Header.{Fields}
-use Rattle.cola_told.specs.Cells.{IsTold}
+use Rattle.cola_cell.specs.ToldCells.{IsTold}
 use Rattle.cola_verdict.specs.Tests.{Tested, tested_of, IsOfRun, IsInOrder, EndsOrder, IsFirst, IsLast, EachLevel, OrderAt, SampleAt, LengthAt, ShadowAt, LiveAt, levels_in, level_at, live_pairs, visible_cell, shadow_cell}
 use Rattle.cola_verdict.specs.Verdict.{Passes, IsVerdict}
 use Rattle.cola_verdict.specs.declared.verdict.Flaw.TheVariants.{Cell, Order, Sample, Length, Shadow, Live, Count, Stamp}

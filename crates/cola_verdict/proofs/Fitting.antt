@@ -23,8 +23,8 @@ use Rattle.cola_cell.specs.Places.{number_of}
 use Rattle.cola_laws.specs.Chain.{visibles}
 use Rattle.cola_laws.specs.Slots.{levels_of}
 use Rattle.cola_spec.specs.Map.{EntryFits, is_key, is_value, last_stamp}
-use Rattle.cola_table.specs.Terms.{shape_of, is_stamped}
-use Rattle.cola_told.specs.Cells.{cells, cell_at, IsTold}
+use Rattle.cola_cell.specs.Shapes.{shape_of, is_stamped}
+use Rattle.cola_cell.specs.ToldCells.{cells, cell_at, IsTold}
 use Rattle.cola_verdict.proofs.Holding.{CellHolds}
 use Rattle.cola_verdict.proofs.Mapped.{stored-pair}
 

@@ -15,7 +15,7 @@ use Rattle.cola_layout.specs.Marks.{all_numbers}
 use Rattle.cola_layout.proofs.Levels.{numbers-length}
 use Rattle.cola_layout.proofs.Powers.{power-le}
 use Rattle.cola_layout.proofs.Places.{place-from, place-below}
-use Rattle.cola_told.specs.Cells.{IsTold}
+use Rattle.cola_cell.specs.ToldCells.{IsTold}
 use Rattle.cola_verdict.specs.Plain.{found_cells}
 use Rattle.cola_verdict.specs.PlainFile.{file_of, AllFound, IsFirstNone, IsSlotTold, IsFirstBad, IsLevelTold, IsLowestOfLevel}
 use Rattle.cola_verdict.specs.Tests.{Tested, tested_of, run_len, AreCellsTold, IsLowestBad}

@@ -9,8 +9,8 @@ use Rattle.cola_image.specs.Standing.{AreRunsTold, AreRunsAlike}
 use Rattle.cola_laws.specs.Slots.{levels_of, all_marks_of, AreHeld}
 use Rattle.cola_laws.proofs.InSlots.{held-marks}
 use Rattle.cola_pairs.proofs.Order.{by_bool}
-use Rattle.cola_told.specs.Cells.{IsTold}
-use Rattle.cola_told.proofs.CellLists.{length-cells}
+use Rattle.cola_cell.specs.ToldCells.{IsTold}
+use Rattle.cola_cell.proofs.CellLists.{length-cells}
 use Rattle.cola_verdict.specs.Tests.{Tested, IsOfRun, AreCellsTold, run_len}
 use Rattle.cola_verdict.proofs.ByPlace.{Each, each-of_places, places-of_each}
 

@@ -10,7 +10,7 @@ use Rattle.cola_cell.proofs.PlaceNumbers.{numbers_differ}
 use Rattle.cola_clock.specs.Clock.{visible_slot}
 use Rattle.cola_clock.specs.Marks.{AreChainMarks, marks_at}
 use Rattle.cola_clock.proofs.MarkLaws.{marks-each}
-use Rattle.cola_told.specs.Cells.{IsTold, cell_at}
+use Rattle.cola_cell.specs.ToldCells.{IsTold, cell_at}
 use Rattle.cola_verdict.specs.Tests.{Tested, IsOfRun, IsLowestBad, EndsOrder, IsFirst, IsLast, OrderAt, SampleAt, LengthAt, ShadowAt, LiveAt, levels_in, level_at, visible_cell, shadow_cell}
 use Rattle.cola_verdict.specs.Verdict.{Passes, FailsAt, IsOutOfOrder, earlier, IsVerdict}
 use Rattle.cola_verdict.specs.declared.verdict.Flaw.{Flaw}

@@ -9,7 +9,7 @@ use Rattle.cola_laws.specs.Slots.{level_of}
 use Rattle.cola_clock.specs.Marks.{marks_at}
 use Rattle.cola_layout.specs.declared.header.Header.{Header}
 use Rattle.cola_layout.specs.Fields.{fields_of}
-use Rattle.cola_told.specs.Cells.{IsTold}
+use Rattle.cola_cell.specs.ToldCells.{IsTold}
 use Rattle.cola_verdict.specs.Tests.{Tested, tested_of, FileLevel, run_len}
 
 -- the file with this header and these bytes

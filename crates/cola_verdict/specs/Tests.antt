@@ -17,7 +17,7 @@ use Rattle.cola_laws.specs.Sound.{Carried, Keeps, KeepsAll, IsVisible}
 use Rattle.cola_layout.specs.Header.{Fields}
 use Rattle.cola_layout.specs.Marks.{all_numbers}
 use Rattle.cola_pairs.specs.Live.{live}
-use Rattle.cola_told.specs.Cells.{IsTold}
+use Rattle.cola_cell.specs.ToldCells.{IsTold}
 
 -- a level of a file
 abbrev pub FileLevel : Type 0

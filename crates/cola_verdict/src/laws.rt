@@ -18,7 +18,8 @@ use crate::verdict::Verdict;
 /// A file that passes all tests stands for a map, where its first 512 bytes spell the header of a closed store, and it has
 /// all its cells. The map has as many keys as the verdict says.
 pub fn sound_files_stand()
-    ensures { (header : Fields) (bytes : List ℕ) (keys : ℕ) → IsSpelling header (take 512 bytes) → header.closed ≡ true →
+    ensures { (header : Fields) (bytes : List ℕ) (keys : ℕ) → IsSpelling header (take 512 bytes) →
+        header.closed ≡ true →
         width header.format * 2 ^ (header.bottom + 4) ≤ length bytes → IsVerdict (tested_of header bytes) (Verdict.Sound keys) →
         (m : Map) × HeaderStandsFor header bytes m × (count m ≡ keys) }
 {}
@@ -31,13 +32,15 @@ pub fn standing_files_are_sound()
 
 /// A file with a flaw stands for no map.
 pub fn broken_files_stand_for_nothing()
-    ensures { (header : Fields) (bytes : List ℕ) (flaw : Flaw) (level number : ℕ) → IsSpelling header (take 512 bytes) →
+    ensures { (header : Fields) (bytes : List ℕ) (flaw : Flaw) (level number : ℕ) →
+        IsSpelling header (take 512 bytes) →
         IsVerdict (tested_of header bytes) (Verdict.Broken flaw level number) → (m : Map) → ¬ FileStandsFor bytes m }
 {}
 
 /// No file is without a verdict, whatever header and bytes it has: it is not so that none is its verdict.
 pub fn no_file_lacks_a_verdict()
-    ensures { (header : Fields) (bytes : List ℕ) → ¬ ((verdict : Verdict) → ¬ IsVerdict (tested_of header bytes) verdict) }
+    ensures { (header : Fields) (bytes : List ℕ) →
+        ¬ ((verdict : Verdict) → ¬ IsVerdict (tested_of header bytes) verdict) }
 {}
 
 /// A file has one verdict at most, where its marks keep the rules of the clock, as those of every header do: they say that

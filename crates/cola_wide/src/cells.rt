@@ -72,7 +72,8 @@ fn widen(narrow: &[u8], wide: &mut [u8]) -> bool
 fn copy_cell(header: &Header, number: u64, narrow: &[u8], wide: &mut [u8]) -> bool
     requires narrow { length narrow.now ≡ 64 }
     requires wide { length wide.old ≡ 128 }
-    ensures { MatchBool result (IsCopied (fields_of header.now) number narrow.now wide.new) (IsBad (fields_of header.now) number narrow.now) }
+    ensures { MatchBool result (IsCopied (fields_of header.now) number narrow.now wide.new)
+        (IsBad (fields_of header.now) number narrow.now) }
 {
     if is_of_run(header, number) {
         return widen(narrow, wide);

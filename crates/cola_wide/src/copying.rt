@@ -45,7 +45,8 @@ fn load_block<D: Device>(
     requires inside { first + block_cells (fields_of header.now) ≤ cells_of (fields_of header.now) }
     requires narrow { length narrow.old ≡ 64 * block_cells (fields_of header.now) }
     requires wide { length wide.old ≡ 128 * block_cells (fields_of header.now) }
-    ensures loaded { LoadsBlock D.Device from.old from.new (fields_of header.now) first wide.new result }
+    ensures loaded { LoadsBlock D.Device from.old from.new
+        (fields_of header.now) first wide.new result }
     ensures bytes_stay { D.bytes from.new ≡ D.bytes from.old }
     ensures kept { D.kept from.new ≡ D.kept from.old }
 {
@@ -75,8 +76,12 @@ fn copy_block<D: Device, E: Device>(
     requires narrow { length narrow.old ≡ 64 * block_cells (fields_of header.now) }
     requires wide { length wide.old ≡ 128 * block_cells (fields_of header.now) }
     requires begun { IfSome (E.bytes to.old) (IsBegun (fields_of header.now)) }
-    requires copied { IfSome (D.bytes from.old) (λ old. IfSome (E.bytes to.old) (AreCopied (fields_of header.now) (block_cells (fields_of header.now)) first old)) }
-    ensures copied { CopiesBlocks D.Device E.Device (fields_of header.now) from.old from.new to.old to.new first (first + block_cells (fields_of header.now)) 1 result }
+    requires copied { IfSome (D.bytes from.old)
+        (λ old. IfSome (E.bytes to.old)
+        (AreCopied (fields_of header.now) (block_cells (fields_of header.now)) first old)) }
+    ensures copied { CopiesBlocks D.Device E.Device
+        (fields_of header.now) from.old from.new to.old to.new first
+        (first + block_cells (fields_of header.now)) 1 result }
     ensures bytes_stay { D.bytes from.new ≡ D.bytes from.old }
     ensures kept { D.kept from.new ≡ D.kept from.old }
     ensures other_kept { E.kept to.new ≡ E.kept to.old }
@@ -103,7 +108,9 @@ fn copy_blocks<D: Device, E: Device>(
     requires narrow { length narrow.old ≡ 64 * block_cells (fields_of header.now) }
     requires wide { length wide.old ≡ 128 * block_cells (fields_of header.now) }
     requires begun { IfSome (E.bytes to.old) (IsBegun (fields_of header.now)) }
-    ensures copied { CopiesBlocks D.Device E.Device (fields_of header.now) from.old from.new to.old to.new (block_cells (fields_of header.now)) (cells_of (fields_of header.now)) (block_count (fields_of header.now) - 1) result }
+    ensures copied { CopiesBlocks D.Device E.Device
+        (fields_of header.now) from.old from.new to.old to.new (block_cells (fields_of header.now))
+        (cells_of (fields_of header.now)) (block_count (fields_of header.now) - 1) result }
     ensures bytes_stay { D.bytes from.new ≡ D.bytes from.old }
     ensures kept { D.kept from.new ≡ D.kept from.old }
     ensures other_kept { E.kept to.new ≡ E.kept to.old }
@@ -159,9 +166,15 @@ fn copy_first<D: Device, E: Device>(
     requires narrow { length narrow.old ≡ 64 * block_cells (fields_of header.now) }
     requires wide { length wide.old ≡ 128 * block_cells (fields_of header.now) }
     requires begun { IfSome (E.bytes to.old) (IsBegun (fields_of header.now)) }
-    requires spelled { IfSome (D.bytes from.old) (AreSpelled (fields_of header.now) (block_cells (fields_of header.now)) (cells_of (fields_of header.now))) }
-    requires copied { IfSome (D.bytes from.old) (λ old. IfSome (E.bytes to.old) (AreCopied (fields_of header.now) (block_cells (fields_of header.now)) (cells_of (fields_of header.now)) old)) }
-    ensures copied { CopiesAll D.Device E.Device (fields_of header.now) from.old from.new to.old to.new head.now 1 0 1 0 result }
+    requires spelled { IfSome (D.bytes from.old)
+        (AreSpelled (fields_of header.now) (block_cells (fields_of header.now))
+        (cells_of (fields_of header.now))) }
+    requires copied { IfSome (D.bytes from.old)
+        (λ old. IfSome (E.bytes to.old)
+        (AreCopied (fields_of header.now) (block_cells (fields_of header.now))
+        (cells_of (fields_of header.now)) old)) }
+    ensures copied { CopiesAll D.Device E.Device
+        (fields_of header.now) from.old from.new to.old to.new head.now 1 0 1 0 result }
     ensures bytes_stay { D.bytes from.new ≡ D.bytes from.old }
     ensures kept { D.kept from.new ≡ D.kept from.old }
     ensures other_kept { E.kept to.new ≡ E.kept to.old }
@@ -188,7 +201,9 @@ pub(crate) fn copy_all<D: Device, E: Device>(
     requires narrow { length narrow.old ≡ 64 * block_cells (fields_of header.now) }
     requires wide { length wide.old ≡ 128 * block_cells (fields_of header.now) }
     requires begun { IfSome (E.bytes to.old) (IsBegun (fields_of header.now)) }
-    ensures copied { CopiesAll D.Device E.Device (fields_of header.now) from.old from.new to.old to.new head.now (block_count (fields_of header.now) + 1) 0 (block_count (fields_of header.now)) 0 result }
+    ensures copied { CopiesAll D.Device E.Device
+        (fields_of header.now) from.old from.new to.old to.new head.now
+        (block_count (fields_of header.now) + 1) 0 (block_count (fields_of header.now)) 0 result }
     ensures bytes_stay { D.bytes from.new ≡ D.bytes from.old }
     ensures kept { D.kept from.new ≡ D.kept from.old }
     ensures other_kept { E.kept to.new ≡ E.kept to.old }

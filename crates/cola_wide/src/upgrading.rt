@@ -22,8 +22,10 @@ struct Blocks {
 
 /// Room for a block of each file.
 fn make_blocks(alloc: Global, header: &Header) -> Result<Blocks, AllocError>
-    ensures narrow { IfOk result (λ blocks. length blocks.narrow.items ≡ 64 * block_cells (fields_of header.now)) }
-    ensures wide { IfOk result (λ blocks. length blocks.wide.items ≡ 128 * block_cells (fields_of header.now)) }
+    ensures narrow { IfOk result
+        (λ blocks. length blocks.narrow.items ≡ 64 * block_cells (fields_of header.now)) }
+    ensures wide { IfOk result
+        (λ blocks. length blocks.wide.items ≡ 128 * block_cells (fields_of header.now)) }
 {
     let cells = cells_of_block(header) as usize;
     let narrow = vec![in alloc; 0u8; 64 * cells]?;
@@ -66,7 +68,8 @@ pub fn upgrade<D: Device, E: Device>(
     ensures no_write { (D.counts from.new).writes ≡ (D.counts from.old).writes }
     ensures source_kept { D.kept from.new ≡ D.kept from.old }
     ensures kept { E.kept to.new ≡ E.kept to.old }
-    ensures complete { (m : Map) → CanBeUpgraded D.Device E.Device from.old from.new to.old to.new m → IsDoneForMemory result }
+    ensures complete { (m : Map) →
+        CanBeUpgraded D.Device E.Device from.old from.new to.old to.new m → IsDoneForMemory result }
 {
     let mut head = [0u8; 512];
     let header = match read_closed(from, &mut head) {

@@ -41,7 +41,9 @@ fn given_of(name: &[u8], value: &[u8], place: u8) -> Option<Given>
 fn next_option(words: &[String], place: u8) -> Option<Next>
     requires some { 0 < length words.now }
     requires near { place < 100 }
-    ensures read { options_of place (map string_bytes words.now) ≡ option_and_then (λ next. before (options_of (place + next.taken) (map string_bytes next.rest.now)) next.given) result }
+    ensures read { options_of place (map string_bytes words.now) ≡ option_and_then
+        (λ next. before
+        (options_of (place + next.taken) (map string_bytes next.rest.now)) next.given) result }
     ensures fewer { IfSome result (λ next. length next.rest.now < length words.now) }
     ensures taken { IfSome result (λ next. next.taken ≤ 2) }
 {

@@ -9,7 +9,8 @@ ghost use Rattle.cola_words.specs.Sizes.{block_limit};
 /// Options may stand in any order: to exchange two neighbours changes neither what they say nor whether
 /// they are refused.
 pub fn options_in_any_order()
-    ensures { (o : Options) (a b : Given) (givens : List Given) → with_all o (a ∷ b ∷ givens) ≡ with_all o (b ∷ a ∷ givens) }
+    ensures { (o : Options) (a b : Given) (givens : List Given) →
+        with_all o (a ∷ b ∷ givens) ≡ with_all o (b ∷ a ∷ givens) }
 {}
 
 /// The limit of a block is the smaller of 9 and the number of the lowest level plus 2.

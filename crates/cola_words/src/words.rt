@@ -24,7 +24,8 @@ pub fn number(word: &[u8]) -> Option<u64>
 
 /// The words behind a first one that names a file.
 pub fn behind_path(words: &[String]) -> Option<&[String]>
-    ensures { option_map (λ rest. map string_bytes rest.now) result ≡ behind_path (map string_bytes words.now) }
+    ensures { option_map (λ rest. map string_bytes rest.now) result ≡ behind_path
+        (map string_bytes words.now) }
 {
     let (path, rest) = words.split_first()?;
     if is_path(path.as_bytes()) {

@@ -33,6 +33,7 @@ use Rattle.cola_store.specs.Sessions.{OpensStore, IsStoreOpened, ClosesStore, Is
 use Rattle.cola_store.specs.Store.{Stored}
 use Rattle.cola_report.specs.Line.{LineEnds}
 use Rattle.cola_status.specs.Statuses.{refusal_status}
+use Rattle.cola_run.specs.Store as run
 
 -- The line
 
@@ -78,7 +79,7 @@ module _ {D : Type 0} (d : device.Ghosts D) where
   -- the device after an attempt to close a store
   abbrev pub device_after : Result D (Closing D d) → D
   device_after (Ok now) = now
-  device_after (Err closing) = closing.runs.buffers.cache.device
+  device_after (Err closing) = run.device_of closing.runs
 
   -- a store was closed in one attempt, and the device came back, whatever that answered
   pub record ClosedOnce (store : Stored D) (now : D) : Type 0 where

@@ -6,10 +6,11 @@ ghost use Rattle.cola_gen.specs.Turns.{HasCounted};
 ghost use Rattle.cola_report.specs.Line.{LineEnds};
 ghost use Rattle.cola_store.specs.Create.{Made};
 ghost use Rattle.cola_store.specs.Sessions.{IsStoreOpened, IsStoreOwed};
-ghost use Rattle.cola_store.specs.Store.{Stored};
+ghost use Rattle.cola_store.specs.Store.{Stored, device_in};
 ghost use Rattle.cola_words.specs.Sizes.{SuitStore};
 ghost use Rattle.cola_workload.specs.Workload as spec;
 ghost use Rattle.cola_workload.specs.Workload.{workload_line, ClosedOnce, ClosedLate, AskEnds, FillEnds, FillFaults, filled_device, GenEnds, FaultsCaused, EndsOnEmpty};
+ghost use Rattle.cola_run.specs.Store as run;
 
 use cola_cell::{Format, ReadFault};
 use cola_device::Device;
@@ -94,8 +95,9 @@ fn asking_status(fault: ReadFault) -> u8
 /// Closes a store, in one attempt, and gives the device, whatever it answers.
 fn close_once<D: Device>(store: Store<D>) -> D
     ensures closed { ClosedOnce D.Device store result }
-    ensures faults_stay { (D.counts store.chain.store.buffers.cache.device).faults ≤ (D.counts result).faults }
-    ensures kept { D.kept result ≡ D.kept store.chain.store.buffers.cache.device }
+    ensures faults_stay { (D.counts (device_in store)).faults ≤
+        (D.counts result).faults }
+    ensures kept { D.kept result ≡ D.kept (device_in store) }
 {
     match store.close() {
         Ok(device) => device,
@@ -105,9 +107,11 @@ fn close_once<D: Device>(store: Store<D>) -> D
 
 /// Tries once more to close a store, and gives the device, whatever it answers.
 fn close_again<D: Device>(closing: Closing<D>) -> D
-    ensures closed { (store : Stored D) → IsStoreOwed D.Device store closing → ClosedLate D.Device store result }
-    ensures faults_stay { (D.counts closing.runs.buffers.cache.device).faults ≤ (D.counts result).faults }
-    ensures kept { D.kept result ≡ D.kept closing.runs.buffers.cache.device }
+    ensures closed { (store : Stored D) → IsStoreOwed D.Device store closing →
+        ClosedLate D.Device store result }
+    ensures faults_stay { (D.counts (run.device_of closing.runs)).faults ≤
+        (D.counts result).faults }
+    ensures kept { D.kept result ≡ D.kept (run.device_of closing.runs) }
 {
     match closing.close() {
         Ok(device) => device,
@@ -124,9 +128,11 @@ fn ask_store<K: Sink, D: Device, L: Ledger>(
     steps: &mut Steps<L>,
 ) -> (D, u8)
     requires { HasCounted 0 tally }
-    ensures ends { (before : D) → IsStoreOpened D.Device before 0 store → AskEnds K.Sink D.Device ⟦<Store<D> as Table>⟧ keys before result.0 tally sink.old sink.new steps.old steps.new result.1 }
-    ensures faults { FaultsCaused result.1 (D.counts store.chain.store.buffers.cache.device).faults (D.counts result.0).faults }
-    ensures kept { D.kept result.0 ≡ D.kept store.chain.store.buffers.cache.device }
+    ensures ends { (before : D) → IsStoreOpened D.Device before 0 store →
+        AskEnds K.Sink D.Device ⟦<Store<D> as Table>⟧ keys before result.0 tally sink.old sink.new steps.old steps.new result.1 }
+    ensures faults { FaultsCaused result.1 (D.counts (device_in store)).faults
+        (D.counts result.0).faults }
+    ensures kept { D.kept result.0 ≡ D.kept (device_in store) }
 {
     let mut tally = tally;
     let mut store = store;
@@ -168,10 +174,13 @@ fn fill_store<D: Device, L: Ledger>(
     store: Store<D>,
     steps: &mut Steps<L>,
 ) -> Result<(D, Tally), (D, u8)>
-    ensures ends { (before made : D) → Made D.Device One keys 5 before made → IsStoreOpened D.Device made 0 store → FillEnds D.Device ⟦<Store<D> as Table>⟧ keys before steps.old steps.new result }
-    ensures faults { FillFaults D.Device (D.counts store.chain.store.buffers.cache.device).faults result }
+    ensures ends { (before made : D) → Made D.Device One keys 5 before made →
+        IsStoreOpened D.Device made 0 store →
+        FillEnds D.Device ⟦<Store<D> as Table>⟧ keys before steps.old steps.new result }
+    ensures faults { FillFaults D.Device
+        (D.counts (device_in store)).faults result }
     ensures counted { IfOk result (λ filled. HasCounted 0 filled.1) }
-    ensures kept { D.kept (filled_device result) ≡ D.kept store.chain.store.buffers.cache.device }
+    ensures kept { D.kept (filled_device result) ≡ D.kept (device_in store) }
 {
     let mut tally = Tally {
         fresh: 0,
@@ -217,7 +226,9 @@ fn fill_file<D: Device, L: Ledger>(
 /// Completeness: on a device that tells that it is empty, with no fault of it or of the sink, the workload ends with status 0,
 /// or with 1 where there was no memory to open its file.
 pub fn new_workloads_complete<K: Sink, D: Device>()
-    ensures { (keys status : ℕ) (sink sink' : K) (device device' : D) → EndsOnEmpty K.Sink keys sink sink' (D.bytes device') status → FaultsCaused status (D.counts device).faults (D.counts device').faults →
+    ensures { (keys status : ℕ) (sink sink' : K) (device device' : D) →
+        EndsOnEmpty K.Sink keys sink sink' (D.bytes device') status →
+        FaultsCaused status (D.counts device).faults (D.counts device').faults →
         (Rose (D.counts device).faults (D.counts device').faults → ⊥) → (Rose (K.faults sink) (K.faults sink') → ⊥) → (status ≡ 0) ⊎ (status ≡ 1) }
 {}
 
@@ -241,7 +252,8 @@ pub fn serve_workload<K: Sink, D: Device, L: Ledger>(
     ensures ends { GenEnds K.Sink D.Device ⟦<Store<D> as Table>⟧ keys device result.0 sink.old sink.new steps.old steps.new result.1 }
     ensures faults { FaultsCaused result.1 (D.counts device).faults (D.counts result.0).faults }
     ensures kept { D.kept result.0 ≡ D.kept device }
-    ensures on_empty { IsSomeAnd (D.bytes device) (λ bytes. length bytes ≡ 0) → EndsOnEmpty K.Sink keys sink.old sink.new (D.bytes result.0) result.1 }
+    ensures on_empty { IsSomeAnd (D.bytes device) (λ bytes. length bytes ≡ 0) →
+        EndsOnEmpty K.Sink keys sink.old sink.new (D.bytes result.0) result.1 }
 {
     match fill_file(alloc, keys, device, steps) {
         Ok((device, tally)) => ask_file(alloc, keys, tally, device, sink, steps),

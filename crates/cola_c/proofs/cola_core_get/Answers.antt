@@ -17,8 +17,10 @@ returns-clause-answered c = λ session is.
           answer = c.get-answer.ensures.answer;
           length = c.get-answer.ensures.length;
           ticks = c.get-answer.ensures.ticks;
+          reads = c.get-answer.ensures.reads;
           stays = record { terms_are = c.get-answer.ensures.terms; place_is = c.get-answer.ensures.place };
         }),
-        λ value given. (c.tell_value.ensures.value value given, c.tell_value.ensures.len value given),
+        c.tell_value.ensures.value,
+        c.tell_value.ensures.len,
       );
     }

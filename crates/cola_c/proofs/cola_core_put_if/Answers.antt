@@ -12,11 +12,14 @@ returns-clause-answered c = λ session is.
       answer = c.put_if-answer.result;
       is_open = c.put.ensures;
       number_is = search (rules, c.tell_put_if.ensures.number);
-      says = subst (λ (o : Session). PutsIf o c.args.key.now c.args.seen c.args.value.now c.put_if-answer.new.session c.put_if-answer.result) old (record {
-        answer = c.put_if-answer.ensures.answer;
-        length = c.put_if-answer.ensures.length;
-        ticks = c.put_if-answer.ensures.ticks;
-        transfers = c.put_if-answer.ensures.transfers;
-        stays = record { terms_are = c.put_if-answer.ensures.terms; place_is = c.put_if-answer.ensures.place };
-      });
+      says = (
+        subst (λ (o : Session). PutsIf o c.args.key.now c.args.seen c.args.value.now c.put_if-answer.new.session c.put_if-answer.result) old (record {
+          answer = c.put_if-answer.ensures.answer;
+          length = c.put_if-answer.ensures.length;
+          ticks = c.put_if-answer.ensures.ticks;
+          transfers = c.put_if-answer.ensures.transfers;
+          stays = record { terms_are = c.put_if-answer.ensures.terms; place_is = c.put_if-answer.ensures.place };
+        }),
+        c.tell_put_if.ensures.stamp,
+      );
     }

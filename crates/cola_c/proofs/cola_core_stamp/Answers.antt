@@ -17,8 +17,9 @@ returns-clause-answered c = λ session is.
           answer = c.stamp-answer.ensures.answer;
           length = c.stamp-answer.ensures.length;
           ticks = c.stamp-answer.ensures.ticks;
+          reads = c.stamp-answer.ensures.reads;
           stays = record { terms_are = c.stamp-answer.ensures.terms; place_is = c.stamp-answer.ensures.place };
         }),
-        λ given got. c.tell_stamp.ensures.stamp given got,
+        c.tell_stamp.ensures.stamp,
       );
     }

@@ -7,7 +7,7 @@ ghost use Rattle.cola_clock.specs.Marks.{marks_at};
 ghost use Rattle.cola_image.specs.Cells.{slot_cells};
 ghost use Rattle.cola_layout.specs.Marks.{numbers_of, all_numbers};
 ghost use Rattle.cola_runs.specs.Plain.{as_run};
-ghost use Rattle.cola_told.specs.Cells.{IsTold};
+ghost use Rattle.cola_cell.specs.ToldCells.{IsTold};
 ghost use Rattle.cola_verdict.specs.Plain.{as_level, as_levels};
 ghost use Rattle.cola_verdict.specs.PlainFile.{file_of, IsSlotTold, IsFirstBad, IsLevelTold, IsLowestOfLevel, level_in, AllFound, IsFirstNone, ArePlacesTold};
 ghost use Rattle.cola_verdict.specs.Tests.{run_len, AreCellsTold, IsLowestBad, levels_in};

@@ -1,18 +1,17 @@
 use Rattle.std.proofs.Common.{◌≡◌, true, false, refl, sym, subst, ◌∙◌, arith}
 use Rattle.cola_cell.specs.Held.{Held}
+use Rattle.cola_look.proofs.Looking.{looks_as, looks_then}
 use Rattle.cola_check.specs.Beside.{StepsBeside}
 use Rattle.cola_check.proofs.Carrying.{going_begins, going_on, going_ends, going_fails, going_less, fits_nothing, carried_each, each_carried}
 use Rattle.cola_check.proofs.Turning.{turns_then}
-use Rattle.cola_check.proofs.WalkBlocks.{beside-at, apart-stays}
+use Rattle.cola_check.proofs.WalkBlocks.{apart-stays}
 use Rattle.cola_check.proofs.carried.is_carried.Goals as goal
 
 pub loop-key-init : goal.loop-key-init
 loop-key-init g c = record {
-  held_is = c.in_ok-walks.ensures.cells_stay;
-  kept_is = c.in_ok-walks.ensures.kept;
-  calm = c.in_ok-walks.ensures.calm;
-  turns = c.in_ok-walks.ensures.turns;
-  unread = c.in_ok-walks.ensures.unread;
+  looks = looks_as c.in_ok-walks.ensures.looks;
+  turns = c.in_ok-walks.ensures.reads.turns;
+  unread = c.in_ok-walks.ensures.reads.unread;
   apart = c.in_ok-walks.ensures.blocks.apart;
   blocks = c.in_ok-walks.ensures.blocks.blocks;
   going = going_begins c.in_ok-walks.ensures.begins;
@@ -22,23 +21,21 @@ pub loop-key-preserved : goal.loop-key-preserved
 loop-key-preserved g c =
     let i = c.loop-key.invariant in
     let S : Held → Type 0 = λ h. StepsBeside h c.in-Some.key c.loop-key.walks c.pass.new.self c.in_ok-step.step in
-    let left = c.in_ok-step.ensures.unread in
+    let left = c.in_ok-step.ensures.reads.unread in
     record {
-      held_is = c.in_ok-step.ensures.cells_stay ∙ i.held_is;
-      kept_is = c.in_ok-step.ensures.kept ∙ i.kept_is;
-      calm = c.in_ok-step.ensures.calm ∙ i.calm;
-      turns = turns_then i.turns c.in_ok-step.ensures.turns;
+      looks = looks_then i.looks c.in_ok-step.ensures.looks;
+      turns = turns_then i.turns c.in_ok-step.ensures.reads.turns;
       unread = let l = i.unread in omega arith;
       apart = let p = c.in_ok-step.ensures.passes in apart-stays p.above.reader_is p.own.reader_is p.shadow.reader_is i.apart;
-      blocks = let b = i.blocks in let more = (beside-at (g.W.CellSource.held c.args.work.now) i.held_is (c.in_ok-step.ensures.blocks i.apart)).blocks in omega (arith, b, more);
-      going = going_on (fits_nothing c.args.odd c.args.bottom) i.going (sym c.least_key.ensures ∙ c.in-Some.is) (subst S i.held_is c.in_ok-step.ensures.passes) (c.fits.ensures.0 c.if-not-fits.false);
+      blocks = let b = i.blocks in let more = (c.in_ok-step.ensures.blocks i.apart).blocks in omega (arith, b, more);
+      going = going_on (fits_nothing c.args.odd c.args.bottom) i.going (sym c.least_key.ensures ∙ c.in-Some.is) (subst S i.looks.cells_stay c.in_ok-step.ensures.passes) (c.fits.ensures.0 c.if-not-fits.false);
     }
 
 pub loop-key-smaller : goal.loop-key-smaller
 loop-key-smaller g c =
     let i = c.loop-key.invariant in
     let S : Held → Type 0 = λ h. StepsBeside h c.in-Some.key c.loop-key.walks c.pass.new.self c.in_ok-step.step in
-    going_less (fits_nothing c.args.odd c.args.bottom) i.going (sym c.least_key.ensures ∙ c.in-Some.is) (subst S i.held_is c.in_ok-step.ensures.passes)
+    going_less (fits_nothing c.args.odd c.args.bottom) i.going (sym c.least_key.ensures ∙ c.in-Some.is) (subst S i.looks.cells_stay c.in_ok-step.ensures.passes)
 
 pub returns-then-not-fits-clause-carried : goal.returns-then-not-fits-clause-carried
 returns-then-not-fits-clause-carried g c =
@@ -46,7 +43,7 @@ returns-then-not-fits-clause-carried g c =
     let S : Held → Type 0 = λ h. StepsBeside h c.in-Some.key c.loop-key.walks c.pass.new.self c.in_ok-step.step in
     λ o. (
       λ e. cc,
-      λ h. absurd (going_fails (fits_nothing c.args.odd c.args.bottom) i.going (sym c.least_key.ensures ∙ c.in-Some.is) (subst S i.held_is c.in_ok-step.ensures.passes)
+      λ h. absurd (going_fails (fits_nothing c.args.odd c.args.bottom) i.going (sym c.least_key.ensures ∙ c.in-Some.is) (subst S i.looks.cells_stay c.in_ok-step.ensures.passes)
           (λ f. let e : false ≡ true = sym c.if-not-fits.true ∙ c.fits.ensures.1 f in cc) o (each_carried c.args.odd c.args.bottom _ _ _ h)),
     )
 
@@ -58,7 +55,7 @@ pub returns-then-not-fits-clause-blocks : goal.returns-then-not-fits-clause-bloc
 returns-then-not-fits-clause-blocks g c =
     let i = c.loop-key.invariant in
     let b = i.blocks in
-    let more = (beside-at (g.W.CellSource.held c.args.work.now) i.held_is (c.in_ok-step.ensures.blocks i.apart)).blocks in
+    let more = (c.in_ok-step.ensures.blocks i.apart).blocks in
     omega (arith, b, more)
 
 pub returns-clause-blocks : goal.returns-clause-blocks

@@ -7,8 +7,7 @@ use Rattle.cola_check.proofs.cut.gives_run.Given as goal
 
 abbrev pub invariant-loop-index : goal.invariant-loop-index
 invariant-loop-index g l = record {
-  cells_stay : g.W.CellSource.held l.work ≡ g.W.CellSource.held l.fn.work;
   kept : g.W.CellSource.kept l.work ≡ g.W.CellSource.kept l.fn.work;
-  blocks : IsAway l.run.level l.aim.incoming → AlongReadsOn (g.W.CellSource.held l.fn.work) l.aim l.run (g.W.CellSource.spent l.fn.work) (g.W.CellSource.spent l.work) l.fn.merger l.merger l.index;
-  following : Following (g.W.CellSource.held l.fn.work) l.aim l.run (g.W.CellSource.spent l.fn.work) (g.W.CellSource.spent l.work) l.fn.merger l.merger l.fn.steps l.steps l.index;
+  blocks : IsAway l.run.level l.aim.incoming → AlongReadsOn l.aim l.run (g.W.CellSource.state l.fn.work) (g.W.CellSource.state l.work) l.fn.merger l.merger l.index;
+  following : Following (g.W.CellSource.state l.fn.work) (g.W.CellSource.state l.work) l.aim l.run l.fn.merger l.merger l.fn.steps l.steps l.index;
 }

@@ -9,10 +9,9 @@ use Rattle.cola_check.proofs.cut.gives_same.Given as goal
 
 abbrev pub invariant-loop-one : goal.invariant-loop-one
 invariant-loop-one g l = record {
-  cells_stay : g.W.CellSource.held l.work ≡ g.W.CellSource.held l.fn.work;
   kept : g.W.CellSource.kept l.work ≡ g.W.CellSource.kept l.fn.work;
-  blocks : IsSpread l.aim → BothReadOn (g.W.CellSource.held l.fn.work) l.aim (g.W.CellSource.spent l.fn.work) (g.W.CellSource.spent l.work) l.fn.first l.fn.second l.first l.second;
-  comparing : Comparing (g.W.CellSource.held l.fn.work) l.aim (g.W.CellSource.spent l.fn.work) (g.W.CellSource.spent l.work) l.fn.first l.first l.fn.second l.second l.fn.steps l.steps;
+  blocks : IsSpread l.aim → BothReadOn l.aim (g.W.CellSource.state l.fn.work) (g.W.CellSource.state l.work) l.fn.first l.fn.second l.first l.second;
+  comparing : Comparing (g.W.CellSource.state l.fn.work) (g.W.CellSource.state l.work) l.aim l.fn.first l.first l.fn.second l.second l.fn.steps l.steps;
 }
 
 abbrev pub decreases-loop-one : goal.decreases-loop-one

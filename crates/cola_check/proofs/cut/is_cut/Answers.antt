@@ -1,5 +1,5 @@
 -- The two passes of the test.
-use Rattle.std.proofs.Common.{rules, true, false, sym, subst, ◌∙◌}
+use Rattle.std.proofs.Common.{true, false, sym, subst}
 use Rattle.cola_cell.specs.Held.{Held}
 use Rattle.cola_merge.specs.declared.merging.Merger.{Merger}
 use Rattle.cola_merge.specs.Heads.{HasHeads}
@@ -9,51 +9,47 @@ use Rattle.cola_check.proofs.CutBlocks.{cut-differs, cut-compared}
 use Rattle.cola_check.proofs.cut.is_cut.Goals as goal
 
 pub gives_run-requires-clause-heads : goal.gives_run-requires-clause-heads
-gives_run-requires-clause-heads g c = subst (λ (m : Merger). HasHeads (g.W.CellSource.held c.args.work.now) c.args.aim.now m) (sym c.begin-whole.ensures) (heads_fresh c.requires.fits)
+gives_run-requires-clause-heads g c = subst (λ (m : Merger). HasHeads (g.W.CellSource.state c.args.work.now).held c.args.aim.now m) (sym c.begin-whole.ensures) (heads_fresh c.requires.fits)
 
 pub gives_run-requires-clause-run : goal.gives_run-requires-clause-run
 gives_run-requires-clause-run g c = c.requires.fits.run
 
 pub gives_same-requires-clause-first : goal.gives_same-requires-clause-first
 gives_same-requires-clause-first g c =
-    subst (λ (h : Held). HasHeads h c.args.aim.now c.gives_run.new.merger) (sym c.in_ok-gives_run.ensures.cells_stay) c.in_ok-gives_run.ensures.followed.heads
+    subst (λ (h : Held). HasHeads h c.args.aim.now c.gives_run.new.merger) (sym c.in_ok-gives_run.ensures.looks.cells_stay) c.in_ok-gives_run.ensures.followed.heads
 
 pub gives_same-requires-clause-second : goal.gives_same-requires-clause-second
 gives_same-requires-clause-second g c =
-    subst (λ (h : Held). HasHeads h c.args.aim.now c.resume-rest.result) (sym c.in_ok-gives_run.ensures.cells_stay)
-    (subst (λ (m : Merger). HasHeads (g.W.CellSource.held c.args.work.now) c.args.aim.now m) (sym c.resume-rest.ensures) (heads_at c.requires.fits))
+    subst (λ (h : Held). HasHeads h c.args.aim.now c.resume-rest.result) (sym c.in_ok-gives_run.ensures.looks.cells_stay)
+    (subst (λ (m : Merger). HasHeads (g.W.CellSource.state c.args.work.now).held c.args.aim.now m) (sym c.resume-rest.ensures) (heads_at c.requires.fits))
 
-pub returns-in_err-gives_run : goal.returns-in_err-gives_run
-returns-in_err-gives_run g c =
-    let t = first_fails c.requires.fits c.from_residual.result c.in_err-gives_run.field-0.0 (err_is c.from_residual.result c.in_err-gives_run.field-0.0 c.from_residual.ensures.1)
-    c.in_err-gives_run.ensures.followed in
-    record { cut = t.cut; costs = t.costs; blocks = search rules; cause = t.cause; calm = t.calm; cells_stay = c.in_err-gives_run.ensures.cells_stay; kept = c.in_err-gives_run.ensures.kept }
+pub returns-in_err-gives_run-clause-reads : goal.returns-in_err-gives_run-clause-reads
+returns-in_err-gives_run-clause-reads g c =
+    (first_fails c.requires.fits c.from_residual.result c.in_err-gives_run.field-0.0 (err_is c.from_residual.result c.in_err-gives_run.field-0.0 c.from_residual.ensures.1) c.in_err-gives_run.ensures.followed).reads
 
-pub returns-then-not-branch : goal.returns-then-not-branch
-returns-then-not-branch g c =
-    let t = first_differs c.requires.fits (from_fresh false c.begin-whole.ensures c.if-not-branch.true c.in_ok-gives_run.ensures.followed) in
-    record {
-      cut = t.cut;
-      costs = t.costs;
-      blocks = cut-differs (g.W.CellSource.held c.args.work.now) c.args.aim.now c.args.shadow.now (g.W.CellSource.spent c.args.work.now) (g.W.CellSource.spent c.gives_run.new.work) c.begin-whole.result c.gives_run.new.merger
-          (c.in_ok-gives_run.ensures.blocks c.requires.fits.shadow_away);
-      cause = t.cause;
-      calm = t.calm;
-      cells_stay = c.in_ok-gives_run.ensures.cells_stay;
-      kept = c.in_ok-gives_run.ensures.kept;
-    }
+pub returns-then-not-branch-clause-cut : goal.returns-then-not-branch-clause-cut
+returns-then-not-branch-clause-cut g c = (first_differs c.requires.fits (from_fresh false c.begin-whole.ensures c.if-not-branch.true c.in_ok-gives_run.ensures.followed)).cut
 
-pub returns : goal.returns
-returns g c =
-    let t = second_tells c.requires.fits (from_fresh true c.begin-whole.ensures c.if-not-branch.false c.in_ok-gives_run.ensures.followed) c.gives_same.result
-    (from_cursors (g.W.CellSource.held c.args.work.now) c.args.cursors.now c.in_ok-gives_run.ensures.cells_stay c.resume-rest.ensures c.gives_same.ensures.compared) in
-    record {
-      cut = t.cut;
-      costs = t.costs;
-      blocks = cut-compared (g.W.CellSource.held c.args.work.now) c.args.aim.now c.args.shadow.now (g.W.CellSource.spent c.args.work.now) (g.W.CellSource.spent c.gives_run.new.work) c.begin-whole.result c.gives_run.new.merger
-          (c.in_ok-gives_run.ensures.blocks c.requires.fits.shadow_away) c.in_ok-gives_run.ensures.cells_stay (g.W.CellSource.spent c.gives_same.new.work) c.resume-rest.result c.gives_same.result c.requires.fits.spread c.gives_same.ensures.blocks;
-      cause = t.cause;
-      calm = t.calm;
-      cells_stay = c.gives_same.ensures.cells_stay ∙ c.in_ok-gives_run.ensures.cells_stay;
-      kept = c.gives_same.ensures.kept ∙ c.in_ok-gives_run.ensures.kept;
-    }
+pub returns-then-not-branch-clause-blocks : goal.returns-then-not-branch-clause-blocks
+returns-then-not-branch-clause-blocks g c =
+    cut-differs (g.W.CellSource.state c.args.work.now) (g.W.CellSource.state c.gives_run.new.work) c.args.aim.now c.args.shadow.now c.begin-whole.result c.gives_run.new.merger
+    (c.in_ok-gives_run.ensures.blocks c.requires.fits.shadow_away)
+
+pub returns-then-not-branch-clause-reads : goal.returns-then-not-branch-clause-reads
+returns-then-not-branch-clause-reads g c = (first_differs c.requires.fits (from_fresh false c.begin-whole.ensures c.if-not-branch.true c.in_ok-gives_run.ensures.followed)).reads
+
+pub returns-clause-cut : goal.returns-clause-cut
+returns-clause-cut g c =
+    (second_tells c.requires.fits (from_fresh true c.begin-whole.ensures c.if-not-branch.false c.in_ok-gives_run.ensures.followed) c.in_ok-gives_run.ensures.looks.calm c.gives_same.result
+    (from_cursors (g.W.CellSource.state c.args.work.now).held c.args.cursors.now c.in_ok-gives_run.ensures.looks.cells_stay c.resume-rest.ensures c.gives_same.ensures.compared)).cut
+
+pub returns-clause-blocks : goal.returns-clause-blocks
+returns-clause-blocks g c =
+    let w = g.W.CellSource in
+    cut-compared (w.state c.args.work.now) (w.state c.gives_run.new.work) c.args.aim.now c.args.shadow.now c.begin-whole.result c.gives_run.new.merger
+    (c.in_ok-gives_run.ensures.blocks c.requires.fits.shadow_away) c.in_ok-gives_run.ensures.looks.cells_stay (w.state c.gives_same.new.work) c.resume-rest.result c.gives_same.result c.requires.fits.spread c.gives_same.ensures.blocks
+
+pub returns-clause-reads : goal.returns-clause-reads
+returns-clause-reads g c =
+    (second_tells c.requires.fits (from_fresh true c.begin-whole.ensures c.if-not-branch.false c.in_ok-gives_run.ensures.followed) c.in_ok-gives_run.ensures.looks.calm c.gives_same.result
+    (from_cursors (g.W.CellSource.state c.args.work.now).held c.args.cursors.now c.in_ok-gives_run.ensures.looks.cells_stay c.resume-rest.ensures c.gives_same.ensures.compared)).reads

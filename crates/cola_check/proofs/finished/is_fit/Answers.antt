@@ -7,31 +7,34 @@ use Rattle.cola_check.proofs.AllBlocks.{fit-blocks}
 use Rattle.cola_check.proofs.finished.is_fit.Goals as goal
 
 pub test_run-requires-clause-below : goal.test_run-requires-clause-below
-test_run-requires-clause-below g c = next-runs c.args.header.now c.args.level c.requires.level (g.W.CellSource.held c.args.work.now) c.requires.levels c.next_run-next.result c.next_run-next.ensures
+test_run-requires-clause-below g c = next-runs c.args.header.now c.args.level c.requires.level (g.W.CellSource.state c.args.work.now).held c.requires.levels c.next_run-next.result c.next_run-next.ensures
 
-pub returns-in_err-tests-clause-cause : goal.returns-in_err-tests-clause-cause
-returns-in_err-tests-clause-cause g c =
-    fit-cause c.args.header.now c.args.level c.requires.level (g.W.CellSource.held c.args.work.now) c.shadow_run-shadow.result c.next_run-next.result c.shadow_run-shadow.ensures.value c.next_run-next.ensures
-    (g.W.CellSource.spent c.args.work.now).faults (g.W.CellSource.spent c.test_run.new.work).faults c.in_err-tests.field-0.0 c.from_residual.result
-    (err_is c.from_residual.result c.in_err-tests.field-0.0 c.from_residual.ensures.1) c.in_err-tests.ensures.cause
-
-pub returns-in_err-tests-clause-cost : goal.returns-in_err-tests-clause-cost
-returns-in_err-tests-clause-cost g c =
-    let few = fit-ticks c.args.header.now c.args.level c.requires.level c.shadow_run-shadow.result c.next_run-next.result c.shadow_run-shadow.ensures.value c.next_run-next.ensures in
-    costs_within c.in_err-tests.ensures.cost few few
+pub returns-in_err-tests-clause-reads : goal.returns-in_err-tests-clause-reads
+returns-in_err-tests-clause-reads g c = record {
+  cause =
+      fit-cause c.args.header.now c.args.level c.requires.level (g.W.CellSource.state c.args.work.now).held c.shadow_run-shadow.result c.next_run-next.result c.shadow_run-shadow.ensures.value c.next_run-next.ensures
+      (g.W.CellSource.state c.args.work.now).spent.faults (g.W.CellSource.state c.test_run.new.work).spent.faults c.in_err-tests.field-0.0 c.from_residual.result
+      (err_is c.from_residual.result c.in_err-tests.field-0.0 c.from_residual.ensures.1) c.in_err-tests.ensures.reads.cause;
+  cost =
+      let few = fit-ticks c.args.header.now c.args.level c.requires.level c.shadow_run-shadow.result c.next_run-next.result c.shadow_run-shadow.ensures.value c.next_run-next.ensures in
+      costs_within c.in_err-tests.ensures.reads.cost few few;
+}
 
 pub returns-clause-fit : goal.returns-clause-fit
 returns-clause-fit g c =
-    fit-answer c.args.header.now c.args.level c.requires.level (g.W.CellSource.held c.args.work.now) c.shadow_run-shadow.result c.next_run-next.result c.few_at-few.result c.shadow_run-shadow.ensures.value c.next_run-next.ensures (subst (λ (o : Bool). AreFewAt c.args.header.now c.args.level o c.few_at-few.result) (ap not c.is_odd_at.ensures) c.few_at-few.ensures)
+    fit-answer c.args.header.now c.args.level c.requires.level (g.W.CellSource.state c.args.work.now).held c.shadow_run-shadow.result c.next_run-next.result c.few_at-few.result c.shadow_run-shadow.ensures.value c.next_run-next.ensures (subst (λ (o : Bool). AreFewAt c.args.header.now c.args.level o c.few_at-few.result) (ap not c.is_odd_at.ensures) c.few_at-few.ensures)
     c.in_ok-tests.tests c.is_good.result c.is_good.ensures c.in_ok-tests.ensures.order c.in_ok-tests.ensures.sampled c.in_ok-tests.ensures.few
 
-pub returns-clause-cost : goal.returns-clause-cost
-returns-clause-cost g c =
-    let few = fit-ticks c.args.header.now c.args.level c.requires.level c.shadow_run-shadow.result c.next_run-next.result c.shadow_run-shadow.ensures.value c.next_run-next.ensures in
-    costs_within c.in_ok-tests.ensures.cost few few
+pub returns-clause-reads : goal.returns-clause-reads
+returns-clause-reads g c = record {
+  cause = tt;
+  cost =
+      let few = fit-ticks c.args.header.now c.args.level c.requires.level c.shadow_run-shadow.result c.next_run-next.result c.shadow_run-shadow.ensures.value c.next_run-next.ensures in
+      costs_within c.in_ok-tests.ensures.reads.cost few few;
+}
 
 pub returns-clause-blocks : goal.returns-clause-blocks
 returns-clause-blocks g c =
-    let few = fit-blocks c.args.header.now (g.W.CellSource.held c.args.work.now) c.args.level c.shadow_run-shadow.result c.next_run-next.result c.shadow_run-shadow.ensures.value c.next_run-next.ensures in
+    let few = fit-blocks c.args.header.now (g.W.CellSource.state c.args.work.now).held c.args.level c.shadow_run-shadow.result c.next_run-next.result c.shadow_run-shadow.ensures.value c.next_run-next.ensures in
     let b = c.in_ok-tests.ensures.blocks in
     omega (arith, few, b)

@@ -2,19 +2,18 @@ use Rattle.std.proofs.Common.{◌≡◌, ◌+◌, ◌≤◌}
 use Rattle.cola_check.specs.Walks.{Turns}
 use Rattle.cola_check.specs.LevelWalks.{runs_of, cells_in, all_unread, all_ahead, StandFrom, blocks_of, ReadFrom, all_left}
 use Rattle.cola_check.proofs.LiveWalk.{Counting}
+use Rattle.cola_look.proofs.Looking.{Looked}
 use Rattle.cola_check.proofs.live.count_live.Given as goal
 
 abbrev pub invariant-loop-key : goal.invariant-loop-key
 invariant-loop-key g l = record {
-  held_is : g.W.CellSource.held l.work ≡ g.W.CellSource.held l.fn.work;
-  kept_is : g.W.CellSource.kept l.work ≡ g.W.CellSource.kept l.fn.work;
-  calm : (g.W.CellSource.spent l.work).faults ≡ (g.W.CellSource.spent l.fn.work).faults;
-  turns : Turns (g.W.CellSource.spent l.fn.work) (g.W.CellSource.spent l.work) l.fn.steps l.steps;
+  looks : Looked g.W.CellSource l.fn.work l.work;
+  turns : Turns (g.W.CellSource.state l.fn.work).spent (g.W.CellSource.state l.work).spent l.fn.steps l.steps;
   unread : l.steps + all_unread l.walks.items ≤ l.fn.steps + cells_in (runs_of l.levels);
   placed : StandFrom 0 l.levels → ReadFrom 0 l.walks.items;
-  blocks : StandFrom 0 l.levels → (g.W.CellSource.spent l.work).turned + all_left (g.W.CellSource.held l.fn.work) (g.W.CellSource.spent l.work) l.walks.items
-      ≤ (g.W.CellSource.spent l.fn.work).turned + blocks_of (g.W.CellSource.held l.fn.work) l.levels;
-  counting : Counting (g.W.CellSource.held l.fn.work) l.last l.levels l.walks.items l.tally.counts.items l.tally.stamped;
+  blocks : StandFrom 0 l.levels → (g.W.CellSource.state l.work).spent.turned + all_left (g.W.CellSource.state l.work) l.walks.items
+      ≤ (g.W.CellSource.state l.fn.work).spent.turned + blocks_of (g.W.CellSource.state l.fn.work).held l.levels;
+  counting : Counting (g.W.CellSource.state l.fn.work).held l.last l.levels l.walks.items l.tally.counts.items l.tally.stamped;
 }
 
 abbrev pub decreases-loop-key : goal.decreases-loop-key

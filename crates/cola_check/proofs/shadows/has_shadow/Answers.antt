@@ -9,14 +9,14 @@ has_cut-requires-clause-inside g c = inside-is c.args.header.now.clock c.args.le
 
 pub returns-in-Before-clause-has : goal.returns-in-Before-clause-has
 returns-in-Before-clause-has g c =
-    λ reached. before-has (tested_by c.args.header.now (g.W.CellSource.held c.args.work.now)) c.args.level (before-is c.args.header.now.clock c.args.level (sym c.phase_of.ensures ∙ c.in-Before.is))
+    λ reached. before-has (tested_by c.args.header.now (g.W.CellSource.state c.args.work.now).held) c.args.level (before-is c.args.header.now.clock c.args.level (sym c.phase_of.ensures ∙ c.in-Before.is))
 
 pub returns-in-Inside-clause-has : goal.returns-in-Inside-clause-has
 returns-in-Inside-clause-has g c =
-    inside-answer (tested_by c.args.header.now (g.W.CellSource.held c.args.work.now)) c.args.level c.requires.above (inside-is c.args.header.now.clock c.args.level c.in-Inside.field-0 (sym c.phase_of.ensures ∙ c.in-Inside.is))
+    inside-answer (tested_by c.args.header.now (g.W.CellSource.state c.args.work.now).held) c.args.level c.requires.above (inside-is c.args.header.now.clock c.args.level c.in-Inside.field-0 (sym c.phase_of.ensures ∙ c.in-Inside.is))
     c.has_cut.result c.has_cut.ensures.cut
 
 pub returns-in-After-clause-has : goal.returns-in-After-clause-has
 returns-in-After-clause-has g c =
-    after-answer (tested_by c.args.header.now (g.W.CellSource.held c.args.work.now)) c.args.level c.requires.above (sym (after-over c.args.header.now.clock c.args.level c.phase_of.result c.phase_of.ensures c.in-After.is))
+    after-answer (tested_by c.args.header.now (g.W.CellSource.state c.args.work.now).held) c.args.level c.requires.above (sym (after-over c.args.header.now.clock c.args.level c.phase_of.result c.phase_of.ensures c.in-After.is))
     c.is_finished.result c.is_finished.ensures.finished

@@ -4,35 +4,30 @@ use Rattle.cola_cell.specs.Held.{Held, LawCell, as_cell}
 use Rattle.cola_cell.specs.Spent.{By, IsGiven}
 use Rattle.cola_cell.specs.declared.cell.Reader.TheVariants.{Own}
 use Rattle.cola_cell.proofs.CostsLemmas.{costs_none, costs_read_then, costs_then, costs_within}
-use Rattle.cola_told.specs.Cells.{cells}
+use Rattle.cola_cell.specs.ToldCells.{cells}
+use Rattle.cola_look.proofs.Looking.{looked_none, looks_read, looks_then}
 use Rattle.cola_check.specs.Prefix.{lists_below, sample_len, sample_reads, Suits, IsSeen}
 use Rattle.cola_check.specs.Reading.{IsRunTold}
-use Rattle.cola_check.specs.Blocks.{SampleReadsOn}
-use Rattle.cola_check.proofs.CutBlocks.{reads-at}
 use Rattle.cola_check.proofs.RunBlocks.{run-most, sample-most, own-read, sample-read}
 use Rattle.cola_check.proofs.Sampling.{given-at, cells-next, reads-one}
 use Rattle.cola_check.proofs.visible.read_all.Goals as goal
 
 pub loop-index-init : goal.loop-index-init
 loop-index-init g c = record {
-  held_is = refl;
-  kept_is = refl;
-  calm = refl;
-  cost = costs_within (costs_none (g.W.CellSource.spent c.args.work.now) c.args.steps.now) (omega arith) (omega arith);
+  looks = looked_none;
+  cost = costs_within (costs_none (g.W.CellSource.state c.args.work.now).spent c.args.steps.now) (omega arith) (omega arith);
   blocks =
-      let held = g.W.CellSource.held c.args.work.now in
-      let spent = g.W.CellSource.spent c.args.work.now in
-      let a = run-most held spent Own c.args.run.now 0 in
-      let b = sample-most held spent c.args.below c.empty-seen.result.looks in
+      let a = run-most (g.W.CellSource.state c.args.work.now) Own c.args.run.now 0 in
+      let b = sample-most (g.W.CellSource.state c.args.work.now) c.args.below c.empty-seen.result.looks in
       omega (arith, a, b);
   place_is = c.empty-seen.ensures.place;
-  seen = λ told rest. c.empty-seen.ensures.seen (lists_below (g.W.CellSource.held c.args.work.now) c.args.below rest);
+  seen = λ told rest. c.empty-seen.ensures.seen (lists_below (g.W.CellSource.state c.args.work.now).held c.args.below rest);
 }
 
 pub loop-index-preserved : goal.loop-index-preserved
 loop-index-preserved g c =
     let i = c.loop-index.invariant in
-    let held = g.W.CellSource.held c.args.work.now in
+    let held = (g.W.CellSource.state c.args.work.now).held in
     let run = c.args.run.now in
     let old = c.loop-index.seen in
     let new = c.with-seen.result in
@@ -43,28 +38,25 @@ loop-index-preserved g c =
     let bound : index + min old.looks (sample_len below) + 1 + sample_reads below old.looks (as_cell cell) ≤ index + 1 + min new.looks (sample_len below) = omega (arith, one) in
     let F : Held → Type 0 = λ h. IfSome below (IsRunTold h) → (rest : List (List LawCell)) → (IsTrue c.in_ok-suits.suits ↔ Suits (lists_below h below rest) old.looks (as_cell cell)) in
     record {
-      held_is = c.in_ok-suits.ensures.cells_stay ∙ c.in_ok-cell.ensures.cells_stay ∙ i.held_is;
-      kept_is = c.in_ok-suits.ensures.kept ∙ c.in_ok-cell.ensures.kept ∙ i.kept_is;
-      calm = c.in_ok-suits.ensures.calm ∙ c.in_ok-cell.ensures.reads.calm ∙ i.calm;
-      cost = costs_within (costs_then {more = sample_reads below old.looks (as_cell cell)} {others = sample_reads below old.looks (as_cell cell)} (costs_read_then {buffer = By Own run.level} {result = Ok cell} i.cost c.in_ok-cell.ensures.reads c.in_ok-cell.ensures.one_tick) c.in_ok-suits.ensures.cost) bound bound;
+      looks = looks_then (looks_then i.looks (looks_read c.in_ok-cell.ensures.kept c.in_ok-cell.ensures.reads)) c.in_ok-suits.ensures.looks;
+      cost = costs_within (costs_then {more = sample_reads below old.looks (as_cell cell)} {others = sample_reads below old.looks (as_cell cell)} (costs_read_then {buffer = By Own run.level} {result = Ok cell} i.cost c.in_ok-cell.ensures.reads c.in_ok-cell.ensures.one_tick) c.in_ok-suits.ensures.reads.cost) bound bound;
       blocks =
           let b = i.blocks in
-          let one = own-read held run below cell index old.looks (reads-at held i.held_is c.in_ok-cell.ensures.reads) c.loop-index-test.true in
-          let S : Held → Type 0 = λ h. SampleReadsOn h (g.W.CellSource.spent c.read_for.new.self) (g.W.CellSource.spent c.suits_at.new.work) below old.looks (old.looks + count_looks (as_cell cell ∷ [])) in
-          let two = sample-read held run below (index + 1) old.looks new.looks (count_looks (as_cell cell ∷ [])) c.with-seen.ensures.looks (subst S (c.in_ok-cell.ensures.cells_stay ∙ i.held_is) c.in_ok-suits.ensures.blocks) in
+          let one = own-read run below cell index old.looks c.in_ok-cell.ensures.reads c.loop-index-test.true in
+          let two = sample-read run below (index + 1) old.looks new.looks (count_looks (as_cell cell ∷ [])) c.in_ok-suits.ensures.looks.cells_stay c.with-seen.ensures.looks c.in_ok-suits.ensures.blocks in
           omega (arith, b, one, two);
       place_is = let a = c.with-seen.ensures.place in let b = i.place_is in omega (arith, a, b);
       seen = λ told rest.
-          let given = subst (λ (h : Held). IsGiven h run.level run.slot index cell) i.held_is c.in_ok-cell.ensures.reads.answer in
+          let given = subst (λ (h : Held). IsGiven h run.level run.slot index cell) i.looks.cells_stay c.in_ok-cell.ensures.reads.answer in
           let next = cells-next (held.spots run.level run.slot) index (as_cell cell) (given-at held run index cell told.run_told c.loop-index-test.true given) in
-          let suits = subst F (c.in_ok-cell.ensures.cells_stay ∙ i.held_is) c.in_ok-suits.ensures.suits in
+          let suits = subst F (c.in_ok-cell.ensures.reads.cells_stay ∙ i.looks.cells_stay) c.in_ok-suits.ensures.suits in
           subst (λ (xs : List LawCell). IsSeen (lists_below held below rest) xs new) (sym next)
           (c.with-seen.ensures.seen (lists_below held below rest) (cells (held.spots run.level run.slot) 0 index) (i.seen told rest) (suits told.below_told rest));
     }
 
 pub returns-clause-seen : goal.returns-clause-seen
 returns-clause-seen g c = λ told rest.
-    let held = g.W.CellSource.held c.args.work.now in
+    let held = (g.W.CellSource.state c.args.work.now).held in
     let run = c.args.run.now in
     let end = c.loop-index.auto.index-end in
     let done = c.loop-index-test.false in

@@ -1,7 +1,8 @@
-use Rattle.std.proofs.Common.{◌≡◌, ◌+◌, ◌*◌, ◌^◌, ◌≤◌, ℕ, subst, ◌∙◌, arith}
+use Rattle.std.proofs.Common.{ap, rules, ◌≡◌, ◌+◌, ◌*◌, ◌^◌, ◌≤◌, ℕ, subst, ◌∙◌, arith}
 use Rattle.cola_cell.specs.Held.{Held}
 use Rattle.cola_cell.proofs.CostsLemmas.{costs_then, costs_within}
 use Rattle.cola_verdict.specs.Tests.{AreCellsTold}
+use Rattle.cola_look.proofs.Looking.{looks_then}
 use Rattle.cola_check.specs.Blocks.{level_blocks, blocks_below}
 use Rattle.cola_check.specs.Firsts.{AreTestsAt, AreFirstFlaws}
 use Rattle.cola_check.specs.Found.{tested_by}
@@ -9,42 +10,43 @@ use Rattle.cola_check.proofs.AllBlocks.{visibles-more, visibles-all}
 use Rattle.cola_check.proofs.TestsAt.{next-ticks, all-ticks}
 use Rattle.cola_check.proofs.visibles.test_visibles.Goals as goal
 
-pub returns-in_err-tests-clause-cost : goal.returns-in_err-tests-clause-cost
-returns-in_err-tests-clause-cost g c =
-    let end = c.levels-level-end.ensures.value in
-    let here = c.loop-level-test.true in
-    let some = all-ticks c.args.header.now c.loop-level.level (omega (arith, end, here)) in
-    costs_within (costs_then {more = 5 * 2 ^ c.loop-level.level} {others = 5 * 2 ^ c.loop-level.level} c.loop-level.invariant.cost c.in_err-tests.ensures.cost) some some
+pub returns-in_err-tests-clause-reads : goal.returns-in_err-tests-clause-reads
+returns-in_err-tests-clause-reads g c = record {
+  cause = search rules;
+  cost =
+      let end = c.levels-level-end.ensures.value in
+      let here = c.loop-level-test.true in
+      let some = all-ticks c.args.header.now c.loop-level.level (omega (arith, end, here)) in
+      costs_within (costs_then {more = 5 * 2 ^ c.loop-level.level} {others = 5 * 2 ^ c.loop-level.level} c.loop-level.invariant.cost c.in_err-tests.ensures.reads.cost) some some;
+}
 
 pub loop-level-preserved : goal.loop-level-preserved
 loop-level-preserved g c =
     let i = c.loop-level.invariant in
     let header = c.args.header.now in
-    let held = g.W.CellSource.held c.args.work.now in
+    let held = (g.W.CellSource.state c.args.work.now).held in
     let level = c.loop-level.level in
     let tests = c.in_ok-tests.ensures in
     let some = next-ticks header level in
     record {
-      held_is = tests.cells_stay ∙ i.held_is;
-      kept_is = tests.kept ∙ i.kept_is;
-      calm = tests.calm ∙ i.calm;
-      cost = costs_within (costs_then {more = 5 * 2 ^ level} {others = 5 * 2 ^ level} i.cost tests.cost) some some;
+      looks = looks_then i.looks tests.looks;
+      cost = costs_within (costs_then {more = 5 * 2 ^ level} {others = 5 * 2 ^ level} i.cost tests.reads.cost) some some;
       blocks =
           let b = i.blocks in
           let more = visibles-more header held level in
-          let here : (g.W.CellSource.spent c.test_level.new.work).turned ≤ (g.W.CellSource.spent c.loop-level.work).turned + (level_blocks header held level + blocks_below header held level) =
-          subst (λ (h : Held). (g.W.CellSource.spent c.test_level.new.work).turned ≤ (g.W.CellSource.spent c.loop-level.work).turned + (level_blocks header h level + blocks_below header h level)) i.held_is tests.blocks in
-          omega (arith, b, more, here);
+          let here = tests.blocks in
+          let same = ap (λ (h : Held). level_blocks header h level + blocks_below header h level) i.looks.cells_stay in
+          omega (arith, b, more, here, same);
       placed = c.with-flaws.ensures.placed i.placed tests.within;
       found = λ told.
           c.with-flaws.ensures.found (tested_by header held) (i.found told)
-          (subst (λ (h : Held). AreCellsTold (tested_by header h) → AreTestsAt (tested_by header h) level c.in_ok-tests.tests) i.held_is tests.tests told);
+          (subst (λ (h : Held). AreCellsTold (tested_by header h) → AreTestsAt (tested_by header h) level c.in_ok-tests.tests) i.looks.cells_stay tests.tests told);
     }
 
 pub returns-clause-finds : goal.returns-clause-finds
 returns-clause-finds g c =
     let header = c.args.header.now in
-    let held = g.W.CellSource.held c.args.work.now in
+    let held = (g.W.CellSource.state c.args.work.now).held in
     let end = c.levels-level-end.ensures.value in
     let last = c.loop-level.auto.level-end in
     let done = c.loop-level-test.false in
@@ -56,5 +58,5 @@ returns-clause-blocks g c =
     let end = c.levels-level-end.ensures.value in
     let last = c.loop-level.auto.level-end in
     let b = c.loop-level.invariant.blocks in
-    let all = visibles-all c.args.header.now (g.W.CellSource.held c.args.work.now) c.loop-level.level (omega (arith, end, last)) in
+    let all = visibles-all c.args.header.now (g.W.CellSource.state c.args.work.now).held c.loop-level.level (omega (arith, end, last)) in
     omega (arith, b, all)

@@ -1,12 +1,30 @@
-use Rattle.std.proofs.Common.{◌+◌, ◌∙◌, sym, ap, drop, arith}
-use Rattle.cola_cursor.specs.Results.{least_from}
-use Rattle.cola_cursor.proofs.Lists.{left_next, none_left}
+use Rattle.std.proofs.Common.{◌+◌, ◌∙◌, None, Some, cond, sym, ap, drop}
+use Rattle.std.proofs.lemmas.List.{drop_more}
+use Rattle.cola_cell.specs.Cell.{key_of}
+use Rattle.cola_cursor.specs.Results.{least_from, key_in}
+use Rattle.cola_cursor.proofs.Lists.{none_left}
+use Rattle.cola_cursor.proofs.Least.{least_ends}
 use Rattle.cola_cursor.proofs.lines.least_key.Goals as goal
 
 pub loop-i-preserved : goal.loop-i-preserved
 loop-i-preserved c =
-    let here = left_next c.args.lines.now c.loop-i.i c.index-lines-i.result c.loop-i-test.true c.index-lines-i.is in
-    ap (λ x. least_from c.args.end.now x (drop (c.loop-i.i + 1) c.args.lines.now)) c.lowered-least.ensures ∙ sym (ap (least_from c.args.end.now c.loop-i.least) here) ∙ c.loop-i.invariant
+    let here = drop_more c.args.lines.now c.loop-i.i c.index-lines-i.result c.loop-i-test.true in
+    ap (λ x. least_from None x (drop (c.loop-i.i + 1) c.args.lines.now)) c.lesser-least.ensures ∙ sym (ap (least_from None (key_in c.loop-i.least)) here) ∙ c.loop-i.invariant
 
-pub returns : goal.returns
-returns c = sym (ap (least_from c.args.end.now c.loop-i.least) (none_left c.args.lines.now c.loop-i.i (omega arith))) ∙ c.loop-i.invariant
+pub returns-then-is_below : goal.returns-then-is_below
+returns-then-is_below c =
+    let k = key_of c.in-Some.cell.now in
+    let is = sym c.is_below.ensures ∙ c.if-is_below.true in
+    ap Some c.key.ensures ∙ sym (ap (λ b. cond b (Some k) None) is)
+    ∙ least_ends c.args.end.now (key_in c.loop-i.least) (Some k) c.args.lines.now (drop c.loop-i.i c.args.lines.now) (none_left c.args.lines.now c.loop-i.i c.loop-i-test.false) c.loop-i.invariant (ap key_in c.in-Some.is)
+
+pub returns-else-is_below : goal.returns-else-is_below
+returns-else-is_below c =
+    let k = key_of c.in-Some.cell.now in
+    let is = sym c.is_below.ensures ∙ c.if-is_below.false in
+    sym (ap (λ b. cond b (Some k) None) is)
+    ∙ least_ends c.args.end.now (key_in c.loop-i.least) (Some k) c.args.lines.now (drop c.loop-i.i c.args.lines.now) (none_left c.args.lines.now c.loop-i.i c.loop-i-test.false) c.loop-i.invariant (ap key_in c.in-Some.is)
+
+pub returns-in-None : goal.returns-in-None
+returns-in-None c =
+    least_ends c.args.end.now (key_in c.loop-i.least) None c.args.lines.now (drop c.loop-i.i c.args.lines.now) (none_left c.args.lines.now c.loop-i.i c.loop-i-test.false) c.loop-i.invariant (ap key_in c.in-None.is)

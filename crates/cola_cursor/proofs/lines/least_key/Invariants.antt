@@ -1,7 +1,7 @@
 use Rattle.std.proofs.Common.{◌≡◌, None, drop}
-use Rattle.cola_cursor.specs.Results.{least_from}
+use Rattle.cola_cursor.specs.Results.{least_from, key_in}
 use Rattle.cola_cursor.proofs.lines.least_key.Given as goal
 
--- the least of what is left, and of what was found
+-- the least of what is left, and of what was found, the upper end aside
 abbrev pub invariant-loop-i : goal.invariant-loop-i
-invariant-loop-i l = least_from l.end l.least (drop l.i l.lines) ≡ least_from l.end None l.lines
+invariant-loop-i l = least_from None (key_in l.least) (drop l.i l.lines) ≡ least_from None None l.lines

@@ -1,15 +1,14 @@
-use Rattle.std.proofs.Common.{◌≡◌, ◌+◌, ◌≤◌, take, drop, length}
-use Rattle.cola_cursor.specs.Lines.{Reading, all_left}
+use Rattle.std.proofs.Common.{take}
+use Rattle.cola_look.proofs.Looking.{Looked}
+use Rattle.cola_cursor.specs.Lines.{Reading}
 use Rattle.cola_cursor.specs.Passing.{PassAll}
+use Rattle.cola_cursor.proofs.Turns.{Turned}
 use Rattle.cola_cursor.proofs.lines.pass_all.Given as goal
 
 abbrev pub invariant-loop-i : goal.invariant-loop-i
 invariant-loop-i g l = record {
-  held_is : g.W.CellSource.held l.work ≡ g.W.CellSource.held l.fn.work;
-  kept_is : g.W.CellSource.kept l.work ≡ g.W.CellSource.kept l.fn.work;
-  calm : (g.W.CellSource.spent l.work).faults ≡ (g.W.CellSource.spent l.fn.work).faults;
-  reading : Reading (g.W.CellSource.spent l.fn.work) (g.W.CellSource.spent l.work) l.fn.steps l.steps;
-  left : l.steps + all_left l.done.items + all_left (drop l.i l.lines) ≤ l.fn.steps + all_left l.lines;
-  count : length l.done.items ≡ l.i;
-  passed : PassAll (g.W.CellSource.held l.fn.work) l.key (take l.i l.lines) l.done.items l.item;
+  looks : Looked g.W.CellSource l.fn.work l.work;
+  reading : Reading (g.W.CellSource.state l.fn.work) (g.W.CellSource.state l.work) l.fn.steps l.steps;
+  turned : Turned l.i l.fn.lines l.lines l.fn.saved.items l.saved.items l.fn.steps l.steps;
+  passed : PassAll (g.W.CellSource.state l.fn.work).held l.key (take l.i l.fn.lines) (take l.i l.lines) l.item;
 }

@@ -8,6 +8,7 @@ use Rattle.cola_look.specs.Outcome.{Found, Answers}
 use Rattle.cola_look.specs.Runs.{HasRun}
 use Rattle.cola_look.specs.Seek.{as_seat}
 use Rattle.cola_runs.specs.Search as laws
+use Rattle.cola_look.proofs.Looking.{err_is, looks_as, looks_then, looks_refused}
 use Rattle.cola_cursor.specs.declared.line.Line.{Line}
 use Rattle.cola_cursor.specs.Lines.{LineFits}
 use Rattle.cola_cursor.specs.Standing.{runs_of}
@@ -20,20 +21,18 @@ use Rattle.cola_cursor.proofs.starts.seek_lines.Goals as goal
 pub loop-i-preserved : goal.loop-i-preserved
 loop-i-preserved g c =
     let i = c.loop-i.invariant in
-    let held : Held = g.W.CellSource.held c.args.work.now in
+    let held : Held = (g.W.CellSource.state c.args.work.now).held in
     let runs = c.args.runs.now in
     let n = c.loop-i.i in
     let d : Run = record { level = 0; slot = 0; len = 0 } in
     let line : Line = record { run = get_or runs n d; place = c.in_ok-seat.seat.pos; head = None } in
-    let ens = c.in_ok-seat.ensures in
+    let ens = c.in_ok-seat.ensures.seeks in
     let T : Held → Type 0 = λ h. (cells : List LawCell) → IsRun h (get_or runs n d) cells → Answers (Found (laws.seek key_cmp c.args.key.now c.loop-i.start cells c.length_at.result)) as_seat (Ok c.in_ok-seat.seat) in
-    let told : T held = subst T i.held_is ens.told in
+    let told : T held = subst T i.looks.cells_stay ens.told in
     let A : List Line → Type 0 = λ x. AllByRecursion (LineFits held) x in
     record {
-      held_is = ens.cells_stay ∙ i.held_is;
-      kept_is = ens.kept ∙ i.kept_is;
-      calm = ens.calm ∙ i.calm;
-      reading = reading_then i.reading (reading_of ens.costs ens.each_turn ens.others_stay);
+      looks = looks_then i.looks c.in_ok-seat.ensures.looks;
+      reading = reading_then i.reading (reading_of ens);
       left = left_more runs n d c.loop-i.lines.items c.push.new.self.items line c.args.steps.now c.loop-i.steps c.seek.new.steps c.loop-i-test.true c.push.ensures.items refl ens.costs.steps_rise i.left;
       count = length_push c.loop-i.lines.items c.push.new.self.items line n c.push.ensures.items i.count;
       begins = ap runs_of c.push.ensures.items ∙ map_append (λ (x : Line). x.run) c.loop-i.lines.items line ∙ ap (λ z. z ++ get_or runs n d ∷ []) i.begins ∙ sym (taken_more runs n d c.loop-i-test.true);
@@ -44,9 +43,16 @@ loop-i-preserved g c =
 
 pub returns-in_err-seat-clause-cause : goal.returns-in_err-seat-clause-cause
 returns-in_err-seat-clause-cause g c =
-    refused c.from_residual.result c.in_err-seat.field-0.0 (RunsCause (g.W.CellSource.held c.args.work.now) c.args.runs.now (g.W.CellSource.spent c.args.work.now).faults (g.W.CellSource.spent c.seek.new.work).faults) c.from_residual.ensures.1
-    (bad_run (g.W.CellSource.held c.loop-i.work) (g.W.CellSource.held c.args.work.now) c.args.runs.now c.loop-i.i (record { level = 0; slot = 0; len = 0 }) c.loop-i.start (g.W.CellSource.spent c.args.work.now).faults (g.W.CellSource.spent c.loop-i.work).faults (g.W.CellSource.spent c.seek.new.work).faults c.in_err-seat.field-0.0
-    c.loop-i.invariant.held_is c.loop-i.invariant.calm c.loop-i-test.true c.in_err-seat.ensures.cause)
+    refused c.from_residual.result c.in_err-seat.field-0.0 (RunsCause (g.W.CellSource.state c.args.work.now).held c.args.runs.now (g.W.CellSource.state c.args.work.now).spent.faults (g.W.CellSource.state c.seek.new.work).spent.faults) c.from_residual.ensures.1
+    (bad_run (g.W.CellSource.state c.loop-i.work).held (g.W.CellSource.state c.args.work.now).held c.args.runs.now c.loop-i.i (record { level = 0; slot = 0; len = 0 }) c.loop-i.start (g.W.CellSource.state c.args.work.now).spent.faults (g.W.CellSource.state c.loop-i.work).spent.faults (g.W.CellSource.state c.seek.new.work).spent.faults c.in_err-seat.field-0.0
+    c.loop-i.invariant.looks.cells_stay c.loop-i.invariant.looks.calm c.loop-i-test.true c.in_err-seat.ensures.seeks.cause)
 
 pub returns-clause-places : goal.returns-clause-places
-returns-clause-places g c = λ lists r. places_whole (g.W.CellSource.held c.args.work.now) c.args.runs.now lists c.loop-i.i c.args.key.now c.loop-i.start (map (λ x. x.place) c.loop-i.lines.items) _ r (omega arith) (c.loop-i.invariant.places lists r)
+returns-clause-places g c = λ lists r. places_whole (g.W.CellSource.state c.args.work.now).held c.args.runs.now lists c.loop-i.i c.args.key.now c.loop-i.start (map (λ x. x.place) c.loop-i.lines.items) _ r (omega arith) (c.loop-i.invariant.places lists r)
+
+pub returns-in_err-seat-clause-looks : goal.returns-in_err-seat-clause-looks
+returns-in_err-seat-clause-looks g c =
+    looks_refused c.in_err-seat.field-0.0 c.from_residual.result c.loop-i.invariant.looks c.in_err-seat.ensures.looks (err_is c.from_residual.result c.in_err-seat.field-0.0 c.from_residual.ensures.1)
+
+pub returns-clause-looks : goal.returns-clause-looks
+returns-clause-looks g c = looks_as c.loop-i.invariant.looks

@@ -2,7 +2,7 @@ use Rattle.std.proofs.Common.{◌≡◌, ◌+◌, ℕ, length, ap, sym, subst, �
 use Rattle.cola_cell.specs.Decoded.{decoded}
 use Rattle.cola_cell.specs.Flat.{spot_of}
 use Rattle.cola_cell.specs.Places.{number_of}
-use Rattle.cola_told.specs.Cells.{cells}
+use Rattle.cola_cell.specs.ToldCells.{cells}
 use Rattle.cola_image.specs.Cells.{cell_bytes, file_spots}
 use Rattle.cola_image.proofs.PlainLemmas.{AreSpelled, spelled-more, listed}
 use Rattle.cola_image.proofs.plain.run_of_file.Goals as goal

@@ -8,7 +8,7 @@ returns-clause-kept g c = c.advance.ensures.kept
 
 pub returns-clause-stepped : goal.returns-clause-stepped
 returns-clause-stepped g c =
-    let e = c.advance.ensures in
+    let e = c.advance.ensures.advances in
     record {
       moves = record {
         ready = e.ready;
@@ -18,11 +18,12 @@ returns-clause-stepped g c =
         rises = e.rises;
         emits = e.emits;
         samples = e.samples;
+        builds = e.builds;
         told = e.told;
-        cut = λ going. goes_on_of c.args.aim.now c.args.merger.now c.advance.new.self (g.W.CellSource.held c.args.work.now) (g.W.CellSource.held c.advance.new.work) c.advance.result (e.cut going);
-        whole = λ going. whole_of c.args.aim.now c.args.merger.now c.advance.new.self (g.W.CellSource.held c.args.work.now) (g.W.CellSource.held c.advance.new.work) c.advance.result e.consumes (e.whole going);
-        cause = cause_of c.args.aim.now (g.W.CellSource.spent c.args.work.now).faults (state (g.W.CellSource.held c.advance.new.work) (g.W.CellSource.spent c.advance.new.work) c.advance.new.self c.advance.new.steps) c.advance.result e.cause;
-        calm = calm_of (g.W.CellSource.spent c.args.work.now).faults (g.W.CellSource.spent c.advance.new.work).faults c.advance.result e.calm;
+        cut = λ going. goes_on_of c.args.aim.now c.args.merger.now c.advance.new.self (g.W.CellSource.state c.args.work.now).held (g.W.CellSource.state c.advance.new.work).held c.advance.result (e.cut going);
+        whole = λ going. whole_of c.args.aim.now c.args.merger.now c.advance.new.self (g.W.CellSource.state c.args.work.now).held (g.W.CellSource.state c.advance.new.work).held c.advance.result e.consumes (e.whole going);
+        cause = cause_of c.args.aim.now (g.W.CellSource.state c.args.work.now).spent.faults (state (g.W.CellSource.state c.advance.new.work) c.advance.new.self c.advance.new.steps) c.advance.result e.cause;
+        calm = calm_of (g.W.CellSource.state c.args.work.now).spent.faults (g.W.CellSource.state c.advance.new.work).spent.faults c.advance.result e.calm;
         only = λ going fits. only_of c.advance.result (e.only going fits);
         turned = e.turned;
       };

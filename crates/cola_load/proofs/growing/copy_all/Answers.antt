@@ -19,8 +19,8 @@ loop-next-preserved g c =
     let e = c.in_ok-next.ensures in
     let T : Held → Type 0 = λ h. (begun : Cursor) (rows : List Row) → IsCopied h begun c.loop-next.cursor c.loop-next.loader (g.E.Device.bytes c.loop-next.to) rows
     → CopiesNext h begun c.loop-next.filling.geometry c.loop-next.filling.last rows c.copy_next.new.cursor c.copy_next.new.loader (g.E.Device.bytes c.copy_next.new.to) (Ok c.in_ok-next.field-0) in
-    let all : T (g.W.CellSource.held c.args.work.now) = subst T i.held_is e.copies in
-    let next = subst (λ (o : Option Filling). CopiesNext (g.W.CellSource.held c.args.work.now) c.args.cursor.now c.loop-next.filling.geometry c.loop-next.filling.last i.copied.0 c.copy_next.new.cursor c.copy_next.new.loader (g.E.Device.bytes c.copy_next.new.to) (Ok o))
+    let all : T (g.W.CellSource.state c.args.work.now).held = subst T i.held_is e.copies in
+    let next = subst (λ (o : Option Filling). CopiesNext (g.W.CellSource.state c.args.work.now).held c.args.cursor.now c.loop-next.filling.geometry c.loop-next.filling.last i.copied.0 c.copy_next.new.cursor c.copy_next.new.loader (g.E.Device.bytes c.copy_next.new.to) (Ok o))
     c.in-Some.is (all c.args.cursor.now i.copied.0 i.copied.1) in
     let same = subst (λ (o : Option Filling). IfSome o (λ next. (next.geometry ≡ c.loop-next.filling.geometry) × (next.last ≡ c.loop-next.filling.last))) c.in-Some.is e.same in
     let more = subst (λ (o : Option Filling). IfSome o (λ next. next.rows ≡ c.loop-next.filling.rows + 1)) c.in-Some.is e.next in
@@ -48,7 +48,7 @@ pub returns-clause-copies : goal.returns-clause-copies
 returns-clause-copies g c =
     let i = c.loop-next.invariant in
     let e = c.in_ok-next.ensures in
-    let held = g.W.CellSource.held c.args.work.now in
+    let held = (g.W.CellSource.state c.args.work.now).held in
     let T : Held → Type 0 = λ h. (begun : Cursor) (rows : List Row) → IsCopied h begun c.loop-next.cursor c.loop-next.loader (g.E.Device.bytes c.loop-next.to) rows
     → CopiesNext h begun c.loop-next.filling.geometry c.loop-next.filling.last rows c.copy_next.new.cursor c.copy_next.new.loader (g.E.Device.bytes c.copy_next.new.to) (Ok c.in_ok-next.field-0) in
     let all : T held = subst T i.held_is e.copies in
@@ -61,7 +61,7 @@ returns-clause-copies g c =
 pub returns-in_err-next-clause-copies : goal.returns-in_err-next-clause-copies
 returns-in_err-next-clause-copies g c =
     let i = c.loop-next.invariant in
-    let held = g.W.CellSource.held c.args.work.now in
+    let held = (g.W.CellSource.state c.args.work.now).held in
     let fault = c.in_err-next.field-0.0 in
     let T : Held → Type 0 = λ h. (begun : Cursor) (rows : List Row) → IsCopied h begun c.loop-next.cursor c.loop-next.loader (g.E.Device.bytes c.loop-next.to) rows
     → CopiesNext h begun c.loop-next.filling.geometry c.loop-next.filling.last rows c.copy_next.new.cursor c.copy_next.new.loader (g.E.Device.bytes c.copy_next.new.to) (Err fault) in

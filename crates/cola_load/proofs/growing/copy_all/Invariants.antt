@@ -9,20 +9,20 @@ use Rattle.cola_load.proofs.growing.copy_all.Given as goal
 
 abbrev pub invariant-loop-next : goal.invariant-loop-next
 invariant-loop-next g l = record {
-  held_is : g.W.CellSource.held l.work ≡ g.W.CellSource.held l.fn.work;
+  held_is : (g.W.CellSource.state l.work).held ≡ (g.W.CellSource.state l.fn.work).held;
   kept_is : g.W.CellSource.kept l.work ≡ g.W.CellSource.kept l.fn.work;
   other_kept : g.E.Device.kept l.to ≡ g.E.Device.kept l.fn.to;
-  calm : (g.W.CellSource.spent l.work).faults ≡ (g.W.CellSource.spent l.fn.work).faults;
+  calm : (g.W.CellSource.state l.work).spent.faults ≡ (g.W.CellSource.state l.fn.work).spent.faults;
   other_calm : (g.E.Device.counts l.to).faults ≡ (g.E.Device.counts l.fn.to).faults;
-  reading : Reading (g.W.CellSource.spent l.fn.work) (g.W.CellSource.spent l.work) l.fn.steps l.steps;
+  reading : Reading (g.W.CellSource.state l.fn.work) (g.W.CellSource.state l.work) l.fn.steps l.steps;
   left : l.steps + all_left l.cursor.lines.items ≤ l.fn.steps + all_left l.fn.cursor.lines.items;
-  stands : Stands (g.W.CellSource.held l.work) l.cursor;
+  stands : Stands (g.W.CellSource.state l.work).held l.cursor;
   filling : IsFillingOf l.filling l.loader;
   geometry_is : l.filling.geometry ≡ l.begun.geometry;
   last_is : l.filling.last ≡ l.begun.last;
   few : l.filling.rows ≤ l.filling.geometry.keys;
   writes : Spends (g.E.Device.counts l.fn.to) (g.E.Device.counts l.to) 0 (full_blocks l.begun.geometry l.filling.rows) 0;
-  copied : (rows : List Row) × IsCopied (g.W.CellSource.held l.fn.work) l.fn.cursor l.cursor l.loader (g.E.Device.bytes l.to) rows;
+  copied : (rows : List Row) × IsCopied (g.W.CellSource.state l.fn.work).held l.fn.cursor l.cursor l.loader (g.E.Device.bytes l.to) rows;
 }
 
 abbrev pub decreases-loop-next : goal.decreases-loop-next

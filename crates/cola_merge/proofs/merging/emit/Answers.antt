@@ -1,7 +1,6 @@
 -- A cell is pushed where there is one.
-use Rattle.std.proofs.Common.{◌≡◌, Option, Some, sym, ap, ◌∙◌}
+use Rattle.std.proofs.Common.{Option, Some, sym, ap, ◌∙◌}
 use Rattle.std.specs.Prelude.{option_copied}
-use Rattle.cola_cell.specs.declared.cell.Cell.{Cell}
 use Rattle.cola_cell.specs.declared.packed.Pass.{Pass}
 use Rattle.cola_cell.specs.Packed.{passed}
 use Rattle.cola_merge.specs.Rules.{emitted_of}

@@ -1,13 +1,10 @@
 -- The end of a mutation at all levels, the first and then the others.
-use Rattle.std.proofs.Common.{◌≡◌, ℕ, suc, ◌+◌, ◌≤◌, List, ◌∷◌, length, sym, ap, subst, ◌∙◌, arith}
+use Rattle.std.proofs.Common.{ℕ, ◌+◌, ◌≤◌, List, ◌∷◌, length, sym, ap, subst, add-one, ◌∙◌, arith}
 use Rattle.cola_cell.specs.Held.{Fixed}
 use Rattle.cola_level.specs.declared.level.Level.{Level}
 use Rattle.cola_mutation.specs.Ends.{ended, all_ended, AreDone, Restarted}
 use Rattle.cola_mutation.proofs.Restarting.{restarted_then}
 use Rattle.cola_mutation.proofs.ending.+end_levels.Goals as goal
-
-one_more : (n : ℕ) → n + 1 ≡ suc n
-one_more n = omega arith
 
 pub end_level-requires : goal.end_level-requires
 end_level-requires g t c = record {
@@ -28,7 +25,7 @@ end_levels-requires g t c κs within = (
         omega (arith, c.in-Some.ensures.cases.1, c.requires.numbers_in),
         (
           c.requires.clock_in,
-          subst (λ (n : ℕ). AreDone c.args.clock n c.in-Some.below.now) (sym (one_more c.args.number))
+          subst (λ (n : ℕ). AreDone c.args.clock n c.in-Some.below.now) (sym (add-one c.args.number))
               (subst (λ (ls : List Level). AreDone c.args.clock c.args.number ls) c.in-Some.ensures.cases.0 c.requires.done).1,
         ),
       ),
@@ -40,11 +37,11 @@ pub returns-clause-ended : goal.returns-clause-ended
 returns-clause-ended g t c =
     ap (λ (l : Level). l ∷ c.end_levels.new.levels) c.end_level.ensures.ended
     ∙ ap (λ (ls : List Level). ended c.args.clock c.args.number c.in-Some.level.now ∷ ls)
-    (c.end_levels.ensures.ended ∙ ap (λ (n : ℕ). all_ended c.args.clock n c.in-Some.below.now) (one_more c.args.number))
+    (c.end_levels.ensures.ended ∙ ap (λ (n : ℕ). all_ended c.args.clock n c.in-Some.below.now) (add-one c.args.number))
     ∙ ap (λ (ls : List Level). all_ended c.args.clock c.args.number ls) (sym c.in-Some.ensures.cases.0)
 
 pub returns-clause-restarted : goal.returns-clause-restarted
 returns-clause-restarted g t c =
-    let rest = subst (λ (n : ℕ). Restarted c.args.clock n (length c.in-Some.below.now) (g.W.CellSource.held c.end_level.new.work) (g.W.CellSource.held c.end_levels.new.work)) (one_more c.args.number) c.end_levels.ensures.restarted in
-    subst (λ (ls : List Level). Restarted c.args.clock c.args.number (length ls) (g.W.CellSource.held c.args.work.now) (g.W.CellSource.held c.end_levels.new.work)) (sym c.in-Some.ensures.cases.0)
+    let rest = subst (λ (n : ℕ). Restarted c.args.clock n (length c.in-Some.below.now) (g.W.CellSource.state c.end_level.new.work).held (g.W.CellSource.state c.end_levels.new.work).held) (add-one c.args.number) c.end_levels.ensures.restarted in
+    subst (λ (ls : List Level). Restarted c.args.clock c.args.number (length ls) (g.W.CellSource.state c.args.work.now).held (g.W.CellSource.state c.end_levels.new.work).held) (sym c.in-Some.ensures.cases.0)
     (restarted_then c.args.clock c.args.number (length c.in-Some.below.now) c.end_level.ensures.restarted rest)

@@ -10,7 +10,7 @@ returns-then-flips-clause-ended g c = c.flip.ensures ∙ sym (ended_flips c.args
 pub returns-then-flips-clause-restarted : goal.returns-then-flips-clause-restarted
 returns-then-flips-clause-restarted g c =
     restarted_one c.args.clock c.args.number (sym c.flips.ensures ∙ c.if-flips.true)
-    (subst (λ (slot : ℕ). Restarts (g.W.CellSource.held c.args.work.now) (g.W.CellSource.held c.restart.new.self) c.args.number slot) c.visible_slot.ensures.value c.restart.ensures.restarts)
+    (subst (λ (slot : ℕ). Restarts (g.W.CellSource.state c.args.work.now).held (g.W.CellSource.state c.restart.new.self).held c.args.number slot) c.visible_slot.ensures.value c.restart.ensures.restarts)
 
 pub returns-then-number-eq0-clause-ended : goal.returns-then-number-eq0-clause-ended
 returns-then-number-eq0-clause-ended g c = absurd (zero_flips c.args.clock c.args.number c.if-number-eq0.true (sym c.flips.ensures ∙ c.if-flips.false))

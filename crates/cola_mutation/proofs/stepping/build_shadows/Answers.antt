@@ -7,7 +7,7 @@ use Rattle.cola_mutation.proofs.stepping.build_shadows.Goals as goal
 
 pub build_top-requires-clause-ready : goal.build_top-requires-clause-ready
 build_top-requires-clause-ready g c =
-    let chain = subst (λ (ls : List Level). IsChain (g.W.CellSource.held c.args.work.now) c.args.clock ls) c.in-Some.ensures.cases.0 c.requires.chain in
+    let chain = subst (λ (ls : List Level). IsChain (g.W.CellSource.state c.args.work.now).held c.args.clock ls) c.in-Some.ensures.cases.0 c.requires.chain in
     let turns = c.in_ok-work_levels.ensures.turns in
     let many = length_levels c.args.clock 0 c.in-Some.below.now c.work_levels.new.levels turns.turned in
     ready_first c.args.clock c.in-Some.top.now.visible c.args.cell c.work_levels.new.levels c.index-below-0.result (omega (arith, many, chain.many))

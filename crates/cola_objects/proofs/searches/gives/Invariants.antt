@@ -3,4 +3,4 @@ use Rattle.cola_cursor.specs.Standing.{Stands}
 use Rattle.cola_objects.proofs.searches.gives.Given as goal
 
 abbrev pub invariant-loop-key : goal.invariant-loop-key
-invariant-loop-key g l = (g.W.CellSource.held l.work ≡ g.W.CellSource.held l.fn.work) × Stands (g.W.CellSource.held l.work) l.cursor
+invariant-loop-key g l = ((g.W.CellSource.state l.work).held ≡ (g.W.CellSource.state l.fn.work).held) × Stands (g.W.CellSource.state l.work).held l.cursor

@@ -2,4 +2,4 @@ use Rattle.std.proofs.Common.{◌≡◌}
 use Rattle.cola_objects.proofs.searches.ranges_all.Given as goal
 
 abbrev pub invariant-loop-pair : goal.invariant-loop-pair
-invariant-loop-pair g l = g.W.CellSource.held l.work ≡ g.W.CellSource.held l.fn.work
+invariant-loop-pair g l = (g.W.CellSource.state l.work).held ≡ (g.W.CellSource.state l.fn.work).held

@@ -4,6 +4,7 @@ use Rattle.cola_cell.specs.declared.sink.Shadow.{Shadow}
 use Rattle.cola_cell.specs.Flat.{shadow_at}
 use Rattle.cola_run.specs.Cells.{IsOnDevice}
 use Rattle.cola_run.proofs.Loads.{sound-two, read-two, writing-two, finish-sound, finish-read, writing-of}
+use Rattle.cola_run.specs.Store.{lower_of}
 use Rattle.cola_run.proofs.saving.save_tails.Goals as goal
 
 pub returns-in-Err-clause-sound : goal.returns-in-Err-clause-sound
@@ -16,11 +17,11 @@ returns-in-Err-clause-sound g c =
     let front = c.front_levels-level.ensures.value in
     let some = c.front_levels-level.ensures.some in
     let device : IsOnDevice c.args.geometry.now level = record { within = omega (arith, here, end); whole = omega (arith, begin, front, some) } in
-    sound-two c.args.geometry.now (record { told = told c.args.buffers.now.cache.device; shadows = c.args.shadows.now; tails = c.args.tails.now })
-    (record { told = told c.loop-level.buffers.cache.device; shadows = c.loop-level.shadows; tails = c.args.tails.now })
-    (record { told = told c.finish_on_device.new.buffers.cache.device; shadows = c.finish_on_device.new.shadows; tails = c.args.tails.now }) c.loop-level.invariant.sound
-    (finish-sound c.args.geometry.now (record { told = told c.loop-level.buffers.cache.device; shadows = c.loop-level.shadows; tails = c.args.tails.now })
-    (record { told = told c.finish_on_device.new.buffers.cache.device; shadows = c.finish_on_device.new.shadows; tails = c.args.tails.now }) level c.finish_on_device.result device c.finish_on_device.ensures.finished)
+    sound-two c.args.geometry.now (lower_of told c.args.buffers.now c.args.shadows.now c.args.tails.now)
+    (lower_of told c.loop-level.buffers c.loop-level.shadows c.args.tails.now)
+    (lower_of told c.finish_on_device.new.buffers c.finish_on_device.new.shadows c.args.tails.now) c.loop-level.invariant.sound
+    (finish-sound c.args.geometry.now (lower_of told c.loop-level.buffers c.loop-level.shadows c.args.tails.now)
+    (lower_of told c.finish_on_device.new.buffers c.finish_on_device.new.shadows c.args.tails.now) level c.finish_on_device.result device c.finish_on_device.ensures.finished)
 
 pub returns-in-Err-clause-stays : goal.returns-in-Err-clause-stays
 returns-in-Err-clause-stays g c =
@@ -32,11 +33,11 @@ returns-in-Err-clause-stays g c =
     let front = c.front_levels-level.ensures.value in
     let some = c.front_levels-level.ensures.some in
     let device : IsOnDevice c.args.geometry.now level = record { within = omega (arith, here, end); whole = omega (arith, begin, front, some) } in
-    read-two c.args.geometry.now (record { told = told c.args.buffers.now.cache.device; shadows = c.args.shadows.now; tails = c.args.tails.now })
-    (record { told = told c.loop-level.buffers.cache.device; shadows = c.loop-level.shadows; tails = c.args.tails.now })
-    (record { told = told c.finish_on_device.new.buffers.cache.device; shadows = c.finish_on_device.new.shadows; tails = c.args.tails.now }) c.loop-level.invariant.sound c.loop-level.invariant.stays
-    (finish-read c.args.geometry.now (record { told = told c.loop-level.buffers.cache.device; shadows = c.loop-level.shadows; tails = c.args.tails.now })
-    (record { told = told c.finish_on_device.new.buffers.cache.device; shadows = c.finish_on_device.new.shadows; tails = c.args.tails.now }) level c.finish_on_device.result device c.finish_on_device.ensures.finished)
+    read-two c.args.geometry.now (lower_of told c.args.buffers.now c.args.shadows.now c.args.tails.now)
+    (lower_of told c.loop-level.buffers c.loop-level.shadows c.args.tails.now)
+    (lower_of told c.finish_on_device.new.buffers c.finish_on_device.new.shadows c.args.tails.now) c.loop-level.invariant.sound c.loop-level.invariant.stays
+    (finish-read c.args.geometry.now (lower_of told c.loop-level.buffers c.loop-level.shadows c.args.tails.now)
+    (lower_of told c.finish_on_device.new.buffers c.finish_on_device.new.shadows c.args.tails.now) level c.finish_on_device.result device c.finish_on_device.ensures.finished)
 
 pub loop-level-preserved : goal.loop-level-preserved
 loop-level-preserved g c =
@@ -56,16 +57,16 @@ loop-level-preserved g c =
         | inr d ↦ ap (λ (x : Shadow). x.saved) (one.others l d) ∙ c.loop-level.invariant.saved l on (omega (arith, below, d))
       ];
       rest = λ l above. one.others l (λ e. omega (arith, above, e)) ∙ c.loop-level.invariant.rest l (omega (arith, above));
-      sound = sound-two c.args.geometry.now (record { told = told c.args.buffers.now.cache.device; shadows = c.args.shadows.now; tails = c.args.tails.now })
-          (record { told = told c.loop-level.buffers.cache.device; shadows = c.loop-level.shadows; tails = c.args.tails.now })
-          (record { told = told c.finish_on_device.new.buffers.cache.device; shadows = c.finish_on_device.new.shadows; tails = c.args.tails.now }) c.loop-level.invariant.sound
-          (finish-sound c.args.geometry.now (record { told = told c.loop-level.buffers.cache.device; shadows = c.loop-level.shadows; tails = c.args.tails.now })
-          (record { told = told c.finish_on_device.new.buffers.cache.device; shadows = c.finish_on_device.new.shadows; tails = c.args.tails.now }) level c.finish_on_device.result device finished);
-      stays = read-two c.args.geometry.now (record { told = told c.args.buffers.now.cache.device; shadows = c.args.shadows.now; tails = c.args.tails.now })
-          (record { told = told c.loop-level.buffers.cache.device; shadows = c.loop-level.shadows; tails = c.args.tails.now })
-          (record { told = told c.finish_on_device.new.buffers.cache.device; shadows = c.finish_on_device.new.shadows; tails = c.args.tails.now }) c.loop-level.invariant.sound c.loop-level.invariant.stays
-          (finish-read c.args.geometry.now (record { told = told c.loop-level.buffers.cache.device; shadows = c.loop-level.shadows; tails = c.args.tails.now })
-          (record { told = told c.finish_on_device.new.buffers.cache.device; shadows = c.finish_on_device.new.shadows; tails = c.args.tails.now }) level c.finish_on_device.result device finished);
+      sound = sound-two c.args.geometry.now (lower_of told c.args.buffers.now c.args.shadows.now c.args.tails.now)
+          (lower_of told c.loop-level.buffers c.loop-level.shadows c.args.tails.now)
+          (lower_of told c.finish_on_device.new.buffers c.finish_on_device.new.shadows c.args.tails.now) c.loop-level.invariant.sound
+          (finish-sound c.args.geometry.now (lower_of told c.loop-level.buffers c.loop-level.shadows c.args.tails.now)
+          (lower_of told c.finish_on_device.new.buffers c.finish_on_device.new.shadows c.args.tails.now) level c.finish_on_device.result device finished);
+      stays = read-two c.args.geometry.now (lower_of told c.args.buffers.now c.args.shadows.now c.args.tails.now)
+          (lower_of told c.loop-level.buffers c.loop-level.shadows c.args.tails.now)
+          (lower_of told c.finish_on_device.new.buffers c.finish_on_device.new.shadows c.args.tails.now) c.loop-level.invariant.sound c.loop-level.invariant.stays
+          (finish-read c.args.geometry.now (lower_of told c.loop-level.buffers c.loop-level.shadows c.args.tails.now)
+          (lower_of told c.finish_on_device.new.buffers c.finish_on_device.new.shadows c.args.tails.now) level c.finish_on_device.result device finished);
       shadows_many = one.many ∙ c.loop-level.invariant.shadows_many;
       writing = writing-two g.D.Device.counts g.D.Device.kept (Ok tt) c.args.buffers.now c.loop-level.buffers c.finish_on_device.new.buffers level 1 c.loop-level.invariant.writing (writing-of g.D.Device.counts g.D.Device.kept c.loop-level.buffers c.finish_on_device.new.buffers c.in-Ok.ensures.writing);
     }

@@ -1,19 +1,15 @@
-use Rattle.std.proofs.Common.{◌≡◌, ℕ, List, length, sym, ap, subst, ◌∙◌, arith}
+use Rattle.std.proofs.Common.{◌≡◌, true, List, length, sym, ap, subst, ◌∙◌, arith}
 use Rattle.std.specs.Prelude.{IfSome}
 use Rattle.arrayvec.specs.declared.array_vec.ArrayVec.{ArrayVec}
-use Rattle.cola_spec.specs.Map.{Map}
-use Rattle.cola_cell.specs.Held.{IsTelling}
 use Rattle.cola_layout.specs.declared.marks.Marks.{Marks}
 use Rattle.cola_layout.specs.Marks.{all_numbers}
-use Rattle.cola_image.specs.Cells.{file_spots}
-use Rattle.cola_image.specs.Standing.{LevelsStandFor, found_in}
 use Rattle.cola_level.specs.declared.level.Level.{Level}
 use Rattle.cola_level.specs.Marks.{all_marks_of}
 use Rattle.cola_mutation.specs.Levels.{IsChain, levels_with}
-use Rattle.cola_mutation.specs.Standing.{StandsFor}
 use Rattle.cola_mutation.proofs.Beginning.{marks_back}
 use Rattle.cola_run.specs.Store as run
 use Rattle.cola_chain.specs.Account.{ArePaid, sums_of}
+use Rattle.cola_chain.specs.Files.{StandsForFile}
 use Rattle.cola_chain.proofs.Account.{paid-begins}
 use Rattle.cola_chain.proofs.Beginning.{chain-begins, all-saved, stands-begin}
 use Rattle.cola_chain.proofs.chains.Chain.new.Goals as goal
@@ -42,7 +38,6 @@ returns-clause-paid g c = record { paid = paid g c }
 
 pub returns-clause-stands : goal.returns-clause-stands
 returns-clause-stands g c =
-    subst (λ (ls : List Level). IfSome (g.D.Device.bytes c.args.runs.buffers.cache.device) (λ file. (most : ℕ) (m : Map) → IsTelling (run.held_of g.D.Device.bytes c.args.runs) →
-    LevelsStandFor most c.args.header.now.clock (all_numbers c.args.header.now.levels.items) (file_spots c.args.header.now.geometry.format file) m →
-    StandsFor (run.held_of g.D.Device.bytes c.args.runs) most c.args.header.now.clock ls (found_in m))) (sym (levels-are g c))
+    subst (λ (ls : List Level). IfSome (g.D.Device.bytes (run.device_of c.args.runs))
+    (StandsForFile g.D.Device.bytes (record { store = c.args.runs; levels = ls; clock = c.args.header.now.clock; accepted = 0; reads = 0; writes = 0; counted = true }) c.args.header.now)) (sym (levels-are g c))
     (stands-begin g.D.Device.bytes c.args.header.now c.args.runs _ c.requires.geometry c.requires.loaded)

@@ -5,13 +5,11 @@ use Rattle.cola_check.specs.declared.level_walks.LevelWalks.{LevelWalks}
 use Rattle.cola_check.specs.declared.tally.Said.TheVariants.{Nothing}
 use Rattle.cola_check.specs.Walks.{unbegun, ReadsOn}
 use Rattle.cola_check.proofs.LevelBlocks.{level-began}
-use Rattle.cola_check.proofs.WalkBlocks.{walk-at}
 use Rattle.cola_check.proofs.level_walks.LevelWalks.begin.Goals as goal
 
 pub returns-clause-blocks : goal.returns-clause-blocks
 returns-clause-blocks g c = λ n at.
-    let held = g.W.CellSource.held c.args.work.now in
     let level : LevelWalks = record { visible = record { walk = c.in_ok-visible.visible; said = Nothing }; shadow = record { walk = c.in_ok-shadow.shadow; said = Nothing }; odd = c.args.level.now.odd } in
-    let R : Run → Type 0 = λ r. ReadsOn held (g.W.CellSource.spent c.begin.new.work) (g.W.CellSource.spent c.begin-2.new.work) (unbegun r Incoming) c.in_ok-shadow.shadow in
-    level-began n c.args.level.now level at c.in_ok-visible.ensures.begins.reader_is c.in_ok-visible.ensures.blocks
-    (subst R c.shadow_run-shadow_run.ensures (walk-at held c.in_ok-visible.ensures.cells_stay c.in_ok-shadow.ensures.blocks))
+    let R : Run → Type 0 = λ r. ReadsOn (g.W.CellSource.state c.begin.new.work) (g.W.CellSource.state c.begin-2.new.work) (unbegun r Incoming) c.in_ok-shadow.shadow in
+    level-began c.in_ok-visible.ensures.looks.cells_stay c.in_ok-shadow.ensures.looks.cells_stay n c.args.level.now level at c.in_ok-visible.ensures.begins.reader_is c.in_ok-visible.ensures.blocks
+    (subst R c.shadow_run-shadow_run.ensures c.in_ok-shadow.ensures.blocks)

@@ -1,39 +1,55 @@
-use Rattle.std.proofs.Common.{ℕ, List, Option, sym, subst, ◌+◌, ◌*◌, ◌≤◌, ◌∙◌, length}
+use Rattle.std.proofs.Common.{◌≡◌, ℕ, List, Option, map, sym, subst, ◌+◌, ◌*◌, ◌≤◌, ◌∙◌, length}
 use Rattle.cola_cell.specs.declared.cell.Run.{Run}
-use Rattle.cola_cell.specs.Held.{Held}
+use Rattle.cola_cell.specs.Held.{Held, LawCell}
 use Rattle.cola_cell.specs.Order.{key_cmp}
 use Rattle.cola_look.specs.Runs.{HasRun, AreRuns}
+use Rattle.cola_look.proofs.Looking.{err_is, looked_none, looks_as, looks_refused}
 use Rattle.cola_pairs.specs.Live.{live, between}
 use Rattle.cola_cursor.specs.declared.cursor.Cursor.{Cursor}
+use Rattle.cola_cursor.specs.declared.line.Line.{Line}
 use Rattle.cola_cursor.specs.Lines.{all_left}
-use Rattle.cola_cursor.specs.Standing.{Stands, Ahead}
-use Rattle.cola_cursor.specs.Seeking.{cells_of}
-use Rattle.cola_cursor.proofs.Places.{begun_stands, begun_ahead, within_range, all_by_recursion, none_sought}
+use Rattle.cola_cursor.specs.Standing.{AreSearched, Stands, Ahead}
+use Rattle.cola_cursor.specs.Seeking.{places_from, cells_of, RunsCause}
+use Rattle.cola_cursor.proofs.Places.{begun_stands, begun_ahead, within_range, all_by_recursion, seek_refused}
 use Rattle.cola_cursor.proofs.cursor.Cursor.seek.Goals as goal
 
-pub returns-clause-ahead : goal.returns-clause-ahead
-returns-clause-ahead g c = λ lists r a.
+pub returns : goal.returns
+returns g c =
+    let held : Held = (g.W.CellSource.state c.args.work.now).held in
+    let lines = c.in_ok-lines.ensures in
+    let same = c.as_slice.ensures.value in
     let new : Cursor = record { lines = c.in_ok-lines.lines; end = c.copied-end.result } in
-    let P : Option (List ℕ) → Type 0 = λ x. Ahead (g.W.CellSource.held c.args.work.now) new (live key_cmp (between key_cmp c.args.lo.now x) lists) in
-    let R : List Run → Type 0 = λ x. AreRuns (g.W.CellSource.held c.args.work.now) x lists in
-    subst P c.copied-end.ensures (begun_ahead (g.W.CellSource.held c.args.work.now) c.args.lo.now c.args.runs.now.items new (c.in_ok-lines.ensures.begins ∙ c.as_slice.ensures.value) lists r a
-    (c.in_ok-lines.ensures.places lists (subst R (sym c.as_slice.ensures.value) r)))
-
-pub returns-clause-stands : goal.returns-clause-stands
-returns-clause-stands g c =
-    let new : Cursor = record { lines = c.in_ok-lines.lines; end = c.copied-end.result } in
-    let S : Held → Type 0 = λ h. Stands h new in
-    subst S (sym c.in_ok-lines.ensures.cells_stay) (begun_stands (g.W.CellSource.held c.args.work.now) c.args.lo.now c.as_slice.result.now new c.in_ok-lines.ensures.fit c.in_ok-lines.ensures.begins c.in_ok-lines.ensures.places)
-
-pub returns-clause-left : goal.returns-clause-left
-returns-clause-left g c =
+    let P : Option (List ℕ) → Type 0 = λ x. (lists : List (List LawCell)) → AreRuns held c.args.runs.now.items lists → AreSearched c.args.lo.now lists →
+    Ahead held new (live key_cmp (between key_cmp c.args.lo.now x) lists) in
+    let R : List Run → Type 0 = λ x. (lists : List (List LawCell)) → AreRuns held x lists → map (λ (line : Line). line.place) c.in_ok-lines.lines.items ≡ places_from c.args.lo.now 0 lists in
     let L : List Run → Type 0 = λ x. c.seek_lines.new.steps + all_left c.in_ok-lines.lines.items ≤ c.args.steps.now + 8 * length x + cells_of x in
-    within_range (g.W.CellSource.held c.args.work.now) c.args.runs.now.items (all_left c.in_ok-lines.lines.items) c.args.steps.now c.seek_lines.new.steps
-    (all_by_recursion (HasRun (g.W.CellSource.held c.args.work.now)) c.args.runs.now.items c.requires.runs) c.requires.levels (subst L c.as_slice.ensures.value c.in_ok-lines.ensures.left)
+    let S : Held → Type 0 = λ h. Stands h new in
+    let places = subst R same lines.places in
+    record {
+      looks = looks_as lines.looks;
+      seeks = record {
+        ahead = subst P c.copied-end.ensures (λ lists r a. begun_ahead held c.args.lo.now c.args.runs.now.items new (lines.begins ∙ same) lists r a (places lists r));
+        places = places;
+        begins = (lines.begins ∙ same, c.copied-end.ensures);
+        stands = subst S (sym lines.looks.cells_stay) (begun_stands held c.args.lo.now c.as_slice.result.now new lines.fit lines.begins lines.places);
+        left = within_range held c.args.runs.now.items (all_left c.in_ok-lines.lines.items) c.args.steps.now c.seek_lines.new.steps
+            (all_by_recursion (HasRun held) c.args.runs.now.items c.requires.runs) c.requires.levels (subst L same lines.left);
+        reading = lines.reading;
+        cause = tt;
+      };
+    }
 
-pub returns-in_err-lines-clause-left : goal.returns-in_err-lines-clause-left
-returns-in_err-lines-clause-left g c =
+pub returns-in_err-lines : goal.returns-in_err-lines
+returns-in_err-lines g c =
+    let held : Held = (g.W.CellSource.state c.args.work.now).held in
+    let lines = c.in_err-lines.ensures in
+    let fault = c.in_err-lines.field-0.0 in
+    let is = err_is c.from_residual.result fault c.from_residual.ensures.1 in
     let L : List Run → Type 0 = λ x. c.seek_lines.new.steps + 0 ≤ c.args.steps.now + 8 * length x + cells_of x in
-    none_sought c.from_residual.result c.seek_lines.new.steps _ c.from_residual.ensures.0
-    (within_range (g.W.CellSource.held c.args.work.now) c.args.runs.now.items 0 c.args.steps.now c.seek_lines.new.steps
-    (all_by_recursion (HasRun (g.W.CellSource.held c.args.work.now)) c.args.runs.now.items c.requires.runs) c.requires.levels (subst L c.as_slice.ensures.value c.in_err-lines.ensures.left))
+    let C : List Run → Type 0 = λ x. RunsCause held x (g.W.CellSource.state c.args.work.now).spent.faults (g.W.CellSource.state c.seek_lines.new.work).spent.faults fault in
+    record {
+      looks = looks_refused fault c.from_residual.result looked_none lines.looks is;
+      seeks = seek_refused c.from_residual.result fault is lines.reading (subst C c.as_slice.ensures.value lines.cause)
+          (within_range held c.args.runs.now.items 0 c.args.steps.now c.seek_lines.new.steps (all_by_recursion (HasRun held) c.args.runs.now.items c.requires.runs)
+          c.requires.levels (subst L c.as_slice.ensures.value lines.left));
+    }

@@ -1,51 +1,63 @@
 -- Source cells are consumed until one is given.
-use Rattle.std.proofs.Common.{refl, sym, ◌∙◌}
+use Rattle.std.proofs.Common.{◌≤◌, refl, sym, subst, ◌∙◌}
+use Rattle.cola_cell.specs.Held.{Held}
+use Rattle.cola_merge.specs.Heads.{HasHeads}
+use Rattle.cola_merge.specs.Rules.{HeadFits}
+use Rattle.cola_merge.specs.States.{state}
 use Rattle.cola_merge.proofs.Reading.{err_is}
 use Rattle.cola_merge.proofs.Stepping.{small_after}
-use Rattle.cola_merge.proofs.Pulling.{gave_none, gave_then, gave_chosen, given_by, given_fits, given_gave, suits_by, consumed_chosen, chosen_at, ended_at, drawn_some, none_given, stopped_at, fewer_left}
+use Rattle.cola_merge.proofs.Taking.{chosen_is}
+use Rattle.cola_merge.proofs.Pulling.{gave_none, gave_then, gave_chosen, given_by, given_fits, given_gave, suits_by, consumed_chosen, ended_at, drawn_some, none_given, stopped_at, fewer_left}
 use Rattle.cola_merge.proofs.merging.Merger.draw.Goals as goal
 
 pub loop-next-init : goal.loop-next-init
 loop-next-init g c = record {
-  cells_stay = refl;
   kept = refl;
-  gave = gave_none (g.W.CellSource.spent c.args.work.now) c.args.steps.now c.requires.heads;
+  gave = gave_none (state (g.W.CellSource.state c.args.work.now) c.args.self.now c.args.steps.now) c.requires.heads;
 }
+
+pub next-requires : goal.next-requires
+next-requires g c =
+    let e = sym c.loop-next.invariant.gave.cells_stay in
+    record {
+      heads = subst (λ (h : Held). HasHeads h c.args.aim.now c.loop-next.self) e c.loop-next.invariant.gave.heads;
+      levels = subst (λ (h : Held). h.fixed.levels ≤ 23) e c.requires.levels;
+    }
 
 pub returns-in_err-next-clause-drawn : goal.returns-in_err-next-clause-drawn
 returns-in_err-next-clause-drawn g c =
-    stopped_at (g.W.CellSource.held c.args.work.now) c.from_residual.result c.in_err-next.field-0.0 c.loop-next.invariant.cells_stay
-    (err_is c.from_residual.result c.in_err-next.field-0.0 c.from_residual.ensures.1) c.loop-next.invariant.gave c.in_err-next.ensures.next
+    stopped_at c.from_residual.result c.in_err-next.field-0.0 (err_is c.from_residual.result c.in_err-next.field-0.0 c.from_residual.ensures.1) c.loop-next.invariant.gave c.in_err-next.ensures.next
 
 pub consume-requires : goal.consume-requires
-consume-requires g c = record { small = small_after c.in-Some.next.head (chosen_at (g.W.CellSource.held c.args.work.now) c.in_ok-next.field-0 c.in-Some.next c.loop-next.invariant.cells_stay c.in-Some.is c.in_ok-next.ensures.next).looked.looks.heads c.requires.levels }
+consume-requires g c =
+    let s = chosen_is c.in_ok-next.field-0 c.in-Some.next c.in-Some.is c.in_ok-next.ensures.next in
+    record { small = small_after c.in-Some.next.head s.looked.looks.heads (subst (λ (h : Held). h.fixed.levels ≤ 23) (sym c.loop-next.invariant.gave.cells_stay) c.requires.levels) }
 
 pub returns-then-is_some-clause-drawn : goal.returns-then-is_some-clause-drawn
 returns-then-is_some-clause-drawn g c =
-    let s = chosen_at (g.W.CellSource.held c.args.work.now) c.in_ok-next.field-0 c.in-Some.next c.loop-next.invariant.cells_stay c.in-Some.is c.in_ok-next.ensures.next in
-    drawn_some c.given-cell.result (sym c.is_some.ensures ∙ c.if-is_some.true) (given_fits c.given-cell.result c.in-Some.next s (c.given-cell.ensures.fits _) c.head.ensures)
+    let s = chosen_is c.in_ok-next.field-0 c.in-Some.next c.in-Some.is c.in_ok-next.ensures.next in
+    drawn_some c.given-cell.result (sym c.is_some.ensures ∙ c.if-is_some.true)
+    (subst (λ (h : Held). HeadFits h.fixed.format c.given-cell.result) c.loop-next.invariant.gave.cells_stay (given_fits c.in-Some.next s c.given-cell.result (c.given-cell.ensures.fits _) c.head.ensures))
     (given_gave c.next.new.self c.in-Some.next c.given-cell.result (c.given-cell.ensures.value ∙ given_by c.next.new.self c.in-Some.next c.head.ensures) (gave_then c.loop-next.invariant.gave (gave_chosen c.in-Some.next s c.consume.new.self c.consume.ensures)))
 
 pub loop-next-smaller : goal.loop-next-smaller
 loop-next-smaller g c =
-    let s = chosen_at (g.W.CellSource.held c.args.work.now) c.in_ok-next.field-0 c.in-Some.next c.loop-next.invariant.cells_stay c.in-Some.is c.in_ok-next.ensures.next in
+    let s = chosen_is c.in_ok-next.field-0 c.in-Some.next c.in-Some.is c.in_ok-next.ensures.next in
     fewer_left c.loop-next.self (gave_chosen c.in-Some.next s c.consume.new.self c.consume.ensures).heads (consumed_chosen c.in-Some.next s c.consume.new.self c.consume.ensures)
 
 pub loop-next-preserved : goal.loop-next-preserved
 loop-next-preserved g c =
-    let s = chosen_at (g.W.CellSource.held c.args.work.now) c.in_ok-next.field-0 c.in-Some.next c.loop-next.invariant.cells_stay c.in-Some.is c.in_ok-next.ensures.next in
+    let s = chosen_is c.in_ok-next.field-0 c.in-Some.next c.in-Some.is c.in_ok-next.ensures.next in
     record {
-      cells_stay = c.in_ok-next.ensures.cells_stay ∙ c.loop-next.invariant.cells_stay;
       kept = c.in_ok-next.ensures.kept ∙ c.loop-next.invariant.kept;
       gave = gave_then c.loop-next.invariant.gave (none_given c.given-cell.result (sym c.is_some.ensures ∙ c.if-is_some.false)
           (given_gave c.next.new.self c.in-Some.next c.given-cell.result (c.given-cell.ensures.value ∙ given_by c.next.new.self c.in-Some.next c.head.ensures) (gave_chosen c.in-Some.next s c.consume.new.self c.consume.ensures)));
     }
 
 pub returns-clause-drawn : goal.returns-clause-drawn
-returns-clause-drawn g c =
-    ended_at (g.W.CellSource.held c.args.work.now) c.in_ok-next.field-0 c.loop-next.invariant.cells_stay c.in_default.is c.loop-next.invariant.gave c.in_ok-next.ensures.next
+returns-clause-drawn g c = ended_at c.in_ok-next.field-0 c.in_default.is c.loop-next.invariant.gave c.in_ok-next.ensures.next
 
 pub given-cell-requires : goal.given-cell-requires
 given-cell-requires g c =
-    let s = chosen_at (g.W.CellSource.held c.args.work.now) c.in_ok-next.field-0 c.in-Some.next c.loop-next.invariant.cells_stay c.in-Some.is c.in_ok-next.ensures.next in
+    let s = chosen_is c.in_ok-next.field-0 c.in-Some.next c.in-Some.is c.in_ok-next.ensures.next in
     record { suits = suits_by c.in-Some.next s c.head.ensures }

@@ -7,29 +7,29 @@ use Rattle.cola_merge.proofs.merging.Merger.next.Goals as goal
 pub returns-in_err-fetch-clause-next : goal.returns-in_err-fetch-clause-next
 returns-in_err-fetch-clause-next g c =
     unread_by c.from_residual.result c.in_err-fetch.field-0.0 (err_is c.from_residual.result c.in_err-fetch.field-0.0 c.from_residual.ensures.1)
-    (no_own c.args.self.now c.args.steps.now c.requires.heads (g.W.CellSource.held c.fetch.new.work) (g.W.CellSource.spent c.fetch.new.work) c.fetch.new.steps c.fetch.new.self c.in_err-fetch.field-0.0 c.in_err-fetch.ensures.fetch)
+    (no_own c.args.self.now c.args.steps.now c.requires.heads c.fetch.new.steps c.fetch.new.self c.in_err-fetch.field-0.0 c.in_err-fetch.ensures.fetch)
 
 pub returns-in_err-fetch-2-clause-next : goal.returns-in_err-fetch-2-clause-next
 returns-in_err-fetch-2-clause-next g c =
     unread_by c.from_residual-in_err-fetch-2.result c.in_err-fetch-2.field-0.0 (err_is c.from_residual-in_err-fetch-2.result c.in_err-fetch-2.field-0.0 c.from_residual-in_err-fetch-2.ensures.1)
-    (no_incoming c.args.self.now c.args.steps.now c.requires.heads tt (g.W.CellSource.held c.fetch.new.work) (g.W.CellSource.spent c.fetch.new.work) c.fetch.new.steps c.fetch.new.self c.in_ok-fetch.ensures.cells_stay c.in_ok-fetch.ensures.fetch
-    (g.W.CellSource.spent c.fetch-2.new.work) c.fetch-2.new.steps c.fetch-2.new.self c.in_err-fetch-2.field-0.0 c.in_err-fetch-2.ensures.fetch)
+    (no_incoming c.args.self.now c.args.steps.now c.requires.heads tt c.fetch.new.steps c.fetch.new.self c.in_ok-fetch.ensures.fetch
+    c.fetch-2.new.steps c.fetch-2.new.self c.in_err-fetch-2.field-0.0 c.in_err-fetch-2.ensures.fetch)
 
 pub returns-in_err-fetch-3-clause-next : goal.returns-in_err-fetch-3-clause-next
 returns-in_err-fetch-3-clause-next g c =
     unread_by c.from_residual-in_err-fetch-3.result c.in_err-fetch-3.field-0.0 (err_is c.from_residual-in_err-fetch-3.result c.in_err-fetch-3.field-0.0 c.from_residual-in_err-fetch-3.ensures.1)
-    (no_sample c.args.self.now c.args.steps.now c.requires.heads tt (g.W.CellSource.held c.fetch.new.work) (g.W.CellSource.spent c.fetch.new.work) c.fetch.new.steps c.fetch.new.self c.in_ok-fetch.ensures.cells_stay c.in_ok-fetch.ensures.fetch
-    (g.W.CellSource.held c.fetch-2.new.work) (g.W.CellSource.spent c.fetch-2.new.work) c.fetch-2.new.steps c.fetch-2.new.self c.in_ok-fetch-2.ensures.cells_stay c.in_ok-fetch-2.ensures.fetch
-    (g.W.CellSource.spent c.fetch-3.new.work) c.fetch-3.new.steps c.fetch-3.new.self c.in_err-fetch-3.field-0.0 c.in_err-fetch-3.ensures.fetch)
+    (no_sample c.args.self.now c.args.steps.now c.requires.heads tt c.fetch.new.steps c.fetch.new.self c.in_ok-fetch.ensures.fetch
+    c.fetch-2.new.steps c.fetch-2.new.self c.in_ok-fetch-2.ensures.fetch
+    c.fetch-3.new.steps c.fetch-3.new.self c.in_err-fetch-3.field-0.0 c.in_err-fetch-3.ensures.fetch)
 
 pub choice-requires : goal.choice-requires
 choice-requires g c =
-    let held = g.W.CellSource.held c.args.work.now in
+    let held = (g.W.CellSource.state c.args.work.now).held in
     record { small = small_cursor held.fixed c.args.aim.now.sample c.fetch-3.new.self.at c.requires.levels c.requires.heads.sample_feed c.in_ok-fetch-3.ensures.fetch.head.within }
 
 pub returns-clause-next : goal.returns-clause-next
 returns-clause-next g c =
-    chosen c.args.self.now c.args.steps.now c.requires.heads tt (g.W.CellSource.held c.fetch.new.work) (g.W.CellSource.spent c.fetch.new.work) c.fetch.new.steps c.fetch.new.self c.in_ok-fetch.ensures.cells_stay c.in_ok-fetch.ensures.fetch
-    (g.W.CellSource.held c.fetch-2.new.work) (g.W.CellSource.spent c.fetch-2.new.work) c.fetch-2.new.steps c.fetch-2.new.self c.in_ok-fetch-2.ensures.cells_stay c.in_ok-fetch-2.ensures.fetch
-    (g.W.CellSource.spent c.fetch-3.new.work) c.fetch-3.new.steps c.fetch-3.new.self c.in_ok-fetch-3.ensures.fetch
+    chosen c.args.self.now c.args.steps.now c.requires.heads tt c.fetch.new.steps c.fetch.new.self c.in_ok-fetch.ensures.fetch
+    c.fetch-2.new.steps c.fetch-2.new.self c.in_ok-fetch-2.ensures.fetch
+    c.fetch-3.new.steps c.fetch-3.new.self c.in_ok-fetch-3.ensures.fetch
     c.choice.result c.choice.ensures.choice c.choice.ensures.suits

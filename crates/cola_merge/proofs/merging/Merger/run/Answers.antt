@@ -10,7 +10,7 @@ use Rattle.cola_merge.proofs.merging.Merger.run.Goals as goal
 pub loop-init : goal.loop-init
 loop-init g c = record {
   kept = refl;
-  took = took_none (state (g.W.CellSource.held c.args.work.now) (g.W.CellSource.spent c.args.work.now) c.args.self.now c.args.steps.now) c.requires.ready;
+  took = took_none (state (g.W.CellSource.state c.args.work.now) c.args.self.now c.args.steps.now) c.requires.ready;
 }
 
 pub loop-preserved : goal.loop-preserved
@@ -54,8 +54,8 @@ returns g c = record {
   kept = c.loop.invariant.kept;
   ran = record {
     steps = (
-      subst (λ (n : ℕ). Took c.args.aim.now (state (g.W.CellSource.held c.args.work.now) (g.W.CellSource.spent c.args.work.now) c.args.self.now c.args.steps.now)
-          (state (g.W.CellSource.held c.loop.work) (g.W.CellSource.spent c.loop.work) c.loop.self c.loop.steps) n)
+      subst (λ (n : ℕ). Took c.args.aim.now (state (g.W.CellSource.state c.args.work.now) c.args.self.now c.args.steps.now)
+          (state (g.W.CellSource.state c.loop.work) c.loop.self c.loop.steps) n)
           (let e : c.loop.counter ≡ c.args.quota = omega (arith, c.loop-test.false, c.loop.auto.counter-end) in e) c.loop.invariant.took,
       no_more c.is_done-2.result c.is_done-2.ensures.1 c.if-is_done-2.false,
     );

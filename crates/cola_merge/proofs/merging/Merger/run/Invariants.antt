@@ -6,5 +6,5 @@ use Rattle.cola_merge.proofs.merging.Merger.run.Given as goal
 abbrev pub invariant-loop : goal.invariant-loop
 invariant-loop g l = record {
   kept : g.W.CellSource.kept l.work ≡ g.W.CellSource.kept l.fn.work;
-  took : Took l.aim (state (g.W.CellSource.held l.fn.work) (g.W.CellSource.spent l.fn.work) l.fn.self l.fn.steps) (state (g.W.CellSource.held l.work) (g.W.CellSource.spent l.work) l.self l.steps) l.counter;
+  took : Took l.aim (state (g.W.CellSource.state l.fn.work) l.fn.self l.fn.steps) (state (g.W.CellSource.state l.work) l.self l.steps) l.counter;
 }

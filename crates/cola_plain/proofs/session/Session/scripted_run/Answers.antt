@@ -1,5 +1,5 @@
 use Rattle.std.proofs.Common.{arith, map, refl, subst, sym, ◌+◌, ◌∷◌, [], ◌++◌}
-use Rattle.cola_spec.specs.Machine.{Run}
+use Rattle.cola_spec.specs.Machine.{History}
 use Rattle.cola_plain.specs.Command.{request_with, shape_of}
 use Rattle.cola_plain.specs.Scripts.{scripted_last}
 use Rattle.cola_plain.proofs.ScriptLemmas.{IsGoing, going_begins, going_ends, going_on, going_stops}
@@ -22,7 +22,7 @@ pub returns-clause-run : goal.returns-clause-run
 returns-clause-run c state stands all =
     let ended = going_ends c.args.script.now (shape_of c.args.shape.now) state c.args.requests.now c.loop-place.turns.items c.loop-place.place c.loop-place.self (omega arith) (c.loop-place.invariant state stands) in
     let asked = map request_with c.args.requests.now in
-    subst (λ turns. Run (shape_of c.args.shape.now) state turns (scripted_last c.args.script.now (shape_of c.args.shape.now) state asked)) (sym ended.0)
+    subst (λ turns. History (shape_of c.args.shape.now) state turns (scripted_last c.args.script.now (shape_of c.args.shape.now) state asked)) (sym ended.0)
     (script_is_run c.args.script.now (shape_of c.args.shape.now) state asked all)
 
 pub returns-in_err-turn-clause-refused : goal.returns-in_err-turn-clause-refused

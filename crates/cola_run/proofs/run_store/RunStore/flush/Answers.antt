@@ -1,6 +1,6 @@
 use Rattle.std.proofs.Common.{◌≡◌, ◌+◌, ◌-◌, ℕ, List, sym, ap, subst, ◌∙◌}
 use Rattle.cola_cell.specs.declared.sink.Shadow.{Shadow}
-use Rattle.cola_run.specs.Store.{Store, cells_of, held_of}
+use Rattle.cola_run.specs.Store.{Store, cells_of, held_of, lower_of}
 use Rattle.cola_run.specs.Saving.{SameReads}
 use Rattle.cola_run.specs.Loading.{SameCells}
 use Rattle.std.proofs.lemmas.List.{with_items_is}
@@ -17,9 +17,9 @@ returns-clause-reads g c =
     let back : shadows ≡ c.flush_parts.new.shadows = with_items_is i.shadows.items c.flush_parts.new.shadows (c.flush_parts.auto.shadows ∙ c.deref_mut.ensures.len) in
     let now : Store _ = record view { buffers = c.flush_parts.new.buffers; shadows = shadows } in
     let reads : SameCells i.geometry i.front (cells_of (told i.buffers.cache.device) view).lower (cells_of (told c.flush_parts.new.buffers.cache.device) now).lower =
-    subst (λ (xs : List Shadow). SameCells i.geometry i.front (cells_of (told i.buffers.cache.device) view).lower (record { told = told c.flush_parts.new.buffers.cache.device; shadows = xs; tails = i.tails.items.items })) (sym back)
-    (subst (λ (xs : List Shadow). SameCells i.geometry i.front (record { told = told i.buffers.cache.device; shadows = xs; tails = i.tails.items.items }) (record { told = told c.flush_parts.new.buffers.cache.device; shadows = c.flush_parts.new.shadows; tails = i.tails.items.items })) c.deref_mut.ensures.value
-    (subst (λ (ts : List ℕ). SameCells i.geometry i.front (record { told = told i.buffers.cache.device; shadows = c.deref_mut.result.now; tails = ts }) (record { told = told c.flush_parts.new.buffers.cache.device; shadows = c.flush_parts.new.shadows; tails = ts })) c.deref.ensures.value
+    subst (λ (xs : List Shadow). SameCells i.geometry i.front (cells_of (told i.buffers.cache.device) view).lower (lower_of told c.flush_parts.new.buffers xs i.tails.items.items)) (sym back)
+    (subst (λ (xs : List Shadow). SameCells i.geometry i.front (lower_of told i.buffers xs i.tails.items.items) (lower_of told c.flush_parts.new.buffers c.flush_parts.new.shadows i.tails.items.items)) c.deref_mut.ensures.value
+    (subst (λ (ts : List ℕ). SameCells i.geometry i.front (lower_of told i.buffers c.deref_mut.result.now ts) (lower_of told c.flush_parts.new.buffers c.flush_parts.new.shadows ts)) c.deref.ensures.value
     c.flush_parts.ensures.reads)) in
     subst (λ (s : Store _). SameReads (held_of told s) (held_of told now)) c.self.view_is
     (record {

@@ -3,8 +3,8 @@ use Rattle.std.specs.Prelude.{IfSome, OnOk}
 use Rattle.cola_cell.specs.declared.sink.Shadow.{Shadow}
 use Rattle.cola_cell.specs.Flat.{shadow_at}
 use Rattle.cola_layout.specs.declared.geometry.Geometry.{Geometry}
-use Rattle.cola_run.specs.Cells.{Lower, IsShape, IsBacked}
-use Rattle.cola_run.specs.Store.{Store, cells_of, held_of}
+use Rattle.cola_run.specs.Cells.{Lower, IsShape, AreCells}
+use Rattle.cola_run.specs.Store.{Store, cells_of, lower_of, held_of}
 use Rattle.cola_run.specs.Saving.{AreFileSpots, header_shadow}
 use Rattle.std.proofs.lemmas.List.{with_items_is}
 use Rattle.std.specs.Vec.{with_items}
@@ -18,84 +18,80 @@ on-both : {T E P Q R : Type 0} (result : Result T E) → (P → Q → R) → OnO
 on-both (Ok x) f p q = f p q
 on-both (Err e) f p q = tt
 
-pub invariant_of-self : goal.invariant_of-self
-invariant_of-self g c =
+-- the store before a load and after it
+abbrev before : (g : _) (c : goal.After-self-2-1 g) → Store g.row.D.Denot
+before g c =
     let i = c.self.inside in
-    let view : Store _ = record { buffers = i.buffers; geometry = i.geometry; front = i.front; shadows = i.shadows.items.items; tails = i.tails.items.items; ticked = i.ticked } in
+    record { buffers = i.buffers; geometry = i.geometry; front = i.front; shadows = i.shadows.items.items; tails = i.tails.items.items; ticked = i.ticked }
+
+abbrev after : (g : _) (c : goal.After-self-2-1 g) → Store g.row.D.Denot
+after g c = record (before g c) {
+  buffers = c.load_parts.new.buffers;
+  front = c.load_parts.new.front;
+  shadows = (with_items c.self.inside.shadows.items c.load_parts.new.shadows).items;
+  tails = (with_items c.self.inside.tails.items c.load_parts.new.tails).items;
+}
+
+shadows-are : (g : _) (c : goal.After-self-2-1 g) → (after g c).shadows ≡ c.load_parts.new.shadows
+shadows-are g c = with_items_is c.self.inside.shadows.items c.load_parts.new.shadows (c.load_parts.auto.shadows ∙ c.deref_mut.ensures.len)
+
+-- its cells are such as a store may have
+cells : (g : _) (c : goal.After-self-2-1 g) → AreCells (cells_of (g.D.Device.bytes c.load_parts.new.buffers.cache.device) (after g c))
+cells g c =
+    let i = c.self.inside in
     let told = g.D.Device.bytes in
-    let shadows : List Shadow = (with_items i.shadows.items c.load_parts.new.shadows).items in
-    let tails : List ℕ = (with_items i.tails.items c.load_parts.new.tails).items in
-    let back : shadows ≡ c.load_parts.new.shadows = with_items_is i.shadows.items c.load_parts.new.shadows (c.load_parts.auto.shadows ∙ c.deref_mut.ensures.len) in
-    let back_tails : tails ≡ c.load_parts.new.tails = with_items_is i.tails.items c.load_parts.new.tails (c.load_parts.auto.tails ∙ c.deref_mut-2.ensures.len) in
-    let now : Store _ = record view { buffers = c.load_parts.new.buffers; front = c.load_parts.new.front; shadows = shadows; tails = tails } in
-    let new = told c.load_parts.new.buffers.cache.device in
-    let lower : Lower = (cells_of (told i.buffers.cache.device) view).lower in
-    let lower_now : Lower = (cells_of new now).lower in
-    let stays : StaySound i.geometry lower lower_now =
-    subst (λ (xs : List Shadow). StaySound i.geometry lower (record { told = new; shadows = xs; tails = tails })) (sym back)
-    (subst (λ (ts : List ℕ). StaySound i.geometry lower (record { told = new; shadows = c.load_parts.new.shadows; tails = ts })) (sym back_tails)
-    (subst (λ (xs : List Shadow). StaySound i.geometry (record { told = told i.buffers.cache.device; shadows = xs; tails = i.tails.items.items }) (record { told = new; shadows = c.load_parts.new.shadows; tails = c.load_parts.new.tails })) c.deref_mut.ensures.value
-    (subst (λ (ts : List ℕ). StaySound i.geometry (record { told = told i.buffers.cache.device; shadows = c.deref_mut.result.now; tails = ts }) (record { told = new; shadows = c.load_parts.new.shadows; tails = c.load_parts.new.tails })) c.deref_mut-2.ensures.value
+    let old = before g c in
+    let now = after g c in
+    let back_tails : now.tails ≡ c.load_parts.new.tails = with_items_is i.tails.items c.load_parts.new.tails (c.load_parts.auto.tails ∙ c.deref_mut-2.ensures.len) in
+    let lower : List Shadow → List ℕ → Lower = lower_of told i.buffers in
+    let lower_now : List Shadow → List ℕ → Lower = lower_of told now.buffers in
+    let stays : StaySound i.geometry (lower old.shadows old.tails) (lower_now now.shadows now.tails) =
+    subst (λ (xs : List Shadow). StaySound i.geometry (lower old.shadows old.tails) (lower_now xs now.tails)) (sym (shadows-are g c))
+    (subst (λ (ts : List ℕ). StaySound i.geometry (lower old.shadows old.tails) (lower_now c.load_parts.new.shadows ts)) (sym back_tails)
+    (subst (λ (xs : List Shadow). StaySound i.geometry (lower xs old.tails) (lower_now c.load_parts.new.shadows c.load_parts.new.tails)) c.deref_mut.ensures.value
+    (subst (λ (ts : List ℕ). StaySound i.geometry (lower c.deref_mut.result.now ts) (lower_now c.load_parts.new.shadows c.load_parts.new.tails)) c.deref_mut-2.ensures.value
     c.load_parts.ensures.sound))) in
     let kept = c.load_parts.ensures.shape in
-    let same : IsShape i.geometry i.front shadows tails = stays.shape i.front c.self.invariant.cells.shape in
-    let shape : IsShape i.geometry c.load_parts.new.front shadows tails = record {
-      block = same.block;
-      shallow = same.shallow;
-      format = kept.format ∙ same.format;
-      front_block = kept.block ∙ same.front_block;
-      shadows_many = same.shadows_many;
-      shadows_fit = same.shadows_fit;
-      tails_many = same.tails_many;
-      unsaved = same.unsaved;
-    } in
-    let backed : IfSome new (IsBacked i.geometry shadows tails) = stays.backed i.front c.self.invariant.cells.shape c.self.invariant.cells.backed in
+    let same : IsShape i.geometry i.front now.shadows now.tails = stays.shape i.front c.self.invariant.cells.shape in
     record {
-      cells = record { shape = shape; backed = backed };
-      size = c.load_parts.ensures.stays.size ∙ c.self.invariant.size;
-      many = c.load_parts.ensures.stays.many ∙ c.self.invariant.many;
-      buffers_many = c.load_parts.ensures.lasts ∙ c.self.invariant.buffers_many;
+      shape = record {
+        block = same.block;
+        shallow = same.shallow;
+        format = kept.format ∙ same.format;
+        front_block = kept.block ∙ same.front_block;
+        shadows_many = same.shadows_many;
+        shadows_fit = same.shadows_fit;
+        tails_many = same.tails_many;
+        unsaved = same.unsaved;
+      };
+      backed = stays.backed i.front c.self.invariant.cells.shape c.self.invariant.cells.backed;
     }
+
+pub invariant_of-self : goal.invariant_of-self
+invariant_of-self g c = record {
+  cells = cells g c;
+  size = c.load_parts.ensures.stays.size ∙ c.self.invariant.size;
+  many = c.load_parts.ensures.stays.many ∙ c.self.invariant.many;
+  buffers_many = c.load_parts.ensures.lasts ∙ c.self.invariant.buffers_many;
+}
 
 pub returns-clause-loaded : goal.returns-clause-loaded
 returns-clause-loaded g c =
     let i = c.self.inside in
-    let view : Store _ = record { buffers = i.buffers; geometry = i.geometry; front = i.front; shadows = i.shadows.items.items; tails = i.tails.items.items; ticked = i.ticked } in
     let told = g.D.Device.bytes in
-    let shadows : List Shadow = (with_items i.shadows.items c.load_parts.new.shadows).items in
-    let tails : List ℕ = (with_items i.tails.items c.load_parts.new.tails).items in
-    let back : shadows ≡ c.load_parts.new.shadows = with_items_is i.shadows.items c.load_parts.new.shadows (c.load_parts.auto.shadows ∙ c.deref_mut.ensures.len) in
-    let back_tails : tails ≡ c.load_parts.new.tails = with_items_is i.tails.items c.load_parts.new.tails (c.load_parts.auto.tails ∙ c.deref_mut-2.ensures.len) in
-    let now : Store _ = record view { buffers = c.load_parts.new.buffers; front = c.load_parts.new.front; shadows = shadows; tails = tails } in
+    let now = after g c in
+    let shadows : List Shadow = now.shadows in
+    let back : shadows ≡ c.load_parts.new.shadows = shadows-are g c in
     let new = told c.load_parts.new.buffers.cache.device in
-    let lower : Lower = (cells_of (told i.buffers.cache.device) view).lower in
-    let lower_now : Lower = (cells_of new now).lower in
-    let stays : StaySound i.geometry lower lower_now =
-    subst (λ (xs : List Shadow). StaySound i.geometry lower (record { told = new; shadows = xs; tails = tails })) (sym back)
-    (subst (λ (ts : List ℕ). StaySound i.geometry lower (record { told = new; shadows = c.load_parts.new.shadows; tails = ts })) (sym back_tails)
-    (subst (λ (xs : List Shadow). StaySound i.geometry (record { told = told i.buffers.cache.device; shadows = xs; tails = i.tails.items.items }) (record { told = new; shadows = c.load_parts.new.shadows; tails = c.load_parts.new.tails })) c.deref_mut.ensures.value
-    (subst (λ (ts : List ℕ). StaySound i.geometry (record { told = told i.buffers.cache.device; shadows = c.deref_mut.result.now; tails = ts }) (record { told = new; shadows = c.load_parts.new.shadows; tails = c.load_parts.new.tails })) c.deref_mut-2.ensures.value
-    c.load_parts.ensures.sound))) in
-    let kept = c.load_parts.ensures.shape in
-    let same : IsShape i.geometry i.front shadows tails = stays.shape i.front c.self.invariant.cells.shape in
-    let shape : IsShape i.geometry c.load_parts.new.front shadows tails = record {
-      block = same.block;
-      shallow = same.shallow;
-      format = kept.format ∙ same.format;
-      front_block = kept.block ∙ same.front_block;
-      shadows_many = same.shadows_many;
-      shadows_fit = same.shadows_fit;
-      tails_many = same.tails_many;
-      unsaved = same.unsaved;
-    } in
-    let backed : IfSome new (IsBacked i.geometry shadows tails) = stays.backed i.front c.self.invariant.cells.shape c.self.invariant.cells.backed in
+    let lower_now : Lower = lower_of told now.buffers shadows now.tails in
+    let there_cells = cells g c in
     let geometry : c.args.header.now.geometry ≡ i.geometry = c.requires ∙ ap (λ (s : Store _). s.geometry) (sym c.self.view_is) in
     on-both c.load_parts.result
     (λ front headed.
     let there : (level : ℕ) → level ≤ i.geometry.bottom → shadow_at shadows level ≡ header_shadow c.args.header.now level = λ level low. ap (λ (xs : List Shadow). shadow_at xs level) back ∙ headed level low in
     let saved : AreSavedBelow i.geometry shadows (i.geometry.bottom + 1) = λ level on below. ap (λ (x : Shadow). x.saved) (there level on.within) in
     let spots : IfSome new (AreFileSpots i.geometry (held_of told now).spots) =
-    saved-told i.geometry c.load_parts.new.front lower_now shape backed saved (subst (λ (x : Option (List ℕ)). IfSome x (λ bytes. IsFrontLoaded bytes c.load_parts.new.front)) (sym c.load_parts.ensures.bytes_stay) front) in
+    saved-told i.geometry c.load_parts.new.front lower_now there_cells.shape there_cells.backed saved (subst (λ (x : Option (List ℕ)). IfSome x (λ bytes. IsFrontLoaded bytes c.load_parts.new.front)) (sym c.load_parts.ensures.bytes_stay) front) in
     record {
       spots = subst (λ (s : Store _). IfSome (told s.buffers.cache.device) (AreFileSpots c.args.header.now.geometry (held_of told now).spots)) c.self.view_is
           (subst (λ (x : Geometry). IfSome (told i.buffers.cache.device) (AreFileSpots x (held_of told now).spots)) (sym geometry)

@@ -1,4 +1,4 @@
-use Rattle.std.proofs.Common.{◌≡◌, ◌≤◌, ◌+◌, ◌*◌, ℕ, List, [], ◌∷◌, length, Option, sym, ap, subst, ◌∙◌, arith}
+use Rattle.std.proofs.Common.{◌≤◌, ◌+◌, ◌*◌, ℕ, List, [], ◌∷◌, length, Option, sym, ap, subst, ◌∙◌, arith}
 use Rattle.std.specs.Prelude.{IfSome}
 use Rattle.cola_run.specs.Cells.{block_bytes, spots_of, IsBacked}
 use Rattle.cola_run.specs.Store.{Store, cells_of}
@@ -11,19 +11,17 @@ use Rattle.cola_run.proofs.run_store.RunStore.mark_in_use.Goals as goal
 pub invariant_of-self : goal.invariant_of-self
 invariant_of-self g c =
     let i = c.self.inside in
-    let view : Store _ = record { buffers = i.buffers; geometry = i.geometry; front = i.front; shadows = i.shadows.items.items; tails = i.tails.items.items; ticked = i.ticked } in
     let told = g.D.Device.bytes in
-    let size : i.buffers.cache.size ≡ block_bytes i.geometry = c.self.invariant.size in
     let shape = c.self.invariant.cells.shape in
     let backed = c.self.invariant.cells.backed in
     let large = block-least i.geometry shape.block in
     let within : 14 + 1 ≤ 2 * block_bytes i.geometry = omega (arith, large) in
     record {
       cells = record {
-        shape = record { block = shape.block; shallow = shape.shallow; format = shape.format; front_block = shape.front_block; shadows_many = shape.shadows_many; shadows_fit = shape.shadows_fit; tails_many = shape.tails_many; unsaved = shape.unsaved };
+        shape = shape;
         backed = subst (λ (x : Option (List ℕ)). IfSome x (IsBacked i.geometry i.shadows.items.items i.tails.items.items)) (sym c.settle.ensures.bytes_stay) (heads-backed i.geometry shape.block i.shadows.items.items i.tails.items.items c.write_byte.result 14 (1 ∷ []) within (told i.buffers.cache.device) (told c.write_byte.new.self.cache.device) c.write_byte.ensures.wrote backed);
       };
-      size = c.settle.ensures.stays.size ∙ c.write_byte.ensures.stays.size ∙ size;
+      size = c.settle.ensures.stays.size ∙ c.write_byte.ensures.stays.size ∙ c.self.invariant.size;
       many = c.settle.ensures.stays.many ∙ c.write_byte.ensures.stays.many ∙ c.self.invariant.many;
       buffers_many = ap (λ (xs : List (Option ℕ)). length xs) c.settle.ensures.lasts ∙ ap (λ (xs : List (Option ℕ)). length xs) c.write_byte.ensures.lasts ∙ length-map i.buffers.lasts (forgotten 0) ∙ c.self.invariant.buffers_many;
     }
@@ -31,19 +29,17 @@ invariant_of-self g c =
 pub invariant_of-self-in-Err : goal.invariant_of-self-in-Err
 invariant_of-self-in-Err g c =
     let i = c.self.inside in
-    let view : Store _ = record { buffers = i.buffers; geometry = i.geometry; front = i.front; shadows = i.shadows.items.items; tails = i.tails.items.items; ticked = i.ticked } in
     let told = g.D.Device.bytes in
-    let size : i.buffers.cache.size ≡ block_bytes i.geometry = c.self.invariant.size in
     let shape = c.self.invariant.cells.shape in
     let backed = c.self.invariant.cells.backed in
     let large = block-least i.geometry shape.block in
     let within : 14 + 1 ≤ 2 * block_bytes i.geometry = omega (arith, large) in
     record {
       cells = record {
-        shape = record { block = shape.block; shallow = shape.shallow; format = shape.format; front_block = shape.front_block; shadows_many = shape.shadows_many; shadows_fit = shape.shadows_fit; tails_many = shape.tails_many; unsaved = shape.unsaved };
+        shape = shape;
         backed = heads-backed i.geometry shape.block i.shadows.items.items i.tails.items.items c.write_byte.result 14 (1 ∷ []) within (told i.buffers.cache.device) (told c.write_byte.new.self.cache.device) c.write_byte.ensures.wrote backed;
       };
-      size = c.write_byte.ensures.stays.size ∙ size;
+      size = c.write_byte.ensures.stays.size ∙ c.self.invariant.size;
       many = c.write_byte.ensures.stays.many ∙ c.self.invariant.many;
       buffers_many = ap (λ (xs : List (Option ℕ)). length xs) c.write_byte.ensures.lasts ∙ length-map i.buffers.lasts (forgotten 0) ∙ c.self.invariant.buffers_many;
     }
@@ -51,9 +47,7 @@ invariant_of-self-in-Err g c =
 pub returns-in-Ok-clause-cells_stay : goal.returns-in-Ok-clause-cells_stay
 returns-in-Ok-clause-cells_stay g c =
     let i = c.self.inside in
-    let view : Store _ = record { buffers = i.buffers; geometry = i.geometry; front = i.front; shadows = i.shadows.items.items; tails = i.tails.items.items; ticked = i.ticked } in
     let told = g.D.Device.bytes in
-    let size : i.buffers.cache.size ≡ block_bytes i.geometry = c.self.invariant.size in
     let shape = c.self.invariant.cells.shape in
     let backed = c.self.invariant.cells.backed in
     let large = block-least i.geometry shape.block in
@@ -66,9 +60,7 @@ returns-in-Ok-clause-cells_stay g c =
 pub returns-in-Err-clause-cells_stay : goal.returns-in-Err-clause-cells_stay
 returns-in-Err-clause-cells_stay g c =
     let i = c.self.inside in
-    let view : Store _ = record { buffers = i.buffers; geometry = i.geometry; front = i.front; shadows = i.shadows.items.items; tails = i.tails.items.items; ticked = i.ticked } in
     let told = g.D.Device.bytes in
-    let size : i.buffers.cache.size ≡ block_bytes i.geometry = c.self.invariant.size in
     let shape = c.self.invariant.cells.shape in
     let backed = c.self.invariant.cells.backed in
     let large = block-least i.geometry shape.block in

@@ -4,9 +4,9 @@ use Rattle.cola_cell.specs.declared.sink.Shadow.{Shadow}
 use Rattle.cola_cell.specs.Flat.{shadow_at}
 use Rattle.cola_cell.specs.Places.{IsPlace}
 use Rattle.cola_cell.specs.Packed.{given}
-use Rattle.cola_cell.specs.Spent.{Reads}
+use Rattle.cola_cell.specs.Reads.{Reads}
 use Rattle.cola_run.specs.Cells.{IsOnDevice, block_cells, block_number, is_in_tail}
-use Rattle.cola_run.specs.Store.{Store, held_of, spent_of}
+use Rattle.cola_run.specs.Store.{Store, spent_of, state_of}
 use Rattle.cola_run.specs.Turns.{buffer_for, Turns}
 use Rattle.cola_run.proofs.Spots.{tail-is}
 use Rattle.cola_run.proofs.Reading.{reads-memory, reads-device}
@@ -17,8 +17,8 @@ returns-then-level-front_levels-clause-reads g c =
     let i = c.self.inside in
     let view : Store _ = record { buffers = i.buffers; geometry = i.geometry; front = i.front; shadows = i.shadows.items.items; tails = i.tails.items.items; ticked = i.ticked } in
     let now : Store _ = record view { ticked = (i.ticked + 1) % 2 ^ 64 } in
-    subst (λ (s : Store _). Reads (held_of g.D.Device.bytes s) (spent_of g.D.Device.counts s) (spent_of g.D.Device.counts now) (buffer_for c.args.reader c.args.level) c.args.level c.args.slot c.args.index (given c.read_in_front.new.into c.read_in_front.result)) c.self.view_is
-    (reads-memory (held_of g.D.Device.bytes view) (spent_of g.D.Device.counts view) ((i.ticked + 1) % 2 ^ 64) (buffer_for c.args.reader c.args.level) c.args.level c.args.slot c.args.index (given c.read_in_front.new.into c.read_in_front.result)
+    subst (λ (s : Store _). Reads (state_of g.D.Device.bytes g.D.Device.counts s) (state_of g.D.Device.bytes g.D.Device.counts now) (buffer_for c.args.reader c.args.level) c.args.level c.args.slot c.args.index (given c.read_in_front.new.into c.read_in_front.result)) c.self.view_is
+    (reads-memory (state_of g.D.Device.bytes g.D.Device.counts view) ((i.ticked + 1) % 2 ^ 64) (buffer_for c.args.reader c.args.level) c.args.level c.args.slot c.args.index (given c.read_in_front.new.into c.read_in_front.result)
     (omega arith) (c.read_in_front.ensures.answer (spent_of g.D.Device.counts view).faults))
 
 pub returns-then-has_in_tail-clause-reads : goal.returns-then-has_in_tail-clause-reads
@@ -26,8 +26,8 @@ returns-then-has_in_tail-clause-reads g c =
     let i = c.self.inside in
     let view : Store _ = record { buffers = i.buffers; geometry = i.geometry; front = i.front; shadows = i.shadows.items.items; tails = i.tails.items.items; ticked = i.ticked } in
     let now : Store _ = record view { ticked = (i.ticked + 1) % 2 ^ 64 } in
-    subst (λ (s : Store _). Reads (held_of g.D.Device.bytes s) (spent_of g.D.Device.counts s) (spent_of g.D.Device.counts now) (buffer_for c.args.reader c.args.level) c.args.level c.args.slot c.args.index (given c.read_in_tail.new.into c.read_in_tail.result)) c.self.view_is
-    (reads-memory (held_of g.D.Device.bytes view) (spent_of g.D.Device.counts view) ((i.ticked + 1) % 2 ^ 64) (buffer_for c.args.reader c.args.level) c.args.level c.args.slot c.args.index (given c.read_in_tail.new.into c.read_in_tail.result)
+    subst (λ (s : Store _). Reads (state_of g.D.Device.bytes g.D.Device.counts s) (state_of g.D.Device.bytes g.D.Device.counts now) (buffer_for c.args.reader c.args.level) c.args.level c.args.slot c.args.index (given c.read_in_tail.new.into c.read_in_tail.result)) c.self.view_is
+    (reads-memory (state_of g.D.Device.bytes g.D.Device.counts view) ((i.ticked + 1) % 2 ^ 64) (buffer_for c.args.reader c.args.level) c.args.level c.args.slot c.args.index (given c.read_in_tail.new.into c.read_in_tail.result)
     (omega arith) (c.read_in_tail.ensures.answer (spent_of g.D.Device.counts view).faults))
 
 pub returns-clause-reads : goal.returns-clause-reads
@@ -44,8 +44,8 @@ returns-clause-reads g c =
     let outside : is_in_tail (block_cells i.geometry) (shadow_at i.shadows.items.items c.args.level) c.args.slot c.args.index ≡ false =
     ap (λ (x : Shadow). is_in_tail (block_cells i.geometry) x c.args.slot c.args.index) (sym shadow) ∙ sym c.has_in_tail.ensures ∙ c.if-has_in_tail.false in
     let turns = subst (λ (n : ℕ). Turns g.D.Device.counts i.buffers c.read_by_buffer.new.buffers n (block_number i.geometry c.args.level c.args.slot c.args.index) (given c.read_by_buffer.new.into c.read_by_buffer.result)) c.buffer_of-buffer.ensures c.read_by_buffer.ensures.turns in
-    subst (λ (s : Store _). Reads (held_of g.D.Device.bytes s) (spent_of g.D.Device.counts s) (spent_of g.D.Device.counts now) (buffer_for c.args.reader c.args.level) c.args.level c.args.slot c.args.index (given c.read_by_buffer.new.into c.read_by_buffer.result)) c.self.view_is
+    subst (λ (s : Store _). Reads (state_of g.D.Device.bytes g.D.Device.counts s) (state_of g.D.Device.bytes g.D.Device.counts now) (buffer_for c.args.reader c.args.level) c.args.level c.args.slot c.args.index (given c.read_by_buffer.new.into c.read_by_buffer.result)) c.self.view_is
     (reads-device g.D.Device.bytes g.D.Device.counts view c.read_by_buffer.new.buffers ((i.ticked + 1) % 2 ^ 64) c.args.reader c.args.level c.args.slot c.args.index (given c.read_by_buffer.new.into c.read_by_buffer.result)
     c.self.invariant.cells.shape.block c.self.invariant.buffers_many place device
     (λ q. false≢true (sym outside ∙ tail-is (block_cells i.geometry) (shadow_at i.shadows.items.items c.args.level) c.args.slot c.args.index q))
-    c.read_by_buffer.ensures.finds turns (omega arith))
+    c.read_by_buffer.ensures.finds turns c.read_by_buffer.ensures.bytes_stay (omega arith))

@@ -3,151 +3,113 @@ use Rattle.std.proofs.lemmas.List.{with_items_is}
 use Rattle.std.specs.Vec.{with_items}
 use Rattle.cola_cell.specs.declared.sink.Shadow.{Shadow}
 use Rattle.cola_cell.specs.Flat.{shadow_at}
-use Rattle.cola_cell.specs.Places.{IsPlace}
 use Rattle.cola_cell.specs.Shadows.{Finishes, FinishSpends}
-use Rattle.cola_run.specs.Cells.{IsOnDevice, block_number}
+use Rattle.cola_run.specs.Cells.{IsOnDevice, Lower, HasRoom, end_block}
 use Rattle.cola_run.specs.Parts.{OneShadow, IsFinished}
 use Rattle.cola_run.specs.Turns.{Writing}
-use Rattle.cola_run.specs.Store.{Store, held_of, spent_of, kept_of}
+use Rattle.cola_run.specs.Store.{Store, IsStore, lower_of, state_of, kept_of}
 use Rattle.cola_run.proofs.Finishes.{ends-within}
 use Rattle.cola_run.proofs.Finishing.{finished-sound, finished-keeps, finished-meets, finished-spends}
 use Rattle.cola_run.proofs.Fronting.{front-finished-sound, front-finished-meets}
 use Rattle.cola_run.proofs.traits.RunStoreCellSink.finish.Goals as goal
 
-pub invariant_of-self : goal.invariant_of-self
-invariant_of-self g c =
+-- a finish of a level of the front: the store before it and after it
+abbrev front-old : (g : _) (c : goal.After-self-1 g) → Store g.row.D.Denot
+front-old g c =
     let i = c.self.inside in
-    let view : Store _ = record { buffers = i.buffers; geometry = i.geometry; front = i.front; shadows = i.shadows.items.items; tails = i.tails.items.items; ticked = i.ticked } in
+    record { buffers = i.buffers; geometry = i.geometry; front = i.front; shadows = i.shadows.items.items; tails = i.tails.items.items; ticked = i.ticked }
+
+abbrev front-new : (g : _) (c : goal.After-self-1 g) → Store g.row.D.Denot
+front-new g c = record (front-old g c) { shadows = (with_items c.self.inside.shadows.items c.set_shadow.new.shadows).items }
+
+-- it is sound and meets the trait
+in-front : (g : _) (c : goal.After-self-1 g) →
+    IsStore (g.D.Device.bytes c.self.inside.buffers.cache.device) (front-new g c)
+    × Finishes (state_of g.D.Device.bytes g.D.Device.counts (front-old g c)) (state_of g.D.Device.bytes g.D.Device.counts (front-new g c)) c.args.level (Ok (tt {0}))
+in-front g c =
+    let i = c.self.inside in
+    let view = front-old g c in
+    let now = front-new g c in
     let front = c.front_levels.ensures.value in
     let some = c.front_levels.ensures.some in
     let low : c.args.level + 2 < i.geometry.block_exp = omega (arith, front, some, c.if-level-front_levels.true) in
     let levels : c.args.level < i.geometry.bottom + 1 = subst (λ (s : Store _). c.args.level < s.geometry.bottom + 1) (sym c.self.view_is) c.requires in
     let within : c.args.level ≤ i.geometry.bottom = omega (arith, levels) in
-    let shadows : List Shadow = (with_items i.shadows.items c.set_shadow.new.shadows).items in
-    let back : shadows ≡ c.set_shadow.new.shadows = with_items_is i.shadows.items c.set_shadow.new.shadows (c.set_shadow.ensures.many ∙ c.deref_mut.ensures.len) in
-    let one : OneShadow i.shadows.items.items shadows c.args.level c.saved.result =
-    subst (λ (xs : List Shadow). OneShadow i.shadows.items.items xs c.args.level c.saved.result) (sym back) (subst (λ (xs : List Shadow). OneShadow xs c.set_shadow.new.shadows c.args.level c.saved.result) c.deref_mut.ensures.value c.set_shadow.ensures) in
-    let now : Store _ = record view { shadows = shadows } in
-    let shadow : c.saved.result ≡ record (shadow_at i.shadows.items.items c.args.level) { saved = true } =
-    c.saved.ensures ∙ ap (λ (x : Shadow). record x { saved = true }) (c.shadow_of-shadow.ensures ∙ ap (λ (xs : List Shadow). shadow_at xs c.args.level) c.deref.ensures.value) in
-    front-finished-sound g.D.Device.bytes g.D.Device.counts g.D.Device.kept view now c.args.level c.saved.result c.self.invariant refl refl refl one (Ok (tt {0})) refl low within shadow refl (omega arith)
+    let back : now.shadows ≡ c.set_shadow.new.shadows = with_items_is i.shadows.items c.set_shadow.new.shadows (c.set_shadow.ensures.many ∙ c.deref_mut.ensures.len) in
+    let one : OneShadow view.shadows now.shadows c.args.level c.saved.result =
+    subst (λ (xs : List Shadow). OneShadow view.shadows xs c.args.level c.saved.result) (sym back) (subst (λ (xs : List Shadow). OneShadow xs c.set_shadow.new.shadows c.args.level c.saved.result) c.deref_mut.ensures.value c.set_shadow.ensures) in
+    let shadow : c.saved.result ≡ record (shadow_at view.shadows c.args.level) { saved = true } =
+    c.saved.ensures ∙ ap (λ (x : Shadow). record x { saved = true }) (c.shadow_of-shadow.ensures ∙ ap (λ (xs : List Shadow). shadow_at xs c.args.level) c.deref.ensures.value) in (
+      front-finished-sound g.D.Device.bytes g.D.Device.counts g.D.Device.kept view now c.args.level c.saved.result c.self.invariant refl refl refl one (Ok (tt {0})) refl low within shadow refl (omega arith),
+      front-finished-meets g.D.Device.bytes g.D.Device.counts g.D.Device.kept view now c.args.level c.saved.result c.self.invariant refl refl refl one (Ok tt) refl low within shadow refl (omega arith),
+    )
+
+pub invariant_of-self : goal.invariant_of-self
+invariant_of-self g c = (in-front g c).0
 
 pub returns-then-level-front_levels-clause-finishes : goal.returns-then-level-front_levels-clause-finishes
 returns-then-level-front_levels-clause-finishes g c =
-    let i = c.self.inside in
-    let view : Store _ = record { buffers = i.buffers; geometry = i.geometry; front = i.front; shadows = i.shadows.items.items; tails = i.tails.items.items; ticked = i.ticked } in
-    let front = c.front_levels.ensures.value in
-    let some = c.front_levels.ensures.some in
-    let low : c.args.level + 2 < i.geometry.block_exp = omega (arith, front, some, c.if-level-front_levels.true) in
-    let levels : c.args.level < i.geometry.bottom + 1 = subst (λ (s : Store _). c.args.level < s.geometry.bottom + 1) (sym c.self.view_is) c.requires in
-    let within : c.args.level ≤ i.geometry.bottom = omega (arith, levels) in
-    let shadows : List Shadow = (with_items i.shadows.items c.set_shadow.new.shadows).items in
-    let back : shadows ≡ c.set_shadow.new.shadows = with_items_is i.shadows.items c.set_shadow.new.shadows (c.set_shadow.ensures.many ∙ c.deref_mut.ensures.len) in
-    let one : OneShadow i.shadows.items.items shadows c.args.level c.saved.result =
-    subst (λ (xs : List Shadow). OneShadow i.shadows.items.items xs c.args.level c.saved.result) (sym back) (subst (λ (xs : List Shadow). OneShadow xs c.set_shadow.new.shadows c.args.level c.saved.result) c.deref_mut.ensures.value c.set_shadow.ensures) in
-    let now : Store _ = record view { shadows = shadows } in
-    let shadow : c.saved.result ≡ record (shadow_at i.shadows.items.items c.args.level) { saved = true } =
-    c.saved.ensures ∙ ap (λ (x : Shadow). record x { saved = true }) (c.shadow_of-shadow.ensures ∙ ap (λ (xs : List Shadow). shadow_at xs c.args.level) c.deref.ensures.value) in
-    subst (λ (s : Store _). Finishes (held_of g.D.Device.bytes s) (held_of g.D.Device.bytes now) (spent_of g.D.Device.counts s) (spent_of g.D.Device.counts now) c.args.level (Ok tt)) c.self.view_is
-    (front-finished-meets g.D.Device.bytes g.D.Device.counts g.D.Device.kept view now c.args.level c.saved.result c.self.invariant refl refl refl one (Ok tt) refl low within shadow refl (omega arith))
+    subst (λ (s : Store _). Finishes (state_of g.D.Device.bytes g.D.Device.counts s) (state_of g.D.Device.bytes g.D.Device.counts (front-new g c)) c.args.level (Ok tt)) c.self.view_is (in-front g c).1
 
 pub finish_on_device-requires-clause-place : goal.finish_on_device-requires-clause-place
 finish_on_device-requires-clause-place g c =
     let i = c.self.inside in
-    let view : Store _ = record { buffers = i.buffers; geometry = i.geometry; front = i.front; shadows = i.shadows.items.items; tails = i.tails.items.items; ticked = i.ticked } in
     let front = c.front_levels.ensures.value in
     let some = c.front_levels.ensures.some in
     let levels : c.args.level < i.geometry.bottom + 1 = subst (λ (s : Store _). c.args.level < s.geometry.bottom + 1) (sym c.self.view_is) c.requires in
     let device : IsOnDevice i.geometry c.args.level = record { within = omega (arith, levels); whole = omega (arith, front, some, c.if-level-front_levels.false) } in
-    subst (λ (xs : List Shadow). (shadow_at xs c.args.level).saved ≡ false → IsPlace (i.geometry.bottom + 1) c.args.level (shadow_at xs c.args.level).slot (shadow_at xs c.args.level).len) (sym c.deref_mut-2.ensures.value)
+    subst (λ (xs : List Shadow). (shadow_at xs c.args.level).saved ≡ false → HasRoom i.geometry xs c.args.level) (sym c.deref_mut-2.ensures.value)
     (ends-within i.geometry i.front i.shadows.items.items i.tails.items.items c.args.level c.self.invariant.cells.shape device)
 
-pub invariant_of-self-2 : goal.invariant_of-self-2
-invariant_of-self-2 g c =
+-- a finish of a level on the device: the store before it and after it
+abbrev device-old : (g : _) (c : goal.After-self-2-1 g) → Store g.row.D.Denot
+device-old g c =
     let i = c.self.inside in
-    let view : Store _ = record { buffers = i.buffers; geometry = i.geometry; front = i.front; shadows = i.shadows.items.items; tails = i.tails.items.items; ticked = i.ticked } in
+    record { buffers = i.buffers; geometry = i.geometry; front = i.front; shadows = i.shadows.items.items; tails = i.tails.items.items; ticked = i.ticked }
+
+abbrev device-new : (g : _) (c : goal.After-self-2-1 g) → Store g.row.D.Denot
+device-new g c = record (device-old g c) { buffers = c.finish_on_device.new.buffers; shadows = (with_items c.self.inside.shadows.items c.finish_on_device.new.shadows).items }
+
+-- it is sound, keeps what is kept, meets the trait, and spends what that says
+on-device : (g : _) (c : goal.After-self-2-1 g) →
+    IsStore (g.D.Device.bytes c.finish_on_device.new.buffers.cache.device) (device-new g c)
+    × (kept_of g.D.Device.bytes g.D.Device.counts g.D.Device.kept (device-new g c) ≡ kept_of g.D.Device.bytes g.D.Device.counts g.D.Device.kept (device-old g c))
+    × Finishes (state_of g.D.Device.bytes g.D.Device.counts (device-old g c)) (state_of g.D.Device.bytes g.D.Device.counts (device-new g c)) c.args.level c.finish_on_device.result
+    × FinishSpends (state_of g.D.Device.bytes g.D.Device.counts (device-old g c)) (state_of g.D.Device.bytes g.D.Device.counts (device-new g c)) c.args.level
+on-device g c =
+    let i = c.self.inside in
+    let view = device-old g c in
+    let now = device-new g c in
     let front = c.front_levels.ensures.value in
     let some = c.front_levels.ensures.some in
     let levels : c.args.level < i.geometry.bottom + 1 = subst (λ (s : Store _). c.args.level < s.geometry.bottom + 1) (sym c.self.view_is) c.requires in
     let device : IsOnDevice i.geometry c.args.level = record { within = omega (arith, levels); whole = omega (arith, front, some, c.if-level-front_levels.false) } in
-    let shadows : List Shadow = (with_items i.shadows.items c.finish_on_device.new.shadows).items in
-    let back : shadows ≡ c.finish_on_device.new.shadows = with_items_is i.shadows.items c.finish_on_device.new.shadows (c.finish_on_device.auto.shadows ∙ c.deref_mut-2.ensures.len) in
-    let now : Store _ = record view { buffers = c.finish_on_device.new.buffers; shadows = shadows } in
-    let told = g.D.Device.bytes i.buffers.cache.device in
-    let told_now = g.D.Device.bytes c.finish_on_device.new.buffers.cache.device in
-    let finished : IsFinished i.geometry (record { told = told; shadows = i.shadows.items.items; tails = i.tails.items.items }) (record { told = told_now; shadows = shadows; tails = i.tails.items.items }) c.args.level c.finish_on_device.result =
-    subst (λ (xs : List Shadow). IsFinished i.geometry (record { told = told; shadows = i.shadows.items.items; tails = i.tails.items.items }) (record { told = told_now; shadows = xs; tails = i.tails.items.items }) c.args.level c.finish_on_device.result) (sym back)
-    (subst (λ (xs : List Shadow). IsFinished i.geometry (record { told = told; shadows = xs; tails = i.tails.items.items }) (record { told = told_now; shadows = c.finish_on_device.new.shadows; tails = i.tails.items.items }) c.args.level c.finish_on_device.result) c.deref_mut-2.ensures.value
-    (subst (λ (ts : List ℕ). IsFinished i.geometry (record { told = told; shadows = c.deref_mut-2.result.now; tails = ts }) (record { told = told_now; shadows = c.finish_on_device.new.shadows; tails = ts }) c.args.level c.finish_on_device.result) c.deref-2.ensures.value
+    let back : now.shadows ≡ c.finish_on_device.new.shadows = with_items_is i.shadows.items c.finish_on_device.new.shadows (c.finish_on_device.auto.shadows ∙ c.deref_mut-2.ensures.len) in
+    let before : List Shadow → List ℕ → Lower = lower_of g.D.Device.bytes i.buffers in
+    let after : List Shadow → List ℕ → Lower = lower_of g.D.Device.bytes now.buffers in
+    let finished : IsFinished i.geometry (before view.shadows view.tails) (after now.shadows view.tails) c.args.level c.finish_on_device.result =
+    subst (λ (xs : List Shadow). IsFinished i.geometry (before view.shadows view.tails) (after xs view.tails) c.args.level c.finish_on_device.result) (sym back)
+    (subst (λ (xs : List Shadow). IsFinished i.geometry (before xs view.tails) (after c.finish_on_device.new.shadows view.tails) c.args.level c.finish_on_device.result) c.deref_mut-2.ensures.value
+    (subst (λ (ts : List ℕ). IsFinished i.geometry (before c.deref_mut-2.result.now ts) (after c.finish_on_device.new.shadows ts) c.args.level c.finish_on_device.result) c.deref-2.ensures.value
     c.finish_on_device.ensures.finished)) in
-    let writing = subst (λ (xs : List Shadow). Writing g.D.Device.counts g.D.Device.kept (not (shadow_at xs c.args.level).saved) i.buffers c.finish_on_device.new.buffers (block_number i.geometry c.args.level (shadow_at xs c.args.level).slot (shadow_at xs c.args.level).len) c.finish_on_device.result)
-    c.deref_mut-2.ensures.value c.finish_on_device.ensures.writing in
-    finished-sound g.D.Device.bytes g.D.Device.counts g.D.Device.kept view now c.args.level c.finish_on_device.result c.self.invariant device refl refl finished writing (omega arith)
+    let writing = subst (λ (xs : List Shadow). Writing g.D.Device.counts g.D.Device.kept (not (shadow_at xs c.args.level).saved) i.buffers now.buffers (end_block i.geometry xs c.args.level) c.finish_on_device.result)
+    c.deref_mut-2.ensures.value c.finish_on_device.ensures.writing in (
+      finished-sound g.D.Device.bytes g.D.Device.counts g.D.Device.kept view now c.args.level c.finish_on_device.result c.self.invariant device refl refl finished writing (omega arith),
+      finished-keeps g.D.Device.bytes g.D.Device.counts g.D.Device.kept view now c.args.level c.finish_on_device.result c.self.invariant device refl refl finished writing (omega arith),
+      finished-meets g.D.Device.bytes g.D.Device.counts g.D.Device.kept view now c.args.level c.finish_on_device.result c.self.invariant device refl refl finished writing (omega arith),
+      finished-spends g.D.Device.bytes g.D.Device.counts g.D.Device.kept view now c.args.level c.finish_on_device.result c.self.invariant device refl refl finished writing (omega arith),
+    )
+
+pub invariant_of-self-2 : goal.invariant_of-self-2
+invariant_of-self-2 g c = (on-device g c).0
 
 pub returns-clause-kept : goal.returns-clause-kept
-returns-clause-kept g c =
-    let i = c.self.inside in
-    let view : Store _ = record { buffers = i.buffers; geometry = i.geometry; front = i.front; shadows = i.shadows.items.items; tails = i.tails.items.items; ticked = i.ticked } in
-    let front = c.front_levels.ensures.value in
-    let some = c.front_levels.ensures.some in
-    let levels : c.args.level < i.geometry.bottom + 1 = subst (λ (s : Store _). c.args.level < s.geometry.bottom + 1) (sym c.self.view_is) c.requires in
-    let device : IsOnDevice i.geometry c.args.level = record { within = omega (arith, levels); whole = omega (arith, front, some, c.if-level-front_levels.false) } in
-    let shadows : List Shadow = (with_items i.shadows.items c.finish_on_device.new.shadows).items in
-    let back : shadows ≡ c.finish_on_device.new.shadows = with_items_is i.shadows.items c.finish_on_device.new.shadows (c.finish_on_device.auto.shadows ∙ c.deref_mut-2.ensures.len) in
-    let now : Store _ = record view { buffers = c.finish_on_device.new.buffers; shadows = shadows } in
-    let told = g.D.Device.bytes i.buffers.cache.device in
-    let told_now = g.D.Device.bytes c.finish_on_device.new.buffers.cache.device in
-    let finished : IsFinished i.geometry (record { told = told; shadows = i.shadows.items.items; tails = i.tails.items.items }) (record { told = told_now; shadows = shadows; tails = i.tails.items.items }) c.args.level c.finish_on_device.result =
-    subst (λ (xs : List Shadow). IsFinished i.geometry (record { told = told; shadows = i.shadows.items.items; tails = i.tails.items.items }) (record { told = told_now; shadows = xs; tails = i.tails.items.items }) c.args.level c.finish_on_device.result) (sym back)
-    (subst (λ (xs : List Shadow). IsFinished i.geometry (record { told = told; shadows = xs; tails = i.tails.items.items }) (record { told = told_now; shadows = c.finish_on_device.new.shadows; tails = i.tails.items.items }) c.args.level c.finish_on_device.result) c.deref_mut-2.ensures.value
-    (subst (λ (ts : List ℕ). IsFinished i.geometry (record { told = told; shadows = c.deref_mut-2.result.now; tails = ts }) (record { told = told_now; shadows = c.finish_on_device.new.shadows; tails = ts }) c.args.level c.finish_on_device.result) c.deref-2.ensures.value
-    c.finish_on_device.ensures.finished)) in
-    let writing = subst (λ (xs : List Shadow). Writing g.D.Device.counts g.D.Device.kept (not (shadow_at xs c.args.level).saved) i.buffers c.finish_on_device.new.buffers (block_number i.geometry c.args.level (shadow_at xs c.args.level).slot (shadow_at xs c.args.level).len) c.finish_on_device.result)
-    c.deref_mut-2.ensures.value c.finish_on_device.ensures.writing in
-    finished-keeps g.D.Device.bytes g.D.Device.counts g.D.Device.kept view now c.args.level c.finish_on_device.result c.self.invariant device refl refl finished writing (omega arith) ∙ ap (λ (s : Store _). kept_of g.D.Device.bytes g.D.Device.counts g.D.Device.kept s) c.self.view_is
+returns-clause-kept g c = (on-device g c).1 ∙ ap (λ (s : Store _). kept_of g.D.Device.bytes g.D.Device.counts g.D.Device.kept s) c.self.view_is
 
 pub returns-clause-finishes : goal.returns-clause-finishes
 returns-clause-finishes g c =
-    let i = c.self.inside in
-    let view : Store _ = record { buffers = i.buffers; geometry = i.geometry; front = i.front; shadows = i.shadows.items.items; tails = i.tails.items.items; ticked = i.ticked } in
-    let front = c.front_levels.ensures.value in
-    let some = c.front_levels.ensures.some in
-    let levels : c.args.level < i.geometry.bottom + 1 = subst (λ (s : Store _). c.args.level < s.geometry.bottom + 1) (sym c.self.view_is) c.requires in
-    let device : IsOnDevice i.geometry c.args.level = record { within = omega (arith, levels); whole = omega (arith, front, some, c.if-level-front_levels.false) } in
-    let shadows : List Shadow = (with_items i.shadows.items c.finish_on_device.new.shadows).items in
-    let back : shadows ≡ c.finish_on_device.new.shadows = with_items_is i.shadows.items c.finish_on_device.new.shadows (c.finish_on_device.auto.shadows ∙ c.deref_mut-2.ensures.len) in
-    let now : Store _ = record view { buffers = c.finish_on_device.new.buffers; shadows = shadows } in
-    let told = g.D.Device.bytes i.buffers.cache.device in
-    let told_now = g.D.Device.bytes c.finish_on_device.new.buffers.cache.device in
-    let finished : IsFinished i.geometry (record { told = told; shadows = i.shadows.items.items; tails = i.tails.items.items }) (record { told = told_now; shadows = shadows; tails = i.tails.items.items }) c.args.level c.finish_on_device.result =
-    subst (λ (xs : List Shadow). IsFinished i.geometry (record { told = told; shadows = i.shadows.items.items; tails = i.tails.items.items }) (record { told = told_now; shadows = xs; tails = i.tails.items.items }) c.args.level c.finish_on_device.result) (sym back)
-    (subst (λ (xs : List Shadow). IsFinished i.geometry (record { told = told; shadows = xs; tails = i.tails.items.items }) (record { told = told_now; shadows = c.finish_on_device.new.shadows; tails = i.tails.items.items }) c.args.level c.finish_on_device.result) c.deref_mut-2.ensures.value
-    (subst (λ (ts : List ℕ). IsFinished i.geometry (record { told = told; shadows = c.deref_mut-2.result.now; tails = ts }) (record { told = told_now; shadows = c.finish_on_device.new.shadows; tails = ts }) c.args.level c.finish_on_device.result) c.deref-2.ensures.value
-    c.finish_on_device.ensures.finished)) in
-    let writing = subst (λ (xs : List Shadow). Writing g.D.Device.counts g.D.Device.kept (not (shadow_at xs c.args.level).saved) i.buffers c.finish_on_device.new.buffers (block_number i.geometry c.args.level (shadow_at xs c.args.level).slot (shadow_at xs c.args.level).len) c.finish_on_device.result)
-    c.deref_mut-2.ensures.value c.finish_on_device.ensures.writing in
-    subst (λ (s : Store _). Finishes (held_of g.D.Device.bytes s) (held_of g.D.Device.bytes now) (spent_of g.D.Device.counts s) (spent_of g.D.Device.counts now) c.args.level c.finish_on_device.result) c.self.view_is
-    (finished-meets g.D.Device.bytes g.D.Device.counts g.D.Device.kept view now c.args.level c.finish_on_device.result c.self.invariant device refl refl finished writing (omega arith))
+    subst (λ (s : Store _). Finishes (state_of g.D.Device.bytes g.D.Device.counts s) (state_of g.D.Device.bytes g.D.Device.counts (device-new g c)) c.args.level c.finish_on_device.result) c.self.view_is (on-device g c).2
 
 pub returns-clause-spends : goal.returns-clause-spends
 returns-clause-spends g c =
-    let i = c.self.inside in
-    let view : Store _ = record { buffers = i.buffers; geometry = i.geometry; front = i.front; shadows = i.shadows.items.items; tails = i.tails.items.items; ticked = i.ticked } in
-    let front = c.front_levels.ensures.value in
-    let some = c.front_levels.ensures.some in
-    let levels : c.args.level < i.geometry.bottom + 1 = subst (λ (s : Store _). c.args.level < s.geometry.bottom + 1) (sym c.self.view_is) c.requires in
-    let device : IsOnDevice i.geometry c.args.level = record { within = omega (arith, levels); whole = omega (arith, front, some, c.if-level-front_levels.false) } in
-    let shadows : List Shadow = (with_items i.shadows.items c.finish_on_device.new.shadows).items in
-    let back : shadows ≡ c.finish_on_device.new.shadows = with_items_is i.shadows.items c.finish_on_device.new.shadows (c.finish_on_device.auto.shadows ∙ c.deref_mut-2.ensures.len) in
-    let now : Store _ = record view { buffers = c.finish_on_device.new.buffers; shadows = shadows } in
-    let told = g.D.Device.bytes i.buffers.cache.device in
-    let told_now = g.D.Device.bytes c.finish_on_device.new.buffers.cache.device in
-    let finished : IsFinished i.geometry (record { told = told; shadows = i.shadows.items.items; tails = i.tails.items.items }) (record { told = told_now; shadows = shadows; tails = i.tails.items.items }) c.args.level c.finish_on_device.result =
-    subst (λ (xs : List Shadow). IsFinished i.geometry (record { told = told; shadows = i.shadows.items.items; tails = i.tails.items.items }) (record { told = told_now; shadows = xs; tails = i.tails.items.items }) c.args.level c.finish_on_device.result) (sym back)
-    (subst (λ (xs : List Shadow). IsFinished i.geometry (record { told = told; shadows = xs; tails = i.tails.items.items }) (record { told = told_now; shadows = c.finish_on_device.new.shadows; tails = i.tails.items.items }) c.args.level c.finish_on_device.result) c.deref_mut-2.ensures.value
-    (subst (λ (ts : List ℕ). IsFinished i.geometry (record { told = told; shadows = c.deref_mut-2.result.now; tails = ts }) (record { told = told_now; shadows = c.finish_on_device.new.shadows; tails = ts }) c.args.level c.finish_on_device.result) c.deref-2.ensures.value
-    c.finish_on_device.ensures.finished)) in
-    let writing = subst (λ (xs : List Shadow). Writing g.D.Device.counts g.D.Device.kept (not (shadow_at xs c.args.level).saved) i.buffers c.finish_on_device.new.buffers (block_number i.geometry c.args.level (shadow_at xs c.args.level).slot (shadow_at xs c.args.level).len) c.finish_on_device.result)
-    c.deref_mut-2.ensures.value c.finish_on_device.ensures.writing in
-    subst (λ (s : Store _). FinishSpends (held_of g.D.Device.bytes s) (spent_of g.D.Device.counts s) (spent_of g.D.Device.counts now) c.args.level) c.self.view_is
-    (finished-spends g.D.Device.bytes g.D.Device.counts g.D.Device.kept view now c.args.level c.finish_on_device.result c.self.invariant device refl refl finished writing (omega arith))
+    subst (λ (s : Store _). FinishSpends (state_of g.D.Device.bytes g.D.Device.counts s) (state_of g.D.Device.bytes g.D.Device.counts (device-new g c)) c.args.level) c.self.view_is (on-device g c).3

@@ -1,16 +1,17 @@
-use Rattle.std.proofs.Common.{◌≡◌, ◌<◌, ◌^◌, ◌+◌, ◌%◌, ◌≤◌, ap, sym, subst, ◌∙◌, arith, ℕ, List, length, set, Some, Err, Result, Ok, refl}
+use Rattle.std.proofs.Common.{◌≡◌, ◌<◌, ◌^◌, ◌+◌, ◌%◌, ◌≤◌, ap, sym, subst, ◌∙◌, arith, ℕ, List, length, Err, Result, Ok, refl}
 use Rattle.std.proofs.lemmas.List.{with_items_is}
 use Rattle.std.specs.Vec.{with_items}
 use Rattle.cola_cell.specs.declared.fault.PushFault.{PushFault}
 use Rattle.cola_cell.specs.declared.sink.Shadow.{Shadow}
 use Rattle.cola_cell.specs.Packed.{passed}
 use Rattle.cola_cell.specs.Flat.{shadow_at}
-use Rattle.cola_cell.specs.Places.{slot_size, number_of}
+use Rattle.cola_cell.specs.Places.{slot_size}
 use Rattle.cola_cell.specs.Shadows.{push_ticks, Pushes, PushSpends}
-use Rattle.cola_run.specs.Cells.{IsOnDevice, block_number}
-use Rattle.cola_run.specs.Parts.{fills, OneShadow, IsPushed}
+use Rattle.cola_front.specs.Front.{front_with}
+use Rattle.cola_run.specs.Cells.{IsOnDevice, Lower, end_number, end_block}
+use Rattle.cola_run.specs.Parts.{fills, lengthened, OneShadow, IsPushed}
 use Rattle.cola_run.specs.Turns.{Writing}
-use Rattle.cola_run.specs.Store.{Store, held_of, spent_of, kept_of}
+use Rattle.cola_run.specs.Store.{Store, IsStore, lower_of, state_of, kept_of}
 use Rattle.cola_cell.specs.Spent.{Ticks}
 use Rattle.cola_cell.specs.declared.fault.PushFault.TheVariants as push
 use Rattle.cola_run.specs.Parts.{MetFault}
@@ -24,185 +25,121 @@ ticked-by ticked (Ok value) fault = omega arith
 ticked-by ticked (Err push.Device) fault = omega arith
 ticked-by ticked (Err (push.Overfull level)) fault = absurd fault
 
-pub invariant_of-self : goal.invariant_of-self
-invariant_of-self g c =
+-- a push to a level of the front: the store before it and after it
+abbrev front-old : (g : _) (c : goal.After-self-then-level-front_levels-1 g) → Store g.row.D.Denot
+front-old g c =
     let i = c.self.inside in
-    let view : Store _ = record { buffers = i.buffers; geometry = i.geometry; front = i.front; shadows = i.shadows.items.items; tails = i.tails.items.items; ticked = i.ticked } in
-    let front = c.front_levels.ensures.value in
+    record { buffers = i.buffers; geometry = i.geometry; front = i.front; shadows = i.shadows.items.items; tails = i.tails.items.items; ticked = i.ticked }
+
+abbrev front-new : (g : _) (c : goal.After-self-then-level-front_levels-1 g) → Store g.row.D.Denot
+front-new g c = record (front-old g c) {
+  front = c.push_in_front.new.front;
+  shadows = (with_items c.self.inside.shadows.items c.push_in_front.new.shadows).items;
+  ticked = (c.self.inside.ticked + 1) % 2 ^ 64;
+}
+
+-- it is sound and meets the trait
+in-front : (g : _) (c : goal.After-self-then-level-front_levels-1 g) →
+    IsStore (g.D.Device.bytes c.self.inside.buffers.cache.device) (front-new g c)
+    × Pushes (state_of g.D.Device.bytes g.D.Device.counts (front-old g c)) (state_of g.D.Device.bytes g.D.Device.counts (front-new g c)) c.args.level (passed c.args.pass c.args.cell.now) (Ok (tt {0}))
+in-front g c =
+    let i = c.self.inside in
+    let view = front-old g c in
+    let now = front-new g c in
+    let first = c.front_levels.ensures.value in
     let some = c.front_levels.ensures.some in
-    let low : c.args.level + 2 < i.geometry.block_exp = omega (arith, front, some, c.if-level-front_levels.true) in
+    let low : c.args.level + 2 < i.geometry.block_exp = omega (arith, first, some, c.if-level-front_levels.true) in
     let levels : c.args.level < i.geometry.bottom + 1 = subst (λ (s : Store _). c.args.level < s.geometry.bottom + 1) (sym c.self.view_is) c.requires.level_in in
     let within : c.args.level ≤ i.geometry.bottom = omega (arith, levels) in
-    let of_old : c.shadow_of.result ≡ shadow_at i.shadows.items.items c.args.level = c.shadow_of.ensures ∙ ap (λ (xs : List Shadow). shadow_at xs c.args.level) c.deref.ensures.value in
+    let old = shadow_at view.shadows c.args.level in
+    let of_old : c.shadow_of.result ≡ old = c.shadow_of.ensures ∙ ap (λ (xs : List Shadow). shadow_at xs c.args.level) c.deref.ensures.value in
     let most = (c.self.invariant.cells.shape.shadows_fit c.args.level within).within in
-    let lens : c.shadow_of.result.len ≡ (shadow_at i.shadows.items.items c.args.level).len = ap (λ (x : Shadow). x.len) of_old in
+    let lens : c.shadow_of.result.len ≡ old.len = ap (λ (x : Shadow). x.len) of_old in
     let size = c.cells_of_slot.ensures in
-    let room : (shadow_at i.shadows.items.items c.args.level).len < slot_size c.args.level = omega (arith, most, lens, size, c.if-shadow_of-cells_of_slot.false) in
-    let shadows : List Shadow = (with_items i.shadows.items c.push_in_front.new.shadows).items in
-    let back : shadows ≡ c.push_in_front.new.shadows = with_items_is i.shadows.items c.push_in_front.new.shadows (c.push_in_front.auto.shadows ∙ c.deref_mut.ensures.len) in
-    let old = shadow_at i.shadows.items.items c.args.level in
-    let next : Shadow = record { slot = old.slot; len = old.len + 1; saved = fills i.geometry old.len } in
-    let one : OneShadow i.shadows.items.items shadows c.args.level next =
-    subst (λ (xs : List Shadow). OneShadow i.shadows.items.items xs c.args.level next) (sym back)
-    (subst (λ (xs : List Shadow). OneShadow xs c.push_in_front.new.shadows c.args.level (record { slot = (shadow_at xs c.args.level).slot; len = (shadow_at xs c.args.level).len + 1; saved = fills i.geometry (shadow_at xs c.args.level).len }))
-    c.deref_mut.ensures.value c.push_in_front.ensures.shadow) in
-    let put : c.push_in_front.new.front ≡ record i.front { cells = set i.front.cells (number_of c.args.level old.slot old.len) (Some (passed c.args.pass c.args.cell.now)) } =
-    subst (λ (xs : List Shadow). c.push_in_front.new.front ≡ record i.front { cells = set i.front.cells (number_of c.args.level (shadow_at xs c.args.level).slot (shadow_at xs c.args.level).len) (Some (passed c.args.pass c.args.cell.now)) })
-    c.deref_mut.ensures.value c.push_in_front.ensures.front in
-    let inside : number_of c.args.level old.slot old.len < length i.front.cells =
-    subst (λ (xs : List Shadow). number_of c.args.level (shadow_at xs c.args.level).slot (shadow_at xs c.args.level).len < length i.front.cells) c.deref_mut.ensures.value c.push_in_front.ensures.within in
-    let now : Store _ = record view { front = c.push_in_front.new.front; shadows = shadows; ticked = (i.ticked + 1) % 2 ^ 64 } in
-    front-pushed-sound g.D.Device.bytes g.D.Device.counts g.D.Device.kept view now c.args.level next c.self.invariant refl refl refl one (passed c.args.pass c.args.cell.now) (Ok (tt {0})) low within room put inside refl refl (omega arith)
+    let room : old.len < slot_size c.args.level = omega (arith, most, lens, size, c.if-shadow_of-cells_of_slot.false) in
+    let back : now.shadows ≡ c.push_in_front.new.shadows = with_items_is i.shadows.items c.push_in_front.new.shadows (c.push_in_front.auto.shadows ∙ c.deref_mut.ensures.len) in
+    let next : Shadow = lengthened i.geometry old in
+    let one : OneShadow view.shadows now.shadows c.args.level next =
+    subst (λ (xs : List Shadow). OneShadow view.shadows xs c.args.level next) (sym back)
+    (subst (λ (xs : List Shadow). OneShadow xs c.push_in_front.new.shadows c.args.level (lengthened i.geometry (shadow_at xs c.args.level))) c.deref_mut.ensures.value c.push_in_front.ensures.shadow) in
+    let put : now.front ≡ front_with i.front (end_number view.shadows c.args.level) (passed c.args.pass c.args.cell.now) =
+    subst (λ (xs : List Shadow). now.front ≡ front_with i.front (end_number xs c.args.level) (passed c.args.pass c.args.cell.now)) c.deref_mut.ensures.value c.push_in_front.ensures.front in
+    let inside : end_number view.shadows c.args.level < length i.front.cells =
+    subst (λ (xs : List Shadow). end_number xs c.args.level < length i.front.cells) c.deref_mut.ensures.value c.push_in_front.ensures.within in (
+      front-pushed-sound g.D.Device.bytes g.D.Device.counts g.D.Device.kept view now c.args.level next c.self.invariant refl refl refl one (passed c.args.pass c.args.cell.now) (Ok (tt {0})) low within room put inside refl refl (omega arith),
+      front-pushed-meets g.D.Device.bytes g.D.Device.counts g.D.Device.kept view now c.args.level next c.self.invariant refl refl refl one (passed c.args.pass c.args.cell.now) (Ok tt) low within room put inside refl refl (omega arith),
+    )
+
+pub invariant_of-self : goal.invariant_of-self
+invariant_of-self g c = (in-front g c).0
 
 pub returns-then-level-front_levels-clause-pushes : goal.returns-then-level-front_levels-clause-pushes
 returns-then-level-front_levels-clause-pushes g c =
+    subst (λ (s : Store _). Pushes (state_of g.D.Device.bytes g.D.Device.counts s) (state_of g.D.Device.bytes g.D.Device.counts (front-new g c)) c.args.level (passed c.args.pass c.args.cell.now) (Ok tt)) c.self.view_is (in-front g c).1
+
+-- a push to a level on the device: the store before it and after it
+abbrev device-old : (g : _) (c : goal.After-self-3-1 g) → Store g.row.D.Denot
+device-old g c =
     let i = c.self.inside in
-    let view : Store _ = record { buffers = i.buffers; geometry = i.geometry; front = i.front; shadows = i.shadows.items.items; tails = i.tails.items.items; ticked = i.ticked } in
-    let front = c.front_levels.ensures.value in
+    record { buffers = i.buffers; geometry = i.geometry; front = i.front; shadows = i.shadows.items.items; tails = i.tails.items.items; ticked = i.ticked }
+
+abbrev device-new : (g : _) (c : goal.After-self-3-1 g) → Store g.row.D.Denot
+device-new g c = record (device-old g c) {
+  buffers = c.push_on_device.new.buffers;
+  shadows = (with_items c.self.inside.shadows.items c.push_on_device.new.shadows).items;
+  tails = (with_items c.self.inside.tails.items c.push_on_device.new.tails).items;
+  ticked = (c.self.inside.ticked + 1) % 2 ^ 64;
+}
+
+-- it is sound, keeps what is kept, meets the trait, and spends what that says
+on-device : (g : _) (c : goal.After-self-3-1 g) →
+    IsStore (g.D.Device.bytes c.push_on_device.new.buffers.cache.device) (device-new g c)
+    × (kept_of g.D.Device.bytes g.D.Device.counts g.D.Device.kept (device-new g c) ≡ kept_of g.D.Device.bytes g.D.Device.counts g.D.Device.kept (device-old g c))
+    × Pushes (state_of g.D.Device.bytes g.D.Device.counts (device-old g c)) (state_of g.D.Device.bytes g.D.Device.counts (device-new g c)) c.args.level (passed c.args.pass c.args.cell.now) c.push_on_device.result
+    × PushSpends (state_of g.D.Device.bytes g.D.Device.counts (device-old g c)) (state_of g.D.Device.bytes g.D.Device.counts (device-new g c)) c.args.level c.push_on_device.result
+on-device g c =
+    let i = c.self.inside in
+    let view = device-old g c in
+    let now = device-new g c in
+    let first = c.front_levels.ensures.value in
     let some = c.front_levels.ensures.some in
-    let low : c.args.level + 2 < i.geometry.block_exp = omega (arith, front, some, c.if-level-front_levels.true) in
     let levels : c.args.level < i.geometry.bottom + 1 = subst (λ (s : Store _). c.args.level < s.geometry.bottom + 1) (sym c.self.view_is) c.requires.level_in in
-    let within : c.args.level ≤ i.geometry.bottom = omega (arith, levels) in
-    let of_old : c.shadow_of.result ≡ shadow_at i.shadows.items.items c.args.level = c.shadow_of.ensures ∙ ap (λ (xs : List Shadow). shadow_at xs c.args.level) c.deref.ensures.value in
-    let most = (c.self.invariant.cells.shape.shadows_fit c.args.level within).within in
-    let lens : c.shadow_of.result.len ≡ (shadow_at i.shadows.items.items c.args.level).len = ap (λ (x : Shadow). x.len) of_old in
+    let device : IsOnDevice i.geometry c.args.level = record { within = omega (arith, levels); whole = omega (arith, first, some, c.if-level-front_levels.false) } in
+    let old = shadow_at view.shadows c.args.level in
+    let of_old : c.shadow_of.result ≡ old = c.shadow_of.ensures ∙ ap (λ (xs : List Shadow). shadow_at xs c.args.level) c.deref.ensures.value in
+    let most = (c.self.invariant.cells.shape.shadows_fit c.args.level device.within).within in
+    let lens : c.shadow_of.result.len ≡ old.len = ap (λ (x : Shadow). x.len) of_old in
     let size = c.cells_of_slot.ensures in
-    let room : (shadow_at i.shadows.items.items c.args.level).len < slot_size c.args.level = omega (arith, most, lens, size, c.if-shadow_of-cells_of_slot.false) in
-    let shadows : List Shadow = (with_items i.shadows.items c.push_in_front.new.shadows).items in
-    let back : shadows ≡ c.push_in_front.new.shadows = with_items_is i.shadows.items c.push_in_front.new.shadows (c.push_in_front.auto.shadows ∙ c.deref_mut.ensures.len) in
-    let old = shadow_at i.shadows.items.items c.args.level in
-    let next : Shadow = record { slot = old.slot; len = old.len + 1; saved = fills i.geometry old.len } in
-    let one : OneShadow i.shadows.items.items shadows c.args.level next =
-    subst (λ (xs : List Shadow). OneShadow i.shadows.items.items xs c.args.level next) (sym back)
-    (subst (λ (xs : List Shadow). OneShadow xs c.push_in_front.new.shadows c.args.level (record { slot = (shadow_at xs c.args.level).slot; len = (shadow_at xs c.args.level).len + 1; saved = fills i.geometry (shadow_at xs c.args.level).len }))
-    c.deref_mut.ensures.value c.push_in_front.ensures.shadow) in
-    let put : c.push_in_front.new.front ≡ record i.front { cells = set i.front.cells (number_of c.args.level old.slot old.len) (Some (passed c.args.pass c.args.cell.now)) } =
-    subst (λ (xs : List Shadow). c.push_in_front.new.front ≡ record i.front { cells = set i.front.cells (number_of c.args.level (shadow_at xs c.args.level).slot (shadow_at xs c.args.level).len) (Some (passed c.args.pass c.args.cell.now)) })
-    c.deref_mut.ensures.value c.push_in_front.ensures.front in
-    let inside : number_of c.args.level old.slot old.len < length i.front.cells =
-    subst (λ (xs : List Shadow). number_of c.args.level (shadow_at xs c.args.level).slot (shadow_at xs c.args.level).len < length i.front.cells) c.deref_mut.ensures.value c.push_in_front.ensures.within in
-    let now : Store _ = record view { front = c.push_in_front.new.front; shadows = shadows; ticked = (i.ticked + 1) % 2 ^ 64 } in
-    subst (λ (s : Store _). Pushes (held_of g.D.Device.bytes s) (held_of g.D.Device.bytes now) (spent_of g.D.Device.counts s) (spent_of g.D.Device.counts now) c.args.level (passed c.args.pass c.args.cell.now) (Ok tt)) c.self.view_is
-    (front-pushed-meets g.D.Device.bytes g.D.Device.counts g.D.Device.kept view now c.args.level next c.self.invariant refl refl refl one (passed c.args.pass c.args.cell.now) (Ok tt) low within room put inside refl refl (omega arith))
+    let room : old.len < slot_size c.args.level = omega (arith, most, lens, size, c.if-shadow_of-cells_of_slot.false) in
+    let back : now.shadows ≡ c.push_on_device.new.shadows = with_items_is i.shadows.items c.push_on_device.new.shadows (c.push_on_device.auto.shadows ∙ c.deref_mut-2.ensures.len) in
+    let back_tails : now.tails ≡ c.push_on_device.new.tails = with_items_is i.tails.items c.push_on_device.new.tails (c.push_on_device.auto.tails ∙ c.deref_mut-3.ensures.len) in
+    let before : List Shadow → List ℕ → Lower = lower_of g.D.Device.bytes i.buffers in
+    let after : List Shadow → List ℕ → Lower = lower_of g.D.Device.bytes now.buffers in
+    let pushed : IsPushed i.geometry (before view.shadows view.tails) (after now.shadows now.tails) c.args.level (passed c.args.pass c.args.cell.now) c.push_on_device.result =
+    subst (λ (xs : List Shadow). IsPushed i.geometry (before view.shadows view.tails) (after xs now.tails) c.args.level (passed c.args.pass c.args.cell.now) c.push_on_device.result) (sym back)
+    (subst (λ (ts : List ℕ). IsPushed i.geometry (before view.shadows view.tails) (after c.push_on_device.new.shadows ts) c.args.level (passed c.args.pass c.args.cell.now) c.push_on_device.result) (sym back_tails)
+    (subst (λ (xs : List Shadow). IsPushed i.geometry (before xs view.tails) (after c.push_on_device.new.shadows c.push_on_device.new.tails) c.args.level (passed c.args.pass c.args.cell.now) c.push_on_device.result) c.deref_mut-2.ensures.value
+    (subst (λ (ts : List ℕ). IsPushed i.geometry (before c.deref_mut-2.result.now ts) (after c.push_on_device.new.shadows c.push_on_device.new.tails) c.args.level (passed c.args.pass c.args.cell.now) c.push_on_device.result) c.deref_mut-3.ensures.value
+    c.push_on_device.ensures.pushed))) in
+    let writing = subst (λ (xs : List Shadow). Writing g.D.Device.counts g.D.Device.kept (fills i.geometry (shadow_at xs c.args.level).len) i.buffers now.buffers (end_block i.geometry xs c.args.level) c.push_on_device.result)
+    c.deref_mut-2.ensures.value c.push_on_device.ensures.writing in
+    let ticks = ticked-by i.ticked c.push_on_device.result pushed.fault in (
+      pushed-sound g.D.Device.bytes g.D.Device.counts g.D.Device.kept view now c.args.level (passed c.args.pass c.args.cell.now) c.push_on_device.result c.self.invariant device room refl refl pushed writing ticks,
+      pushed-keeps g.D.Device.bytes g.D.Device.counts g.D.Device.kept view now c.args.level (passed c.args.pass c.args.cell.now) c.push_on_device.result c.self.invariant device room refl refl pushed writing ticks,
+      pushed-meets g.D.Device.bytes g.D.Device.counts g.D.Device.kept view now c.args.level (passed c.args.pass c.args.cell.now) c.push_on_device.result c.self.invariant device room refl refl pushed writing ticks,
+      pushed-spends g.D.Device.bytes g.D.Device.counts g.D.Device.kept view now c.args.level (passed c.args.pass c.args.cell.now) c.push_on_device.result c.self.invariant device room refl refl pushed writing ticks,
+    )
 
 pub invariant_of-self-2 : goal.invariant_of-self-2
-invariant_of-self-2 g c =
-    let i = c.self.inside in
-    let view : Store _ = record { buffers = i.buffers; geometry = i.geometry; front = i.front; shadows = i.shadows.items.items; tails = i.tails.items.items; ticked = i.ticked } in
-    let front = c.front_levels.ensures.value in
-    let some = c.front_levels.ensures.some in
-    let levels : c.args.level < i.geometry.bottom + 1 = subst (λ (s : Store _). c.args.level < s.geometry.bottom + 1) (sym c.self.view_is) c.requires.level_in in
-    let device : IsOnDevice i.geometry c.args.level = record { within = omega (arith, levels); whole = omega (arith, front, some, c.if-level-front_levels.false) } in
-    let of_old : c.shadow_of.result ≡ shadow_at i.shadows.items.items c.args.level = c.shadow_of.ensures ∙ ap (λ (xs : List Shadow). shadow_at xs c.args.level) c.deref.ensures.value in
-    let most = (c.self.invariant.cells.shape.shadows_fit c.args.level device.within).within in
-    let lens : c.shadow_of.result.len ≡ (shadow_at i.shadows.items.items c.args.level).len = ap (λ (x : Shadow). x.len) of_old in
-    let size = c.cells_of_slot.ensures in
-    let room : (shadow_at i.shadows.items.items c.args.level).len < slot_size c.args.level = omega (arith, most, lens, size, c.if-shadow_of-cells_of_slot.false) in
-    let shadows : List Shadow = (with_items i.shadows.items c.push_on_device.new.shadows).items in
-    let tails : List ℕ = (with_items i.tails.items c.push_on_device.new.tails).items in
-    let back : shadows ≡ c.push_on_device.new.shadows = with_items_is i.shadows.items c.push_on_device.new.shadows (c.push_on_device.auto.shadows ∙ c.deref_mut-2.ensures.len) in
-    let back_tails : tails ≡ c.push_on_device.new.tails = with_items_is i.tails.items c.push_on_device.new.tails (c.push_on_device.auto.tails ∙ c.deref_mut-3.ensures.len) in
-    let now : Store _ = record view { buffers = c.push_on_device.new.buffers; shadows = shadows; tails = tails; ticked = (i.ticked + 1) % 2 ^ 64 } in
-    let told = g.D.Device.bytes i.buffers.cache.device in
-    let told_now = g.D.Device.bytes c.push_on_device.new.buffers.cache.device in
-    let pushed : IsPushed i.geometry (record { told = told; shadows = i.shadows.items.items; tails = i.tails.items.items }) (record { told = told_now; shadows = shadows; tails = tails }) c.args.level (passed c.args.pass c.args.cell.now) c.push_on_device.result =
-    subst (λ (xs : List Shadow). IsPushed i.geometry (record { told = told; shadows = i.shadows.items.items; tails = i.tails.items.items }) (record { told = told_now; shadows = xs; tails = tails }) c.args.level (passed c.args.pass c.args.cell.now) c.push_on_device.result) (sym back)
-    (subst (λ (ts : List ℕ). IsPushed i.geometry (record { told = told; shadows = i.shadows.items.items; tails = i.tails.items.items }) (record { told = told_now; shadows = c.push_on_device.new.shadows; tails = ts }) c.args.level (passed c.args.pass c.args.cell.now) c.push_on_device.result) (sym back_tails)
-    (subst (λ (xs : List Shadow). IsPushed i.geometry (record { told = told; shadows = xs; tails = i.tails.items.items }) (record { told = told_now; shadows = c.push_on_device.new.shadows; tails = c.push_on_device.new.tails }) c.args.level (passed c.args.pass c.args.cell.now) c.push_on_device.result) c.deref_mut-2.ensures.value
-    (subst (λ (ts : List ℕ). IsPushed i.geometry (record { told = told; shadows = c.deref_mut-2.result.now; tails = ts }) (record { told = told_now; shadows = c.push_on_device.new.shadows; tails = c.push_on_device.new.tails }) c.args.level (passed c.args.pass c.args.cell.now) c.push_on_device.result) c.deref_mut-3.ensures.value
-    c.push_on_device.ensures.pushed))) in
-    let writing = subst (λ (xs : List Shadow). Writing g.D.Device.counts g.D.Device.kept (fills i.geometry (shadow_at xs c.args.level).len) i.buffers c.push_on_device.new.buffers (block_number i.geometry c.args.level (shadow_at xs c.args.level).slot (shadow_at xs c.args.level).len) c.push_on_device.result)
-    c.deref_mut-2.ensures.value c.push_on_device.ensures.writing in
-    pushed-sound g.D.Device.bytes g.D.Device.counts g.D.Device.kept view now c.args.level (passed c.args.pass c.args.cell.now) c.push_on_device.result c.self.invariant device room refl refl pushed writing (ticked-by i.ticked c.push_on_device.result pushed.fault)
+invariant_of-self-2 g c = (on-device g c).0
 
 pub returns-clause-kept : goal.returns-clause-kept
-returns-clause-kept g c =
-    let i = c.self.inside in
-    let view : Store _ = record { buffers = i.buffers; geometry = i.geometry; front = i.front; shadows = i.shadows.items.items; tails = i.tails.items.items; ticked = i.ticked } in
-    let front = c.front_levels.ensures.value in
-    let some = c.front_levels.ensures.some in
-    let levels : c.args.level < i.geometry.bottom + 1 = subst (λ (s : Store _). c.args.level < s.geometry.bottom + 1) (sym c.self.view_is) c.requires.level_in in
-    let device : IsOnDevice i.geometry c.args.level = record { within = omega (arith, levels); whole = omega (arith, front, some, c.if-level-front_levels.false) } in
-    let of_old : c.shadow_of.result ≡ shadow_at i.shadows.items.items c.args.level = c.shadow_of.ensures ∙ ap (λ (xs : List Shadow). shadow_at xs c.args.level) c.deref.ensures.value in
-    let most = (c.self.invariant.cells.shape.shadows_fit c.args.level device.within).within in
-    let lens : c.shadow_of.result.len ≡ (shadow_at i.shadows.items.items c.args.level).len = ap (λ (x : Shadow). x.len) of_old in
-    let size = c.cells_of_slot.ensures in
-    let room : (shadow_at i.shadows.items.items c.args.level).len < slot_size c.args.level = omega (arith, most, lens, size, c.if-shadow_of-cells_of_slot.false) in
-    let shadows : List Shadow = (with_items i.shadows.items c.push_on_device.new.shadows).items in
-    let tails : List ℕ = (with_items i.tails.items c.push_on_device.new.tails).items in
-    let back : shadows ≡ c.push_on_device.new.shadows = with_items_is i.shadows.items c.push_on_device.new.shadows (c.push_on_device.auto.shadows ∙ c.deref_mut-2.ensures.len) in
-    let back_tails : tails ≡ c.push_on_device.new.tails = with_items_is i.tails.items c.push_on_device.new.tails (c.push_on_device.auto.tails ∙ c.deref_mut-3.ensures.len) in
-    let now : Store _ = record view { buffers = c.push_on_device.new.buffers; shadows = shadows; tails = tails; ticked = (i.ticked + 1) % 2 ^ 64 } in
-    let told = g.D.Device.bytes i.buffers.cache.device in
-    let told_now = g.D.Device.bytes c.push_on_device.new.buffers.cache.device in
-    let pushed : IsPushed i.geometry (record { told = told; shadows = i.shadows.items.items; tails = i.tails.items.items }) (record { told = told_now; shadows = shadows; tails = tails }) c.args.level (passed c.args.pass c.args.cell.now) c.push_on_device.result =
-    subst (λ (xs : List Shadow). IsPushed i.geometry (record { told = told; shadows = i.shadows.items.items; tails = i.tails.items.items }) (record { told = told_now; shadows = xs; tails = tails }) c.args.level (passed c.args.pass c.args.cell.now) c.push_on_device.result) (sym back)
-    (subst (λ (ts : List ℕ). IsPushed i.geometry (record { told = told; shadows = i.shadows.items.items; tails = i.tails.items.items }) (record { told = told_now; shadows = c.push_on_device.new.shadows; tails = ts }) c.args.level (passed c.args.pass c.args.cell.now) c.push_on_device.result) (sym back_tails)
-    (subst (λ (xs : List Shadow). IsPushed i.geometry (record { told = told; shadows = xs; tails = i.tails.items.items }) (record { told = told_now; shadows = c.push_on_device.new.shadows; tails = c.push_on_device.new.tails }) c.args.level (passed c.args.pass c.args.cell.now) c.push_on_device.result) c.deref_mut-2.ensures.value
-    (subst (λ (ts : List ℕ). IsPushed i.geometry (record { told = told; shadows = c.deref_mut-2.result.now; tails = ts }) (record { told = told_now; shadows = c.push_on_device.new.shadows; tails = c.push_on_device.new.tails }) c.args.level (passed c.args.pass c.args.cell.now) c.push_on_device.result) c.deref_mut-3.ensures.value
-    c.push_on_device.ensures.pushed))) in
-    let writing = subst (λ (xs : List Shadow). Writing g.D.Device.counts g.D.Device.kept (fills i.geometry (shadow_at xs c.args.level).len) i.buffers c.push_on_device.new.buffers (block_number i.geometry c.args.level (shadow_at xs c.args.level).slot (shadow_at xs c.args.level).len) c.push_on_device.result)
-    c.deref_mut-2.ensures.value c.push_on_device.ensures.writing in
-    pushed-keeps g.D.Device.bytes g.D.Device.counts g.D.Device.kept view now c.args.level (passed c.args.pass c.args.cell.now) c.push_on_device.result c.self.invariant device room refl refl pushed writing (ticked-by i.ticked c.push_on_device.result pushed.fault) ∙ ap (λ (s : Store _). kept_of g.D.Device.bytes g.D.Device.counts g.D.Device.kept s) c.self.view_is
+returns-clause-kept g c = (on-device g c).1 ∙ ap (λ (s : Store _). kept_of g.D.Device.bytes g.D.Device.counts g.D.Device.kept s) c.self.view_is
 
 pub returns-clause-pushes : goal.returns-clause-pushes
 returns-clause-pushes g c =
-    let i = c.self.inside in
-    let view : Store _ = record { buffers = i.buffers; geometry = i.geometry; front = i.front; shadows = i.shadows.items.items; tails = i.tails.items.items; ticked = i.ticked } in
-    let front = c.front_levels.ensures.value in
-    let some = c.front_levels.ensures.some in
-    let levels : c.args.level < i.geometry.bottom + 1 = subst (λ (s : Store _). c.args.level < s.geometry.bottom + 1) (sym c.self.view_is) c.requires.level_in in
-    let device : IsOnDevice i.geometry c.args.level = record { within = omega (arith, levels); whole = omega (arith, front, some, c.if-level-front_levels.false) } in
-    let of_old : c.shadow_of.result ≡ shadow_at i.shadows.items.items c.args.level = c.shadow_of.ensures ∙ ap (λ (xs : List Shadow). shadow_at xs c.args.level) c.deref.ensures.value in
-    let most = (c.self.invariant.cells.shape.shadows_fit c.args.level device.within).within in
-    let lens : c.shadow_of.result.len ≡ (shadow_at i.shadows.items.items c.args.level).len = ap (λ (x : Shadow). x.len) of_old in
-    let size = c.cells_of_slot.ensures in
-    let room : (shadow_at i.shadows.items.items c.args.level).len < slot_size c.args.level = omega (arith, most, lens, size, c.if-shadow_of-cells_of_slot.false) in
-    let shadows : List Shadow = (with_items i.shadows.items c.push_on_device.new.shadows).items in
-    let tails : List ℕ = (with_items i.tails.items c.push_on_device.new.tails).items in
-    let back : shadows ≡ c.push_on_device.new.shadows = with_items_is i.shadows.items c.push_on_device.new.shadows (c.push_on_device.auto.shadows ∙ c.deref_mut-2.ensures.len) in
-    let back_tails : tails ≡ c.push_on_device.new.tails = with_items_is i.tails.items c.push_on_device.new.tails (c.push_on_device.auto.tails ∙ c.deref_mut-3.ensures.len) in
-    let now : Store _ = record view { buffers = c.push_on_device.new.buffers; shadows = shadows; tails = tails; ticked = (i.ticked + 1) % 2 ^ 64 } in
-    let told = g.D.Device.bytes i.buffers.cache.device in
-    let told_now = g.D.Device.bytes c.push_on_device.new.buffers.cache.device in
-    let pushed : IsPushed i.geometry (record { told = told; shadows = i.shadows.items.items; tails = i.tails.items.items }) (record { told = told_now; shadows = shadows; tails = tails }) c.args.level (passed c.args.pass c.args.cell.now) c.push_on_device.result =
-    subst (λ (xs : List Shadow). IsPushed i.geometry (record { told = told; shadows = i.shadows.items.items; tails = i.tails.items.items }) (record { told = told_now; shadows = xs; tails = tails }) c.args.level (passed c.args.pass c.args.cell.now) c.push_on_device.result) (sym back)
-    (subst (λ (ts : List ℕ). IsPushed i.geometry (record { told = told; shadows = i.shadows.items.items; tails = i.tails.items.items }) (record { told = told_now; shadows = c.push_on_device.new.shadows; tails = ts }) c.args.level (passed c.args.pass c.args.cell.now) c.push_on_device.result) (sym back_tails)
-    (subst (λ (xs : List Shadow). IsPushed i.geometry (record { told = told; shadows = xs; tails = i.tails.items.items }) (record { told = told_now; shadows = c.push_on_device.new.shadows; tails = c.push_on_device.new.tails }) c.args.level (passed c.args.pass c.args.cell.now) c.push_on_device.result) c.deref_mut-2.ensures.value
-    (subst (λ (ts : List ℕ). IsPushed i.geometry (record { told = told; shadows = c.deref_mut-2.result.now; tails = ts }) (record { told = told_now; shadows = c.push_on_device.new.shadows; tails = c.push_on_device.new.tails }) c.args.level (passed c.args.pass c.args.cell.now) c.push_on_device.result) c.deref_mut-3.ensures.value
-    c.push_on_device.ensures.pushed))) in
-    let writing = subst (λ (xs : List Shadow). Writing g.D.Device.counts g.D.Device.kept (fills i.geometry (shadow_at xs c.args.level).len) i.buffers c.push_on_device.new.buffers (block_number i.geometry c.args.level (shadow_at xs c.args.level).slot (shadow_at xs c.args.level).len) c.push_on_device.result)
-    c.deref_mut-2.ensures.value c.push_on_device.ensures.writing in
-    subst (λ (s : Store _). Pushes (held_of g.D.Device.bytes s) (held_of g.D.Device.bytes now) (spent_of g.D.Device.counts s) (spent_of g.D.Device.counts now) c.args.level (passed c.args.pass c.args.cell.now) c.push_on_device.result) c.self.view_is
-    (pushed-meets g.D.Device.bytes g.D.Device.counts g.D.Device.kept view now c.args.level (passed c.args.pass c.args.cell.now) c.push_on_device.result c.self.invariant device room refl refl pushed writing (ticked-by i.ticked c.push_on_device.result pushed.fault))
+    subst (λ (s : Store _). Pushes (state_of g.D.Device.bytes g.D.Device.counts s) (state_of g.D.Device.bytes g.D.Device.counts (device-new g c)) c.args.level (passed c.args.pass c.args.cell.now) c.push_on_device.result) c.self.view_is (on-device g c).2
 
 pub returns-clause-spends : goal.returns-clause-spends
 returns-clause-spends g c =
-    let i = c.self.inside in
-    let view : Store _ = record { buffers = i.buffers; geometry = i.geometry; front = i.front; shadows = i.shadows.items.items; tails = i.tails.items.items; ticked = i.ticked } in
-    let front = c.front_levels.ensures.value in
-    let some = c.front_levels.ensures.some in
-    let levels : c.args.level < i.geometry.bottom + 1 = subst (λ (s : Store _). c.args.level < s.geometry.bottom + 1) (sym c.self.view_is) c.requires.level_in in
-    let device : IsOnDevice i.geometry c.args.level = record { within = omega (arith, levels); whole = omega (arith, front, some, c.if-level-front_levels.false) } in
-    let of_old : c.shadow_of.result ≡ shadow_at i.shadows.items.items c.args.level = c.shadow_of.ensures ∙ ap (λ (xs : List Shadow). shadow_at xs c.args.level) c.deref.ensures.value in
-    let most = (c.self.invariant.cells.shape.shadows_fit c.args.level device.within).within in
-    let lens : c.shadow_of.result.len ≡ (shadow_at i.shadows.items.items c.args.level).len = ap (λ (x : Shadow). x.len) of_old in
-    let size = c.cells_of_slot.ensures in
-    let room : (shadow_at i.shadows.items.items c.args.level).len < slot_size c.args.level = omega (arith, most, lens, size, c.if-shadow_of-cells_of_slot.false) in
-    let shadows : List Shadow = (with_items i.shadows.items c.push_on_device.new.shadows).items in
-    let tails : List ℕ = (with_items i.tails.items c.push_on_device.new.tails).items in
-    let back : shadows ≡ c.push_on_device.new.shadows = with_items_is i.shadows.items c.push_on_device.new.shadows (c.push_on_device.auto.shadows ∙ c.deref_mut-2.ensures.len) in
-    let back_tails : tails ≡ c.push_on_device.new.tails = with_items_is i.tails.items c.push_on_device.new.tails (c.push_on_device.auto.tails ∙ c.deref_mut-3.ensures.len) in
-    let now : Store _ = record view { buffers = c.push_on_device.new.buffers; shadows = shadows; tails = tails; ticked = (i.ticked + 1) % 2 ^ 64 } in
-    let told = g.D.Device.bytes i.buffers.cache.device in
-    let told_now = g.D.Device.bytes c.push_on_device.new.buffers.cache.device in
-    let pushed : IsPushed i.geometry (record { told = told; shadows = i.shadows.items.items; tails = i.tails.items.items }) (record { told = told_now; shadows = shadows; tails = tails }) c.args.level (passed c.args.pass c.args.cell.now) c.push_on_device.result =
-    subst (λ (xs : List Shadow). IsPushed i.geometry (record { told = told; shadows = i.shadows.items.items; tails = i.tails.items.items }) (record { told = told_now; shadows = xs; tails = tails }) c.args.level (passed c.args.pass c.args.cell.now) c.push_on_device.result) (sym back)
-    (subst (λ (ts : List ℕ). IsPushed i.geometry (record { told = told; shadows = i.shadows.items.items; tails = i.tails.items.items }) (record { told = told_now; shadows = c.push_on_device.new.shadows; tails = ts }) c.args.level (passed c.args.pass c.args.cell.now) c.push_on_device.result) (sym back_tails)
-    (subst (λ (xs : List Shadow). IsPushed i.geometry (record { told = told; shadows = xs; tails = i.tails.items.items }) (record { told = told_now; shadows = c.push_on_device.new.shadows; tails = c.push_on_device.new.tails }) c.args.level (passed c.args.pass c.args.cell.now) c.push_on_device.result) c.deref_mut-2.ensures.value
-    (subst (λ (ts : List ℕ). IsPushed i.geometry (record { told = told; shadows = c.deref_mut-2.result.now; tails = ts }) (record { told = told_now; shadows = c.push_on_device.new.shadows; tails = c.push_on_device.new.tails }) c.args.level (passed c.args.pass c.args.cell.now) c.push_on_device.result) c.deref_mut-3.ensures.value
-    c.push_on_device.ensures.pushed))) in
-    let writing = subst (λ (xs : List Shadow). Writing g.D.Device.counts g.D.Device.kept (fills i.geometry (shadow_at xs c.args.level).len) i.buffers c.push_on_device.new.buffers (block_number i.geometry c.args.level (shadow_at xs c.args.level).slot (shadow_at xs c.args.level).len) c.push_on_device.result)
-    c.deref_mut-2.ensures.value c.push_on_device.ensures.writing in
-    subst (λ (s : Store _). PushSpends (held_of g.D.Device.bytes s) (spent_of g.D.Device.counts s) (spent_of g.D.Device.counts now) c.args.level c.push_on_device.result) c.self.view_is
-    (pushed-spends g.D.Device.bytes g.D.Device.counts g.D.Device.kept view now c.args.level (passed c.args.pass c.args.cell.now) c.push_on_device.result c.self.invariant device room refl refl pushed writing (ticked-by i.ticked c.push_on_device.result pushed.fault))
+    subst (λ (s : Store _). PushSpends (state_of g.D.Device.bytes g.D.Device.counts s) (state_of g.D.Device.bytes g.D.Device.counts (device-new g c)) c.args.level c.push_on_device.result) c.self.view_is (on-device g c).3

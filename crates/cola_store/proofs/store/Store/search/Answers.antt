@@ -4,8 +4,8 @@ use Rattle.cola_spec.specs.Map.{Map}
 use Rattle.cola_image.specs.Standing.{found_in}
 use Rattle.cola_chain.specs.Runs.{visible_lists}
 use Rattle.cola_store.specs.declared.account.Account.{Account}
-use Rattle.cola_store.specs.Store.{Stored, Holds, held_of, spent_of, levels_of}
-use Rattle.cola_store.specs.Calls.{FindsIn, Searches, TicksWithin}
+use Rattle.cola_store.specs.Store.{Stored, Holds, held_of}
+use Rattle.cola_store.specs.Calls.{FindsIn, Searches, TicksBy}
 use Rattle.cola_store.proofs.Storing.{finds, searched, search-ticks, read-is}
 use Rattle.cola_store.proofs.store.Store.search.Goals as goal
 
@@ -13,7 +13,7 @@ pub invariant_of-self : goal.invariant_of-self
 invariant_of-self g c =
     let s : Stored g.row.D.Denot = record { chain = c.self.inside.chain; count = c.self.inside.count; last = c.self.inside.last; account = c.self.inside.account } in
     let account : Account = record { searches = c.one_more-self-inside.result; opened = c.self.inside.account.opened; calm = c.self.inside.account.calm } in
-    read-is g.D.Device.bytes g.D.Device.counts g.D.Device.kept s c.find.new.work account refl refl c.self.invariant c.find.ensures.cells_stay c.find.ensures.kept c.find.ensures.costs.written_is c.find.ensures.others_stay
+    read-is g.D.Device.bytes g.D.Device.counts g.D.Device.kept s c.find.new.work account refl refl c.self.invariant c.find.ensures.looks.cells_stay c.find.ensures.looks.kept c.find.ensures.finds.costs.written_is c.find.ensures.finds.others_stay
 
 pub returns-clause-searches : goal.returns-clause-searches
 returns-clause-searches g c =
@@ -22,10 +22,7 @@ returns-clause-searches g c =
     subst (λ (x : Stored g.row.D.Denot). Searches g.D.Device.bytes g.D.Device.counts x (record { chain = c.find.new.work; count = c.self.inside.count; last = c.self.inside.last; account = account c.one_more-self-inside.result }) c.args.key.now c.find.result) c.self.view_is
     (subst (λ (n : ℕ). Searches g.D.Device.bytes g.D.Device.counts s (record { chain = c.find.new.work; count = c.self.inside.count; last = c.self.inside.last; account = account n }) c.args.key.now c.find.result) (sym c.one_more-self-inside.ensures)
     (searched g.D.Device.bytes g.D.Device.counts g.D.Device.kept s c.find.new.work c.visible-runs.result.items c.args.key.now c.find.result c.args.steps.now c.find.new.steps c.self.invariant c.visible-runs.ensures.runs
-    c.find.ensures.cells_stay c.find.ensures.kept c.find.ensures.exact c.find.ensures.cause c.find.ensures.costs c.find.ensures.turns
-    (λ m holds.
-    let ready = c.visible-runs.ensures.searched s.chain.store.geometry.keys (found_in m) holds.stands in
-    c.find.ensures.turns (visible_lists (held_of g.D.Device.bytes s) s.chain.clock s.chain.levels) ready.told ready.sampled)))
+    c.find.ensures.looks.cells_stay c.find.ensures.looks.kept c.find.ensures.finds (λ m holds. c.visible-runs.ensures.searched s.chain.store.geometry.keys (found_in m) holds.stands)))
 
 pub returns-clause-right : goal.returns-clause-right
 returns-clause-right g c =
@@ -34,11 +31,11 @@ returns-clause-right g c =
     let s : Stored g.row.D.Denot = record { chain = c.self.inside.chain; count = c.self.inside.count; last = c.self.inside.last; account = c.self.inside.account } in
     let lists = visible_lists (held_of g.D.Device.bytes s) s.chain.clock s.chain.levels in
     let ready = c.visible-runs.ensures.searched s.chain.store.geometry.keys (found_in m) holds.stands in
-    finds lists m c.args.key.now c.find.result (c.find.ensures.right lists ready.told ready.sampled (ready.near c.args.key.now)) (ready.values c.args.key.now))
+    finds lists m c.args.key.now c.find.result (c.find.ensures.finds.right lists ready.told ready.sampled (ready.near c.args.key.now)) (ready.values c.args.key.now))
 
 pub returns-clause-ticks : goal.returns-clause-ticks
 returns-clause-ticks g c =
     let s : Stored g.row.D.Denot = record { chain = c.self.inside.chain; count = c.self.inside.count; last = c.self.inside.last; account = c.self.inside.account } in
     let now : Stored g.row.D.Denot = record { chain = c.find.new.work; count = c.self.inside.count; last = c.self.inside.last; account = c.self.inside.account } in
-    subst (λ (x : Stored g.row.D.Denot). TicksWithin (spent_of g.D.Device.counts x) (spent_of g.D.Device.counts now) c.args.steps.now c.find.new.steps (get_bound (levels_of x))) c.self.view_is
-    (search-ticks g.D.Device.bytes g.D.Device.counts g.D.Device.kept s c.find.new.work c.visible-runs.result.items c.args.steps.now c.find.new.steps c.self.invariant c.visible-runs.ensures.runs c.find.ensures.costs)
+    subst (λ (x : Stored g.row.D.Denot). TicksBy g.D.Device.counts get_bound x now c.args.steps.now c.find.new.steps) c.self.view_is
+    (search-ticks g.D.Device.bytes g.D.Device.counts g.D.Device.kept s c.find.new.work c.visible-runs.result.items c.args.steps.now c.find.new.steps c.self.invariant c.visible-runs.ensures.runs c.find.ensures.finds.costs)

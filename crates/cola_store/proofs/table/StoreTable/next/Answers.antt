@@ -12,7 +12,7 @@ use Rattle.cola_store.proofs.table.StoreTable.next.Goals as goal
 pub invariant_of-self : goal.invariant_of-self
 invariant_of-self g c =
     let s : Stored g.row.D.Denot = record { chain = c.self.inside.chain; count = c.self.inside.count; last = c.self.inside.last; account = c.self.inside.account } in
-    read-is g.D.Device.bytes g.D.Device.counts g.D.Device.kept s c.next.new.work c.self.inside.account refl refl c.self.invariant c.next.ensures.gives.cells_stay c.next.ensures.gives.kept
+    read-is g.D.Device.bytes g.D.Device.counts g.D.Device.kept s c.next.new.work c.self.inside.account refl refl c.self.invariant c.next.ensures.gives.looks.cells_stay c.next.ensures.gives.looks.kept
     c.next.ensures.gives.reading.costs.written_is c.next.ensures.gives.reading.others_stay
 
 pub returns-clause-answer : goal.returns-clause-answer
@@ -23,7 +23,7 @@ returns-clause-answer g c =
     let new : Stored D = record { chain = c.next.new.work; count = c.self.inside.count; last = c.self.inside.last; account = c.self.inside.account } in
     subst (λ (x : Stored D). (m : Map) (pairs : List (List ℕ × List ℕ)) → Holds bytes x m → Ahead bytes x c.args.walk.now pairs → NextAnswers (Ahead bytes new c.next.new.self) pairs c.next.result) c.self.view_is
     (λ m pairs holds ahead.
-    next-right bytes s new c.next.ensures.gives.cells_stay (ap (λ (k : chain.Kept g.D.Device.Kept). visible_runs k.clock 0 k.levels) c.next.ensures.gives.kept)
+    next-right bytes s new c.next.ensures.gives.looks.cells_stay (ap (λ (k : chain.Kept g.D.Device.Kept). visible_runs k.clock 0 k.levels) c.next.ensures.gives.looks.kept)
     pairs c.next.ensures.stamp c.next.result c.args.walk.now c.next.new.self _ _ ahead c.next.ensures.gives.takes c.next.ensures.gives.passes c.next.ensures.gives.refused c.next.ensures.gives.cause)
 
 pub returns-clause-stands : goal.returns-clause-stands
@@ -32,7 +32,7 @@ returns-clause-stands g c =
     let bytes = g.D.Device.bytes in
     let s : Stored D = record { chain = c.self.inside.chain; count = c.self.inside.count; last = c.self.inside.last; account = c.self.inside.account } in
     let new : Stored D = record { chain = c.next.new.work; count = c.self.inside.count; last = c.self.inside.last; account = c.self.inside.account } in
-    next-stands bytes s new c.next.ensures.gives.cells_stay (ap (λ (k : chain.Kept g.D.Device.Kept). visible_runs k.clock 0 k.levels) c.next.ensures.gives.kept)
+    next-stands bytes s new c.next.ensures.gives.looks.cells_stay (ap (λ (k : chain.Kept g.D.Device.Kept). visible_runs k.clock 0 k.levels) c.next.ensures.gives.looks.kept)
     c.next.ensures.stamp c.next.result c.args.walk.now c.next.new.self (subst (λ (x : Stored D). Stands bytes x c.args.walk.now) (sym c.self.view_is) c.requires) c.next.ensures.gives.stands c.next.ensures.gives.passes c.next.ensures.gives.refused
 
 pub returns-clause-fewer : goal.returns-clause-fewer

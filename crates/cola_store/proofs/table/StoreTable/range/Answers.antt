@@ -18,8 +18,8 @@ seek-requires-clause-levels g c = subst (λ (rs : List Run). LevelsRise 0 rs) (s
 pub invariant_of-self : goal.invariant_of-self
 invariant_of-self g c =
     let s : Stored g.row.D.Denot = record { chain = c.self.inside.chain; count = c.self.inside.count; last = c.self.inside.last; account = c.self.inside.account } in
-    read-is g.D.Device.bytes g.D.Device.counts g.D.Device.kept s c.seek.new.work c.self.inside.account refl refl c.self.invariant c.seek.ensures.cells_stay c.seek.ensures.kept
-    c.seek.ensures.reading.costs.written_is c.seek.ensures.reading.others_stay
+    read-is g.D.Device.bytes g.D.Device.counts g.D.Device.kept s c.seek.new.work c.self.inside.account refl refl c.self.invariant c.seek.ensures.looks.cells_stay c.seek.ensures.looks.kept
+    c.seek.ensures.seeks.reading.costs.written_is c.seek.ensures.seeks.reading.others_stay
 
 pub returns-clause-answer : goal.returns-clause-answer
 returns-clause-answer g c =
@@ -32,14 +32,14 @@ returns-clause-answer g c =
     subst (λ (x : Stored D). (m : Map) → Holds bytes x m → RangeAnswers m c.args.low.now (option_copied c.args.high) (Holds bytes new) (Ahead bytes new) c.seek.result) c.self.view_is
     (λ m holds.
     let ready = c.visible-runs.ensures.searched s.chain.store.geometry.keys (found_in m) holds.stands in
-    range-right bytes s new c.seek.ensures.cells_stay (ap (λ (k : chain.Kept g.D.Device.Kept). visible_runs k.clock 0 k.levels) c.seek.ensures.kept)
+    range-right bytes s new c.seek.ensures.looks.cells_stay (ap (λ (k : chain.Kept g.D.Device.Kept). visible_runs k.clock 0 k.levels) c.seek.ensures.looks.kept)
     m c.args.low.now (option_copied c.args.high) c.visible-runs.result.items lists _ _ c.seek.result
-    (holds-same bytes g.D.Device.counts g.D.Device.kept s new (same bytes g.D.Device.counts g.D.Device.kept s now c.self.inside.account c.seek.ensures.cells_stay c.seek.ensures.kept) (ap (λ (k : chain.Kept g.D.Device.Kept). k.store) c.seek.ensures.kept) m holds)
-    c.visible-runs.ensures.runs ready c.seek.ensures.ahead c.seek.ensures.begins c.seek.ensures.cause)
+    (holds-same bytes g.D.Device.counts g.D.Device.kept s new (same bytes g.D.Device.counts g.D.Device.kept s now c.self.inside.account c.seek.ensures.looks.cells_stay c.seek.ensures.looks.kept) (ap (λ (k : chain.Kept g.D.Device.Kept). k.store) c.seek.ensures.looks.kept) m holds)
+    c.visible-runs.ensures.runs ready c.seek.ensures.seeks.ahead c.seek.ensures.seeks.begins c.seek.ensures.seeks.cause)
 
 pub returns-clause-most : goal.returns-clause-most
 returns-clause-most g c =
     let q = c.self.inside.chain.store.geometry in
     let few = q.shallow in
     let n : length c.visible-runs.result.items ≡ q.bottom + 1 = ap (λ (rs : List Run). length rs) c.visible-runs.ensures.runs ∙ length-visible c.self.inside.chain.clock 0 c.self.inside.chain.levels ∙ c.self.invariant.many in
-    few-ahead (option_copied c.args.high) c.visible-runs.result.items (q.bottom + 1) _ _ c.seek.result (omega (arith, n, few)) (omega (arith, few)) c.seek.ensures.begins c.seek.ensures.reading.costs.steps_stay c.seek.ensures.left
+    few-ahead (option_copied c.args.high) c.visible-runs.result.items (q.bottom + 1) _ _ c.seek.result (omega (arith, n, few)) (omega (arith, few)) c.seek.ensures.seeks.begins c.seek.ensures.seeks.reading.costs.steps_stay c.seek.ensures.seeks.left

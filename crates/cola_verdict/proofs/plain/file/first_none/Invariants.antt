@@ -1,6 +1,6 @@
 use Rattle.std.proofs.Common.{ℕ, ◌<◌, None, get_or}
 use Rattle.cola_cell.specs.Flat.{spot_of}
-use Rattle.cola_told.specs.Cells.{IsTold}
+use Rattle.cola_cell.specs.ToldCells.{IsTold}
 use Rattle.cola_verdict.proofs.plain.file.first_none.Given as goal
 
 -- the places so far have a cell

@@ -3,7 +3,7 @@ use Rattle.std.proofs.lemmas.Result.{IfOk-weaker}
 use Rattle.cola_image.specs.Cells.{slot_cells}
 use Rattle.cola_runs.specs.Plain.{as_run}
 use Rattle.cola_runs.proofs.PlainLemmas.{run_length}
-use Rattle.cola_told.specs.Cells.{IsTold}
+use Rattle.cola_cell.specs.ToldCells.{IsTold}
 use Rattle.cola_verdict.specs.Plain.{found_cells}
 use Rattle.cola_verdict.specs.PlainFile.{file_of, ArePlacesTold}
 use Rattle.cola_verdict.proofs.PlainFile.{file_says, found_all, found_fewer}
