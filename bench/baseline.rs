@@ -3,7 +3,7 @@
 //!
 //! Its words are `N` and, if wanted, `each`. With `N` alone it reads and writes 64 KiB at a time, as a
 //! program over text usually does; with `each` it writes every reply by a call of its own before it
-//! goes on, as `cola` promises to.
+//! goes on.
 
 use std::collections::BTreeMap;
 use std::fs::File;

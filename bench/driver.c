@@ -3,7 +3,9 @@
 //     driver run IN OUT COMMAND..
 //         runs the command with the file IN as its input and OUT as its output, and prints: the seconds that passed, the processor's
 //         in the program and in the system, the most memory in KiB, the calls of read and of write and the bytes that they moved
-//         (all kinds of either, as the system counts them for the process), and the exit status
+//         (all kinds of either, as the system counts them for the process), the exit status, and the bytes that the process had
+//         read from the device below the files, and will have written to it. With MOST in the environment the command is killed
+//         after so many seconds
 //
 //     driver calls RUNS TEXT POINTS PREPARE COMMAND..
 //         RUNS times: runs the shell words PREPARE, starts the command, waits for the reply to a first line `get -`, so that it is open,
@@ -13,6 +15,7 @@
 //         sum over all replies, which must be the same in each run. POINTS.put and POINTS.get get up to 200 lines for a plot: a
 //         time in microseconds, and the share of calls that took at least that long.
 #define _GNU_SOURCE
+#include <errno.h>
 #include <fcntl.h>
 #include <inttypes.h>
 #include <math.h>
@@ -72,24 +75,37 @@ static long long counted(pid_t child, const char *word) {
     return value;
 }
 
+static pid_t running;
+static void stop(int signal) {
+    (void)signal;
+    kill(running, SIGKILL);
+}
+
 static int run(char **words) {
     int in = open(words[0], O_RDONLY | O_CLOEXEC);
     int out = open(words[1], O_WRONLY | O_CREAT | O_TRUNC | O_CLOEXEC, 0666);
     if (in < 0 || out < 0) fail("driver");
     uint64_t begun = now();
-    pid_t child = start(words + 2, in, out);
+    pid_t child = running = start(words + 2, in, out);
     siginfo_t info;
-    if (waitid(P_PID, (id_t)child, &info, WEXITED | WNOWAIT)) fail("waitid");
+    const char *most = getenv("MOST");
+    if (most) {
+        signal(SIGALRM, stop);
+        alarm((unsigned)atoi(most));
+    }
+    while (waitid(P_PID, (id_t)child, &info, WEXITED | WNOWAIT))
+        if (errno != EINTR) fail("waitid");
     uint64_t took = now() - begun;
     // The child has ended and is not taken off yet, so that its counts can be read.
     long long reads = counted(child, "syscr"), writes = counted(child, "syscw");
     long long got = counted(child, "rchar"), put = counted(child, "wchar");
+    long long fetched = counted(child, "read_bytes"), stored = counted(child, "write_bytes");
     struct rusage used;
     int status;
     wait4(child, &status, 0, &used);
     int ended = WIFEXITED(status) ? WEXITSTATUS(status) : 128 + WTERMSIG(status);
-    printf("%.3f %.3f %.3f %ld %lld %lld %lld %lld %d\n", (double)took / 1e9, seconds(used.ru_utime), seconds(used.ru_stime),
-           used.ru_maxrss, reads, writes, got, put, ended);
+    printf("%.3f %.3f %.3f %ld %lld %lld %lld %lld %d %lld %lld\n", (double)took / 1e9, seconds(used.ru_utime),
+           seconds(used.ru_stime), used.ru_maxrss, reads, writes, got, put, ended, fetched, stored);
     return ended;
 }
 

@@ -6,8 +6,8 @@
 # A workload is LINES lines, each a put or a get, as a coin falls, of a key drawn from 1,000 or from
 # 60,000. Both programs read the same file and write to a file, and their outputs are compared. Each
 # runs ROUNDS times, in turn, and the run with the least processor time counts. The plain program reads
-# and writes 64 KiB at a time; beside it the same program is timed as it writes every reply at once, as
-# cola does.
+# and writes 64 KiB at a time; beside it the same program is timed as it writes every reply at once.
+# (cola writes the replies to 512 bytes that it has read before it reads more.)
 #
 # It wants the built program (./cola builds it), rustc, awk and GNU time or python3. The seconds that
 # passed mean something on an idle machine alone; the processor's depend less on what else runs.

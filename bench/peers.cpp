@@ -4,8 +4,8 @@
 //
 //     peer FILE [BATCH]        FILE is a file or a folder that the library makes; BATCH puts are one transaction (LMDB, SQLite)
 //
-// Lines are put, get, del, range and scan, with the limits of format One. Each line's replies are written by one call before the
-// next line is read, as cola does. No put is synced: a closed store may need the system to write its pages still.
+// Lines are put, get, del, range and scan, with the limits of format One. Replies wait together and are written before more is
+// read, as those of cola. No put is synced: a closed store may need the system to write its pages still.
 #include <cstdio>
 #include <cstdlib>
 #include <cstring>
@@ -404,10 +404,11 @@ int main(int count, char **words) {
         if (!it.empty() && it.back() == '\r') it.remove_suffix(1);
         if (it.empty()) return;
         if (fits) carry_out(store, it);
-        else replies = "bad\n";
-        write_replies();
+        else replies += "bad\n";
+        if (replies.size() >= sizeof room) write_replies();
     };
     for (;;) {
+        write_replies();
         ssize_t got = read(0, room, sizeof room);
         if (got < 0) return 3;
         if (got == 0) break;
@@ -423,5 +424,6 @@ int main(int count, char **words) {
         rest += left;
     }
     if (!rest.empty()) line(rest);
+    write_replies();
     return 0;
 }

@@ -68,9 +68,9 @@ function tens_below(from, to, label,    value) {
 }
 # Lines for keys, every fourth power of two.
 function keys_below(    exponent) {
-    for (exponent = 8; exponent <= 20; exponent += 4) {
+    for (exponent = 8; exponent <= 24; exponent += 4) {
         draw_line(at_x(2 ^ exponent), top, at_x(2 ^ exponent), top + high, "grid")
-        write_text(at_x(2 ^ exponent), top + high + 18, "middle", "small", exponent == 20 ? "1,048,576" : short(2 ^ exponent))
+        write_text(at_x(2 ^ exponent), top + high + 18, "middle", "small", exponent == 20 ? "1,048,576" : exponent == 24 ? "16,777,216" : short(2 ^ exponent))
     }
     write_text(left + wide / 2, top + high + 38, "middle", "", "keys")
 }
@@ -155,9 +155,9 @@ function calls(    at) {
 }
 function grown(    at) {
     begin("growth", 980, 490, "Cost against keys, blocks of 2^5 cells, a cache of 4,096 blocks")
-    panel(70, 60, 380, 300, 256, 1048576, 0, 800, 1)
+    panel(70, 60, 380, 300, 64, 2 ^ 24, 0, 1000, 1)
     write_text(left + wide / 2, 50, "middle", "", "cell accesses of a call")
-    for (at = 0; at <= 800; at += 200) number_beside(at)
+    for (at = 0; at <= 1000; at += 200) number_beside(at)
     keys_below()
     named = 0
     curve(6, "put, the proved bound", 6, "dashed")
@@ -166,9 +166,9 @@ function grown(    at) {
     curve(8, "get, most", 3, "")
     curve(4, "put, mean", 1, "")
     curve(7, "get, mean", 4, "")
-    panel(560, 60, 380, 300, 256, 1048576, 10, 200, 0)
+    panel(560, 60, 380, 300, 64, 2 ^ 24, 5, 500, 0)
     write_text(left + wide / 2, 50, "middle", "", "microseconds of a call")
-    number_beside(10); number_beside(20); number_beside(50); number_beside(100); number_beside(200)
+    number_beside(5); number_beside(10); number_beside(20); number_beside(50); number_beside(100); number_beside(200); number_beside(500)
     keys_below()
     named = 0
     curve(11, "put, worst", 2, "")
@@ -185,8 +185,8 @@ function amortized(    at) {
         growth[at, "whole"] = 2 * growth[at, 2]
     }
     begin("amortized", 780, 520, "Cell accesses of one put against keys")
-    panel(110, 50, 620, 350, 256, 1048576, 10, 10000000, 0)
-    for (at = 10; at <= 10000000; at *= 10) number_beside(at)
+    panel(110, 50, 620, 350, 64, 2 ^ 24, 10, 100000000, 0)
+    for (at = 10; at <= 100000000; at *= 10) number_beside(at)
     keys_below()
     named = 0
     curve("whole", "amortized: the worst put, 2 N", 4, "")

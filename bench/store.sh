@@ -3,6 +3,8 @@
 #
 #     bench/store.sh [KEYS [LINES [FOLDER]]]        (1048576 keys, 1000000 lines, and bench/ itself)
 #
+# GROWTH is the greatest power of two of the stores whose growth is measured (24; those above 20 are every second one).
+#
 # It makes the texts, compiles one plain reader of the same lines (bench/peers.cpp) for each library that is installed, runs every
 # store on every text, compares all outputs byte for byte, and times single calls by one driver (bench/driver.c). It writes
 # FOLDER/measured.md with all numbers, and the plots FOLDER/*.svg (bench/plots.awk).
@@ -38,7 +40,7 @@ wanted() {
 }
 add() { if wanted "$1"; then stores+=("$1|$2|$3"); fi; }
 for block in 5 7 9; do
-    for cache in 0 4096; do add "cola-$block-$cache" "cola, block $block, cache $cache" -; done
+    for cache in 0 64 4096; do add "cola-$block-$cache" "cola, block $block, cache $cache" -; done
 done
 # peer NAME DEFINE PACKAGE HEADER LIBRARY..: compiles the reader for a library.
 peer() {
@@ -128,9 +130,11 @@ timed() {
         out=$room/outputs/$text
     fi
     # Of all calls but those for the text and the replies: name, text, seconds, user, system, KiB, reads, writes, bytes read, bytes written, KiB of the file
-    awk -v name="$name" -v text="$text" -v input="$(wc -c <"$texts/$text")" -v output="$(wc -c <"$out")" -v asked="$(wc -l <"$texts/$text")" \
+    # (the replies to what one read gave are one write, but for ranges)
+    awk -v name="$name" -v text="$text" -v input="$(wc -c <"$texts/$text")" -v output="$(wc -c <"$out")" \
         -v unit="$([[ $name = cola-* ]] && echo 512 || echo 65536)" -v file="$(du -sk "$room/at" | cut -f 1)" '{
-        print name, text, $1, $2, $3, $4, $5 - int((input + unit - 1) / unit) - 1, $6 - asked, $7 - input, $8 - output, file
+        asked = int((input + unit - 1) / unit)
+        print name, text, $1, $2, $3, $4, $5 - asked - 1, $6 - asked, $7 - input, $8 - output, file
     }' "$room/took" >>"$results"
 }
 each() {
@@ -158,17 +162,13 @@ single() {
     "$room/driver" calls $rounds "$texts/calls" "$room/points/$name" "$(clean "$name")" "${command[@]}" |
         awk -v name="$name" '{ print name, $0 }' >>"$room/calls"
 }
-each whole
-each single
-[ "$(awk '$2 == "sum" && $1 != "echo" { print $3 }' "$room/calls" | sort -u | wc -l)" -eq 1 ] || { say 'the replies to single calls differ'; exit 1; }
-
 # Growth: a store for each power of two, filled; then 16,384 puts and as many gets of keys that it has.
 grow() {
-    local exponent many row
-    for ((exponent = 8; 1 << exponent <= keys && 1 << exponent <= 1048576; exponent++)); do
+    local exponent many row at=$room/growing/store
+    for ((exponent = 6; exponent <= ${GROWTH:-24}; exponent += exponent < 20 ? 1 : 2)); do
         many=$((1 << exponent))
         say "growth, $many keys"
-        rm -rf "$room/at" && mkdir "$room/at"
+        rm -rf "$room/growing" && mkdir "$room/growing"
         "$program" create "$at" --keys $many
         awk -v many=$many 'BEGIN { for (at = 0; at < many; at++) printf "put key%08d %d\n", (at * 40503 + 7) % many, at }' >"$room/fill"
         "$program" run "$at" --cache 4096 --cost <"$room/fill" | ticks >"$room/fill.ticks"
@@ -194,7 +194,16 @@ grow() {
     done
 }
 ticks() { awk '{ sum += $NF; if ($NF > most) most = $NF } END { print sum, NR, most }'; }
-grow
+# (beside the stores, on a processor of its own, where there are four)
+growing=
+if [ "$(nproc --all)" -ge 4 ]; then
+    grow &
+    growing=$!
+fi
+each whole
+each single
+[ "$(awk '$2 == "sum" && $1 != "echo" { print $3 }' "$room/calls" | sort -u | wc -l)" -eq 1 ] || { say 'the replies to single calls differ'; exit 1; }
+if [ -n "$growing" ]; then wait "$growing"; else grow; fi
 
 # The two other benches that an aim speaks of.
 : >"$room/mem" >"$room/cells"
@@ -209,8 +218,8 @@ for it in "${stores[@]}"; do echo "$it"; done >"$room/titles"
 report() {
     echo '# Measured by bench/store.sh'
     echo
-    printf 'Stores for %s keys, texts of %s lines, a quarter as many for puts and gets by single calls. %s, %s, %s processors, load %s at the end.\n' \
-        "$keys" "$lines" "$(uname -sr)" "$(sed -n 's/^model name[^:]*: //p' /proc/cpuinfo | head -n 1)" "$(nproc)" "$(cut -d ' ' -f 1-3 /proc/loadavg)"
+    printf 'Stores for %s keys, texts of %s lines, a quarter as many for puts and gets by single calls. %s, %s, %s of %s processors, load %s at the end.\n' \
+        "$keys" "$lines" "$(uname -sr)" "$(sed -n 's/^model name[^:]*: //p' /proc/cpuinfo | head -n 1)" "$(nproc)" "$(nproc --all)" "$(cut -d ' ' -f 1-3 /proc/loadavg)"
     if command -v dpkg-query >/dev/null; then
         dpkg-query -W -f ' ${Package} ${Version}.' libleveldb-dev librocksdb-dev liblmdb-dev libsqlite3-dev libtkrzw-dev 2>/dev/null || true
         echo
@@ -286,37 +295,42 @@ report() {
                 printf "| %d | %d | %.1f | %d | %d | %.1f | %d | %d | %.1f | %.1f | %.1f | %.1f |\n", part[1], part[2], part[3], part[4], part[5], part[6], part[7], part[8], part[9] / 1000, part[10] / 1000, part[11] / 1000, part[12] / 1000
             }
             title("Aims")
-            print "Each as a ratio, with the most that is aimed at: the seconds of puts and gets of a text, of those of LevelDB; the worst put, of that of LMDB; the worst get, of the least worst get of a store with a file; the peak memory over that of the cache, of 8 MiB.\n"
-            head("store | random text, 1 | rising text, 1 | worst put, 0.1 | worst get, 1 | memory, 1")
+            print "Each as a ratio, with the most that is aimed at. The first three are of cola with a cache of 4,096 blocks, each with the blocks that serve it best, beside LevelDB: seconds of all puts and gets of a text, or of the gets alone; the ranges are of the best setting of all. The worst calls are of cola with blocks of 2^5 cells, the better of its caches, beside LMDB and beside the least worst get of a store with a file.\n"
             for (at = 1; at <= stores; at++) if (order[at] !~ /^(cola|map|echo)/ && (order[at], "get", 6) in single && (!best || single[order[at], "get", 6] < single[best, "get", 6])) best = order[at]
-            for (at = 1; at <= stores; at++) if (order[at] ~ /^cola/) {
-                name = order[at]
-                printf "| %s ", name_of[name]
-                for (kind = 1; kind <= 2; kind++) ratio(both(name, kind), both("leveldb", kind), 1)
-                ratio(single[name, "put", 6], single["lmdb", "put", 6], 0.1)
-                ratio(single[name, "get", 6], single[best, "get", 6], 1)
+            for (at = 1; at <= stores; at++) if ((name = order[at]) ~ /^cola/) {
                 split(name, part, "-")
-                ratio(peak[name] / 1024 - part[3] * 64 * 2 ^ part[2] / 1048576, 8, 1)
-                print "|"
+                if (part[3] == 4096) {
+                    least("random", name, both(name, 1)); least("rising", name, both(name, 2)); least("gets", name, value(name, "random-gets", 3))
+                }
+                if (part[2] == 5) { least("put", name, single[name, "put", 6]); least("get", name, single[name, "get", 6]) }
+                least("ranges", name, value(name, "ranges", 3))
+                grown = peak[name] / 1024 - part[3] * 64 * 2 ^ part[2] / 1048576
+                if (grown > more) { more = grown; found["memory"] = name }
             }
-            if (best) print "\nThe least worst get of a store with a file is that of " name_of[best] "."
+            head("of | by | at most | ratio")
+            ratio("random text, beside LevelDB", "random", both("leveldb", 1), 1.5)
+            ratio("rising text, beside LevelDB", "rising", both("leveldb", 2), 2)
+            ratio("gets in random order, beside LevelDB", "gets", value("leveldb", "random-gets", 3), 1)
+            ratio("worst put, blocks of 2^5, beside LMDB", "put", single["lmdb", "put", 6], 0.04)
+            ratio("worst get, beside that of " name_of[best], "get", single[best, "get", 6], 1.2)
+            ratio("ranges of 100 rows, beside LevelDB", "ranges", value("leveldb", "ranges", 3), 3)
+            lowest["memory"] = more
+            ratio("peak memory above the cache, of 8 MiB", "memory", 8, 1)
         }
+        function least(aim, name, it) { if (it && (!(aim in lowest) || it < lowest[aim])) { lowest[aim] = it; found[aim] = name } }
         function both(name, kind) { return value(name, kind == 1 ? "random-puts" : "rising-puts", 3) + value(name, kind == 1 ? "random-gets" : "rising-gets", 3) }
-        function ratio(ours, theirs, most) { if (ours && theirs) printf "| %.2f%s ", ours / theirs, ours / theirs <= most ? "" : ", not met"; else printf "| " }
+        function ratio(of, aim, theirs, most) { if (theirs && aim in lowest) printf "| %s | %s | %s | %.2f%s |\n", of, name_of[found[aim]], most, lowest[aim] / theirs, lowest[aim] / theirs <= most ? "" : ", not met" }
     ' "$room/titles"
     awk '
-        function aim(words, ratio, most) {
-            if (!some++) print "\n| of others | at most | ratio |\n|---|---:|---:|"
-            printf "| %s | %s | %s%s |\n", words, most, ratio, ratio <= most ? "" : ", not met"
-        }
+        function aim(words, by, most, ratio) { printf "| %s | %s | %s | %s%s |\n", words, by, most, ratio, ratio <= most ? "" : ", not met" }
         / lines over /{ keys = $4 }
         /^cola \/ BTreeMap, 64 KiB/ {
             sub(/.*: /, ""); split($0, part, " ")
-            aim("processor time of cola mem at " keys " keys, of a buffered BTreeMap", part[1], keys == 1000 ? 3 : 2)
+            aim("processor time at " keys " keys, of a buffered BTreeMap", "cola mem", keys == 1000 ? 2.5 : 1.5, part[1])
             sub(/.* user time, /, ""); split($0, part, " ")
-            aim("seconds of cola mem at " keys " keys, of a buffered BTreeMap", part[1], keys == 1000 ? 3 : 2)
+            aim("seconds at " keys " keys, of a buffered BTreeMap", "cola mem", keys == 1000 ? 2.5 : 1.5, part[1])
         }
-        /^decode (one|two) / { aim("decoding a cell of format " $2 ", of plain C", $NF, 1.5) }
+        /^decode (one|two) / { aim("decoding a cell of format " $2 ", of plain C", "cola_cell", 1.5, $NF) }
     ' "$room/mem" "$room/cells"
 }
 report >"$folder/measured.md"

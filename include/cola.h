@@ -118,7 +118,9 @@ int32_t cola_count(cola *store, uint64_t *count);
 int32_t cola_seek(cola_cursor *cursor, const void *low, size_t low_len, const void *high, size_t high_len);
 
 /* The next rows of the cursor, at most so many, by rising keys, and how many they are. COLA_NONE where none was left.
- * A larger number of rows is cheaper for each: every call seeks once. Where most is 0 none is given, and the answer is COLA_OK. */
+ * A larger number of rows is cheaper for each: every call seeks once. Where most is 0 none is given, and the answer is COLA_OK.
+ * It reads at most 9 * n + 2^(n + 2) blocks of a store of n levels, and writes none. A refusal leaves the cursor, and the rows
+ * behind those that it had given; COLA_LENGTH leaves all rows. */
 int32_t cola_next(cola *store, cola_cursor *cursor, cola_row *rows, size_t most, size_t *given);
 
 /* Closes the store and opens it again: what lies in the bytes between the two is a closed store, so that a copy of them, or

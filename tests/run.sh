@@ -79,6 +79,28 @@ check 'it is not changed' is_same used before
 printf x >>one
 check 'a longer file is served' replies 0 'val 2,' 'get b,' run one
 check 'and keeps its last byte' [ "$(tail -c 1 one)" = x ]
+# Replies go out before the program waits for more lines, those to several lines that came at once together.
+coproc session { exec "$root/cola" mem 4; }
+answers() {
+    local reply at lines=$1
+    shift
+    printf '%b' "$lines" >&"${session[1]}"
+    for at; do read -r -t 20 reply <&"${session[0]}" && [ "$reply" = "$at" ] || return 1; done
+}
+check 'a line is answered before another is sent' answers 'put a 1\n' new
+check 'lines that came at once are answered before others are sent' answers 'get a\ndel a\ncount\n' 'val 1' 'gone 1' 'count 0'
+check 'a line whose end comes later is answered with the next' answers 'put b 2\nget' new
+check 'once it has come' answers ' b\n' 'val 2'
+waits=$session_PID
+exec {session[1]}>&-
+check 'the end of the input ends it' wait "$waits"
+awk 'BEGIN { for (i = 0; i < 10000; i++) printf "put key%d value%d\nget key%d\n", i % 50, i, i % 50 }' >many
+"$root/cola" mem 64 <many >whole
+check 'ten thousand gets are answered in their order' [ "$(sed -n 's/^val value//p' whole | tr '\n' ' ')" = "$(seq -s ' ' 0 9999) " ]
+if [ -w /dev/full ]; then
+    "$root/cola" mem 4 <"$root/examples/first.txt" >/dev/full 2>"$room/err"
+    check 'replies that are lost when the input is at its end are told' [ $? -eq 4 ]
+fi
 check 'the stated workload' replies 0 'new 6 gone 3 left 3 wrong 0 over 0,' '' gen made --keys 8
 check 'leaves a store' replies 0 'count 3,' 'count,' run made
 # A dump is loaded again, also where puts and deletes came in any order; and a file is grown.

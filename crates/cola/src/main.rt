@@ -3,12 +3,17 @@
 
 ghost use Rattle.std.specs.Prelude.{◌≡◌, ◌<◌};
 
+mod replies;
+
+use crate::replies::{Asking, Replies, Waiting};
 use cola_command::serve;
 use cola_filedev::FileDevice;
 use cola_io::{StdSink, StdSource};
 use cola_outside::Steps;
 use cola_status::Status;
 use cola_words::{Opening, files_of};
+use std::cell::RefCell;
+use std::io::BufWriter;
 use std::marker::Brand;
 use std::os::unix::fs::FileExt;
 use std::process::ExitCode;
@@ -57,8 +62,15 @@ where
     requires parts { blank.parts ≡ L.parts }
     requires some { 0 < L.parts }
 {
-    let mut source = StdSource::new(rt.reader());
-    let mut sink = StdSink::new(io::writer(rt));
+    let Ok(writer) = BufWriter::new(rt.alloc(), io::writer(rt)) else {
+        return Status::OutOfMemory.number();
+    };
+    let replies = RefCell::new(Replies::new(writer));
+    let mut source = StdSource::new(Asking {
+        reader: rt.reader(),
+        replies: &replies,
+    });
+    let mut sink = StdSink::new(Waiting { replies: &replies });
     let mut steps = Steps::<L>::begin(blank);
     let (first, second) = files_of(words);
     let first = file_of(rt, words, first);
@@ -72,7 +84,16 @@ where
         second,
         &mut steps,
     );
-    served.status
+    match replies.try_borrow_mut() {
+        Ok(mut waiting) => {
+            if waiting.send() {
+                served.status
+            } else {
+                Status::SinkFailed.number()
+            }
+        }
+        Err(_) => Status::SinkFailed.number(),
+    }
 }
 
 fn main(rt: HostRuntime) -> ExitCode {

@@ -1,1 +1,2 @@
 pub mod Bottom
+pub mod Laws

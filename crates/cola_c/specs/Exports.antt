@@ -1,7 +1,9 @@
 -- What a call by C says of the session behind its handle.
-use Rattle.std.specs.Prelude.{◌≡◌, ◌≤◌, ℕ, ℤ, pos, true, Option, Some, List, Result, IfOk, OnOk, OnErr, None, IsSome}
-use Rattle.cola_spec.specs.Bounds.{put_bound, get_bound}
+use Rattle.std.specs.Prelude.{◌≡◌, ◌≤◌, ℕ, ℤ, pos, true, Option, Some, List, Result, IfOk, IfErr, OnOk, OnErr, None, IsSome}
+use Rattle.cola_spec.specs.Bounds.{put_bound, get_bound, range_bound}
+use Rattle.cola_spec.specs.Command as command
 use Rattle.cola_spec.specs.Map.{Map, is_key}
+use Rattle.cola_spec.specs.Reply.{Got, Stamped, Deleted}
 use Rattle.cola_image.specs.Standing.{FileStandsFor, with_state}
 use Rattle.cola_store.specs.Calls.{TransfersWithin}
 use Rattle.cola_store.specs.Store.{terms_of}
@@ -16,11 +18,12 @@ use Rattle.cola_handle.specs.declared.answer.Refusal.{Refusal}
 use Rattle.cola_handle.specs.declared.cursor.Cursor.{Cursor}
 use Rattle.cola_handle.specs.declared.cursor.Row.{Row}
 use Rattle.cola_handle.specs.declared.session.Session.{Session}
-use Rattle.cola_handle.specs.Calls.{both_fit, ByLength, GetSays, StampSays, DeleteSays, PutSays, PutIfSays}
-use Rattle.cola_handle.specs.Cursors.{NextSays, Writes, Moves, is_good}
+use Rattle.cola_handle.specs.Calls.{both_fit, ByLength, StoreSays, put_said, put_if_said, GetSays, StampSays, DeleteSays, PutSays, PutIfSays}
+use Rattle.cola_handle.specs.Cursors.{NextSays, Writes, GaveSome, Moves, is_good}
 use Rattle.cola_handle.specs.Numbers.{number}
 use Rattle.cola_handle.specs.Open.{bytes_of, HoldsMap, shape_of, levels_of, Stays, place_of, device_of}
-use Rattle.cola_handle.specs.Reading.{ReadsFew}
+use Rattle.cola_handle.specs.Reading.{Reads, ReadsFew}
+use Rattle.cola_handle.specs.Walking.{RangeSays}
 use Rattle.cola_handle.specs.Created.{HasSize}
 use Rattle.cola_handle.specs.Lent.{StandsFor, HasTerms, OpenCause, AreLeft}
 
@@ -36,6 +39,7 @@ module _ (old : Session) (key : List ℕ) where
   -- a get
   pub record Gets (new : Session) (result : Result (Option (List ℕ)) Refusal) : Type 0 where
     pub answer : (m : Map) → HoldsMap old m → GetSays m key (HoldsMap new) result
+    pub given : StoreSays (command.Get key) Got old new result
     pub length : ByLength (is_key (shape_of old) key) (new ≡ old) result
     pub ticks : OnOk result (new.ticks ≤ get_bound (levels_of old))
     pub reads : ReadsFew old new
@@ -44,6 +48,7 @@ module _ (old : Session) (key : List ℕ) where
   -- a stamp
   pub record Stamps (new : Session) (result : Result (Option ℕ) Refusal) : Type 0 where
     pub answer : (m : Map) → HoldsMap old m → StampSays m key (HoldsMap new) result
+    pub given : StoreSays (command.Stamp key) Stamped old new result
     pub length : ByLength (is_key (shape_of old) key) (new ≡ old) result
     pub ticks : OnOk result (new.ticks ≤ get_bound (levels_of old))
     pub reads : ReadsFew old new
@@ -52,6 +57,7 @@ module _ (old : Session) (key : List ℕ) where
   -- a delete
   pub record Deletes (new : Session) (result : Result (Option (List ℕ)) Refusal) : Type 0 where
     pub answer : (m : Map) → HoldsMap old m → DeleteSays m key (HoldsMap new) result
+    pub given : StoreSays (command.Del key) Deleted old new result
     pub length : ByLength (is_key (shape_of old) key) (new ≡ old) result
     pub ticks : OnOk result (new.ticks ≤ put_bound (levels_of old))
     pub transfers : TransfersWithin bytes_of counts_of old.store new.store
@@ -60,6 +66,7 @@ module _ (old : Session) (key : List ℕ) where
   -- a put
   pub record Puts (value : List ℕ) (new : Session) (result : Result Put Refusal) : Type 0 where
     pub answer : (m : Map) → HoldsMap old m → PutSays (shape_of old) m key value (HoldsMap new) result
+    pub given : StoreSays (command.Put key value) put_said old new result
     pub length : ByLength (both_fit (shape_of old) key value) (new ≡ old) result
     pub ticks : OnOk result (new.ticks ≤ put_bound (levels_of old))
     pub transfers : TransfersWithin bytes_of counts_of old.store new.store
@@ -68,6 +75,7 @@ module _ (old : Session) (key : List ℕ) where
   -- a put that depends on the stamp seen
   pub record PutsIf (seen : ℕ) (value : List ℕ) (new : Session) (result : Result PutIf Refusal) : Type 0 where
     pub answer : (m : Map) → HoldsMap old m → PutIfSays (shape_of old) m key seen value (HoldsMap new) result
+    pub given : StoreSays (command.PutIf key seen value) put_if_said old new result
     pub length : ByLength (both_fit (shape_of old) key value) (new ≡ old) result
     pub ticks : OnOk result (new.ticks ≤ put_bound (levels_of old))
     pub transfers : TransfersWithin bytes_of counts_of old.store new.store
@@ -77,11 +85,14 @@ module _ (old : Session) (before : Cursor) (rows : List Row) where
   -- the next rows of a cursor
   pub record Nexts (new : Session) (after : Cursor) (filled : List Row) (result : Result ℕ Refusal) : Type 0 where
     pub answer : (m : Map) → HoldsMap old m → NextSays m before after filled (HoldsMap new) result
+    pub given : RangeSays old new before filled result
     pub length : ByLength (is_good before) (new ≡ old) result
     pub writes : IfOk result (Writes rows filled)
+    pub gave_some : IfErr result (GaveSome rows filled)
     pub moves : IfOk result (Moves before after filled)
     pub refused : OnErr result (after ≡ before)
     pub good : is_good before ≡ true → is_good after ≡ true
+    pub reads : Reads old new (range_bound (levels_of old))
     pub stays : Stays old new
 
 -- the number of an answer, and what this answer says
@@ -90,11 +101,11 @@ pub record Tells (code : ℤ) (Says : Answer → Type 0) : Type 0 where
   pub number_is : code ≡ pos (number answer)
   pub says : Says answer
 
--- how many bytes a store takes, or that there is no such store
-abbrev pub Sizes : (keys block_exp version bytes : ℕ) → Answer → Type 0
-Sizes keys block_exp version bytes Done = HasSize keys block_exp version (Some bytes)
-Sizes keys block_exp version bytes Options = HasSize keys block_exp version None
-Sizes keys block_exp version bytes _ = ⊥
+-- how many bytes a store takes, or that there is no such store: then the place keeps what it had
+abbrev pub Sizes : (keys block_exp version before now : ℕ) → Answer → Type 0
+Sizes keys block_exp version before now Done = HasSize keys block_exp version (Some now)
+Sizes keys block_exp version before now Options = HasSize keys block_exp version None × (now ≡ before)
+Sizes keys block_exp version before now _ = ⊥
 
 module _ (before : Region) where
   -- an opening: the session has the bytes of the region, with the mark that the store is in use

@@ -26,7 +26,7 @@ use std::sync::ledger::{Blank, Ledger};
 /// How many bytes a store takes.
 #[unsafe(no_mangle)]
 pub extern "C" fn cola_core_size(keys: u64, block: u8, version: u8, bytes: &mut u64) -> i32
-    ensures { Tells result (Sizes keys block version bytes.new) }
+    ensures { Tells result (Sizes keys block version bytes.old bytes.new) }
 {
     match cola_handle::size(keys, block, version) {
         Some(size) => {
@@ -198,6 +198,8 @@ pub extern "C" fn cola_core_count(alloc: Global, cola: &mut Cola, keys: &mut u64
     ensures stays { cola.new.owned.session ≡ cola.old.owned.session }
     ensures done { (session : Session) → cola.old.owned.session ≡ Some session →
         result ≡ pos (number answer.Done) }
+    ensures stored { (session : Session) → cola.old.owned.session ≡ Some session →
+        keys.new ≡ session.store.count }
     ensures answered { (session : Session) (m : Map) → cola.old.owned.session ≡ Some session →
         HoldsMap session m → keys.new ≡ count m }
 {

@@ -18,3 +18,5 @@ pub mod Reads
 pub mod ToldCells
 pub mod Looks
 pub mod Shapes
+pub mod ObjectLaws
+pub mod Laws

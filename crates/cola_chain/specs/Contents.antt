@@ -1,9 +1,13 @@
 -- What contracts see of a chain, and what a chain is between two steps.
-use Rattle.std.specs.Prelude.{ℕ, Bool, List, Option}
+use Rattle.std.specs.Prelude.{ℕ, Bool, List, Option, Result}
+use Rattle.cola_cell.specs.declared.cell.Cell.{Cell}
+use Rattle.cola_cell.specs.declared.fault.ReadFault.{ReadFault}
 use Rattle.cola_cell.specs.Held.{Held}
-use Rattle.cola_cell.specs.Spent.{Spent}
+use Rattle.cola_cell.specs.Reads.{Reads}
+use Rattle.cola_cell.specs.Spent.{Spent, Buffer}
 use Rattle.cola_cell.specs.State.{State}
 use Rattle.cola_device.specs.declared.counts.Counts.{Counts}
+use Rattle.cola_device.specs.declared.device.Device as device
 use Rattle.cola_level.specs.declared.level.Level.{Level}
 use Rattle.cola_run.specs.Store as run
 use Rattle.cola_run.specs.Store.{Store}
@@ -29,6 +33,11 @@ spent_of counts chain = run.spent_of counts chain.store
 -- its state: that of its store
 abbrev pub state_of : {D : Type 0} → (D → Option (List ℕ)) → (D → Counts) → Contents D → State
 state_of bytes counts chain = run.state_of bytes counts chain.store
+
+-- a read of a chain by way of a buffer
+abbrev pub ReadsCell : {D : Type 0} → device.Ghosts D → (old new : Contents D) → Buffer → (level slot index : ℕ) → Result Cell ReadFault → Type 0
+ReadsCell d old new buffer level slot index result =
+    Reads (state_of d.bytes d.counts old) (state_of d.bytes d.counts new) buffer level slot index result
 
 -- what a chain has beside its cells and counts: what its store has, its levels, its clock, and the numbers of its accepted steps and of the reads and writes in these
 pub record Kept (K : Type 0) : Type 0 where

@@ -3,3 +3,4 @@ pub mod Account
 pub mod Runs
 pub mod Steps
 pub mod Files
+pub mod Laws

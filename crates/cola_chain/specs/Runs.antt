@@ -10,6 +10,8 @@ use Rattle.cola_level.specs.Aims.{visible_run}
 use Rattle.cola_level.specs.Marks.{all_marks_of}
 use Rattle.cola_level.specs.Standing.{all_stood}
 use Rattle.cola_look.specs.Runs.{AreRuns, BeginsNear}
+use Rattle.cola_mutation.specs.Standing.{StandsFor}
+use Rattle.cola_chain.specs.Contents.{Contents, held_of}
 
 -- the visible run of each level from level j on, at clock t
 abbrev pub visible_runs : ℕ → ℕ → List Level → List Run
@@ -26,3 +28,9 @@ pub record AreSearched (held : Held) (runs : List Run) (lists : List (List LawCe
   pub sampled : AreSampled key_cmp lists
   pub near : (key : List ℕ) → BeginsNear key lists
   pub values : (key : List ℕ) → value_at key_cmp lists key ≡ m key
+
+-- where the levels of a chain stand for a map, these runs are as a search wants them, with the cells of its visible runs and what the map has
+abbrev pub AreSearchedRuns : {D : Type 0} → (D → Option (List ℕ)) → Contents D → List Run → Type 0
+AreSearchedRuns bytes chain runs = (most : ℕ) (m : List ℕ → Option Stamped) →
+    StandsFor (held_of bytes chain) most chain.clock chain.levels m →
+    AreSearched (held_of bytes chain) runs (visible_lists (held_of bytes chain) chain.clock chain.levels) m

@@ -1,18 +1,16 @@
 //! The chain of a store.
-ghost use Rattle.std.specs.Prelude.{◌≡◌, ℕ, ◌-◌, ◌*◌, ◌/◌, ◌≤◌, ◌<◌, List, All, Option, true, false, IfSome};
+ghost use Rattle.std.specs.Prelude.{◌≡◌, ◌≤◌, All, true, false, IfSome};
 ghost use Rattle.cola_cell.specs.Format.{KeyFits, ItemFits};
-ghost use Rattle.cola_cell.specs.Held.{Stamped};
 ghost use Rattle.cola_layout.specs.Marks.{all_numbers};
 ghost use Rattle.cola_look.specs.Runs.{HasRun};
 ghost use Rattle.cola_level.specs.Marks.{all_marks_of};
-ghost use Rattle.cola_mutation.specs.Standing.{StandsFor};
 ghost use Rattle.cola_run.specs.Store as run;
 ghost use Rattle.cola_run.specs.Saving.{IsLoaded};
 ghost use Rattle.cola_chain.specs.Account.{IsPaid, IsContents, IsBounded};
 ghost use Rattle.cola_chain.specs.Contents.{held_of};
 ghost use Rattle.cola_chain.specs.Files.{StandsForFile, FileStandsFor};
 ghost use Rattle.cola_chain.specs.Steps.{Steps as ChainSteps};
-ghost use Rattle.cola_chain.specs.Runs.{visible_runs, visible_lists, AreSearched};
+ghost use Rattle.cola_chain.specs.Runs.{visible_runs, AreSearchedRuns};
 
 use crate::counting::{add, rise};
 use crate::lists::{levels_of, marks_of_levels, runs_of};
@@ -102,10 +100,7 @@ impl<D: Device> Chain<D> {
         ensures sound { IsContents D.bytes D.counts self.now }
         ensures runs { result.items ≡ visible_runs self.now.clock 0 self.now.levels }
         ensures has { All (HasRun (held_of D.bytes self.now)) result.items }
-        ensures searched { (most : ℕ) (m : List ℕ → Option Stamped) →
-            StandsFor (held_of D.bytes self.now) most self.now.clock self.now.levels m →
-            AreSearched (held_of D.bytes self.now) result.items
-            (visible_lists (held_of D.bytes self.now) self.now.clock self.now.levels) m }
+        ensures searched { AreSearchedRuns D.bytes self.now result.items }
     {
         runs_of(self.levels.as_slice(), self.clock)
     }

@@ -2,9 +2,8 @@
 ghost use Rattle.std.specs.Prelude.{◌≡◌, ◌+◌, ◌%◌, ◌^◌, ◌≤◌, false};
 ghost use Rattle.cola_cell.specs.Held.{HasPlace};
 ghost use Rattle.cola_cell.specs.Packed.{given};
-ghost use Rattle.cola_cell.specs.Reads.{Reads};
 ghost use Rattle.cola_cell.specs.Spent.{Search, By};
-ghost use Rattle.cola_chain.specs.Contents.{held_of, state_of, Kept, kept_of};
+ghost use Rattle.cola_chain.specs.Contents.{held_of, state_of, Kept, kept_of, ReadsCell};
 
 use crate::chains::Chain;
 use cola_cell::{Cell, CellSource, Packed, ReadFault, Reader};
@@ -31,8 +30,8 @@ impl<D: Device> CellSource for Chain<D> {
         ensures kept { kept_of D.bytes D.counts D.kept self.new ≡
             kept_of D.bytes D.counts D.kept self.old }
         ensures one_tick { steps.new ≡ steps.old + 1 }
-        ensures reads { Reads (state_of D.bytes D.counts self.old)
-            (state_of D.bytes D.counts self.new) Search level slot index result }
+        ensures reads { ReadsCell D.Device self.old self.new
+            Search level slot index result }
         ensures counted { self.new.counted ≡ self.old.counted }
     {
         self.runs.read(level, slot, index, steps)
@@ -52,8 +51,8 @@ impl<D: Device> CellSource for Chain<D> {
         ensures kept { kept_of D.bytes D.counts D.kept self.new ≡
             kept_of D.bytes D.counts D.kept self.old }
         ensures one_tick { steps.new ≡ steps.old + 1 }
-        ensures reads { Reads (state_of D.bytes D.counts self.old)
-            (state_of D.bytes D.counts self.new) (By reader level) level slot index result }
+        ensures reads { ReadsCell D.Device self.old self.new
+            (By reader level) level slot index result }
         ensures counted { self.new.counted ≡ false }
     {
         self.counted = false;
@@ -73,8 +72,8 @@ impl<D: Device> CellSource for Chain<D> {
         ensures kept { kept_of D.bytes D.counts D.kept self.new ≡
             kept_of D.bytes D.counts D.kept self.old }
         ensures one_tick { steps.new ≡ steps.old + 1 }
-        ensures reads { Reads (state_of D.bytes D.counts self.old)
-            (state_of D.bytes D.counts self.new) Search level slot index (given into.new result) }
+        ensures reads { ReadsCell D.Device self.old self.new
+            Search level slot index (given into.new result) }
         ensures counted { self.new.counted ≡ self.old.counted }
     {
         self.runs.read_into(level, slot, index, into, steps)
@@ -94,8 +93,8 @@ impl<D: Device> CellSource for Chain<D> {
         ensures kept { kept_of D.bytes D.counts D.kept self.new ≡
             kept_of D.bytes D.counts D.kept self.old }
         ensures one_tick { steps.new ≡ steps.old + 1 }
-        ensures reads { Reads (state_of D.bytes D.counts self.old)
-            (state_of D.bytes D.counts self.new) (By reader level) level slot index (given into.new result) }
+        ensures reads { ReadsCell D.Device self.old self.new
+            (By reader level) level slot index (given into.new result) }
         ensures counted { self.new.counted ≡ false }
     {
         self.counted = false;

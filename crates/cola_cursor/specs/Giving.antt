@@ -10,8 +10,11 @@ use Rattle.cola_cell.specs.State.{State}
 use Rattle.cola_look.specs.Runs.{AreRuns}
 use Rattle.cola_pairs.specs.Live.{live, between}
 use Rattle.cola_cursor.specs.declared.cursor.Cursor.{Cursor}
+use Rattle.cola_cursor.specs.declared.line.Line.{Line}
+use Rattle.cola_cursor.specs.declared.saved.Saved.{Saved}
 use Rattle.cola_cursor.specs.Lines.{all_left, Reading}
 use Rattle.cola_cursor.specs.Results.{LinesCause}
+use Rattle.cola_cursor.specs.Saving.{cursor_at, lines_left}
 use Rattle.cola_cursor.specs.Seeking.{places_from, range_ticks, left_sought, RunsCause}
 use Rattle.cola_cursor.specs.Standing.{runs_of, AreSearched, Stands, Ahead, TakesNext, AnswerCause, LinesPassed, IsPassed, none_hidden, answered_key, with_stamp}
 
@@ -54,3 +57,9 @@ module _ {W : Type 0} (w : source.Ghosts W) (before now : W) (old new : Cursor) 
   pub record NextGivesPair (result : Result (Option (List ℕ × List ℕ)) ReadFault) : Type 0 where
     pub stamp : ℕ
     pub gives : NextGives (with_stamp stamp result)
+
+-- a step on lines up to an end, of which these are saved: what the cursor at them gives, where after a refusal the saved ones are put back
+abbrev pub LinesGive : {W : Type 0} → source.Ghosts W → (before now : W) → Option (List ℕ) → (old new : List Line) → List Saved →
+    (ticks ticks_now : ℕ) → Result (Option (List ℕ × List ℕ × ℕ)) ReadFault → Type 0
+LinesGive w before now end old new saved ticks ticks_now result =
+    NextGives w before now (cursor_at old end) (cursor_at (lines_left result saved new) end) ticks ticks_now result

@@ -5,3 +5,5 @@ pub mod Standing
 pub mod Giving
 pub mod Seeking
 pub mod Saving
+pub mod Causes
+pub mod Laws

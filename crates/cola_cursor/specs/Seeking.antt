@@ -1,5 +1,5 @@
 -- Where a cursor begins, and what that costs.
-use Rattle.std.specs.Prelude.{◌⊎◌, ℕ, suc, ◌+◌, ◌*◌, ◌^◌, ◌≤◌, ◌<◌, List, [], ◌∷◌, Result, Ok, Err, ⊤}
+use Rattle.std.specs.Prelude.{◌≡◌, ◌⊎◌, ℕ, suc, ◌+◌, ◌*◌, ◌^◌, ◌≤◌, ◌<◌, List, [], ◌∷◌, map, Result, Ok, Err, IfOk, ⊤}
 use Rattle.arrayvec.specs.declared.array_vec.ArrayVec.{ArrayVec}
 use Rattle.cola_outside.specs.Faults.{Rose}
 use Rattle.cola_runs.specs.Search.{stop, link_at, first_len}
@@ -9,6 +9,7 @@ use Rattle.cola_cell.specs.declared.fault.ReadFault.TheVariants.{Device, BadCell
 use Rattle.cola_cell.specs.Held.{Held, LawCell}
 use Rattle.cola_cell.specs.Spent.{IsBad}
 use Rattle.cola_cell.specs.Order.{key_cmp}
+use Rattle.cola_look.specs.Runs.{AreRuns}
 use Rattle.cola_cursor.specs.declared.line.Line.{Line}
 use Rattle.cola_cursor.specs.declared.cursor.Cursor.{Cursor}
 use Rattle.cola_cursor.specs.Lines.{all_left}
@@ -36,6 +37,11 @@ left_sought (Err fault) = 0
 abbrev pub left_lines : Result (ArrayVec Line 23 Unit) ReadFault → ℕ
 left_lines (Ok lines) = all_left lines.items
 left_lines (Err fault) = 0
+
+-- on runs that are told to be lists of cells, in order or not, the place of each line is where the search of its run stops
+abbrev pub ArePlaced : Held → List Run → List ℕ → Result (ArrayVec Line 23 Unit) ReadFault → Type 0
+ArePlaced held runs key result = (lists : List (List LawCell)) → AreRuns held runs lists →
+    IfOk result (λ lines. map (λ line. line.place) lines.items ≡ places_from key 0 lists)
 
 -- the length of the first run, and 0 where there is none
 abbrev pub length_of_first : List Run → ℕ

@@ -1,7 +1,7 @@
 //! Cursors.
 ghost use Rattle.std.specs.Prelude.{◌≡◌, ◌≤◌, [], length};
-ghost use Rattle.cola_cursor.specs.Giving.{NextGives};
-ghost use Rattle.cola_cursor.specs.Saving.{Saves, cursor_at, lines_left};
+ghost use Rattle.cola_cursor.specs.Giving.{LinesGive};
+ghost use Rattle.cola_cursor.specs.Saving.{Saves, cursor_at};
 ghost use Rattle.cola_cursor.specs.Standing.{Stands};
 
 use crate::line::Line;
@@ -107,8 +107,8 @@ fn advance<W: CellSource, L: Ledger>(
     requires stands { Stands (W.state work.old).held (cursor_at lines.old end.now) }
     requires few { length lines.old ≤ 23 }
     requires none { saved.old.items ≡ [] }
-    ensures gives { NextGives W.CellSource work.old work.new (cursor_at lines.old end.now)
-        (cursor_at (lines_left result saved.new.items lines.new) end.now) steps.old steps.new result }
+    ensures gives { LinesGive W.CellSource work.old work.new end.now lines.old lines.new
+        saved.new.items steps.old steps.new result }
     ensures saves { Saves lines.old lines.new [] saved.new.items }
 {
     read_heads(work, lines, saved, steps)?;

@@ -1,5 +1,5 @@
 //! A line of a cursor: where it stands in one run.
-ghost use Rattle.std.specs.Prelude.{◌≡◌, ◌+◌, ◌<◌, ◌≤◌, IfOk, IfErr, option_map, IsTrue};
+ghost use Rattle.std.specs.Prelude.{◌≡◌, ◌+◌, ◌<◌, ◌≤◌, IfOk, IsTrue};
 
 use cola_cell::{CellSource, Item, Key, Packed, ReadFault, Run};
 use cola_outside::Steps;
@@ -40,10 +40,10 @@ fn copy_head(head: &Option<Packed>) -> Option<Packed>
 }
 
 impl Line {
-    ghost use Rattle.std.specs.Prelude.{◌≡◌, ◌+◌, ◌<◌, ◌≤◌, ◌^◌, IfOk, IfErr, OnOk, IsTrue, Some, None, option_map};
-    ghost use Rattle.cola_cell.specs.Cell.{key_of};
+    ghost use Rattle.std.specs.Prelude.{◌≡◌, ◌+◌, ◌<◌, ◌≤◌, IfOk, OnOk, IsTrue, Some, None};
     ghost use Rattle.cola_cell.specs.Looks.{OnlyLooks};
-    ghost use Rattle.cola_cursor.specs.Lines.{LineFits, IsReady, left_of, Reading, LineCause};
+    ghost use Rattle.cola_cursor.specs.Causes.{HasLineCause};
+    ghost use Rattle.cola_cursor.specs.Lines.{LineFits, IsReady, left_of, Reading};
     ghost use Rattle.cola_cursor.specs.Passing.{Passes, has_key};
     ghost use Rattle.cola_cursor.specs.Results.{Fetches, left_after, item_of};
 
@@ -57,8 +57,7 @@ impl Line {
         ensures fetches { OnOk result (Fetches (W.state work.old).held self.old self.new) }
         ensures left { steps.new + left_after result self.new ≤ steps.old + left_of self.old }
         ensures reading { Reading (W.state work.old) (W.state work.new) steps.old steps.new }
-        ensures cause { IfErr result (LineCause (W.state work.old).held self.old
-            (W.state work.old).spent.faults (W.state work.new).spent.faults) }
+        ensures cause { HasLineCause W.CellSource work.old work.new self.old result }
         ensures looks { OnlyLooks W.CellSource work.old work.new result }
     {
         if self.head.is_some() || self.place == self.run.len {
@@ -135,8 +134,7 @@ impl Line {
         ensures passes { IfOk result (Passes (W.state work.old).held key.now self.old self.new) }
         ensures left { steps.new + left_after result self.new ≤ steps.old + left_of self.old }
         ensures reading { Reading (W.state work.old) (W.state work.new) steps.old steps.new }
-        ensures cause { IfErr result (LineCause (W.state work.old).held self.old
-            (W.state work.old).spent.faults (W.state work.new).spent.faults) }
+        ensures cause { HasLineCause W.CellSource work.old work.new self.old result }
         ensures looks { OnlyLooks W.CellSource work.old work.new result }
     {
         let mut item: Option<Item> = None;

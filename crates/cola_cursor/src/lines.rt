@@ -1,14 +1,15 @@
 //! The lines of a cursor: their next cells, the least key among those, and a step over it.
-ghost use Rattle.std.specs.Prelude.{◌≡◌, ◌+◌, ◌≤◌, length, None, IfOk, IfErr, OnOk};
+ghost use Rattle.std.specs.Prelude.{◌≡◌, ◌+◌, ◌≤◌, length, None, IfOk, OnOk};
 ghost use Rattle.std.specs.List.{AllByRecursion};
 ghost use Rattle.cola_cell.specs.Cell.{key_of};
 ghost use Rattle.cola_cell.specs.Looks.{OnlyLooks};
 ghost use Rattle.cola_cell.specs.Order.{key_cmp};
 ghost use Rattle.cola_pairs.specs.Live.{below_end};
+ghost use Rattle.cola_cursor.specs.Causes.{HasLinesCause};
 ghost use Rattle.cola_cursor.specs.Lines.{LineFits, IsReady, all_left, Reading};
 ghost use Rattle.cola_cursor.specs.Passing.{PassAll};
 ghost use Rattle.cola_cursor.specs.Saving.{SavedOnce, Saves};
-ghost use Rattle.cola_cursor.specs.Results.{FetchAll, left_then, LinesCause, lowered, least_from, key_in};
+ghost use Rattle.cola_cursor.specs.Results.{FetchAll, left_then, lowered, least_from, key_in};
 
 use crate::line::Line;
 use crate::saved::{Saved, save};
@@ -31,8 +32,7 @@ pub(crate) fn read_heads<W: CellSource, L: Ledger>(
     ensures saves { Saves lines.old lines.new saved.old.items saved.new.items }
     ensures left { steps.new + left_then result lines.new ≤ steps.old + all_left lines.old }
     ensures reading { Reading (W.state work.old) (W.state work.new) steps.old steps.new }
-    ensures cause { IfErr result (LinesCause (W.state work.old).held lines.old
-        (W.state work.old).spent.faults (W.state work.new).spent.faults) }
+    ensures cause { HasLinesCause W.CellSource work.old work.new lines.old result }
     ensures looks { OnlyLooks W.CellSource work.old work.new result }
 {
     for i in 0..lines.len() {
@@ -111,8 +111,7 @@ pub(crate) fn pass_all<W: CellSource, L: Ledger>(
     ensures saves { Saves lines.old lines.new saved.old.items saved.new.items }
     ensures left { steps.new + left_then result lines.new ≤ steps.old + all_left lines.old }
     ensures reading { Reading (W.state work.old) (W.state work.new) steps.old steps.new }
-    ensures cause { IfErr result (LinesCause (W.state work.old).held lines.old
-        (W.state work.old).spent.faults (W.state work.new).spent.faults) }
+    ensures cause { HasLinesCause W.CellSource work.old work.new lines.old result }
     ensures looks { OnlyLooks W.CellSource work.old work.new result }
 {
     let mut item: Option<Item> = None;

@@ -1,11 +1,11 @@
 //! The lines of a cursor where it begins.
-ghost use Rattle.std.specs.Prelude.{◌≡◌, ◌+◌, ◌*◌, ◌≤◌, List, map, drop, length, All, IfOk, IfErr};
+ghost use Rattle.std.specs.Prelude.{◌≡◌, ◌+◌, ◌*◌, ◌≤◌, drop, length, IfOk};
 ghost use Rattle.std.specs.List.{AllByRecursion};
-ghost use Rattle.cola_cell.specs.Held.{LawCell};
 ghost use Rattle.cola_cell.specs.Looks.{OnlyLooks};
-ghost use Rattle.cola_look.specs.Runs.{HasRun, AreRuns};
+ghost use Rattle.cola_look.specs.Runs.{HasRun};
+ghost use Rattle.cola_cursor.specs.Causes.{HasRunsCause};
 ghost use Rattle.cola_cursor.specs.Lines.{LineFits, Reading};
-ghost use Rattle.cola_cursor.specs.Seeking.{places_from, cells_of, left_lines, length_of_first, RunsCause};
+ghost use Rattle.cola_cursor.specs.Seeking.{ArePlaced, cells_of, left_lines, length_of_first};
 ghost use Rattle.cola_cursor.specs.Standing.{runs_of};
 
 use crate::line::Line;
@@ -34,16 +34,14 @@ pub(crate) fn seek_lines<W: CellSource, L: Ledger>(
 ) -> Result<ArrayVec<Line, MOST_LEVELS>, ReadFault>
     requires runs { AllByRecursion (HasRun (W.state work.old).held) runs.now }
     requires few { length runs.now ≤ 23 }
-    ensures places { (lists : List (List LawCell)) → AreRuns (W.state work.old).held runs.now lists →
-        IfOk result (λ lines. map (λ line. line.place) lines.items ≡ places_from key.now 0 lists) }
+    ensures places { ArePlaced (W.state work.old).held runs.now key.now result }
     ensures begins { IfOk result (λ lines. runs_of lines.items ≡ runs.now) }
     ensures fit { IfOk result (λ lines.
         AllByRecursion (LineFits (W.state work.old).held) lines.items) }
     ensures left { steps.new + left_lines result
         ≤ steps.old + 8 * length runs.now + cells_of runs.now }
     ensures reading { Reading (W.state work.old) (W.state work.new) steps.old steps.new }
-    ensures cause { IfErr result (RunsCause (W.state work.old).held runs.now
-        (W.state work.old).spent.faults (W.state work.new).spent.faults) }
+    ensures cause { HasRunsCause W.CellSource work.old work.new runs.now result }
     ensures looks { OnlyLooks W.CellSource work.old work.new result }
 {
     let mut lines = ArrayVec::new();

@@ -1,5 +1,5 @@
 -- Blocks 0 and 1 in memory: what contracts see of them, and their bytes on a device.
-use Rattle.std.specs.Prelude.{◌≡◌, ℕ, ◌*◌, ◌^◌, ◌≤◌, ◌<◌, List, [], ◌∷◌, ◌++◌, take, drop, length, replicate, Option, None, Some, Result, OnErr, ◌⊎◌, slice_index_or, slice_set}
+use Rattle.std.specs.Prelude.{◌≡◌, ℕ, ◌-◌, ◌*◌, ◌^◌, ◌≤◌, ◌<◌, List, [], ◌∷◌, ◌++◌, take, drop, length, replicate, Option, None, Some, IfSome, Result, OnErr, ◌⊎◌, slice_index_or, slice_set}
 use Rattle.cola_cell.specs.declared.format.Format.{Format}
 use Rattle.cola_cell.specs.declared.cell.Cell.{Cell}
 use Rattle.cola_cell.specs.Format.{width}
@@ -65,6 +65,30 @@ new_front block_exp format = record { format = format; block = 2 ^ block_exp; ce
 -- a front with this cell at a place
 abbrev pub front_with : FrontCells → ℕ → Cell → FrontCells
 front_with front place cell = record front { cells = slice_set front.cells place (Some cell) }
+
+-- each place from one up to another has what these bytes spell there
+abbrev pub AreSpelled : Format → List (Option Cell) → (from to : ℕ) → List ℕ → Type 0
+AreSpelled format cells from to bytes = (place : ℕ) → from ≤ place → place < to →
+    slice_index_or cells place None ≡ spelled_at format bytes place
+
+-- each place from one up to another has what a file spells there, where its bytes are told
+abbrev pub AreRead : Option (List ℕ) → Format → List (Option Cell) → (from to : ℕ) → Type 0
+AreRead told format cells from to = IfSome told (AreSpelled format cells from to)
+
+-- each place from one up to another has what the bytes of a block spell there, which begins at the place `first`
+abbrev pub AreTaken : Format → List (Option Cell) → (first from to : ℕ) → List ℕ → Type 0
+AreTaken format cells first from to block = (place : ℕ) → from ≤ place → place < to →
+    slice_index_or cells place None ≡ spelled_at format block (place - first)
+
+-- what stands at each place below this one is as before
+abbrev pub SameBelow : (before now : List (Option Cell)) → ℕ → Type 0
+SameBelow before now end = (place : ℕ) → place < end →
+    slice_index_or now place None ≡ slice_index_or before place None
+
+-- what stands at each place from this one on is as before
+abbrev pub SameFrom : (before now : List (Option Cell)) → ℕ → Type 0
+SameFrom before now start = (place : ℕ) → start ≤ place →
+    slice_index_or now place None ≡ slice_index_or before place None
 
 -- each place behind the header has what a file's bytes spell there
 abbrev pub IsLoaded : List ℕ → FrontCells → Type 0

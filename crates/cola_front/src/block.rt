@@ -1,9 +1,9 @@
 //! The cells of one block as its bytes.
-ghost use Rattle.std.specs.Prelude.{◌≡◌, ℕ, ◌+◌, ◌-◌, ◌*◌, ◌≤◌, ◌<◌, ◌++◌, Option, None, Some, if◌then◌else◌, length, take, drop, slice_index_or};
+ghost use Rattle.std.specs.Prelude.{◌≡◌, ℕ, ◌+◌, ◌-◌, ◌*◌, ◌≤◌, ◌++◌, Option, None, Some, if◌then◌else◌, length, take, drop, slice_index_or};
 ghost use Rattle.cola_cell.specs.Format.{width, CellFits};
 ghost use Rattle.cola_cell.specs.Packed.{passed, MayPass};
 ghost use Rattle.cola_device.specs.Bytes.{splice};
-ghost use Rattle.cola_front.specs.Front.{IsSpelled, spelled_at, stored, stored_all, ComesBack};
+ghost use Rattle.cola_front.specs.Front.{IsSpelled, AreTaken, SameBelow, spelled_at, stored, stored_all, ComesBack};
 
 use cola_cell::{Cell, Format, Packed, Pass};
 
@@ -123,10 +123,8 @@ pub(crate) fn take_cells(
     requires order { from ≤ to }
     requires end { to ≤ length cells.old }
     requires whole { width format * (to - first) ≤ length block.now }
-    ensures taken { (place : ℕ) → from ≤ place → place < to →
-        slice_index_or cells.new place None ≡ spelled_at format block.now (place - first) }
-    ensures below { (place : ℕ) → place < from →
-        slice_index_or cells.new place None ≡ slice_index_or cells.old place None }
+    ensures taken { AreTaken format cells.new first from to block.now }
+    ensures below { SameBelow cells.old cells.new from }
     ensures above { (place : ℕ) → from ≤ place → to ≤ place →
         slice_index_or cells.new place None ≡ slice_index_or cells.old place None }
     ensures many { length cells.new ≡ length cells.old }

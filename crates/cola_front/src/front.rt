@@ -1,12 +1,12 @@
 //! The front of a store: its blocks 0 and 1 in memory.
-ghost use Rattle.std.specs.Prelude.{◌≡◌, ◌⊎◌, ℕ, ◌+◌, ◌-◌, ◌*◌, ◌^◌, ◌≤◌, ◌<◌, Option, None, Some, is_some, if◌then◌else◌, IfOk, IfSome, OnOk, OnErr, length, replicate};
+ghost use Rattle.std.specs.Prelude.{◌≡◌, ◌⊎◌, ◌+◌, ◌*◌, ◌^◌, ◌≤◌, ◌<◌, Option, None, Some, is_some, if◌then◌else◌, IfOk, IfSome, OnOk, OnErr, length, replicate};
 ghost use Rattle.std.specs.Box.{boxed_slice_items};
 ghost use Rattle.cola_outside.specs.Told.{Both};
 ghost use Rattle.cola_cell.specs.Format.{CellFits};
 ghost use Rattle.cola_cell.specs.Packed.{passed, MayPass};
 ghost use Rattle.cola_device.specs.Bytes.{HasRange, Wrote};
 ghost use Rattle.cola_device.specs.Counts.{Called};
-ghost use Rattle.cola_front.specs.Front.{FrontCells, IsFront, SameShape, IsLoaded, cell_at, spelled_at, front_with, block_size, image, InOrder, new_front, first_block, second_block};
+ghost use Rattle.cola_front.specs.Front.{FrontCells, IsFront, AreSpelled, AreTaken, AreRead, SameBelow, SameFrom, SameShape, IsLoaded, cell_at, front_with, block_size, image, InOrder, new_front, first_block, second_block};
 
 use crate::block::{put_cells, put_header, take_cells};
 use cola_cell::{Cell, Format, Packed, Pass};
@@ -99,12 +99,10 @@ impl Front {
         requires number { first ≡ 0 ⊎ first ≡ self.old.block }
         requires end { from ≤ first + self.old.block }
         requires whole { length block.now ≡ block_size self.old }
-        ensures taken { (place : ℕ) → from ≤ place → place < first + self.old.block →
-            cell_at self.new place ≡ spelled_at self.old.format block.now (place - first) }
-        ensures below { (place : ℕ) → place < from →
-            cell_at self.new place ≡ cell_at self.old place }
-        ensures above { (place : ℕ) → first + self.old.block ≤ place →
-            cell_at self.new place ≡ cell_at self.old place }
+        ensures taken { AreTaken self.old.format self.new.cells
+            first from (first + self.old.block) block.now }
+        ensures below { SameBelow self.old.cells self.new.cells from }
+        ensures above { SameFrom self.old.cells self.new.cells (first + self.old.block) }
         ensures shape { SameShape self.old self.new }
         ensures whole { length block.now ≡ block_size self.old }
     {
@@ -115,10 +113,8 @@ impl Front {
     /// Gives the places behind the header what the bytes of block 0 spell.
     pub fn take_first(&mut self, block: &[u8])
         requires whole { length block.now ≡ block_size self.old }
-        ensures taken { (place : ℕ) → 8 ≤ place → place < self.old.block →
-            cell_at self.new place ≡ spelled_at self.old.format block.now place }
-        ensures above { (place : ℕ) → self.old.block ≤ place →
-            cell_at self.new place ≡ cell_at self.old place }
+        ensures taken { AreSpelled self.old.format self.new.cells 8 self.old.block block.now }
+        ensures above { SameFrom self.old.cells self.new.cells self.old.block }
         ensures shape { SameShape self.old self.new }
     {
         // It says that a block has the header's eight cells at least.
@@ -129,10 +125,9 @@ impl Front {
     /// Gives the places of block 1 what its bytes spell.
     pub fn take_second(&mut self, block: &[u8])
         requires whole { length block.now ≡ block_size self.old }
-        ensures taken { (place : ℕ) → self.old.block ≤ place → place < 2 * self.old.block →
-            cell_at self.new place ≡ spelled_at self.old.format block.now (place - self.old.block) }
-        ensures below { (place : ℕ) → place < self.old.block →
-            cell_at self.new place ≡ cell_at self.old place }
+        ensures taken { AreTaken self.old.format self.new.cells
+            self.old.block self.old.block (2 * self.old.block) block.now }
+        ensures below { SameBelow self.old.cells self.new.cells self.old.block }
         ensures shape { SameShape self.old self.new }
     {
         let _ = self.block_bytes();
@@ -152,10 +147,9 @@ impl Front {
         requires behind { 8 ≤ from }
         requires number { first ≡ 0 ⊎ first ≡ self.old.block }
         requires end { from ≤ first + self.old.block }
-        ensures taken { OnOk result (IfSome (D.bytes device.old) (λ bytes. (place : ℕ) →
-            from ≤ place → place < first + self.old.block → cell_at self.new place ≡ spelled_at self.old.format bytes place)) }
-        ensures below { (place : ℕ) → place < from →
-            cell_at self.new place ≡ cell_at self.old place }
+        ensures taken { OnOk result (AreRead (D.bytes device.old)
+            self.old.format self.new.cells from (first + self.old.block)) }
+        ensures below { SameBelow self.old.cells self.new.cells from }
         ensures stays { OnErr result (self.new ≡ self.old) }
         ensures shape { SameShape self.old self.new }
         ensures bytes_stay { D.bytes device.new ≡ D.bytes device.old }

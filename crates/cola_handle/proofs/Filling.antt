@@ -1,5 +1,5 @@
 -- How far a walk over a table filled rows.
-use Rattle.std.proofs.Common.{◌≡◌, ◌∙◌, sym, ap, subst, ℕ, ◌+◌, ◌-◌, ◌≤◌, not, List, [], ◌∷◌, ◌++◌, length, take, drop, map, Option, Some, None, Ok, inl, arith, append_assoc}
+use Rattle.std.proofs.Common.{◌≡◌, ◌∙◌, refl, sym, ap, subst, ℕ, ◌+◌, ◌-◌, ◌≤◌, not, List, [], ◌∷◌, ◌++◌, length, take, drop, map, Option, Some, None, Ok, inl, arith, append_assoc}
 use Rattle.std.proofs.lemmas.List.{drop-drop}
 use Rattle.std.proofs.lemmas.List.Elements.{filter-append}
 use Rattle.cola_spec.specs.Map.{Map, pairs_between}
@@ -8,6 +8,7 @@ use Rattle.cola_table.specs.Answers.{NextAnswers}
 use Rattle.cola_handle.specs.declared.cursor.Cursor.{Cursor}
 use Rattle.cola_handle.specs.declared.cursor.Row.{Row}
 use Rattle.cola_handle.specs.Cursors.{Pair, row_pair, was_given, not_given, HaveFirst}
+use Rattle.cola_handle.specs.Walking.{Stays, Then, Came}
 use Rattle.cola_handle.proofs.Rows.{front_first}
 
 -- the same lists behind a place are the same behind a later one
@@ -47,3 +48,21 @@ module _ {T W : Type 0} (t : table.Ghosts T W) (cursor : Cursor) (low : List ℕ
   none_left m given rows u v walk walk' next is few so answer =
       let step = subst (λ (a : Option Pair). NextAnswers (t.ahead v walk') so.pairs (Ok a)) is answer in
       front_first (not_given cursor (pairs_between m low high)) (not_given cursor so.pairs) rows given so.whole few (inl (ap (not_given cursor) step.0))
+
+  -- a range was begun, and no row is given
+  pub came_first : (old mid : T) (walk : W) (rows : List Row) → t.begins old low high (Ok walk) mid → Came t.begins t.goes cursor low high old rows 0 mid walk
+  came_first old mid walk rows begun = record { mid = mid; walk = walk; pairs = []; begun = begun; gone = Stays; rows_have = refl }
+
+  -- a step gave a pair, and the rows have it unless it was given
+  pub came_on : (old u v : T) (walk walk' : W) (rows rows' : List Row) (given given' : ℕ) (next : Option Pair) (pair : Pair) → next ≡ Some pair
+      → map row_pair (take given' rows') ≡ map row_pair (take given rows) ++ not_given cursor (pair ∷ []) → t.goes u walk (Ok next) v walk'
+      → Came t.begins t.goes cursor low high old rows given u walk → Came t.begins t.goes cursor low high old rows' given' v walk'
+  came_on old u v walk walk' rows rows' given given' next pair is pushed went came = record {
+    mid = came.mid;
+    walk = came.walk;
+    pairs = came.pairs ++ pair ∷ [];
+    begun = came.begun;
+    gone = Then pair came.gone (subst (λ (a : Option Pair). t.goes u walk (Ok a) v walk') is went);
+    rows_have = pushed ∙ ap (λ (ps : List Pair). ps ++ not_given cursor (pair ∷ [])) came.rows_have
+        ∙ sym (filter-append (λ (p : Pair). not (was_given cursor p.0)) came.pairs (pair ∷ []));
+  }

@@ -3,3 +3,4 @@ pub mod Openings
 pub mod Rows
 pub mod Filling
 pub mod Making
+pub mod Turns

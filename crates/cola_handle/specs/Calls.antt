@@ -1,12 +1,19 @@
 -- What a call of an open store answers.
-use Rattle.std.specs.Prelude.{◌≡◌, ℕ, true, false, ◌&&◌, Bool, List, Option, Result, Ok, Err}
+use Rattle.std.specs.Prelude.{◌≡◌, ℕ, true, false, ◌&&◌, Bool, List, Option, Some, Result, Ok, Err}
+use Rattle.cola_spec.specs.Command.{Command}
 use Rattle.cola_spec.specs.Map as map
 use Rattle.cola_spec.specs.Map.{Shape, Map, PutOutcome, is_key, is_value, put_outcome, put_if_outcome, after_put, after_put_if, after_delete, value_of, stamp_of}
+use Rattle.cola_spec.specs.Reply as reply
+use Rattle.cola_spec.specs.Reply.{Reply}
+use Rattle.cola_store.specs.Calls.{AnswersRequest}
 use Rattle.cola_table.specs.declared.Put.{Put}
 use Rattle.cola_table.specs.declared.PutIf.{PutIf}
 use Rattle.cola_table.specs.Answers.{put_answer, put_if_answer}
+use Rattle.cola_mapped.specs.Mapped.{counts_of}
 use Rattle.cola_handle.specs.declared.answer.Refusal.{Refusal}
-use Rattle.cola_handle.specs.declared.answer.Refusal.TheVariants.{Length, Full, Worn}
+use Rattle.cola_handle.specs.declared.answer.Refusal.TheVariants.{Length, Full, Worn, BadCell, Overfull}
+use Rattle.cola_handle.specs.declared.session.Session.{Session}
+use Rattle.cola_handle.specs.Open.{bytes_of}
 
 -- a key and a value that maps of this shape may have
 abbrev pub both_fit : Shape → List ℕ → List ℕ → Bool
@@ -17,6 +24,27 @@ abbrev pub ByLength : {A : Type 0} → Bool → Type 0 → Result A Refusal → 
 ByLength fit same (Ok answer) = fit ≡ true
 ByLength fit same (Err Length) = (fit ≡ false) × same
 ByLength fit same (Err _) = fit ≡ true
+
+module _ {A : Type 0} (command : Command) (says : A → Reply) (old new : Session) where
+  -- on every store: it was asked this, answered so, and is this one afterwards
+  abbrev pub Replies : Reply → Type 0
+  Replies answer = AnswersRequest bytes_of counts_of (Some command) answer old.store new.store
+
+  -- a call answers what the store answered to this command, where `says` is how it tells what it accepts; by lengths it is not asked
+  abbrev pub StoreSays : Result A Refusal → Type 0
+  StoreSays (Ok answer) = Replies (says answer)
+  StoreSays (Err Length) = new ≡ old
+  StoreSays (Err Full) = Replies (reply.Put map.Full)
+  StoreSays (Err Worn) = Replies (reply.Put map.Worn)
+  StoreSays (Err BadCell) = (cell : ℕ) × Replies (reply.Failed (reply.Damaged cell))
+  StoreSays (Err Overfull) = (level : ℕ) × Replies (reply.Failed (reply.Overfull level))
+
+-- what an accepted put is told as, and one that depends on the stamp seen
+abbrev pub put_said : Put → Reply
+put_said answer = reply.Put (put_answer answer)
+
+abbrev pub put_if_said : PutIf → Reply
+put_if_said answer = reply.Put (put_if_answer answer)
 
 -- On a store that holds a map, where `Holds` is the maps that it holds afterwards: nothing is refused but what the map refuses, and lengths
 

@@ -84,6 +84,11 @@ pub record Writes (old new : List Row) (given : ℕ) : Type 0 where
   pub good : All IsGoodRow (take given new)
   pub others : drop given new ≡ drop given old
 
+-- what a refused call leaves of the rows: all of them where a length is the reason, else those behind the ones that it gave
+abbrev pub GaveSome : (old new : List Row) → Refusal → Type 0
+GaveSome old new Length = new ≡ old
+GaveSome old new _ = (given : ℕ) × Writes old new given
+
 -- a cursor stands behind the key of a row, with the upper end that it had
 pub record IsBehind (old new : Cursor) (row : Row) : Type 0 where
   pub from_is : from_of new ≡ (row_pair row).0

@@ -6,3 +6,4 @@ pub mod Cursors
 pub mod Lent
 pub mod Created
 pub mod Reading
+pub mod Walking

@@ -2,7 +2,9 @@
 ghost use Rattle.std.specs.Prelude.{◌≡◌, ◌<◌, ◌≤◌, true, false, IfOk, OnOk, MatchResult};
 ghost use Rattle.cola_cell.specs.Format.{KeyFits, ValueFits};
 ghost use Rattle.cola_spec.specs.Bounds.{get_bound, put_bound};
+ghost use Rattle.cola_spec.specs.Command as spec;
 ghost use Rattle.cola_spec.specs.Map.{Map, is_key, count};
+ghost use Rattle.cola_spec.specs.Reply.{Got, Stamped, Deleted};
 ghost use Rattle.cola_store.specs.Calls.{TransfersWithin};
 ghost use Rattle.cola_store.specs.Store.{terms_of};
 ghost use Rattle.cola_table.specs.Terms.{shape};
@@ -10,7 +12,7 @@ ghost use Rattle.cola_mapped.specs.Mapped.{counts_of};
 ghost use Rattle.cola_handle.specs.declared.answer.Refusal.TheVariants.{Length};
 ghost use Rattle.cola_handle.specs.Open.{bytes_of, HoldsMap, shape_of, levels_of, place_of};
 ghost use Rattle.cola_handle.specs.Reading.{ReadsFew};
-ghost use Rattle.cola_handle.specs.Calls.{both_fit, ByLength, GetSays, StampSays, DeleteSays, PutSays, PutIfSays};
+ghost use Rattle.cola_handle.specs.Calls.{both_fit, ByLength, StoreSays, put_said, put_if_said, GetSays, StampSays, DeleteSays, PutSays, PutIfSays};
 
 use crate::answer::Refusal;
 use crate::session::Session;
@@ -64,6 +66,7 @@ pub fn get<L: Ledger>(
     requires some { 0 < L.parts }
     ensures answer { (m : Map) → HoldsMap session.old m →
         GetSays m key.now (HoldsMap session.new) result }
+    ensures given { StoreSays (spec.Get key.now) Got session.old session.new result }
     ensures length { ByLength (is_key (shape_of session.old) key.now)
         (session.new ≡ session.old) result }
     ensures ticks { OnOk result (session.new.ticks ≤ get_bound (levels_of session.old)) }
@@ -94,6 +97,7 @@ pub fn stamp<L: Ledger>(
     requires some { 0 < L.parts }
     ensures answer { (m : Map) → HoldsMap session.old m →
         StampSays m key.now (HoldsMap session.new) result }
+    ensures given { StoreSays (spec.Stamp key.now) Stamped session.old session.new result }
     ensures length { ByLength (is_key (shape_of session.old) key.now)
         (session.new ≡ session.old) result }
     ensures ticks { OnOk result (session.new.ticks ≤ get_bound (levels_of session.old)) }
@@ -124,6 +128,7 @@ pub fn delete<L: Ledger>(
     requires some { 0 < L.parts }
     ensures answer { (m : Map) → HoldsMap session.old m →
         DeleteSays m key.now (HoldsMap session.new) result }
+    ensures given { StoreSays (spec.Del key.now) Deleted session.old session.new result }
     ensures length { ByLength (is_key (shape_of session.old) key.now)
         (session.new ≡ session.old) result }
     ensures ticks { OnOk result (session.new.ticks ≤ put_bound (levels_of session.old)) }
@@ -156,6 +161,8 @@ pub fn put<L: Ledger>(
     requires some { 0 < L.parts }
     ensures answer { (m : Map) → HoldsMap session.old m →
         PutSays (shape_of session.old) m key.now value.now (HoldsMap session.new) result }
+    ensures given { StoreSays (spec.Put key.now value.now) put_said session.old session.new
+        result }
     ensures length { ByLength (both_fit (shape_of session.old) key.now value.now)
         (session.new ≡ session.old) result }
     ensures ticks { OnOk result (session.new.ticks ≤ put_bound (levels_of session.old)) }
@@ -191,6 +198,8 @@ pub fn put_if<L: Ledger>(
     requires some { 0 < L.parts }
     ensures answer { (m : Map) → HoldsMap session.old m →
         PutIfSays (shape_of session.old) m key.now seen value.now (HoldsMap session.new) result }
+    ensures given { StoreSays (spec.PutIf key.now seen value.now) put_if_said session.old session.new
+        result }
     ensures length { ByLength (both_fit (shape_of session.old) key.now value.now)
         (session.new ≡ session.old) result }
     ensures ticks { OnOk result (session.new.ticks ≤ put_bound (levels_of session.old)) }
@@ -215,7 +224,8 @@ pub fn put_if<L: Ledger>(
 
 /// The number of keys.
 pub fn count(session: &Session) -> u64
-    ensures { (m : Map) → HoldsMap session.now m → result ≡ count m }
+    ensures stored { result ≡ session.now.store.count }
+    ensures counted { (m : Map) → HoldsMap session.now m → result ≡ count m }
 {
     session.store.count()
 }

@@ -1,13 +1,15 @@
 //! Rows of an open store, by rising keys.
-ghost use Rattle.std.specs.Prelude.{◌≡◌, ◌<◌, ◌≤◌, ◌+◌, ◌++◌, true, [], ◌∷◌, length, take, drop, map, All, IfOk, OnErr, MatchResult, option_copied};
+ghost use Rattle.std.specs.Prelude.{◌≡◌, ℕ, ◌<◌, ◌≤◌, ◌+◌, ◌++◌, true, [], ◌∷◌, length, take, drop, map, All, IfOk, IfErr, OnErr, MatchResult, option_copied};
 ghost use Rattle.cola_spec.specs.Bounds.{range_bound};
 ghost use Rattle.cola_spec.specs.Map.{Map, pairs_between};
 ghost use Rattle.cola_store.specs.Store.{terms_of};
 ghost use Rattle.cola_table.specs.Answers.{OnlyDeviceRead, ReadFaults};
 ghost use Rattle.cola_table.specs.Terms.{Call};
 ghost use Rattle.cola_handle.specs.Calls.{ByLength};
-ghost use Rattle.cola_handle.specs.Cursors.{row_pair, IsGoodRow, is_good, not_given, HaveFirst, Writes, Moves, NextSays};
+ghost use Rattle.cola_handle.specs.Cursors.{row_pair, IsGoodRow, is_good, not_given, HaveFirst, GaveSome, Writes, Moves, NextSays};
 ghost use Rattle.cola_handle.specs.Open.{HoldsMap, levels_of, place_of};
+ghost use Rattle.cola_handle.specs.Reading.{Reads};
+ghost use Rattle.cola_handle.specs.Walking.{Fills, RangeSays};
 
 use crate::answer::Refusal;
 use crate::cursor::{Cursor, Row};
@@ -52,7 +54,10 @@ fn fill<T: Table, L: Ledger>(
         (λ given. HaveFirst
         (not_given cursor.now (pairs_between m low.now (option_copied high.entry))) rows.new given
         × T.holds table.new m) OnlyDeviceRead }
-    ensures writes { IfOk result (λ given. Writes rows.old rows.new given) }
+    ensures fills { Fills T.begins T.goes cursor.now low.now (option_copied high.entry) table.old
+        rows.new result table.new }
+    ensures writes { MatchResult result (Writes rows.old rows.new)
+        (λ _. (given : ℕ) × Writes rows.old rows.new given) }
     ensures call { Call (T.terms table.old) (T.terms table.new) (T.faults table.old)
         (T.faults table.new) steps.old steps.new (range_bound (T.terms table.old).depth) }
     ensures faults { ReadFaults result (T.faults table.old) (T.faults table.new) }
@@ -78,6 +83,7 @@ fn fill<T: Table, L: Ledger>(
 
 /// The next rows of the cursor, and how many they are: it stands behind the last of them then. A refusal leaves the cursor. `Length`
 /// where a length of the cursor is more than its list has; then nothing is read.
+#[tactic(auto, using(crate::proofs::Turns::fill_reads, crate::proofs::Turns::no_turn))]
 pub fn next<L: Ledger>(
     session: &mut Session,
     cursor: &mut Cursor,
@@ -86,12 +92,15 @@ pub fn next<L: Ledger>(
 ) -> Result<usize, Refusal>
     ensures answer { (m : Map) → HoldsMap session.old m →
         NextSays m cursor.old cursor.new rows.new (HoldsMap session.new) result }
+    ensures given { RangeSays session.old session.new cursor.old rows.new result }
     ensures length { ByLength (is_good cursor.old) (session.new ≡ session.old) result }
     ensures writes { IfOk result (Writes rows.old rows.new) }
+    ensures gave_some { IfErr result (GaveSome rows.old rows.new) }
     ensures moves { IfOk result (Moves cursor.old cursor.new rows.new) }
     ensures refused { OnErr result (cursor.new ≡ cursor.old) }
     ensures good { is_good cursor.old ≡ true → is_good cursor.new ≡ true }
     ensures ticks { steps.new ≤ steps.old + range_bound (levels_of session.old) }
+    ensures reads { Reads session.old session.new (range_bound (levels_of session.old)) }
     ensures last_ticks { session.new.ticks ≡ session.old.ticks }
     ensures terms { terms_of session.new.store ≡ terms_of session.old.store }
     ensures place { place_of session.new ≡ place_of session.old }

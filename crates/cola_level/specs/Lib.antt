@@ -4,3 +4,5 @@ pub mod Standing
 pub mod Work
 pub mod Built
 pub mod Works
+pub mod Laws
+pub mod Calls

@@ -1,8 +1,7 @@
 //! The work of one mutation on a level's merge.
 ghost use Rattle.std.specs.Prelude.{◌≡◌};
 ghost use Rattle.cola_merge.specs.Heads.{IsReady};
-ghost use Rattle.cola_merge.specs.States.{state};
-ghost use Rattle.cola_level.specs.Built.{Stepped, Built};
+ghost use Rattle.cola_level.specs.Calls.{StepsLeave, BuildLeaves};
 
 use cola_cell::{CellSink, CellSource, StepFault};
 use cola_merge::{Aim, Merger, Progress};
@@ -21,8 +20,8 @@ fn take_steps<W: CellSource + CellSink, L: Ledger>(
 ) -> Result<Progress, StepFault>
     requires { IsReady (W.CellSource.state work.old).held aim.now merger.old }
     ensures kept { W.CellSource.kept work.new ≡ W.CellSource.kept work.old }
-    ensures stepped { Stepped aim.now (state (W.CellSource.state work.old) merger.old steps.old)
-        (state (W.CellSource.state work.new) merger.new steps.new) result }
+    ensures stepped { StepsLeave W.CellSource work.old work.new aim.now
+        merger.old merger.new steps.old steps.new result }
 {
     merger.advance(work, aim, QUOTA, steps)
 }
@@ -36,8 +35,8 @@ pub(crate) fn build<W: CellSource + CellSink, L: Ledger>(
 ) -> Result<(), StepFault>
     requires { IsReady (W.CellSource.state work.old).held aim.now merger.old }
     ensures kept { W.CellSource.kept work.new ≡ W.CellSource.kept work.old }
-    ensures built { Built aim.now (state (W.CellSource.state work.old) merger.old steps.old)
-        (state (W.CellSource.state work.new) merger.new steps.new) result }
+    ensures built { BuildLeaves W.CellSource work.old work.new aim.now
+        merger.old merger.new steps.old steps.new result }
 {
     match take_steps(merger, work, aim, steps)? {
         Progress::Done => work.finish(aim.level)?,

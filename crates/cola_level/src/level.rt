@@ -39,7 +39,7 @@ impl Level {
     ghost use Rattle.cola_layout.specs.Marks.{numbers_of};
     ghost use Rattle.cola_merge.specs.Heads.{IsReady};
     ghost use Rattle.cola_level.specs.Marks.{marks_of, level_with, out_of_window, flipped, IsOwnRunConsumed};
-    ghost use Rattle.cola_level.specs.Works.{Works};
+    ghost use Rattle.cola_level.specs.Calls.{WorkLeaves};
 
     /// The level with these marks.
     pub fn of(marks: &Marks) -> Level
@@ -79,7 +79,7 @@ impl Level {
     ) -> Result<(), StepFault>
         requires { IsReady (W.CellSource.state work.old).held aim.now self.old.merger }
         ensures kept { W.CellSource.kept work.new ≡ W.CellSource.kept work.old }
-        ensures works { Works aim.now (W.CellSource.state work.old) (W.CellSource.state work.new)
+        ensures works { WorkLeaves W.CellSource work.old work.new aim.now
             self.old self.new steps.old steps.new result }
     {
         let result = build(&mut self.merger, work, aim, steps);

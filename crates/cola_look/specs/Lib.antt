@@ -1,3 +1,4 @@
+pub mod Laws
 pub mod Outcome
 pub mod Runs
 pub mod Seek

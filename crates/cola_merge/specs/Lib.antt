@@ -6,3 +6,5 @@ pub mod Rules
 pub mod States
 pub mod Advance
 pub mod Pulls
+pub mod Laws
+pub mod Calls

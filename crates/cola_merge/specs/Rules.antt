@@ -1,9 +1,10 @@
 -- The rules of a merge over the heads that are held.
-use Rattle.std.specs.Prelude.{ℕ, ◌*◌, List, Option, None, Some, ⊤}
+use Rattle.std.specs.Prelude.{◌≡◌, ℕ, ◌*◌, List, Option, None, Some, ⊤}
 use Rattle.std.specs.Option.{option_map}
 use Rattle.cola_runs.specs.Steps as laws
-use Rattle.cola_runs.specs.Steps.{Action, Take, Ended, rule}
+use Rattle.cola_runs.specs.Steps.{Action, Take, Ended, emitted, item_or_look, least, rule}
 use Rattle.cola_cell.specs.declared.cell.Cell.{Cell}
+use Rattle.cola_cell.specs.declared.cell.Cell.TheVariants as cell
 use Rattle.cola_cell.specs.declared.cell.Reader.{Reader}
 use Rattle.cola_cell.specs.declared.cell.Reader.TheVariants.{Own, Incoming, Sample}
 use Rattle.cola_cell.specs.declared.format.Format.{Format}
@@ -14,6 +15,7 @@ use Rattle.cola_cell.specs.Packed.{passed, MayPass}
 use Rattle.cola_cell.specs.Held.{Stamped, as_cell}
 use Rattle.cola_merge.specs.declared.aims.Aim.{Aim}
 use Rattle.cola_merge.specs.declared.rules.Choice.{Choice}
+use Rattle.cola_merge.specs.Fetched.{Head}
 use Rattle.cola_merge.specs.declared.merging.Merger.{Merger}
 use Rattle.cola_cell.specs.Order.{key_cmp}
 use Rattle.cola_merge.specs.Feeds.{part_of}
@@ -65,3 +67,36 @@ abbrev pub Emits : Action (List ℕ) Stamped → Type 0
 Emits (Take head None) = ⊥
 Emits (Take head (Some c)) = ⊤
 Emits Ended = ⊥
+
+-- ---- what the rules choose
+
+-- what is passed on of a cell at this head is what the rules emit of it
+abbrev pub PassesOn : Aim → ℕ → Reader → Cell → Option Pass → Type 0
+PassesOn aim link head c pass =
+    option_map as_cell (emitted_of pass (Some c)) ≡ emitted (part_of aim) link (as_head head) (as_cell c)
+
+-- a lookahead cell of the key of the sample's head is emitted, with this link
+abbrev pub ChoosesLook : ℕ → Option Choice → Type 0
+ChoosesLook link choice = (m : Merger) (next : Cell) → m.sample.cell ≡ Some next →
+    as_action m choice ≡ Take (as_head Sample) (Some (as_cell (cell.Look (key_of next) link)))
+
+-- this is so of each merger that holds this cell at this head, and this head of the sample
+abbrev pub IfHeld : Reader → Cell → Head → (Merger → Type 0) → Type 0
+IfHeld head c sample P = (m : Merger) → (head_of m head).cell ≡ Some c → m.sample ≡ sample → P m
+
+-- the item at a head goes first, or a lookahead cell of the sample's key
+abbrev pub ChoosesItemOrLook : Aim → ℕ → Reader → Cell → Head → Option Choice → Type 0
+ChoosesItemOrLook aim link head c sample choice = IfHeld head c sample (λ m. as_action m choice
+    ≡ item_or_look key_cmp (part_of aim) link (as_head head) (as_cell c) (option_map key_of sample.cell))
+
+-- the rule that fits where no head is passed over
+abbrev pub ChoosesLeast : Aim → ℕ → Merger → Option Choice → Type 0
+ChoosesLeast aim link m choice = as_action m choice
+    ≡ least key_cmp (part_of aim) link
+    (option_map as_cell m.own.cell) (option_map as_cell m.incoming.cell) (option_map key_of m.sample.cell)
+
+-- the first of the five rules that fits
+abbrev pub ChoosesRule : Aim → ℕ → Merger → Option Choice → Type 0
+ChoosesRule aim link m choice = as_action m choice
+    ≡ rule key_cmp (part_of aim) link
+    (option_map as_cell m.own.cell) (option_map as_cell m.incoming.cell) (option_map key_of m.sample.cell)

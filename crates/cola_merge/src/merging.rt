@@ -2,7 +2,7 @@
 ghost use Rattle.std.specs.Prelude.{◌≡◌, ◌+◌, ◌*◌, ◌<◌, ◌≤◌, ◌^◌, ◌↔◌, IsTrue, Some};
 ghost use Rattle.cola_cell.specs.declared.format.Format.{Format};
 ghost use Rattle.cola_merge.specs.Rules.{HeadFits, Suits, emitted_of};
-ghost use Rattle.cola_merge.specs.States.{Emission};
+ghost use Rattle.cola_merge.specs.Calls.{Adds};
 
 use crate::aims::{Aim, Progress};
 use crate::heads::Head;
@@ -34,8 +34,7 @@ fn emit<W: CellSink, L: Ledger>(
     requires fits { HeadFits (W.CellSource.state work.old).held.fixed.format head.now.cell }
     requires suits { Suits pass head.now.cell }
     ensures kept { W.CellSource.kept work.new ≡ W.CellSource.kept work.old }
-    ensures emission { Emission (W.CellSource.state work.old) (W.CellSource.state work.new) level
-        (emitted_of pass head.now.cell) steps.old steps.new result }
+    ensures adds { Adds W.CellSource work.old work.new level pass head.now steps.old steps.new result }
 {
     match (pass, head.cell()) {
         (Some(pass), Some(cell)) => work.push_as(level, slot, cell, pass, steps),
@@ -56,9 +55,7 @@ fn given(head: &Head, pass: Option<Pass>) -> Option<Cell>
 impl Merger {
     ghost use Rattle.cola_merge.specs.Heads.{fresh, head_at, merger_at, head_of, with_head, HasHeads, IsReady, AreFetched, IsUsedUp};
     ghost use Rattle.cola_merge.specs.Rules.{as_action, next_action, ChoiceSuits};
-    ghost use Rattle.cola_merge.specs.States.{state, Stepped, Taken, TakesQuota};
-    ghost use Rattle.cola_merge.specs.Advance.{Advances};
-    ghost use Rattle.cola_merge.specs.Pulls.{Next, Drawn, Pulls};
+    ghost use Rattle.cola_merge.specs.Calls.{AdvanceLeaves, PullLeaves, NextLeaves, StepLeaves, TakeLeaves, RunLeaves, DrawLeaves};
 
     /// A merge that has consumed nothing.
     pub fn begin() -> Merger
@@ -124,8 +121,8 @@ impl Merger {
     ) -> Result<Progress, StepFault>
         requires { IsReady (W.CellSource.state work.old).held aim.now self.old }
         ensures kept { W.CellSource.kept work.new ≡ W.CellSource.kept work.old }
-        ensures advances { Advances aim.now (state (W.CellSource.state work.old) self.old steps.old)
-            (state (W.CellSource.state work.new) self.new steps.new) quota result }
+        ensures advances { AdvanceLeaves W.CellSource work.old work.new aim.now
+            self.old self.new steps.old steps.new quota result }
     {
         // every object has at most 23 levels, and its shadows stand in slot 0 or 1 and fit it
         let _ = work.ticked();
@@ -146,8 +143,8 @@ impl Merger {
     ) -> Result<Option<Cell>, ReadFault>
         requires { HasHeads (W.state work.old).held aim.now self.old }
         ensures kept { W.kept work.new ≡ W.kept work.old }
-        ensures pulls { Pulls aim.now (state (W.state work.old) self.old steps.old)
-            (state (W.state work.new) self.new steps.new) result }
+        ensures pulls { PullLeaves W.CellSource work.old work.new aim.now
+            self.old self.new steps.old steps.new result }
     {
         // every object has at most 23 levels
         let _ = work.ticked();
@@ -197,8 +194,8 @@ impl Merger {
         requires heads { HasHeads (W.state work.old).held aim.now self.old }
         requires levels { (W.state work.old).held.fixed.levels ≤ 23 }
         ensures kept { W.kept work.new ≡ W.kept work.old }
-        ensures next { Next aim.now (state (W.state work.old) self.old steps.old)
-            (state (W.state work.new) self.new steps.new) result }
+        ensures next { NextLeaves W.CellSource work.old work.new aim.now
+            self.old self.new steps.old steps.new result }
     {
         self.own.fetch(Reader::Own, &aim.own, work, steps)?;
         self.incoming
@@ -222,8 +219,8 @@ impl Merger {
         requires levels { (W.CellSource.state work.old).held.fixed.levels ≤ 23 }
         requires slot_in { ((W.CellSource.state work.old).held.shadows aim.now.level).slot < 2 }
         ensures kept { W.CellSource.kept work.new ≡ W.CellSource.kept work.old }
-        ensures stepped { Stepped aim.now (state (W.CellSource.state work.old) self.old steps.old)
-            (state (W.CellSource.state work.new) self.new steps.new) result }
+        ensures stepped { StepLeaves W.CellSource work.old work.new aim.now
+            self.old self.new steps.old steps.new result }
     {
         let head = self.head(choice.head);
         emit(work, aim.level, aim.slot, head, choice.pass, steps)?;
@@ -243,8 +240,8 @@ impl Merger {
         requires levels { (W.CellSource.state work.old).held.fixed.levels ≤ 23 }
         requires slot_in { ((W.CellSource.state work.old).held.shadows aim.now.level).slot < 2 }
         ensures kept { W.CellSource.kept work.new ≡ W.CellSource.kept work.old }
-        ensures taken { Taken aim.now (state (W.CellSource.state work.old) self.old steps.old)
-            (state (W.CellSource.state work.new) self.new steps.new) result }
+        ensures taken { TakeLeaves W.CellSource work.old work.new aim.now
+            self.old self.new steps.old steps.new result }
     {
         let Some(choice) = self.next(work, aim, steps)? else {
             return Ok(());
@@ -265,8 +262,8 @@ impl Merger {
         requires levels { (W.CellSource.state work.old).held.fixed.levels ≤ 23 }
         requires slot_in { ((W.CellSource.state work.old).held.shadows aim.now.level).slot < 2 }
         ensures kept { W.CellSource.kept work.new ≡ W.CellSource.kept work.old }
-        ensures ran { TakesQuota aim.now (state (W.CellSource.state work.old) self.old steps.old)
-            (state (W.CellSource.state work.new) self.new steps.new) quota result }
+        ensures ran { RunLeaves W.CellSource work.old work.new aim.now
+            self.old self.new steps.old steps.new quota result }
     {
         for _ in 0..quota {
             if self.is_done(aim) {
@@ -289,8 +286,8 @@ impl Merger {
         requires heads { HasHeads (W.state work.old).held aim.now self.old }
         requires levels { (W.state work.old).held.fixed.levels ≤ 23 }
         ensures kept { W.kept work.new ≡ W.kept work.old }
-        ensures drawn { Drawn aim.now (state (W.state work.old) self.old steps.old)
-            (state (W.state work.new) self.new steps.new) result }
+        ensures drawn { DrawLeaves W.CellSource work.old work.new aim.now
+            self.old self.new steps.old steps.new result }
     {
         while let Some(next) = self.next(work, aim, steps)? {
             let cell = given(self.head(next.head), next.pass);

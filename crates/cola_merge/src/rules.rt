@@ -1,17 +1,13 @@
 //! The five rules of a merge, over the heads that are held.
-ghost use Rattle.std.specs.Prelude.{◌≡◌, ◌*◌, ◌&&◌, None, Some};
-ghost use Rattle.std.specs.Option.{option_map};
-ghost use Rattle.cola_runs.specs.Steps.{Take, emitted, flag_of, item_or_look, least, rule, skips_own, skips_incoming};
-ghost use Rattle.cola_cell.specs.Cell.{key_of};
+ghost use Rattle.std.specs.Prelude.{◌≡◌, ◌&&◌, None, Some};
+ghost use Rattle.cola_runs.specs.Steps.{Take, flag_of, skips_own, skips_incoming};
 ghost use Rattle.cola_cell.specs.declared.cell.Cell.{Cell};
-ghost use Rattle.cola_cell.specs.declared.cell.Reader.{Reader};
 ghost use Rattle.cola_cell.specs.Held.{as_cell};
 ghost use Rattle.cola_cell.specs.Packed.{is_tombstone};
-ghost use Rattle.cola_cell.specs.Order.{key_cmp};
 ghost use Rattle.cola_merge.specs.declared.merging.Merger.{Merger};
 ghost use Rattle.cola_merge.specs.Feeds.{part_of};
-ghost use Rattle.cola_merge.specs.Heads.{heads, head_of};
-ghost use Rattle.cola_merge.specs.Rules.{as_head, as_action, emitted_of, Suits, ChoiceSuits};
+ghost use Rattle.cola_merge.specs.Heads.{heads};
+ghost use Rattle.cola_merge.specs.Rules.{as_head, as_action, Suits, ChoiceSuits, PassesOn, IfHeld, ChoosesLook, ChoosesItemOrLook, ChoosesLeast, ChoosesRule};
 
 use crate::aims::Aim;
 use crate::heads::Head;
@@ -28,8 +24,7 @@ pub(crate) struct Choice {
 
 /// What becomes of an item at a head: none for a tombstone that is left out.
 fn emit(aim: &Aim, link: u32, head: Reader, cell: &Packed) -> Option<Pass>
-    ensures emitted { option_map as_cell (emitted_of result (Some cell.now))
-        ≡ emitted (part_of aim.now) link (as_head head) (as_cell cell.now) }
+    ensures emitted { PassesOn aim.now link head cell.now result }
     ensures suits { Suits result (Some cell.now) }
 {
     if cell.is_look() || is_left_out(aim, cell) {
@@ -70,8 +65,7 @@ fn pass(head: Reader) -> Option<Choice>
 
 /// Emits a lookahead cell of the key of the sample's head.
 fn look(link: u32) -> Option<Choice>
-    ensures choice { (m : Merger) (next : Cell) → m.sample.cell ≡ Some next →
-        as_action m result ≡ Take (as_head Reader.Sample) (Some (as_cell (Cell.Look (key_of next) link))) }
+    ensures choice { ChoosesLook link result }
     ensures suits { (m : Merger) (next : Cell) → m.sample.cell ≡ Some next → ChoiceSuits m result }
 {
     Some(Choice {
@@ -88,10 +82,8 @@ fn emit_item_or_look(
     cell: &Packed,
     sample: &Head,
 ) -> Option<Choice>
-    ensures choice { (m : Merger) → (head_of m head).cell ≡ Some cell.now → m.sample ≡ sample.now →
-        as_action m result ≡ item_or_look key_cmp (part_of aim.now) link (as_head head) (as_cell cell.now) (option_map key_of sample.now.cell) }
-    ensures suits { (m : Merger) → (head_of m head).cell ≡ Some cell.now → m.sample ≡ sample.now →
-        ChoiceSuits m result }
+    ensures choice { ChoosesItemOrLook aim.now link head cell.now sample.now result }
+    ensures suits { IfHeld head cell.now sample.now (λ m. ChoiceSuits m result) }
 {
     match sample.cell() {
         Some(next) if cell.cmp_keys(next).is_gt() => look(link),
@@ -125,8 +117,7 @@ fn passes_incoming(incoming: &Packed) -> bool
 /// The rule that fits where no head is passed over: of two equal keys the own item is dropped, else the smaller key
 /// goes first.
 fn emit_least(aim: &Aim, link: u32, own: &Head, incoming: &Head, sample: &Head) -> Option<Choice>
-    ensures choice { as_action (heads own.now incoming.now sample.now) result
-        ≡ least key_cmp (part_of aim.now) link (option_map as_cell own.now.cell) (option_map as_cell incoming.now.cell) (option_map key_of sample.now.cell) }
+    ensures choice { ChoosesLeast aim.now link (heads own.now incoming.now sample.now) result }
     ensures suits { ChoiceSuits (heads own.now incoming.now sample.now) result }
 {
     match (own.cell(), incoming.cell()) {
@@ -152,8 +143,7 @@ pub(crate) fn first_rule(
     incoming: &Head,
     sample: &Head,
 ) -> Option<Choice>
-    ensures choice { as_action (heads own.now incoming.now sample.now) result
-        ≡ rule key_cmp (part_of aim.now) link (option_map as_cell own.now.cell) (option_map as_cell incoming.now.cell) (option_map key_of sample.now.cell) }
+    ensures choice { ChoosesRule aim.now link (heads own.now incoming.now sample.now) result }
     ensures suits { ChoiceSuits (heads own.now incoming.now sample.now) result }
 {
     match own.cell() {

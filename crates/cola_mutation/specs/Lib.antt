@@ -3,3 +3,5 @@ pub mod Work
 pub mod Ends
 pub mod Standing
 pub mod Steps
+pub mod Laws
+pub mod Calls

@@ -2,7 +2,8 @@
 ghost use Rattle.std.specs.Prelude.{◌≡◌, ◌+◌, ◌<◌, ◌≤◌, ◌^◌, true, length};
 ghost use Rattle.cola_clock.specs.Clock.{ends};
 ghost use Rattle.cola_level.specs.Marks.{IsOwnRunConsumed};
-ghost use Rattle.cola_mutation.specs.Ends.{ended, all_ended, AreDone, Restarted};
+ghost use Rattle.cola_mutation.specs.Ends.{ended, all_ended, AreDone};
+ghost use Rattle.cola_mutation.specs.Calls.{EndLeaves};
 
 use cola_cell::{CellSink, CellSource};
 use cola_clock::{flips, visible_slot};
@@ -18,8 +19,7 @@ fn end_level<W: CellSink>(work: &mut W, level: &mut Level, clock: u64, number: u
     ensures kept { W.CellSource.kept work.new ≡ W.CellSource.kept work.old }
     ensures spends_nothing { (W.CellSource.state work.new).spent ≡ (W.CellSource.state work.old).spent }
     ensures ended { level.new ≡ ended clock number level.old }
-    ensures restarted { Restarted clock number 1
-        (W.CellSource.state work.old).held (W.CellSource.state work.new).held }
+    ensures restarted { EndLeaves W.CellSource work.old work.new clock number 1 }
 {
     if flips(clock, number) {
         level.flip();
@@ -45,8 +45,7 @@ pub(crate) fn end_levels<W: CellSink>(work: &mut W, levels: &mut [Level], clock:
     ensures kept { W.CellSource.kept work.new ≡ W.CellSource.kept work.old }
     ensures spends_nothing { (W.CellSource.state work.new).spent ≡ (W.CellSource.state work.old).spent }
     ensures ended { levels.new ≡ all_ended clock number levels.old }
-    ensures restarted { Restarted clock number (length levels.old)
-        (W.CellSource.state work.old).held (W.CellSource.state work.new).held }
+    ensures restarted { EndLeaves W.CellSource work.old work.new clock number (length levels.old) }
 {
     let Some((level, below)) = levels.split_first_mut() else {
         return;

@@ -3,9 +3,7 @@ ghost use Rattle.std.specs.Prelude.{◌≡◌, ◌≤◌, ◌<◌, ◌^◌, leng
 ghost use Rattle.cola_laws.specs.Plain.{next_clock};
 ghost use Rattle.cola_cell.specs.Format.{CellFits, KeyFits, ItemFits};
 ghost use Rattle.cola_mutation.specs.Levels.{IsChain};
-ghost use Rattle.cola_mutation.specs.Work.{state_of};
-ghost use Rattle.cola_mutation.specs.Standing.{PreparesAll};
-ghost use Rattle.cola_mutation.specs.Steps.{Mutates};
+ghost use Rattle.cola_mutation.specs.Calls.{PrepareLeaves, MutationLeaves};
 
 use crate::ending::end_levels;
 use crate::topping::build_top;
@@ -29,8 +27,8 @@ fn build_shadows<W: CellSink, L: Ledger>(
     requires clock_in { clock < 2 ^ 23 }
     requires fits { CellFits (W.CellSource.state work.old).held.fixed.format cell }
     ensures kept { W.CellSource.kept work.new ≡ W.CellSource.kept work.old }
-    ensures prepares { PreparesAll clock cell
-        (state_of (W.CellSource.state work.old) steps.old) (state_of (W.CellSource.state work.new) steps.new) levels.old levels.new result }
+    ensures prepares { PrepareLeaves W.CellSource work.old work.new steps.old steps.new
+        clock cell levels.old levels.new result }
 {
     let bottom = (levels.len() - 1) as u8;
     let Some((top, below)) = levels.split_first_mut() else {
@@ -80,8 +78,8 @@ pub fn step<W: CellSink, L: Ledger>(
     requires key_fits { KeyFits (W.CellSource.state work.old).held.fixed.format key.now }
     requires item_fits { ItemFits (W.CellSource.state work.old).held.fixed.format item.now }
     ensures kept { W.CellSource.kept work.new ≡ W.CellSource.kept work.old }
-    ensures steps { Mutates clock key.now item.now
-        (state_of (W.CellSource.state work.old) steps.old) (state_of (W.CellSource.state work.new) steps.new) levels.old levels.new result }
+    ensures steps { MutationLeaves W.CellSource work.old work.new steps.old steps.new
+        clock key.now item.now levels.old levels.new result }
 {
     // every object has at most 23 levels
     let _ = work.ticked();

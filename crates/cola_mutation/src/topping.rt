@@ -1,8 +1,6 @@
 //! The build of level 0 in one mutation.
 ghost use Rattle.std.specs.Prelude.{◌≡◌, ◌≤◌, ◌<◌, ◌^◌};
-ghost use Rattle.cola_merge.specs.Heads.{fresh, IsReady};
-ghost use Rattle.cola_level.specs.Marks.{marks_of};
-ghost use Rattle.cola_mutation.specs.Work.{state_of, build_aim, Builds};
+ghost use Rattle.cola_mutation.specs.Calls.{MayBuild, TopBuildLeaves};
 
 use cola_cell::{Cell, CellSink, CellSource, StepFault};
 use cola_level::{Level, top_aim};
@@ -27,13 +25,11 @@ pub(crate) fn build_top<W: CellSink, L: Ledger>(
     requires below_zero { 1 ≤ bottom }
     requires bottom_in { bottom ≤ 22 }
     requires clock_in { clock < 2 ^ 23 }
-    requires ready { IsReady (W.CellSource.state work.old).held
-        (build_aim clock cell top.old (marks_of next.now)) fresh }
+    requires ready { MayBuild (W.CellSource.state work.old).held clock cell top.old next.now }
     requires empty { ((W.CellSource.state work.old).held.shadows 0).len ≡ 0 }
     ensures kept { W.CellSource.kept work.new ≡ W.CellSource.kept work.old }
-    ensures builds { Builds clock cell
-        (state_of (W.CellSource.state work.old) steps.old) (state_of (W.CellSource.state work.new) steps.new)
-        top.old top.new (marks_of next.now) result }
+    ensures builds { TopBuildLeaves W.CellSource work.old work.new steps.old steps.new
+        clock cell top.old top.new next.now result }
 {
     let aim = top_aim(clock, bottom, top.visible, cell, next);
     let mut merger = Merger::begin();

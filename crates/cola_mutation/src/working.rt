@@ -1,7 +1,7 @@
 //! The work of the levels of 1 and more in one mutation.
 ghost use Rattle.std.specs.Prelude.{◌≡◌, ◌+◌, ◌<◌, ◌≤◌, ◌^◌, length};
 ghost use Rattle.cola_mutation.specs.Levels.{Fits, AreFit};
-ghost use Rattle.cola_mutation.specs.Work.{state_of, TakesTurn, TakeTurns};
+ghost use Rattle.cola_mutation.specs.Calls.{TurnLeaves, TurnsLeave};
 ghost use Rattle.cola_level.specs.Marks.{all_marks_of};
 
 use cola_cell::{CellSink, CellSource, StepFault};
@@ -26,9 +26,8 @@ fn work_level<W: CellSink, L: Ledger>(
     requires clock_in { clock < 2 ^ 23 }
     requires levels_in { upper + length below.now < 22 }
     ensures kept { W.CellSource.kept work.new ≡ W.CellSource.kept work.old }
-    ensures turn { TakesTurn clock upper above
-        (state_of (W.CellSource.state work.old) steps.old) (state_of (W.CellSource.state work.new) steps.new)
-        level.old level.new (all_marks_of below.now) result }
+    ensures turn { TurnLeaves W.CellSource work.old work.new steps.old steps.new
+        clock upper above level.old level.new below.now result }
 {
     let number = upper + 1;
     if !works(clock, number) {
@@ -51,9 +50,8 @@ pub(crate) fn work_levels<W: CellSink, L: Ledger>(
     requires clock_in { clock < 2 ^ 23 }
     requires levels_in { upper + length levels.old ≤ 22 }
     ensures kept { W.CellSource.kept work.new ≡ W.CellSource.kept work.old }
-    ensures turns { TakeTurns clock upper above
-        (state_of (W.CellSource.state work.old) steps.old) (state_of (W.CellSource.state work.new) steps.new)
-        levels.old levels.new result }
+    ensures turns { TurnsLeave W.CellSource work.old work.new steps.old steps.new
+        clock upper above levels.old levels.new result }
 {
     let Some((level, below)) = levels.split_first_mut() else {
         return Ok(());

@@ -143,6 +143,10 @@ pub record IsBacked (geometry : Geometry) (shadows : List Shadow) (tails bytes :
   pub saved : (level : ℕ) → IsOnDevice geometry level → (shadow_at shadows level).saved ≡ true →
       IsSaved geometry shadows tails bytes level
 
+-- the same, by what lies below the front, where the device tells its bytes
+abbrev pub IsLowerBacked : Geometry → Lower → Type 0
+IsLowerBacked geometry lower = IfSome lower.told (IsBacked geometry lower.shadows lower.tails)
+
 -- what the cells of a store may be
 pub record AreCells (cells : Cells) : Type 0 where
   pub shape : IsShape cells.geometry cells.front cells.lower.shadows cells.lower.tails

@@ -4,3 +4,4 @@ pub mod Parts
 pub mod Turns
 pub mod Saving
 pub mod Loading
+pub mod Calls

@@ -23,6 +23,10 @@ pub record BadInRun (front : FrontCells) (level slot len number : ℕ) : Type 0 
   pub bad : cell_at front number ≡ None
   pub first : (i : ℕ) → i < index → cell_at front (number_of level slot i) ≢ None
 
+-- a cell stands at each place of a run of the front
+abbrev pub NoneBadInRun : FrontCells → (level slot len : ℕ) → Type 0
+NoneBadInRun front level slot len = (index : ℕ) → index < len → cell_at front (number_of level slot index) ≢ None
+
 -- the lowest place of the runs of a level of the front at which no cell stands, by its number
 pub record BadInLevel (header : Header) (front : FrontCells) (level number : ℕ) : Type 0 where
   pub slot : ℕ
@@ -31,6 +35,11 @@ pub record BadInLevel (header : Header) (front : FrontCells) (level number : ℕ
   -- slot 0 comes before slot 1
   pub before : slot ≡ 1 → (i : ℕ) → i < run_len header level 0 →
       cell_at front (number_of level 0 i) ≢ None
+
+-- a cell stands at each place of the runs of a level of the front
+abbrev pub NoneBadInLevel : Header → FrontCells → ℕ → Type 0
+NoneBadInLevel header front level =
+    (slot index : ℕ) → slot < 2 → index < run_len header level slot → cell_at front (number_of level slot index) ≢ None
 
 -- the lowest place of the front's runs at which no cell stands, by its number
 pub record BadInFront (header : Header) (front : FrontCells) (number : ℕ) : Type 0 where

@@ -87,6 +87,10 @@ pub record IsLoaded (header : Header) (held : Held) (told : Option (List ℕ)) :
   pub spots : IfSome told (AreFileSpots header.geometry held.spots)
   pub shadows : AreHeaderShadows header.geometry.bottom header held.shadows
 
+-- each cell is as before
+abbrev pub SameSpots : (before now : Held) → Type 0
+SameSpots before now = (level slot index : ℕ) → now.spots level slot index ≡ before.spots level slot index
+
 -- what a store reads stays: its shadows, but for what of them is on the device, and all its cells but those behind a shadow
 -- in its slot
 pub record SameReads (old new : Held) : Type 0 where

@@ -141,6 +141,14 @@ pub record IsStore {D : Type 0} (told : Option (List ℕ)) (store : Store D) : T
   pub many : store.buffers.many ≡ file_blocks store.geometry
   pub buffers_many : length store.buffers.lasts ≡ 1 + 3 * device_levels store.geometry
 
+-- the shadows of a new store: each is empty and stands in slot 1
+abbrev pub new_shadows : Geometry → List Shadow
+new_shadows geometry = replicate (geometry.bottom + 1) (emptied 1)
+
+-- the tails of a new store
+abbrev pub new_tails : Geometry → List ℕ
+new_tails geometry = replicate (tails_bytes geometry) 0
+
 -- a new store: no cell stands in memory, each shadow is empty and stands in slot 1, and no tick was made
 abbrev pub new_store : {D : Type 0} → D → Counts → Geometry → ℕ → Store D
 new_store device counts geometry cache =

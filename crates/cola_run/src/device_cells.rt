@@ -1,15 +1,15 @@
 //! The cells of the levels on the device: in the tail of a shadow, or in a block.
-ghost use Rattle.std.specs.Prelude.{◌≡◌, ◌+◌, ◌*◌, ◌/◌, ◌%◌, ◌^◌, ◌≤◌, ◌<◌, ◌==◌, not, true, false, if◌then◌else◌, Some, None, length};
+ghost use Rattle.std.specs.Prelude.{◌≡◌, ◌+◌, ◌*◌, ◌/◌, ◌%◌, ◌^◌, ◌≤◌, ◌<◌, ◌==◌, true, false, if◌then◌else◌, Some, None, length};
 ghost use Rattle.cola_cell.specs.Flat.{shadow_at, found};
 ghost use Rattle.cola_cell.specs.declared.cell.Cell.{Cell};
 ghost use Rattle.cola_cell.specs.Format.{width, CellFits};
 ghost use Rattle.cola_cell.specs.Packed.{given, passed, MayPass};
-ghost use Rattle.cola_cell.specs.Places.{slot_size, number_of, IsPlace};
-ghost use Rattle.cola_run.specs.Cells.{IsOnDevice, block_cells, block_bytes, file_blocks, device_levels, tail_number, block_number, is_in_tail, tails_bytes, HasRoom, end_block, end_number};
-ghost use Rattle.cola_run.specs.Parts.{Finds, OneShadow, WroteTail, MetFault, IsPushed, IsFinished, fills, lengthened};
-ghost use Rattle.cola_run.specs.Turns.{Turns, Writing};
+ghost use Rattle.cola_cell.specs.Places.{slot_size, IsPlace};
+ghost use Rattle.cola_run.specs.Cells.{IsOnDevice, block_cells, block_bytes, file_blocks, device_levels, tail_number, block_number, is_in_tail, tails_bytes, HasRoom, end_number};
+ghost use Rattle.cola_run.specs.Parts.{OneShadow, MetFault, fills, lengthened};
+ghost use Rattle.cola_run.specs.Turns.{Turns};
 ghost use Rattle.cola_front.specs.Front.{front_with};
-ghost use Rattle.cola_run.specs.Store.{lower_of};
+ghost use Rattle.cola_run.specs.Calls.{FindsAt, WritesTail, WritesAt, PushesBelow, PushWrites, FinishesBelow, FinishWrites, UnsavedHasRoom, OneLonger};
 
 use cola_cache::Buffers;
 use cola_cell::{Packed, Pass, PushFault, ReadFault, Shadow};
@@ -141,8 +141,8 @@ pub(crate) fn read_by_buffer<D: Device>(
     requires place { IsPlace (geometry.now.bottom + 1) level slot index }
     requires size { buffers.old.cache.size ≡ block_bytes geometry.now }
     requires many { buffers.old.many ≡ file_blocks geometry.now }
-    ensures finds { Finds (D.bytes buffers.old.cache.device) geometry.now.format
-        (number_of level slot index) (given into.new result) }
+    ensures finds { FindsAt D.Device buffers.old geometry.now
+        level slot index (given into.new result) }
     ensures turns { Turns D.counts buffers.old buffers.new buffer
         (block_number geometry.now level slot index) (given into.new result) }
     ensures bytes_stay { D.bytes buffers.new.cache.device ≡ D.bytes buffers.old.cache.device }
@@ -174,10 +174,10 @@ pub(crate) fn write_tail<D: Device>(
     requires tails { length tails.now ≡ tails_bytes geometry.now }
     requires size { buffers.old.cache.size ≡ block_bytes geometry.now }
     requires many { buffers.old.many ≡ file_blocks geometry.now }
-    ensures wrote { WroteTail result geometry.now tails.now level slot index
-        (D.bytes buffers.old.cache.device) (D.bytes buffers.new.cache.device) }
-    ensures writing { Writing D.counts D.kept true buffers.old buffers.new
-        (block_number geometry.now level slot index) result }
+    ensures wrote { WritesTail D.Device buffers.old buffers.new geometry.now tails.now
+        level slot index result }
+    ensures writing { WritesAt D.Device buffers.old buffers.new geometry.now
+        level slot index result }
     ensures fault { MetFault result }
 {
     let size = buffers.block_size();
@@ -227,10 +227,10 @@ pub(crate) fn push_on_device<D: Device>(
     requires tails { length tails.old ≡ tails_bytes geometry.now }
     requires size { buffers.old.cache.size ≡ block_bytes geometry.now }
     requires many { buffers.old.many ≡ file_blocks geometry.now }
-    ensures pushed { IsPushed geometry.now (lower_of D.bytes buffers.old shadows.old tails.old)
-        (lower_of D.bytes buffers.new shadows.new tails.new) level (passed pass cell.now) result }
-    ensures writing { Writing D.counts D.kept (fills geometry.now (shadow_at shadows.old level).len)
-        buffers.old buffers.new (end_block geometry.now shadows.old level) result }
+    ensures pushed { PushesBelow D.Device geometry.now buffers.old buffers.new
+        shadows.old shadows.new tails.old tails.new level (passed pass cell.now) result }
+    ensures writing { PushWrites D.Device geometry.now buffers.old buffers.new
+        shadows.old level result }
 {
     let shadow = shadow_of(shadows, level);
     // Until the cell is counted, not all of the tail is on the device.
@@ -260,14 +260,14 @@ pub(crate) fn finish_on_device<D: Device>(
 ) -> Result<(), PushFault>
     requires level { IsOnDevice geometry.now level }
     requires shadows { level < length shadows.old }
-    requires place { (shadow_at shadows.old level).saved ≡ false → HasRoom geometry.now shadows.old level }
+    requires place { UnsavedHasRoom geometry.now shadows.old level }
     requires tails { length tails.now ≡ tails_bytes geometry.now }
     requires size { buffers.old.cache.size ≡ block_bytes geometry.now }
     requires many { buffers.old.many ≡ file_blocks geometry.now }
-    ensures finished { IsFinished geometry.now (lower_of D.bytes buffers.old shadows.old tails.now)
-        (lower_of D.bytes buffers.new shadows.new tails.now) level result }
-    ensures writing { Writing D.counts D.kept (not (shadow_at shadows.old level).saved)
-        buffers.old buffers.new (end_block geometry.now shadows.old level) result }
+    ensures finished { FinishesBelow D.Device geometry.now buffers.old buffers.new
+        shadows.old shadows.new tails.now level result }
+    ensures writing { FinishWrites D.Device geometry.now buffers.old buffers.new
+        shadows.old level result }
 {
     let shadow = shadow_of(shadows, level);
     if shadow.saved {
@@ -299,8 +299,7 @@ pub(crate) fn push_in_front(
     requires may { MayPass pass cell.now }
     requires fits { CellFits geometry.now.format cell.now }
     ensures front { front.new ≡ front_with front.old (end_number shadows.old level) (passed pass cell.now) }
-    ensures shadow { OneShadow shadows.old shadows.new level
-        (lengthened geometry.now (shadow_at shadows.old level)) }
+    ensures shadow { OneLonger geometry.now shadows.old shadows.new level }
     ensures within { end_number shadows.old level < length front.old.cells }
 {
     let shadow = shadow_of(shadows, level);

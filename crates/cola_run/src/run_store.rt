@@ -1,12 +1,11 @@
 //! The cells of a store over a device.
-ghost use Rattle.std.specs.Prelude.{◌≡◌, ◌+◌, ◌*◌, ◌^◌, ◌≤◌, ◌<◌, IfOk, IfErr, replicate};
+ghost use Rattle.std.specs.Prelude.{◌≡◌, ◌+◌, ◌*◌, ◌^◌, ◌≤◌, IfOk, IfErr};
 ghost use Rattle.std.specs.Box.{boxed_slice_items};
-ghost use Rattle.cola_cell.specs.Shadows.{emptied};
 ghost use Rattle.cola_device.specs.Bytes.{HasRange};
 ghost use Rattle.cola_cache.specs.Blocks.{AreFew};
 ghost use Rattle.cola_front.specs.Front.{new_front};
-ghost use Rattle.cola_run.specs.Cells.{block_bytes, file_bytes, device_levels, tails_bytes};
-ghost use Rattle.cola_run.specs.Store.{Store, IsStore, new_store};
+ghost use Rattle.cola_run.specs.Cells.{block_bytes, file_bytes, device_levels};
+ghost use Rattle.cola_run.specs.Store.{Store, IsStore, new_store, new_shadows, new_tails};
 
 use crate::device_cells::cells_of_block;
 use cola_cache::Buffers;
@@ -87,9 +86,9 @@ fn parts(
     ensures front { IfOk result (λ made.
         made.0 ≡ new_front geometry.now.block_exp geometry.now.format) }
     ensures shadows { IfOk result (λ made.
-        boxed_slice_items made.1 ≡ replicate (geometry.now.bottom + 1) (emptied 1)) }
+        boxed_slice_items made.1 ≡ new_shadows geometry.now) }
     ensures tails { IfOk result (λ made.
-        boxed_slice_items made.2 ≡ replicate (tails_bytes geometry.now) 0) }
+        boxed_slice_items made.2 ≡ new_tails geometry.now) }
 {
     let front = Front::new(alloc, geometry.block_exp, geometry.format)?;
     let empty = Shadow {

@@ -1,21 +1,19 @@
 //! Loading a store from its file, and flushing it to that.
-ghost use Rattle.std.specs.Prelude.{◌≡◌, ◌≢◌, ℕ, ◌+◌, ◌≤◌, ◌<◌, [], ◌∷◌, Option, IfSome, None, OnOk, length, true, false};
-ghost use Rattle.cola_outside.specs.Told.{Both};
-ghost use Rattle.cola_cell.specs.Flat.{shadow_at};
-ghost use Rattle.cola_cell.specs.Places.{slot_size, number_of};
+ghost use Rattle.std.specs.Prelude.{◌≡◌, ◌+◌, ◌≤◌, ◌<◌, [], ◌∷◌, Option, IfSome, None, OnOk, length, true};
+ghost use Rattle.cola_cell.specs.Places.{slot_size};
 ghost use Rattle.cola_cell.specs.Shadows.{emptied};
-ghost use Rattle.cola_device.specs.Bytes.{splice, Wrote};
-ghost use Rattle.cola_device.specs.Counts.{Called};
+ghost use Rattle.cola_device.specs.Bytes.{splice};
 ghost use Rattle.cola_device.specs.Settling.{IsSettled};
 ghost use Rattle.cola_cache.specs.Blocks.{Stays};
-ghost use Rattle.cola_front.specs.Front.{IsFront, InOrder, SameShape, IsLoaded as IsFrontLoaded, block_size, cell_at, image};
+ghost use Rattle.cola_front.specs.Front.{IsFront, InOrder, SameShape, block_size, image};
 ghost use Rattle.cola_clock.specs.Clock.{visible_slot};
 ghost use Rattle.cola_layout.specs.Marks.{marks_of};
-ghost use Rattle.cola_run.specs.Cells.{IsOnDevice, IsShadow, IsShape, IsBacked, AreCells, spots_of, block_cells, block_bytes, file_blocks, tails_bytes, HasRoom, cells_by};
+ghost use Rattle.cola_run.specs.Cells.{IsShadow, IsShape, AreCells, block_cells, block_bytes, file_blocks, tails_bytes, cells_by, IsLowerBacked};
 ghost use Rattle.cola_run.specs.Store.{held_of, kept_of, lower_of, device_of};
 ghost use Rattle.cola_run.specs.Parts.{OneShadow};
-ghost use Rattle.cola_run.specs.Saving.{header_shadow, run_len, LoadAnswers, LoadSpends, IsLoaded, SameReads, IsFlushed, IsFrontLast, SameBehind, SettlesTwice, AreHeaderShadows};
-ghost use Rattle.cola_run.specs.Loading.{BadInRun, BadInLevel, BadInFront, NoneBadInFront, IsReading, IsWriting, loaded_shadow, StaySound, StayRead, SameCells, AreSavedBelow};
+ghost use Rattle.cola_run.specs.Saving.{header_shadow, run_len, SameReads, SameSpots};
+ghost use Rattle.cola_run.specs.Calls.{AllUnsavedHaveRoom, StandByHeader, IsFrontOf, OnlyReads, OnlyWrites, BlocksWrote, BothTell, LoadSays, LoadCosts, AreFlushed, BlocksFrontLast, BlocksSettleTwice, LoadsFile, FlushesFile, StoreFrontLast, StoreSettlesTwice, StoreKeepsBehind, StoreCalled};
+ghost use Rattle.cola_run.specs.Loading.{BadInRun, BadInLevel, BadInFront, NoneBadInFront, loaded_shadow, StaySound, StayRead, SameCells, AreSavedBelow, NoneBadInRun, NoneBadInLevel};
 
 use crate::device_cells::{begin_of_tail, block_at, cells_of_block, finish_on_device, set_shadow};
 use crate::run_store::RunStore;
@@ -79,8 +77,7 @@ fn bad_in_run(front: &Front, geometry: &Geometry, level: u8, slot: u8, len: u32)
     requires len { len ≤ slot_size level }
     requires block { front.now.block ≡ block_cells geometry.now }
     ensures some { IfSome result (λ number. BadInRun front.now level slot len number) }
-    ensures none { result ≡ None → (index : ℕ) → index < len →
-        cell_at front.now (number_of level slot index) ≢ None }
+    ensures none { result ≡ None → NoneBadInRun front.now level slot len }
 {
     for index in 0..len {
         let number = geometry.place(level, slot, index);
@@ -98,8 +95,7 @@ fn bad_in_level(front: &Front, geometry: &Geometry, header: &Header, level: u8) 
     requires geometry { header.now.geometry ≡ geometry.now }
     requires block { front.now.block ≡ block_cells geometry.now }
     ensures some { IfSome result (λ number. BadInLevel header.now front.now level number) }
-    ensures none { result ≡ None → (slot index : ℕ) → slot < 2 → index < run_len header.now level slot →
-        cell_at front.now (number_of level slot index) ≢ None }
+    ensures none { result ≡ None → NoneBadInLevel header.now front.now level }
 {
     match bad_in_run(front, geometry, level, 0, len_of_run(header, level, 0)) {
         Some(number) => Some(number),
@@ -128,10 +124,9 @@ fn load_front<D: Device>(buffers: &mut Buffers<D>, front: &mut Front) -> Result<
     requires buffer { 0 < length buffers.old.lasts }
     requires many { 1 < buffers.old.many }
     requires size { buffers.old.cache.size ≡ block_size front.old }
-    ensures loaded { OnOk result
-        (IfSome (D.bytes buffers.old.cache.device) (λ bytes. IsFrontLoaded bytes front.new)) }
+    ensures loaded { OnOk result (IsFrontOf D.Device buffers.old front.new) }
     ensures shape { SameShape front.old front.new }
-    ensures reading { IsReading D.bytes D.counts D.kept buffers.old buffers.new 2 result }
+    ensures reading { OnlyReads D.Device buffers.old buffers.new 2 result }
 {
     match buffers.turn_to(0, 0) {
         Ok(()) => {
@@ -186,7 +181,7 @@ fn load_shadow<D: Device>(
     ensures sound { StaySound geometry.now (lower_of D.bytes buffers.old shadows.old tails.old)
         (lower_of D.bytes buffers.new shadows.new tails.new) }
     ensures tails { length tails.new ≡ length tails.old }
-    ensures reading { IsReading D.bytes D.counts D.kept buffers.old buffers.new 1 result }
+    ensures reading { OnlyReads D.Device buffers.old buffers.new 1 result }
 {
     set_shadow(shadows, level, empty_in(shadow.slot));
     if level < geometry.front_levels() {
@@ -221,12 +216,11 @@ fn load_shadows<D: Device>(
     requires buffer { 0 < length buffers.old.lasts }
     requires size { buffers.old.cache.size ≡ block_bytes geometry.now }
     requires many { buffers.old.many ≡ file_blocks geometry.now }
-    ensures loaded { OnOk result
-        (AreHeaderShadows geometry.now.bottom header.now (shadow_at shadows.new)) }
+    ensures loaded { OnOk result (StandByHeader geometry.now header.now shadows.new) }
     ensures sound { StaySound geometry.now (lower_of D.bytes buffers.old shadows.old tails.old)
         (lower_of D.bytes buffers.new shadows.new tails.new) }
     ensures tails { length tails.new ≡ length tails.old }
-    ensures reading { IsReading D.bytes D.counts D.kept buffers.old buffers.new
+    ensures reading { OnlyReads D.Device buffers.old buffers.new
         (geometry.now.bottom + 1) result }
 {
     for level in 0..geometry.levels() {
@@ -253,8 +247,7 @@ fn save_tails<D: Device>(
     tails: &[u8],
 ) -> Result<(), DeviceFault>
     requires shadows { length shadows.old ≡ geometry.now.bottom + 1 }
-    requires shape { (level : ℕ) → IsOnDevice geometry.now level →
-        (shadow_at shadows.old level).saved ≡ false → HasRoom geometry.now shadows.old level }
+    requires shape { AllUnsavedHaveRoom geometry.now shadows.old }
     requires tails { length tails.now ≡ tails_bytes geometry.now }
     requires size { buffers.old.cache.size ≡ block_bytes geometry.now }
     requires many { buffers.old.many ≡ file_blocks geometry.now }
@@ -263,7 +256,7 @@ fn save_tails<D: Device>(
         (lower_of D.bytes buffers.new shadows.new tails.now) }
     ensures stays { StayRead geometry.now (lower_of D.bytes buffers.old shadows.old tails.now)
         (lower_of D.bytes buffers.new shadows.new tails.now) }
-    ensures writing { IsWriting D.counts D.kept buffers.old buffers.new
+    ensures writing { OnlyWrites D.Device buffers.old buffers.new
         (geometry.now.bottom + 1) 0 result }
 {
     for level in geometry.front_levels()..geometry.levels() {
@@ -283,12 +276,11 @@ fn save_front<D: Device>(
 ) -> Result<(), DeviceFault>
     requires many { 1 < buffers.old.many }
     requires size { buffers.old.cache.size ≡ block_size front.now }
-    ensures wrote { Wrote result 0 (image front.now header.now)
-        (D.bytes buffers.old.cache.device) (D.bytes buffers.new.cache.device) }
-    ensures in_order { Both (D.bytes buffers.old.cache.device) (D.bytes buffers.new.cache.device)
-        (InOrder result front.now) }
+    ensures wrote { BlocksWrote D.Device buffers.old buffers.new 0
+        (image front.now header.now) result }
+    ensures in_order { BothTell D.Device buffers.old buffers.new (InOrder result front.now) }
     ensures sound { IsFront front.now }
-    ensures writing { IsWriting D.counts D.kept buffers.old buffers.new 2 0 result }
+    ensures writing { OnlyWrites D.Device buffers.old buffers.new 2 0 result }
 {
     let size = buffers.block_size();
     let mut room = [0u8; MAX_TRANSFER];
@@ -317,12 +309,9 @@ fn load_parts<D: Device>(
     requires buffer { 0 < length buffers.old.lasts }
     requires size { buffers.old.cache.size ≡ block_bytes geometry.now }
     requires many { buffers.old.many ≡ file_blocks geometry.now }
-    ensures front { OnOk result
-        (IfSome (D.bytes buffers.old.cache.device) (λ bytes. IsFrontLoaded bytes front.new)) }
-    ensures shadows { OnOk result
-        (AreHeaderShadows geometry.now.bottom header.now (shadow_at shadows.new)) }
-    ensures answer { LoadAnswers header.now (D.bytes buffers.old.cache.device)
-        (D.counts buffers.old.cache.device).faults (D.counts buffers.new.cache.device).faults result }
+    ensures front { OnOk result (IsFrontOf D.Device buffers.old front.new) }
+    ensures shadows { OnOk result (StandByHeader geometry.now header.now shadows.new) }
+    ensures answer { LoadSays D.Device buffers.old buffers.new header.now result }
     ensures shape { SameShape front.old front.new }
     ensures sound { StaySound geometry.now (lower_of D.bytes buffers.old shadows.old tails.old)
         (lower_of D.bytes buffers.new shadows.new tails.new) }
@@ -330,8 +319,7 @@ fn load_parts<D: Device>(
     ensures kept { D.kept buffers.new.cache.device ≡ D.kept buffers.old.cache.device }
     ensures stays { Stays buffers.old buffers.new }
     ensures lasts { length buffers.new.lasts ≡ length buffers.old.lasts }
-    ensures spends { LoadSpends (D.counts buffers.old.cache.device) (D.counts buffers.new.cache.device)
-        (geometry.now.bottom + 3) result }
+    ensures spends { LoadCosts D.Device buffers.old buffers.new geometry.now result }
 {
     match load_front(buffers, front) {
         Ok(()) => match load_shadows(buffers, geometry, shadows, tails, header) {
@@ -355,24 +343,22 @@ fn flush_parts<D: Device>(
     header: &[u8; 512],
 ) -> Result<(), DeviceFault>
     requires shape { IsShape geometry.now front.now shadows.old tails.now }
-    requires backed { IfSome (D.bytes buffers.old.cache.device)
-        (IsBacked geometry.now shadows.old tails.now) }
+    requires backed { IsLowerBacked geometry.now
+        (lower_of D.bytes buffers.old shadows.old tails.now) }
     requires size { buffers.old.cache.size ≡ block_bytes geometry.now }
     requires many { buffers.old.many ≡ file_blocks geometry.now }
-    ensures flushed { OnOk result (IfSome (D.bytes buffers.new.cache.device)
-        (IsFlushed geometry.now header.now
-        (spots_of (cells_by geometry.now front.now (lower_of D.bytes buffers.new shadows.new tails.now))))) }
+    ensures flushed { OnOk result (AreFlushed header.now
+        (cells_by geometry.now front.now (lower_of D.bytes buffers.new shadows.new tails.now))) }
     ensures cells { AreCells
         (cells_by geometry.now front.now (lower_of D.bytes buffers.new shadows.new tails.now)) }
     ensures reads { SameCells geometry.now front.now
         (lower_of D.bytes buffers.old shadows.old tails.now)
         (lower_of D.bytes buffers.new shadows.new tails.now) }
-    ensures order { IsFrontLast D.Device geometry.now
-        (spots_of (cells_by geometry.now front.now (lower_of D.bytes buffers.new shadows.new tails.now)))
-        buffers.old.cache.device buffers.new.cache.device }
+    ensures order { BlocksFrontLast D.Device buffers.old buffers.new
+        (cells_by geometry.now front.now (lower_of D.bytes buffers.new shadows.new tails.now)) }
     ensures settles { OnOk result
-        (SettlesTwice D.Device geometry.now buffers.old.cache.device buffers.new.cache.device) }
-    ensures writing { IsWriting D.counts D.kept buffers.old buffers.new
+        (BlocksSettleTwice D.Device buffers.old buffers.new geometry.now) }
+    ensures writing { OnlyWrites D.Device buffers.old buffers.new
         (geometry.now.bottom + 3) 2 result }
 {
     match save_tails(buffers, geometry, shadows, tails) {
@@ -394,17 +380,15 @@ impl<D: Device> RunStore<D> {
     /// device changes.
     pub fn load(&mut self, header: &Header) -> Result<(), ReadFault>
         requires { header.now.geometry ≡ self.old.geometry }
-        ensures loaded { OnOk result
-            (IsLoaded header.now (held_of D.bytes self.new) (D.bytes (device_of self.old))) }
-        ensures answer { LoadAnswers header.now (D.bytes (device_of self.old))
-            (D.counts (device_of self.old)).faults (D.counts (device_of self.new)).faults result }
+        ensures loaded { OnOk result (LoadsFile D.Device self.old self.new header.now) }
+        ensures answer { LoadSays D.Device self.old.buffers self.new.buffers header.now result }
         ensures bytes_stay { D.bytes (device_of self.new) ≡ D.bytes (device_of self.old) }
         ensures kept { kept_of D.bytes D.counts D.kept self.new ≡
             kept_of D.bytes D.counts D.kept self.old }
         ensures fixed { (held_of D.bytes self.new).fixed ≡ (held_of D.bytes self.old).fixed }
         ensures ticked { self.new.ticked ≡ self.old.ticked }
-        ensures spends { LoadSpends (D.counts (device_of self.old)) (D.counts (device_of self.new))
-            (self.old.geometry.bottom + 3) result }
+        ensures spends { LoadCosts D.Device self.old.buffers self.new.buffers
+            self.old.geometry result }
     {
         load_parts(
             &mut self.buffers,
@@ -418,20 +402,18 @@ impl<D: Device> RunStore<D> {
 
     /// Writes the state byte of a store in use, and settles. No cell of the store changes.
     pub fn mark_in_use(&mut self) -> Result<(), DeviceFault>
-        ensures wrote { Wrote result 14 (1 ∷ [])
-            (D.bytes (device_of self.old)) (D.bytes (device_of self.new)) }
+        ensures wrote { BlocksWrote D.Device self.old.buffers self.new.buffers
+            14 (1 ∷ []) result }
         ensures settled { OnOk result (IsSettled D.Device (device_of self.new)) }
         ensures fixed { (held_of D.bytes self.new).fixed ≡ (held_of D.bytes self.old).fixed }
         ensures shadows { (held_of D.bytes self.new).shadows ≡
             (held_of D.bytes self.old).shadows }
-        ensures cells_stay { (level slot index : ℕ) → (held_of D.bytes self.new).spots level slot index ≡
-            (held_of D.bytes self.old).spots level slot index }
+        ensures cells_stay { SameSpots (held_of D.bytes self.old) (held_of D.bytes self.new) }
         ensures geometry { self.new.geometry ≡ self.old.geometry }
         ensures cache { self.new.buffers.cache.blocks ≡ self.old.buffers.cache.blocks }
         ensures kept { D.kept (device_of self.new) ≡ D.kept (device_of self.old) }
         ensures ticked { self.new.ticked ≡ self.old.ticked }
-        ensures counts { Called (D.counts (device_of self.old)) (D.counts (device_of self.new))
-            0 1 1 result }
+        ensures counts { StoreCalled D.Device self.old self.new 0 1 1 result }
     {
         let _ = &self.geometry;
         match self.buffers.write_byte(14, 1) {
@@ -446,20 +428,16 @@ impl<D: Device> RunStore<D> {
     /// device were settled with every cell before any of the two was written, and block 0 is as before or the file has
     /// every cell behind it.
     pub fn flush(&mut self, header: &[u8; 512]) -> Result<(), DeviceFault>
-        ensures flushed { OnOk result (IfSome (D.bytes (device_of self.new))
-            (IsFlushed self.old.geometry header.now (held_of D.bytes self.new).spots)) }
+        ensures flushed { OnOk result (FlushesFile D.Device self.old self.new header.now) }
         ensures reads { SameReads (held_of D.bytes self.old) (held_of D.bytes self.new) }
-        ensures order { IsFrontLast D.Device self.old.geometry (held_of D.bytes self.new).spots
-            (device_of self.old) (device_of self.new) }
-        ensures settles { OnOk result
-            (SettlesTwice D.Device self.old.geometry (device_of self.old) (device_of self.new)) }
-        ensures behind { Both (D.bytes (device_of self.old)) (D.bytes (device_of self.new))
-            (SameBehind self.old.geometry) }
+        ensures order { StoreFrontLast D.Device self.old self.new }
+        ensures settles { OnOk result (StoreSettlesTwice D.Device self.old self.new) }
+        ensures behind { StoreKeepsBehind D.Device self.old self.new }
         ensures geometry { self.new.geometry ≡ self.old.geometry }
         ensures cache { self.new.buffers.cache.blocks ≡ self.old.buffers.cache.blocks }
         ensures kept { D.kept (device_of self.new) ≡ D.kept (device_of self.old) }
         ensures ticked { self.new.ticked ≡ self.old.ticked }
-        ensures counts { Called (D.counts (device_of self.old)) (D.counts (device_of self.new))
+        ensures counts { StoreCalled D.Device self.old self.new
             0 (self.old.geometry.bottom + 3) 2 result }
     {
         flush_parts(

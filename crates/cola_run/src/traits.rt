@@ -1,15 +1,13 @@
 //! Reads, pushes, restarts and finishes of the cells of a store.
-ghost use Rattle.std.specs.Prelude.{◌≡◌, ◌+◌, ◌*◌, ◌≤◌, ◌<◌, ℕ, true, Option, length};
-ghost use Rattle.cola_cell.specs.Flat.{shadow_at};
+ghost use Rattle.std.specs.Prelude.{◌≡◌, ◌+◌, ◌*◌, ◌≤◌, ◌<◌, true, Option, length};
 ghost use Rattle.cola_cell.specs.Places.{slot_size, IsPlace};
-ghost use Rattle.cola_cell.specs.Reads.{Reads};
-ghost use Rattle.cola_cell.specs.Spent.{ReadAnswers};
 ghost use Rattle.cola_cell.specs.Format.{CellFits};
 ghost use Rattle.cola_cell.specs.Packed.{given, passed, MayPass};
 ghost use Rattle.cola_cell.specs.Shadows.{Restarts, Pushes, PushSpends, push_ticks, Finishes, FinishSpends};
-ghost use Rattle.cola_run.specs.Cells.{IsOnDevice, block_cells, is_in_tail};
+ghost use Rattle.cola_run.specs.Cells.{IsOnDevice};
 ghost use Rattle.cola_run.specs.Store.{IsStore, held_of, state_of, Kept, kept_of, buffer_number, reader_number};
-ghost use Rattle.cola_run.specs.Turns.{buffer_for, buffer_index};
+ghost use Rattle.cola_run.specs.Turns.{buffer_index};
+ghost use Rattle.cola_run.specs.Calls.{IsInTail, MemoryAnswers, ReadsBy};
 
 use crate::device_cells::{
     cells_of_slot, finish_on_device, has_in_tail, place_in_tails, push_in_front, push_on_device,
@@ -61,7 +59,7 @@ impl<D: Device> RunStore<D> {
     ) -> Result<(), ReadFault>
         requires place { IsPlace (self.now.geometry.bottom + 1) level slot index }
         requires front { level + 2 < self.now.geometry.block_exp }
-        ensures answer { (faults : ℕ) → ReadAnswers (held_of D.bytes self.now) faults faults
+        ensures answer { MemoryAnswers (held_of D.bytes self.now)
             level slot index (given into.new result) }
     {
         let number = self.geometry.place(level, slot, index);
@@ -79,8 +77,8 @@ impl<D: Device> RunStore<D> {
     ) -> Result<(), ReadFault>
         requires place { IsPlace (self.now.geometry.bottom + 1) level slot index }
         requires device { self.now.geometry.block_exp ≤ level + 2 }
-        requires tail { is_in_tail (block_cells self.now.geometry) (shadow_at self.now.shadows level) slot index ≡ true }
-        ensures answer { (faults : ℕ) → ReadAnswers (held_of D.bytes self.now) faults faults
+        requires tail { IsInTail self.now.geometry self.now.shadows level slot index }
+        ensures answer { MemoryAnswers (held_of D.bytes self.now)
             level slot index (given into.new result) }
     {
         let number = self.geometry.place(level, slot, index);
@@ -104,9 +102,8 @@ impl<D: Device> RunStore<D> {
         ensures kept { kept_of D.bytes D.counts D.kept self.new ≡
             kept_of D.bytes D.counts D.kept self.old }
         ensures one_tick { steps.new ≡ steps.old + 1 }
-        ensures reads { Reads (state_of D.bytes D.counts self.old)
-            (state_of D.bytes D.counts self.new)
-            (buffer_for reader level) level slot index (given into.new result) }
+        ensures reads { ReadsBy D.Device self.old self.new
+            reader level slot index (given into.new result) }
     {
         steps.tick();
         self.ticked = self.ticked.wrapping_add(1);

@@ -1,10 +1,12 @@
 -- What the search of a list of runs says.
 use Rattle.std.specs.Prelude.{◌≡◌, ◌≢◌, ℕ, ◌+◌, ◌*◌, ◌≤◌, List, length, Option, Result, IfErr, option_map}
+use Rattle.arrayvec.specs.declared.array_vec.ArrayVec.{ArrayVec}
 use Rattle.cola_runs.specs.Search as laws
 use Rattle.cola_runs.specs.Seen.{answer}
 use Rattle.cola_cell.specs.declared.cell.Item.{Item}
 use Rattle.cola_cell.specs.declared.cell.Run.{Run}
 use Rattle.cola_cell.specs.declared.fault.ReadFault.{ReadFault}
+use Rattle.cola_cell.specs.declared.source.CellSource as source
 use Rattle.cola_cell.specs.Costs.{Costs}
 use Rattle.cola_cell.specs.Held.{LawCell, as_item}
 use Rattle.cola_cell.specs.Order.{key_cmp}
@@ -32,3 +34,9 @@ pub record Finds (runs : List Run) (key : List ℕ) (old new : State) (before af
       laws.AreSampled key_cmp lists → new.spent.turned ≤ old.spent.turned + length runs
   pub others_stay : (buffer : Buffer) → buffer ≢ Search →
       new.spent.lasts buffer ≡ old.spent.lasts buffer
+
+-- the same of a call on an object of any kind
+abbrev pub FindsOn : {W : Type 0} → source.Ghosts W → (before now : W) → (runs : ArrayVec Run 23 Unit) → (key : List ℕ) →
+    (ticks ticks_now : ℕ) → Result (Option Item) ReadFault → Type 0
+FindsOn w before now runs key ticks ticks_now result =
+    Finds runs.items key (w.state before) (w.state now) ticks ticks_now result

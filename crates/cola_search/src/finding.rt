@@ -3,7 +3,7 @@ ghost use Rattle.std.specs.Prelude.{◌≡◌, drop, All};
 ghost use Rattle.cola_cell.specs.Looks.{OnlyLooks};
 ghost use Rattle.cola_look.specs.Runs.{HasRun};
 ghost use Rattle.cola_search.specs.Find.{length_of_first};
-ghost use Rattle.cola_search.specs.Finds.{Finds};
+ghost use Rattle.cola_search.specs.Finds.{FindsOn};
 
 use arrayvec::ArrayVec;
 use cola_cell::{CellSource, Item, Key, MOST_LEVELS, ReadFault, Run};
@@ -22,8 +22,8 @@ pub fn find<W: CellSource, L: Ledger>(
 ) -> Result<Option<Item>, ReadFault>
     requires { All (HasRun (W.state work.old).held) runs.now.items }
     ensures looks { OnlyLooks W.CellSource work.old work.new result }
-    ensures finds { Finds runs.now.items key.now (W.state work.old) (W.state work.new)
-        steps.old steps.new result }
+    ensures finds { FindsOn W.CellSource work.old work.new
+        runs.now key.now steps.old steps.new result }
 {
     let runs = runs.as_slice();
     let mut start = 0;

@@ -1,10 +1,8 @@
 -- A search of a store, a step of its chain, and a call that only reads: what they say of the store, and leave of walks.
 use Rattle.std.proofs.Common.{◌≡◌, ℕ, suc, ◌+◌, ◌-◌, ◌*◌, ◌<◌, ◌≤◌, ◌≢◌, ◌^◌, min, Bool, List, [], ◌∷◌, length, Option, Some, None, Result, Ok, Err, option_map, true, refl, ap, sym, subst, ◌∙◌, arith}
-use Rattle.std.specs.Prelude.{IfErr}
 use Rattle.std.specs.Option.{IsSome}
 use Rattle.std.specs.FinMap as finite
 use Rattle.cola_clock.specs.Clock.{visible_slot}
-use Rattle.cola_runs.specs.Search.{AreSampled}
 use Rattle.cola_runs.specs.Seen.{answer, value_of}
 use Rattle.cola_laws.specs.Chain.{value_at, updated}
 use Rattle.cola_laws.specs.Sound.{HasAtMost}
@@ -32,7 +30,6 @@ use Rattle.cola_table.specs.Terms.{Terms, shape, Call}
 use Rattle.cola_cell.specs.Shapes.{stamped_of}
 use Rattle.cola_image.specs.Standing.{found_in}
 use Rattle.cola_look.specs.Outcome.{Found, Answers}
-use Rattle.cola_look.specs.Runs.{AreRuns}
 use Rattle.cola_search.specs.Finds.{Finds}
 use Rattle.cola_cursor.specs.Standing as standing
 use Rattle.cola_cursor.specs.declared.line.Line.{Line}

@@ -1,5 +1,5 @@
 -- How a store is closed: what its file has then, and what a refusal keeps.
-use Rattle.std.specs.Prelude.{◌≡◌, ◌≢◌, ◌⊎◌, ℕ, ◌+◌, ◌<◌, List, IfSome}
+use Rattle.std.specs.Prelude.{◌≡◌, ◌≢◌, ◌⊎◌, ℕ, ◌+◌, ◌≤◌, ◌<◌, List, length, IfSome}
 use Rattle.cola_outside.specs.Faults.{Rose}
 use Rattle.cola_outside.specs.Told.{Both}
 use Rattle.cola_cell.specs.Held.{Held}
@@ -8,7 +8,7 @@ use Rattle.cola_device.specs.declared.device.Device as device
 use Rattle.cola_layout.specs.declared.header.Header.{Header}
 use Rattle.cola_layout.specs.Fields.{fields_of}
 use Rattle.cola_opening.specs.Counted.{Spends}
-use Rattle.cola_opening.specs.Judged.{HasHeader}
+use Rattle.cola_opening.specs.Judged.{HasHeader, file_size}
 use Rattle.cola_spec.specs.Map.{Map}
 use Rattle.cola_image.specs.Cells.{file_spots}
 use Rattle.cola_image.specs.Standing.{HeaderStandsFor}
@@ -31,6 +31,11 @@ pub record IsFileOf (header : Header) (held : Held) (bytes : List ℕ) : Type 0 
 -- how many writes an attempt to close makes at most by a header: two, and one for each level
 abbrev pub closing_writes : Header → ℕ
 closing_writes header = header.geometry.bottom + 3
+
+-- the device of a store, where it tells its bytes, has all cells of the store
+abbrev pub HasWholeFile : {D : Type 0} → device.Ghosts D → Store D → Type 0
+HasWholeFile d store = IfSome (d.bytes (device_of store))
+    (λ bytes. file_size store.geometry.format store.geometry.bottom ≤ length bytes)
 
 module _ {D : Type 0} (d : device.Ghosts D) (header : Header) (before : Store D) where
   -- the store was closed: its file is that of its header and cells, bytes behind it stay, and the device settled before the

@@ -8,3 +8,5 @@ pub mod Walks
 pub mod Transfers
 pub mod Sessions
 pub mod Table
+pub mod OnMaps
+pub mod Laws

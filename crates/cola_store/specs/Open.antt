@@ -1,5 +1,5 @@
 -- How the file of a store is opened: what each answer says, and what it leaves.
-use Rattle.std.specs.Prelude.{◌≡◌, ◌⊎◌, ℕ, ◌+◌, ◌≤◌, true, List, Result, Ok, Err, IfSome}
+use Rattle.std.specs.Prelude.{◌≡◌, ◌⊎◌, ℕ, ◌+◌, true, List, Result, Ok, Err, IfSome}
 use Rattle.cola_outside.specs.Faults.{Rose}
 use Rattle.cola_outside.specs.Told.{Both}
 use Rattle.cola_device.specs.declared.device.Device as device

@@ -31,6 +31,11 @@ module _ {D : Type 0} (d : device.Ghosts D) where
   abbrev pub Owes : Closing D d → Map → Type 0
   Owes closing m = StoreStandsFor closing.header (run.held_of d.bytes closing.runs) m
 
+  -- where a map is owed, the file stands for it after the closing, or it is owed still
+  abbrev pub PaysMap : Closing D d → Result D (Closing D d) → Type 0
+  PaysMap closing result = (m : Map) → Owes closing m → MatchResult result
+      (λ now. IfSome (d.bytes now) (λ bytes. FileStandsFor bytes m)) (λ now. Owes now m)
+
   -- the store holds whichever map these bytes stand for
   abbrev pub HoldsFile : Stored D → List ℕ → Type 0
   HoldsFile store bytes = (m : Map) → FileStandsFor bytes m → Holds d.bytes store m

@@ -1,6 +1,7 @@
 //! What was found by a search, and the ticks of a call.
-ghost use Rattle.std.specs.Prelude.{◌≡◌, ◌+◌, ◌%◌, ◌^◌, ◌≤◌, ℕ};
+ghost use Rattle.std.specs.Prelude.{◌≡◌};
 ghost use Rattle.cola_store.specs.Calls.{value_found, stamp_found};
+ghost use Rattle.cola_store.specs.OnMaps.{AreTicksBetween};
 
 use cola_cell::{Item, Value};
 
@@ -32,8 +33,7 @@ pub(crate) fn stamp_of(found: &Option<Item>) -> Option<u64>
 
 /// How many ticks were made between two counts of them, each modulo `2^64`.
 pub(crate) fn ticks_between(before: u64, now: u64) -> u32
-    ensures { (old new first last : ℕ) → before ≡ old % 2 ^ 64 → now ≡ new % 2 ^ 64 →
-        (new + first) % 2 ^ 64 ≡ (old + last) % 2 ^ 64 → first ≤ last → last ≤ first + 2 ^ 20 → last ≡ first + result }
+    ensures { AreTicksBetween before now result }
 {
     if now >= before {
         ((now - before) % (1 << 32)) as u32

@@ -1,9 +1,9 @@
 //! How a store is closed.
-ghost use Rattle.std.specs.Prelude.{◌≡◌, ◌≤◌, true, length, IfSome};
+ghost use Rattle.std.specs.Prelude.{◌≡◌, true, length};
 ghost use Rattle.cola_layout.specs.Fields.{fields_of};
 ghost use Rattle.cola_layout.specs.Header.{IsSpelling};
-ghost use Rattle.cola_opening.specs.Judged.{file_size};
 ghost use Rattle.cola_run.specs.Store.{device_of};
+ghost use Rattle.cola_store.specs.Close.{HasWholeFile};
 
 use cola_device::Device;
 use cola_layout::Header;
@@ -21,8 +21,7 @@ fn bytes_of(header: &Header) -> [u8; 512]
 
 /// Says that the device of a store has its whole file. Nothing is done.
 fn know_whole_file<D: Device>(runs: &RunStore<D>)
-    ensures { IfSome (D.bytes (device_of runs.now))
-        (λ bytes. file_size runs.now.geometry.format runs.now.geometry.bottom ≤ length bytes) }
+    ensures { HasWholeFile D.Device runs.now }
 {
     let (_reads, _writes) = runs.transfers();
 }
@@ -38,11 +37,9 @@ pub struct Closing<D: Device> {
 }
 
 impl<D: Device> Closing<D> {
-    ghost use Rattle.std.specs.Prelude.{IfOk, IfErr, MatchResult};
-    ghost use Rattle.cola_spec.specs.Map.{Map};
-    ghost use Rattle.cola_image.specs.Standing.{FileStandsFor};
+    ghost use Rattle.std.specs.Prelude.{IfOk, IfErr};
     ghost use Rattle.cola_store.specs.Close.{IsClosed, StillOwes};
-    ghost use Rattle.cola_store.specs.Sessions.{Owes};
+    ghost use Rattle.cola_store.specs.Sessions.{PaysMap};
 
     /// What a store with this header, of a closed store, owes to its file.
     pub fn new(runs: RunStore<D>, header: Header) -> Closing<D>
@@ -61,8 +58,7 @@ impl<D: Device> Closing<D> {
         ensures owes { IfErr result
             (λ now. StillOwes D.Device self.header self.runs now.runs now.header) }
         // where a map is owed, the file stands for it, or it is owed still
-        ensures map { (m : Map) → Owes D.Device self m → MatchResult result
-            (λ now. IfSome (D.bytes now) (λ bytes. FileStandsFor bytes m)) (λ now. Owes D.Device now m) }
+        ensures map { PaysMap D.Device self result }
         ensures kept_device { IfOk result (λ now. D.kept now ≡ D.kept (device_of self.runs)) }
         ensures kept { IfErr result (λ now. D.kept (device_of now.runs) ≡ D.kept (device_of self.runs)) }
     {

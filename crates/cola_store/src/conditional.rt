@@ -1,15 +1,14 @@
 //! Puts that depend on the stamp seen.
-ghost use Rattle.std.specs.Prelude.{◌≡◌, Ok};
+ghost use Rattle.std.specs.Prelude.{◌≡◌};
 ghost use Rattle.cola_cell.specs.Format.{KeyFits, ValueFits};
 ghost use Rattle.cola_spec.specs.Bounds.{put_bound};
-ghost use Rattle.cola_spec.specs.Map.{Map};
-ghost use Rattle.cola_table.specs.Answers.{PutIfAnswers, PutFaults, UnlessPut};
-ghost use Rattle.cola_table.specs.Replies.{put_if_reply};
+ghost use Rattle.cola_table.specs.Answers.{PutFaults, UnlessPut};
 ghost use Rattle.cola_mutation.specs.Steps.{step_ticks};
-ghost use Rattle.cola_store.specs.Store.{Holds, faults_of, kept_by, geometry_of, map_shape};
+ghost use Rattle.cola_store.specs.Store.{faults_of, kept_by, geometry_of};
 ghost use Rattle.cola_store.specs.Calls as calls;
-ghost use Rattle.cola_store.specs.Calls.{stamped_found, FindsIn, PutIfFollows, SearchesFirst};
+ghost use Rattle.cola_store.specs.Calls.{stamped_found};
 ghost use Rattle.cola_store.specs.Calls.{TransfersWithin, TicksBy, StepTransfers, with_ticks};
+ghost use Rattle.cola_store.specs.OnMaps.{PutIfSearches, PutIfConcludes, PutsIfOnMap, PutsIfFoundOnMap};
 ghost use Rattle.cola_store.specs.Walks.{WalksStay};
 
 use crate::calls::{stamp_of, ticks_between};
@@ -43,10 +42,10 @@ impl<D: Device> Store<D> {
     ) -> Result<PutIf, PutFault>
         requires key_fits { KeyFits (geometry_of self.old).format key.now }
         requires value_fits { ValueFits (geometry_of self.old).format value.now }
-        ensures concludes { PutIfFollows D.bytes D.counts self.old self.new
-            key.now seen value.now (Ok found.now) (put_if_reply (with_ticks result)) }
-        ensures answer { (m : Map) → Holds D.bytes self.old m → FindsIn m key.now (Ok found.now) →
-            PutIfAnswers (map_shape self.old) m key.now seen value.now (Holds D.bytes self.new) (with_ticks result) }
+        ensures concludes { PutIfConcludes D.Device self.old self.new
+            key.now seen value.now found.now result }
+        ensures answer { PutsIfFoundOnMap D.Device self.old self.new
+            key.now seen value.now found.now result }
         ensures faults { PutFaults result
             (faults_of D.counts self.old) (faults_of D.counts self.new) }
         ensures ticks { TicksBy D.counts step_ticks self.old self.new steps.old steps.new }
@@ -74,11 +73,9 @@ impl<D: Device> Store<D> {
     ) -> Result<PutIf, PutFault>
         requires key_fits { KeyFits (geometry_of self.old).format key.now }
         requires value_fits { ValueFits (geometry_of self.old).format value.now }
-        ensures searches { SearchesFirst D.bytes D.counts self.old self.new key.now
-            (λ mid search. PutIfFollows D.bytes D.counts mid self.new key.now seen value.now search (put_if_reply (with_ticks result))) }
+        ensures searches { PutIfSearches D.Device self.old self.new key.now seen value.now result }
         ensures within { TransfersWithin D.bytes D.counts self.old self.new }
-        ensures answer { (m : Map) → Holds D.bytes self.old m →
-            PutIfAnswers (map_shape self.old) m key.now seen value.now (Holds D.bytes self.new) (with_ticks result) }
+        ensures answer { PutsIfOnMap D.Device self.old self.new key.now seen value.now result }
         ensures faults { PutFaults result
             (faults_of D.counts self.old) (faults_of D.counts self.new) }
         ensures ticks { TicksBy D.counts put_bound self.old self.new steps.old steps.new }

@@ -1,17 +1,15 @@
 //! Deletes: each searches first.
-ghost use Rattle.std.specs.Prelude.{◌≡◌, ◌-◌, Some, Ok, IfSome, OnErr};
+ghost use Rattle.std.specs.Prelude.{◌≡◌, IfSome, OnErr};
 ghost use Rattle.cola_cell.specs.Fault.{step_of_read};
 ghost use Rattle.cola_cell.specs.Format.{KeyFits};
-ghost use Rattle.cola_cell.specs.declared.cell.Item.TheVariants.{Tombstone};
 ghost use Rattle.cola_spec.specs.Bounds.{put_bound};
-ghost use Rattle.cola_spec.specs.Map.{Map, value_of};
-ghost use Rattle.cola_spec.specs.Reply as reply;
-ghost use Rattle.cola_table.specs.Answers.{DeleteAnswers, StepFaults, UnlessDeleted};
-ghost use Rattle.cola_table.specs.Replies.{delete_reply, step_failure, read_failure};
+ghost use Rattle.cola_table.specs.Answers.{StepFaults, UnlessDeleted};
+ghost use Rattle.cola_table.specs.Replies.{step_failure, read_failure};
 ghost use Rattle.cola_mutation.specs.Steps.{step_ticks};
-ghost use Rattle.cola_store.specs.Store.{Holds, faults_of, kept_by, geometry_of};
-ghost use Rattle.cola_store.specs.Calls.{value_found, held_by, FindsIn, Writes, DeleteFollows, SearchesFirst};
+ghost use Rattle.cola_store.specs.Store.{faults_of, kept_by, geometry_of};
+ghost use Rattle.cola_store.specs.Calls.{value_found, held_by};
 ghost use Rattle.cola_store.specs.Calls.{TransfersWithin, TicksBy, StepTransfers, with_ticks};
+ghost use Rattle.cola_store.specs.OnMaps.{DeleteSearches, DeleteConcludes, DeleteRemoves, DeletesOnMap, DeletesFoundOnMap, RemovesOnMap};
 ghost use Rattle.cola_store.specs.Walks.{WalksStay};
 
 use crate::calls::{ticks_between, value_of};
@@ -52,10 +50,8 @@ impl<D: Device> Store<D> {
         steps: &mut Steps<L>,
     ) -> Result<Option<Value>, StepFault>
         requires { KeyFits (geometry_of self.old).format key.now }
-        ensures writes { Writes D.bytes D.counts self.old self.new key.now Tombstone (self.old.count - 1) self.old.last
-            (reply.Deleted (Some value.now)) (delete_reply (with_ticks result)) }
-        ensures answer { (m : Map) → Holds D.bytes self.old m → value_of m key.now ≡ Some value.now →
-            DeleteAnswers m key.now (Holds D.bytes self.new) (with_ticks result) }
+        ensures writes { DeleteRemoves D.Device self.old self.new key.now value.now result }
+        ensures answer { RemovesOnMap D.Device self.old self.new key.now value.now result }
         ensures faults { StepFaults result
             (faults_of D.counts self.old) (faults_of D.counts self.new) }
         ensures ticks { TicksBy D.counts step_ticks self.old self.new steps.old steps.new }
@@ -78,10 +74,8 @@ impl<D: Device> Store<D> {
         found: &Option<Item>,
         steps: &mut Steps<L>,
     ) -> Result<Option<Value>, StepFault>
-        ensures removes { DeleteFollows D.bytes D.counts self.old self.new
-            key.now (Ok found.now) (delete_reply (with_ticks result)) }
-        ensures answer { (m : Map) → Holds D.bytes self.old m → FindsIn m key.now (Ok found.now) →
-            DeleteAnswers m key.now (Holds D.bytes self.new) (with_ticks result) }
+        ensures removes { DeleteConcludes D.Device self.old self.new key.now found.now result }
+        ensures answer { DeletesFoundOnMap D.Device self.old self.new key.now found.now result }
         ensures faults { StepFaults result
             (faults_of D.counts self.old) (faults_of D.counts self.new) }
         ensures ticks { TicksBy D.counts step_ticks self.old self.new steps.old steps.new }
@@ -101,11 +95,9 @@ impl<D: Device> Store<D> {
         key: &Key,
         steps: &mut Steps<L>,
     ) -> Result<Option<Value>, StepFault>
-        ensures searches { SearchesFirst D.bytes D.counts self.old self.new key.now
-            (λ mid search. DeleteFollows D.bytes D.counts mid self.new key.now search (delete_reply (with_ticks result))) }
+        ensures searches { DeleteSearches D.Device self.old self.new key.now result }
         ensures within { TransfersWithin D.bytes D.counts self.old self.new }
-        ensures answer { (m : Map) → Holds D.bytes self.old m →
-            DeleteAnswers m key.now (Holds D.bytes self.new) (with_ticks result) }
+        ensures answer { DeletesOnMap D.Device self.old self.new key.now result }
         ensures faults { StepFaults result
             (faults_of D.counts self.old) (faults_of D.counts self.new) }
         ensures ticks { TicksBy D.counts put_bound self.old self.new steps.old steps.new }

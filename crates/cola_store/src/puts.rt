@@ -1,17 +1,17 @@
 //! Puts and deletes after their searches.
-ghost use Rattle.std.specs.Prelude.{◌≡◌, ◌≤◌, false, None, Ok, OnErr};
+ghost use Rattle.std.specs.Prelude.{◌≡◌, ◌≤◌, false, None, OnErr};
 ghost use Rattle.cola_cell.specs.Fault.{step_of_read};
 ghost use Rattle.cola_cell.specs.Format.{KeyFits, ValueFits, stamp_limit};
 ghost use Rattle.cola_spec.specs.Bounds.{put_bound};
-ghost use Rattle.cola_spec.specs.Map.{Map};
 ghost use Rattle.cola_spec.specs.Reply as reply;
-ghost use Rattle.cola_table.specs.Answers.{PutAnswers, PutFaults};
-ghost use Rattle.cola_table.specs.Replies.{put_of_step, put_reply, put_refused, step_failure, read_failure};
+ghost use Rattle.cola_table.specs.Answers.{PutFaults};
+ghost use Rattle.cola_table.specs.Replies.{put_of_step, put_refused, step_failure, read_failure};
 ghost use Rattle.cola_mutation.specs.Steps.{step_ticks};
-ghost use Rattle.cola_store.specs.Store.{Holds, faults_of, kept_by, geometry_of, map_shape};
+ghost use Rattle.cola_store.specs.Store.{faults_of, kept_by, geometry_of, map_shape};
 ghost use Rattle.cola_store.specs.Calls as calls;
-ghost use Rattle.cola_store.specs.Calls.{stamped_found, worn_at, decided_by, number_by, refusal_of, count_with, FindsIn, PutFollows, SearchesFirst};
-ghost use Rattle.cola_store.specs.Calls.{TransfersWithin, TicksBy, StepTransfers, with_ticks};
+ghost use Rattle.cola_store.specs.Calls.{stamped_found, worn_at, decided_by, number_by, refusal_of, count_with};
+ghost use Rattle.cola_store.specs.Calls.{TransfersWithin, TicksBy, StepTransfers};
+ghost use Rattle.cola_store.specs.OnMaps.{PutSearches, PutConcludes, PutsOnMap, PutsFoundOnMap};
 ghost use Rattle.cola_store.specs.Walks.{WalksStay};
 
 use crate::calls::{ticks_between, value_of};
@@ -109,10 +109,8 @@ impl<D: Device> Store<D> {
     ) -> Result<Put, PutFault>
         requires key_fits { KeyFits (geometry_of self.old).format key.now }
         requires value_fits { ValueFits (geometry_of self.old).format value.now }
-        ensures concludes { PutFollows D.bytes D.counts self.old self.new
-            key.now value.now (Ok found.now) (put_reply (with_ticks result)) }
-        ensures answer { (m : Map) → Holds D.bytes self.old m → FindsIn m key.now (Ok found.now) →
-            PutAnswers (map_shape self.old) m key.now value.now (Holds D.bytes self.new) (with_ticks result) }
+        ensures concludes { PutConcludes D.Device self.old self.new key.now value.now found.now result }
+        ensures answer { PutsFoundOnMap D.Device self.old self.new key.now value.now found.now result }
         ensures faults { PutFaults result
             (faults_of D.counts self.old) (faults_of D.counts self.new) }
         ensures ticks { TicksBy D.counts step_ticks self.old self.new steps.old steps.new }
@@ -146,11 +144,9 @@ impl<D: Device> Store<D> {
     ) -> Result<Put, PutFault>
         requires key_fits { KeyFits (geometry_of self.old).format key.now }
         requires value_fits { ValueFits (geometry_of self.old).format value.now }
-        ensures searches { SearchesFirst D.bytes D.counts self.old self.new key.now
-            (λ mid search. PutFollows D.bytes D.counts mid self.new key.now value.now search (put_reply (with_ticks result))) }
+        ensures searches { PutSearches D.Device self.old self.new key.now value.now result }
         ensures within { TransfersWithin D.bytes D.counts self.old self.new }
-        ensures answer { (m : Map) → Holds D.bytes self.old m →
-            PutAnswers (map_shape self.old) m key.now value.now (Holds D.bytes self.new) (with_ticks result) }
+        ensures answer { PutsOnMap D.Device self.old self.new key.now value.now result }
         ensures faults { PutFaults result
             (faults_of D.counts self.old) (faults_of D.counts self.new) }
         ensures ticks { TicksBy D.counts put_bound self.old self.new steps.old steps.new }

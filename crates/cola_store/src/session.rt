@@ -3,6 +3,7 @@ ghost use Rattle.std.specs.Prelude.{◌≡◌, ◌≤◌, IfOk, IfErr};
 ghost use Rattle.cola_chain.specs.Account.{IsContents};
 ghost use Rattle.cola_run.specs.Store as run;
 ghost use Rattle.cola_store.specs.Sessions.{OpensStore, ClosesStore, device_of};
+ghost use Rattle.cola_store.specs.Store.{device_in};
 
 use crate::closing::Closing;
 use crate::fault::OpenFault;
@@ -63,9 +64,8 @@ impl<D: Device> Store<D> {
     /// where the device refused a call; what it gives owes all still, and may be closed again.
     pub fn close(self) -> Result<D, Closing<D>>
         ensures closes { ClosesStore D.Device self result }
-        ensures kept_device { IfOk result (λ now. D.kept now ≡ D.kept (run.device_of self.chain.store)) }
-        ensures kept { IfErr result
-            (λ now. D.kept (run.device_of now.runs) ≡ D.kept (run.device_of self.chain.store)) }
+        ensures kept_device { IfOk result (λ now. D.kept now ≡ D.kept (device_in self)) }
+        ensures kept { IfErr result (λ now. D.kept (run.device_of now.runs) ≡ D.kept (device_in self)) }
     {
         let (chain, count, last) = self.into_parts();
         know_chain(&chain);

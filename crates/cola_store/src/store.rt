@@ -1,20 +1,16 @@
 //! An open store: its chain, how many keys it has, and the last number that was given to a value.
-ghost use Rattle.std.specs.Prelude.{◌≡◌, ◌+◌, ◌%◌, ◌^◌, ◌≤◌, length, OnErr, MatchResult};
-ghost use Rattle.cola_laws.specs.Chain.{updated};
+ghost use Rattle.std.specs.Prelude.{◌≡◌, ◌+◌, ◌%◌, ◌^◌, ◌≤◌, length, OnErr};
 ghost use Rattle.cola_cell.specs.Format.{KeyFits, ItemFits, stamp_limit};
-ghost use Rattle.cola_cell.specs.Held.{as_item};
-ghost use Rattle.cola_cell.specs.Order.{key_cmp};
 ghost use Rattle.cola_spec.specs.Bounds.{get_bound};
-ghost use Rattle.cola_spec.specs.Map as map;
-ghost use Rattle.cola_spec.specs.Map.{Map, IsMap};
-ghost use Rattle.cola_table.specs.Answers.{ReadFaults, StepFaults, OnlyDevice};
-ghost use Rattle.cola_image.specs.Standing.{found_in};
+ghost use Rattle.cola_spec.specs.Map.{Map};
+ghost use Rattle.cola_table.specs.Answers.{ReadFaults, StepFaults};
 ghost use Rattle.cola_mutation.specs.Steps.{step_ticks};
 ghost use Rattle.cola_chain.specs.Account.{IsPaid};
 ghost use Rattle.cola_chain.specs.Contents as chain_held;
-ghost use Rattle.cola_store.specs.Store.{new_account, IsStored, IsMadeAfter, Holds, spent_of, faults_of, kept_by, geometry_of, levels_of, map_shape};
+ghost use Rattle.cola_store.specs.Store.{new_account, IsStored, IsMadeAfter, Holds, spent_of, faults_of, kept_by, geometry_of, levels_of};
 ghost use Rattle.cola_store.specs.Calls.{FindsIn, Searches, TicksBy, StepTransfers};
 ghost use Rattle.cola_store.specs.Calls as calls;
+ghost use Rattle.cola_store.specs.OnMaps.{WritesOnMap};
 ghost use Rattle.cola_store.specs.Walks.{WalksStay};
 
 use crate::account::{Account, one_more};
@@ -176,10 +172,7 @@ impl<D: Device> Store<D> {
         requires last_fits { last ≤ stamp_limit (geometry_of self.old).format }
         ensures steps { calls.Steps D.bytes D.counts self.old self.new key.now item.now count last result }
         // on a store that stands for a map, where the count and the number are those of the map with the item
-        ensures right { (m after : Map) → Holds D.bytes self.old m → IsMap (map_shape self.old) after →
-            found_in after ≡ updated key_cmp key.now (as_item item.now) (found_in m) →
-            count ≡ map.count after → last ≡ after.last →
-            MatchResult result (λ _. Holds D.bytes self.new after) (λ fault. OnlyDevice fault × Holds D.bytes self.new m) }
+        ensures right { WritesOnMap D.Device self.old self.new key.now item.now count last result }
         ensures faults { StepFaults result
             (faults_of D.counts self.old) (faults_of D.counts self.new) }
         ensures ticks { TicksBy D.counts step_ticks self.old self.new steps.old steps.new }

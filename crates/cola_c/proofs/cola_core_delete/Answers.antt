@@ -14,6 +14,7 @@ returns-clause-answered c = λ session is.
       number_is = search (rules, c.tell_delete.ensures);
       says = subst (λ (o : Session). Deletes o c.args.key.now c.delete-answer.new.session c.delete-answer.result) old (record {
         answer = c.delete-answer.ensures.answer;
+        given = c.delete-answer.ensures.given;
         length = c.delete-answer.ensures.length;
         ticks = c.delete-answer.ensures.ticks;
         transfers = c.delete-answer.ensures.transfers;

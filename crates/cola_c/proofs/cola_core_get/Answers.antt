@@ -15,6 +15,7 @@ returns-clause-answered c = λ session is.
       says = (
         subst (λ (o : Session). Gets o c.args.key.now c.get-answer.new.session c.get-answer.result) old (record {
           answer = c.get-answer.ensures.answer;
+          given = c.get-answer.ensures.given;
           length = c.get-answer.ensures.length;
           ticks = c.get-answer.ensures.ticks;
           reads = c.get-answer.ensures.reads;

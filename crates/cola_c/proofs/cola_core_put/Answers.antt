@@ -15,6 +15,7 @@ returns-clause-answered c = λ session is.
       says = (
         subst (λ (o : Session). Puts o c.args.key.now c.args.value.now c.put-answer.new.session c.put-answer.result) old (record {
           answer = c.put-answer.ensures.answer;
+          given = c.put-answer.ensures.given;
           length = c.put-answer.ensures.length;
           ticks = c.put-answer.ensures.ticks;
           transfers = c.put-answer.ensures.transfers;

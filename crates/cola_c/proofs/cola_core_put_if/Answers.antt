@@ -15,6 +15,7 @@ returns-clause-answered c = λ session is.
       says = (
         subst (λ (o : Session). PutsIf o c.args.key.now c.args.seen c.args.value.now c.put_if-answer.new.session c.put_if-answer.result) old (record {
           answer = c.put_if-answer.ensures.answer;
+          given = c.put_if-answer.ensures.given;
           length = c.put_if-answer.ensures.length;
           ticks = c.put_if-answer.ensures.ticks;
           transfers = c.put_if-answer.ensures.transfers;

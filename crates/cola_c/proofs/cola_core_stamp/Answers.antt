@@ -15,6 +15,7 @@ returns-clause-answered c = λ session is.
       says = (
         subst (λ (o : Session). Stamps o c.args.key.now c.stamp-answer.new.session c.stamp-answer.result) old (record {
           answer = c.stamp-answer.ensures.answer;
+          given = c.stamp-answer.ensures.given;
           length = c.stamp-answer.ensures.length;
           ticks = c.stamp-answer.ensures.ticks;
           reads = c.stamp-answer.ensures.reads;

@@ -2,11 +2,13 @@ use Rattle.std.proofs.Common.{◌≡◌, ◌+◌, ◌≤◌, length, take, drop,
 use Rattle.cola_spec.specs.Map.{Map}
 use Rattle.cola_spec.specs.Bounds.{range_bound}
 use Rattle.cola_handle.specs.Cursors.{IsGoodRow}
+use Rattle.cola_handle.specs.Walking.{Came}
 use Rattle.cola_handle.proofs.Filling.{SoFar}
 use Rattle.cola_handle.proofs.walking.fill.Given as goal
 
 abbrev pub invariant-rows : goal.invariant-rows
 invariant-rows g l = record {
+  came : Came g.T.Table.begins g.T.Table.goes l.cursor l.low (option_copied l.high) l.fn.table l.rows l.given l.table l.walk;
   stands : g.T.Table.stands l.table l.walk;
   few : l.given ≤ length l.rows;
   size : length l.rows ≡ length l.fn.rows;

@@ -7,8 +7,8 @@ use Rattle.cola_merge.specs.Rules.{emitted_of}
 use Rattle.cola_merge.proofs.Pushing.{emission_of}
 use Rattle.cola_merge.proofs.merging.emit.Goals as goal
 
-pub returns-in-Some-Some-clause-emission : goal.returns-in-Some-Some-clause-emission
-returns-in-Some-Some-clause-emission g c =
+pub returns-in-Some-Some-clause-adds : goal.returns-in-Some-Some-clause-adds
+returns-in-Some-Some-clause-adds g c =
     emission_of (emitted_of c.args.pass c.args.head.now.cell) (passed c.in-Some-Some.pass c.in-Some-Some.cell.now) c.args.slot c.args.steps.now c.push_as.new.steps c.push_as.result
     (ap (λ (p : Option Pass). emitted_of p c.args.head.now.cell) c.in-Some-Some.is-0 ∙ ap (emitted_of (Some c.in-Some-Some.pass)) (sym c.cell.ensures ∙ ap option_copied c.in-Some-Some.is-1))
     c.push_as.ensures.pushes c.push_as.ensures.spends c.push_as.ensures.ticks

@@ -2,4 +2,4 @@ use Rattle.cola_store.specs.Create.{new_header}
 use Rattle.cola_store.proofs.laws.new_file_stands.Goals as goal
 
 pub returns : goal.returns
-returns c format keys block_exp bottom bytes file = (new_header format keys block_exp bottom, file.stands)
+returns c = λ format keys block_exp bottom bytes file. (new_header format keys block_exp bottom, file.stands)

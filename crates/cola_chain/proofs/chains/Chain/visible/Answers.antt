@@ -1,14 +1,12 @@
-use Rattle.std.proofs.Common.{ℕ, List, length, All, Option, sym, ap, subst, ◌∙◌, arith}
+use Rattle.std.proofs.Common.{List, length, All, sym, ap, subst, ◌∙◌, arith}
 use Rattle.arrayvec.specs.declared.array_vec.ArrayVec.{ArrayVec}
 use Rattle.cola_cell.specs.declared.cell.Run.{Run}
-use Rattle.cola_cell.specs.Held.{Stamped}
 use Rattle.cola_look.specs.Runs.{HasRun}
 use Rattle.cola_level.specs.declared.level.Level.{Level}
-use Rattle.cola_mutation.specs.Standing.{StandsFor}
 use Rattle.cola_run.specs.Store as run
 use Rattle.cola_chain.specs.Contents.{Contents, held_of}
 use Rattle.cola_chain.specs.Account.{IsContents}
-use Rattle.cola_chain.specs.Runs.{visible_runs, visible_lists, AreSearched}
+use Rattle.cola_chain.specs.Runs.{visible_runs, visible_lists, AreSearched, AreSearchedRuns}
 use Rattle.cola_chain.proofs.Searching.{visible-has, searched, clock-few}
 use Rattle.cola_chain.proofs.chains.Chain.visible.Goals as goal
 
@@ -25,8 +23,7 @@ returns-clause-has g c =
 
 pub returns-clause-searched : goal.returns-clause-searched
 returns-clause-searched g c =
-    subst (λ (x : Contents g.row.D.Denot). (most : ℕ) (m : List ℕ → Option Stamped) → StandsFor (held_of g.D.Device.bytes x) most x.clock x.levels m →
-    AreSearched (held_of g.D.Device.bytes x) c.runs_of.result.items (visible_lists (held_of g.D.Device.bytes x) x.clock x.levels) m) c.self.view_is
+    subst (λ (x : Contents g.row.D.Denot). AreSearchedRuns g.D.Device.bytes x c.runs_of.result.items) c.self.view_is
     (λ most m stands.
     subst (λ (rs : List Run). AreSearched (run.held_of g.D.Device.bytes c.self.inside.runs) rs (visible_lists (run.held_of g.D.Device.bytes c.self.inside.runs) c.self.inside.clock c.self.inside.levels.value.items) m) (sym (c.runs_of.ensures ∙ ap (visible_runs c.self.inside.clock 0) (c.as_slice.ensures.value ∙ ap (λ (a : ArrayVec Level 23 Unit). a.items) c.deref.ensures)))
     (searched (run.held_of g.D.Device.bytes c.self.inside.runs) most c.self.inside.clock c.self.inside.levels.value.items m c.self.invariant.stands stands))

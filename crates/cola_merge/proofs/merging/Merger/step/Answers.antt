@@ -19,12 +19,12 @@ returns-in_err-emit-clause-stepped g c =
     subst (λ (x : Result Unit PushFault). Stepped c.args.aim.now s (state new c.args.self.now c.emit.new.steps) x)
     (sym (err_is c.from_residual.result c.in_err-emit.field-0.0 c.from_residual.ensures.1))
     (refused_step s new c.emit.new.steps c.args.choice.now.head (choice_cell c.args.self.now c.args.choice.now) c.in_err-emit.field-0.0 c.requires.ready c.requires.fetched c.requires.asked
-    (subst (λ (h : Head). Emission {A = Unit {0}} old new c.args.aim.now.level (emitted_of c.args.choice.now.pass h.cell) c.args.steps.now c.emit.new.steps (Err c.in_err-emit.field-0.0)) c.head-head.ensures c.in_err-emit.ensures.emission))
+    (subst (λ (h : Head). Emission {A = Unit {0}} old new c.args.aim.now.level (emitted_of c.args.choice.now.pass h.cell) c.args.steps.now c.emit.new.steps (Err c.in_err-emit.field-0.0)) c.head-head.ensures c.in_err-emit.ensures.adds))
 
 pub returns-clause-stepped : goal.returns-clause-stepped
 returns-clause-stepped g c =
     let old = g.W.CellSource.state c.args.work.now in
     let new = g.W.CellSource.state c.emit.new.work in
     took_step_as (state old c.args.self.now c.args.steps.now) new c.emit.new.steps c.args.choice.now.head (choice_cell c.args.self.now c.args.choice.now) c.requires.ready c.requires.fetched c.requires.asked
-    (subst (λ (h : Head). Emission {A = Unit {0}} old new c.args.aim.now.level (emitted_of c.args.choice.now.pass h.cell) c.args.steps.now c.emit.new.steps (Ok (tt {0}))) c.head-head.ensures c.in_ok-emit.ensures.emission)
+    (subst (λ (h : Head). Emission {A = Unit {0}} old new c.args.aim.now.level (emitted_of c.args.choice.now.pass h.cell) c.args.steps.now c.emit.new.steps (Ok (tt {0}))) c.head-head.ensures c.in_ok-emit.ensures.adds)
     c.consume.new.self c.consume.ensures

@@ -1,0 +1,71 @@
+-- How rows are read: one range of the table and the calls on its walk, and nothing else.
+use Rattle.std.specs.Prelude.{◌≡◌, ℕ, ◌⊎◌, true, List, [], ◌∷◌, ◌++◌, length, take, map, Option, Some, None, Result, Ok, Err}
+use Rattle.cola_cell.specs.declared.fault.ReadFault.{ReadFault}
+use Rattle.cola_cell.specs.declared.fault.ReadFault.TheVariants as fault
+use Rattle.cola_mapped.specs.Mapped.{counts_of}
+use Rattle.cola_store.specs.Walks.{Begins, Goes}
+use Rattle.cola_handle.specs.declared.answer.Refusal.{Refusal}
+use Rattle.cola_handle.specs.declared.answer.Refusal.TheVariants.{Length, BadCell}
+use Rattle.cola_handle.specs.declared.cursor.Cursor.{Cursor}
+use Rattle.cola_handle.specs.declared.cursor.Row.{Row}
+use Rattle.cola_handle.specs.declared.session.Session.{Session}
+use Rattle.cola_handle.specs.Cursors.{Pair, row_pair, not_given, is_void, first_key, from_of, end_of}
+use Rattle.cola_handle.specs.Open.{bytes_of}
+
+-- a range of a table begins so, and a call on its walk goes so
+module _ {T W : Type 0} (begins : T → List ℕ → Option (List ℕ) → Result W ReadFault → T → Type 0) (goes : T → W → Result (Option Pair) ReadFault → T → W → Type 0) where
+  -- calls on a walk, one after another, which gave these pairs
+  pub data GoesOn : T → W → List Pair → T → W → Type 0 where
+    Stays : {table : T} {walk : W} → GoesOn table walk [] table walk
+    Then : {old mid new : T} {walk after last : W} {pairs : List Pair} (pair : Pair) →
+        GoesOn old walk pairs mid after → goes mid after (Ok (Some pair)) new last → GoesOn old walk (pairs ++ pair ∷ []) new last
+
+  module _ (cursor : Cursor) (low : List ℕ) (high : Option (List ℕ)) (old : T) (rows : List Row) where
+    -- a range was begun and gone on with so far, and so many rows have the pairs that it gave and the cursor had not given
+    pub record Came (given : ℕ) (new : T) (last : W) : Type 0 where
+      pub mid : T
+      pub walk : W
+      pub pairs : List Pair
+      pub begun : begins old low high (Ok walk) mid
+      pub gone : GoesOn mid walk pairs new last
+      pub rows_have : map row_pair (take given rows) ≡ not_given cursor pairs
+
+    -- it came so far, and the next call on the walk answered this
+    pub record Ended (given : ℕ) (answer : Result (Option Pair) ReadFault) (new : T) : Type 0 where
+      pub far : T
+      pub walk : W
+      pub last : W
+      pub came : Came given far walk
+      pub ends : goes far walk answer new last
+
+    -- every row was given, or the walk has no pair more
+    abbrev pub FillsRows : ℕ → T → Type 0
+    FillsRows given new = ((given ≡ length rows) × ((last : W) × Came given new last)) ⊎ Ended given (Ok None) new
+
+    -- the range was refused for this reason, or a call on its walk, when so many rows were given
+    abbrev pub Breaks : ReadFault → T → Type 0
+    Breaks fault new = begins old low high (Err fault) new ⊎ ((given : ℕ) × Ended given (Err fault) new)
+
+    -- how filling the rows ended
+    abbrev pub Fills : Result ℕ ReadFault → T → Type 0
+    Fills (Ok given) new = FillsRows given new
+    Fills (Err fault) new = Breaks fault new
+
+module _ (old new : Session) (cursor : Cursor) (rows : List Row) where
+  -- the rows were filled by one range of the store, from the cursor's key on and below its upper end
+  abbrev pub FillsFrom : Result ℕ ReadFault → Type 0
+  FillsFrom result =
+      Fills (Begins bytes_of counts_of) (Goes bytes_of counts_of) cursor (first_key (from_of cursor)) (end_of cursor) old.store rows result new.store
+
+  -- no row was wanted, or no key is below the upper end: none is given, and nothing changed
+  pub record GivesNone (given : ℕ) : Type 0 where
+    pub why : (length rows ≡ 0) ⊎ (is_void cursor ≡ true)
+    pub none : given ≡ 0
+    pub same : new ≡ old
+
+  -- on every store: the rows have what a range of the store gave, and a refusal is the range's, by a cell that is bad; by lengths none is begun
+  abbrev pub RangeSays : Result ℕ Refusal → Type 0
+  RangeSays (Ok given) = GivesNone given ⊎ FillsFrom (Ok given)
+  RangeSays (Err Length) = new ≡ old
+  RangeSays (Err BadCell) = (cell : ℕ) × FillsFrom (Err (fault.BadCell cell))
+  RangeSays (Err _) = ⊥
