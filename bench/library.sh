@@ -6,9 +6,10 @@
 # Each store is one process for each text: COUNT keys in random order, and in rising order (bench/library.cpp). It prints a table
 # with the seconds, passed and of processor, their ratios to LevelDB's, the median, the 99.9th percentile and the worst call, and
 # the peak memory, and then what became of the aims. It wants a C++ compiler and the library (make library builds it; LIBRARY
-# names another folder that has libcola.a). A peer whose headers are not there is skipped and named (Debian: libleveldb-dev
-# liblmdb-dev libsqlite3-dev libtkrzw-dev). It takes minutes and a gigabyte below TMPDIR, and means something on an idle machine
-# alone.
+# names another folder that has libcola.a). The last row of a table is what the cells alone take that the calls of cola read and
+# move, without its code (bench/accesses.c, the least of the rounds). A peer whose headers are not there is skipped and named
+# (Debian: libleveldb-dev liblmdb-dev libsqlite3-dev libtkrzw-dev). It takes minutes and a gigabyte below TMPDIR, and means
+# something on an idle machine alone.
 set -euo pipefail
 root=$(cd "$(dirname "$0")/.." && pwd -P)
 count=${1:-1000000} rounds=${2:-3}
@@ -37,6 +38,8 @@ add sqlite SQLITE sqlite3.h -lsqlite3 1 'SQLite'
 add sqlite-1000 SQLITE sqlite3.h -lsqlite3 1000 'SQLite, 1,000 puts a transaction'
 add tkrzw TKRZW tkrzw_dbm_tree.h -ltkrzw 1 'Tkrzw'
 
+cc -O2 -o "$room/accesses" bench/accesses.c
+
 for order in random rising; do
     for it in "${stores[@]}"; do
         IFS='|' read -r name define batch title <<<"$it"
@@ -47,11 +50,14 @@ for order in random rising; do
     [ "$(awk '{ print $NF }' "$room/$order" | sort -u | wc -l)" -eq 1 ] || { echo 'library: two stores have other values' >&2; exit 1; }
     printf '\n| %s keys in %s order | puts and gets, seconds | beside LevelDB | of processor | beside LevelDB | put: median, 99.9th, worst, us | get: median, 99.9th, worst, us | memory, MiB |\n' "$count" "$order"
     printf '|---|---:|---:|---:|---:|---:|---:|---:|\n'
-    awk -F '[|]' '
+    cells=$(for ((round = 0; round < rounds; round++)); do "$room/accesses" "$count" "$order"; done | sort -n | head -n 1)
+    awk -F '[|]' -v cells="$cells" '
         { split($2, n, " "); title[NR] = $1; both[NR] = n[1] + n[6]; used[NR] = n[2] + n[7]; if ($1 == "LevelDB") level = NR
           text[NR] = sprintf("%.2f + %.2f | %%s | %.2f + %.2f | %%s | %.2f, %.1f, %.0f | %.2f, %.1f, %.0f | %.1f", n[1], n[6], n[2], n[7], n[3] / 1e3, n[4] / 1e3, n[5] / 1e3, n[8] / 1e3, n[9] / 1e3, n[10] / 1e3, n[11] / 1024) }
         function beside(it) { return level ? sprintf("%.2f", it) : "" }
-        END { for (at = 1; at <= NR; at++) printf("| %s | " text[at] " |\n", title[at], beside(both[at] / both[level]), beside(used[at] / used[level])) }' "$room/$order"
+        END { for (at = 1; at <= NR; at++) printf("| %s | " text[at] " |\n", title[at], beside(both[at] / both[level]), beside(used[at] / used[level]))
+            split(cells, alone, " ")
+            printf("| the cells of cola alone, in C | %.2f + %.2f | %s | | | | | |\n", alone[1], alone[2], beside((alone[1] + alone[2]) / both[level])) }' "$room/$order"
 done
 echo
 for order in random rising; do

@@ -1,5 +1,6 @@
 -- What a call by C says of the session behind its handle.
-use Rattle.std.specs.Prelude.{◌≡◌, ◌≤◌, ℕ, ℤ, pos, true, Option, Some, List, Result, IfOk, IfErr, OnOk, OnErr, None, IsSome}
+use Rattle.std.specs.Prelude.{◌≡◌, ◌<◌, ◌≤◌, ◌↔◌, ℕ, ℤ, pos, true, Bool, Option, Some, List, [], length, Result, IfOk, IfErr, OnOk, OnErr, None, IsSome}
+use Rattle.std.specs.Result.{result_unwrap_or}
 use Rattle.cola_spec.specs.Bounds.{put_bound, get_bound, range_bound}
 use Rattle.cola_spec.specs.Command as command
 use Rattle.cola_spec.specs.Map.{Map, is_key}
@@ -13,25 +14,38 @@ use Rattle.cola_mapped.specs.declared.region.Region.{Region}
 use Rattle.cola_mapped.specs.Mapped.{counts_of}
 use Rattle.cola_mapped.specs.Region.{bytes_in}
 use Rattle.cola_handle.specs.declared.answer.Answer.{Answer}
-use Rattle.cola_handle.specs.declared.answer.Answer.TheVariants.{Done, Options, Memory}
+use Rattle.cola_handle.specs.declared.answer.Answer.TheVariants.{Done, Absent, Closed, Options, Memory}
 use Rattle.cola_handle.specs.declared.answer.Refusal.{Refusal}
 use Rattle.cola_handle.specs.declared.cursor.Cursor.{Cursor}
 use Rattle.cola_handle.specs.declared.cursor.Row.{Row}
+use Rattle.cola_handle.specs.declared.handle.Cola.{Cola}
 use Rattle.cola_handle.specs.declared.session.Session.{Session}
 use Rattle.cola_handle.specs.Calls.{both_fit, ByLength, StoreSays, put_said, put_if_said, GetSays, StampSays, DeleteSays, PutSays, PutIfSays}
-use Rattle.cola_handle.specs.Cursors.{NextSays, Writes, GaveSome, Moves, is_good}
-use Rattle.cola_handle.specs.Numbers.{number}
+use Rattle.cola_handle.specs.Cursors.{NextSays, Writes, GaveSome, Moves, is_good, ahead, gave}
+use Rattle.cola_handle.specs.Numbers.{number, was_told, other_told, value_told, length_told, stamp_told}
 use Rattle.cola_handle.specs.Open.{bytes_of, HoldsMap, shape_of, levels_of, Stays, place_of, device_of}
 use Rattle.cola_handle.specs.Reading.{Reads, ReadsFew}
 use Rattle.cola_handle.specs.Walking.{RangeSays}
 use Rattle.cola_handle.specs.Created.{HasSize}
 use Rattle.cola_handle.specs.Lent.{StandsFor, HasTerms, OpenCause, AreLeft}
 
+-- this is said where the handle is closed
+abbrev pub IfClosed : Cola → Type 0 → Type 0
+IfClosed handle Says = handle.owned.session ≡ None → Says
+
+-- this is said where it is open, of the session behind it
+abbrev pub IfOpen : Cola → (Session → Type 0) → Type 0
+IfOpen handle Says = (session : Session) → handle.owned.session ≡ Some session → Says session
+
+-- what a call on a closed handle answers; the handle is closed afterwards
+abbrev pub AnswersClosed : (after : Cola) → ℤ → Type 0
+AnswersClosed after code = (code ≡ pos (number Closed)) × (after.owned.session ≡ None)
+
 -- the handle is still open; the call was answered so, with the number of that answer, and says this of the session afterwards
-pub record Answered {A : Type 0} (after : Option Session) (code : ℤ) (answer_of : Result A Refusal → Answer) (Says : Session → Result A Refusal → Type 0) : Type 0 where
+pub record Answered {A : Type 0} (after : Cola) (code : ℤ) (answer_of : Result A Refusal → Answer) (Says : Session → Result A Refusal → Type 0) : Type 0 where
   pub new : Session
   pub answer : Result A Refusal
-  pub is_open : after ≡ Some new
+  pub is_open : after.owned.session ≡ Some new
   pub number_is : code ≡ pos (number (answer_of answer))
   pub says : Says new answer
 
@@ -45,6 +59,10 @@ module _ (old : Session) (key : List ℕ) where
     pub reads : ReadsFew old new
     pub stays : Stays old new
 
+  -- the value is told in front of what stood in its place, and its length
+  abbrev pub TellsValue : (into into' : List ℕ) → (len len' : ℕ) → Session → Result (Option (List ℕ)) Refusal → Type 0
+  TellsValue into into' len len' new got = Gets new got × (into' ≡ value_told got into) × (len' ≡ length_told got len)
+
   -- a stamp
   pub record Stamps (new : Session) (result : Result (Option ℕ) Refusal) : Type 0 where
     pub answer : (m : Map) → HoldsMap old m → StampSays m key (HoldsMap new) result
@@ -53,6 +71,10 @@ module _ (old : Session) (key : List ℕ) where
     pub ticks : OnOk result (new.ticks ≤ get_bound (levels_of old))
     pub reads : ReadsFew old new
     pub stays : Stays old new
+
+  -- the stamp is told in its place
+  abbrev pub TellsStamp : (place place' : ℕ) → Session → Result (Option ℕ) Refusal → Type 0
+  TellsStamp place place' new got = Stamps new got × (place' ≡ stamp_told got place)
 
   -- a delete
   pub record Deletes (new : Session) (result : Result (Option (List ℕ)) Refusal) : Type 0 where
@@ -72,6 +94,10 @@ module _ (old : Session) (key : List ℕ) where
     pub transfers : TransfersWithin bytes_of counts_of old.store new.store
     pub stays : Stays old new
 
+  -- whether it replaced a value is told
+  abbrev pub TellsPut : (value : List ℕ) → (was was' : Bool) → Session → Result Put Refusal → Type 0
+  TellsPut value was was' new put = Puts value new put × (was' ≡ was_told put was)
+
   -- a put that depends on the stamp seen
   pub record PutsIf (seen : ℕ) (value : List ℕ) (new : Session) (result : Result PutIf Refusal) : Type 0 where
     pub answer : (m : Map) → HoldsMap old m → PutIfSays (shape_of old) m key seen value (HoldsMap new) result
@@ -80,6 +106,10 @@ module _ (old : Session) (key : List ℕ) where
     pub ticks : OnOk result (new.ticks ≤ put_bound (levels_of old))
     pub transfers : TransfersWithin bytes_of counts_of old.store new.store
     pub stays : Stays old new
+
+  -- the other stamp is told that the key has, where it is refused for that
+  abbrev pub TellsPutIf : (seen : ℕ) → (value : List ℕ) → (place place' : ℕ) → Session → Result PutIf Refusal → Type 0
+  TellsPutIf seen value place place' new put = PutsIf seen value new put × (place' ≡ other_told put place)
 
 module _ (old : Session) (before : Cursor) (rows : List Row) where
   -- the next rows of a cursor
@@ -94,6 +124,16 @@ module _ (old : Session) (before : Cursor) (rows : List Row) where
     pub good : is_good before ≡ true → is_good after ≡ true
     pub reads : Reads old new (range_bound (levels_of old))
     pub stays : Stays old new
+
+  -- the next rows are answered on an open handle, and it is told how many were given
+  abbrev pub AnswersNext : (handle : Cola) → ℤ → (after : Cursor) → (filled : List Row) → (given given' : ℕ) → Type 0
+  AnswersNext handle code after filled given given' =
+      Answered handle code (gave (length rows)) (λ new next. Nexts new after filled next × (given' ≡ result_unwrap_or next given))
+
+  -- where the session holds a map and the cursor is good, absent is answered exactly where rows were asked for and no pair is ahead
+  abbrev pub IsAbsentAtEnd : ℤ → Type 0
+  IsAbsentAtEnd code = (m : Map) → HoldsMap old m → is_good before ≡ true →
+      (code ≡ pos (number Absent)) ↔ ((0 < length rows) × (ahead m before ≡ []))
 
 -- the number of an answer, and what this answer says
 pub record Tells (code : ℤ) (Says : Answer → Type 0) : Type 0 where

@@ -2,15 +2,14 @@
 //! pointer and a length, a slice crosses as its pointer and its length, and nothing of the allocator crosses.
 #![tactic(auto)]
 
-ghost use Rattle.std.specs.Prelude.{◌≡◌, ◌<◌, ◌≤◌, ◌↔◌, ℕ, pos, true, false, List, [], length, take, Result, Ok, Some, None, IsSome, IfOk};
+ghost use Rattle.std.specs.Prelude.{◌≡◌, ◌<◌, ◌≤◌, ℕ, pos, true, false, List, length, take, Result, Ok, None, IsSome, IfOk};
 ghost use Rattle.std.specs.Result.{result_unwrap_or};
 ghost use Rattle.cola_spec.specs.Map.{Map, count, pairs_between};
 ghost use Rattle.cola_handle.specs.declared.answer.Answer.TheVariants as answer;
-ghost use Rattle.cola_handle.specs.declared.session.Session.{Session};
-ghost use Rattle.cola_handle.specs.Cursors.{are_short, IsSet, ahead, end_at, gave, is_good};
-ghost use Rattle.cola_handle.specs.Numbers.{number, found, made, made_if, was_told, other_told, value_told, length_told, stamp_told};
+ghost use Rattle.cola_handle.specs.Cursors.{are_short, IsSet, ahead, end_at, gave};
+ghost use Rattle.cola_handle.specs.Numbers.{number, found, made, made_if};
 ghost use Rattle.cola_handle.specs.Open.{HoldsMap};
-ghost use Rattle.cola_c.specs.Exports.{Answered, Gets, Stamps, Deletes, Puts, PutsIf, Nexts, Tells, Opens, IsRefused, Closes, Checkpoints, Unfinished, Sizes};
+ghost use Rattle.cola_c.specs.Exports.{IfClosed, IfOpen, AnswersClosed, Answered, TellsValue, TellsStamp, Deletes, TellsPut, TellsPutIf, Nexts, AnswersNext, IsAbsentAtEnd, Tells, Opens, IsRefused, Closes, Checkpoints, Unfinished, Sizes};
 ghost use Rattle.cola_handle.specs.Created.{Creates};
 
 use cola_handle::{
@@ -50,13 +49,11 @@ pub extern "C" fn cola_core_create(bytes: &mut [u8], keys: u64, block: u8, versi
 #[unsafe(no_mangle)]
 pub extern "C" fn cola_core_open(alloc: Global, cola: &mut Cola, region: &mut Region) -> i32
     requires { IsSome region.old.bytes }
-    ensures in_use { (session : Session) → cola.old.owned.session ≡ Some session →
-        (result ≡ pos (number answer.InUse)) × (cola.new ≡ cola.old) × (region.new ≡ region.old) }
-    ensures opened { cola.old.owned.session ≡ None → (session : Session) →
-        cola.new.owned.session ≡ Some session →
-        (result ≡ pos (number answer.Done)) × (region.new.bytes ≡ None) × Opens region.old session }
-    ensures refused { cola.old.owned.session ≡ None → cola.new.owned.session ≡ None →
-        Tells result (IsRefused region.old region.new) }
+    ensures in_use { IfOpen cola.old (λ _. (result ≡ pos (number answer.InUse)) × (cola.new ≡ cola.old)
+        × (region.new ≡ region.old)) }
+    ensures opened { IfClosed cola.old (IfOpen cola.new (λ session. (result ≡ pos (number answer.Done))
+        × (region.new.bytes ≡ None) × Opens region.old session)) }
+    ensures refused { IfClosed cola.old (IfClosed cola.new (Tells result (IsRefused region.old region.new))) }
 {
     if cola.is_open() {
         return Answer::InUse.code();
@@ -83,12 +80,9 @@ pub extern "C" fn cola_core_put(
     value: &[u8],
     was: &mut bool,
 ) -> i32
-    ensures closed { cola.old.owned.session ≡ None →
-        (result ≡ pos (number answer.Closed)) × (cola.new.owned.session ≡ None)
-        × (was.new ≡ was.old) }
-    ensures answered { (session : Session) → cola.old.owned.session ≡ Some session →
-        Answered cola.new.owned.session result made
-        (λ new put. Puts session key.now value.now new put × (was.new ≡ was_told put was.old)) }
+    ensures closed { IfClosed cola.old (AnswersClosed cola.new result × (was.new ≡ was.old)) }
+    ensures answered { IfOpen cola.old (λ session. Answered cola.new result made
+        (TellsPut session key.now value.now was.old was.new)) }
 {
     let Some(mut session) = cola.take(alloc) else {
         return Answer::Closed.code();
@@ -108,13 +102,9 @@ pub extern "C" fn cola_core_put_if(
     value: &[u8],
     stamp: &mut u64,
 ) -> i32
-    ensures closed { cola.old.owned.session ≡ None →
-        (result ≡ pos (number answer.Closed)) × (cola.new.owned.session ≡ None)
-        × (stamp.new ≡ stamp.old) }
-    ensures answered { (session : Session) → cola.old.owned.session ≡ Some session →
-        Answered cola.new.owned.session result made_if
-        (λ new put. PutsIf session key.now seen value.now new put
-        × (stamp.new ≡ other_told put stamp.old)) }
+    ensures closed { IfClosed cola.old (AnswersClosed cola.new result × (stamp.new ≡ stamp.old)) }
+    ensures answered { IfOpen cola.old (λ session. Answered cola.new result made_if
+        (TellsPutIf session key.now seen value.now stamp.old stamp.new)) }
 {
     let Some(mut session) = cola.take(alloc) else {
         return Answer::Closed.code();
@@ -134,13 +124,10 @@ pub extern "C" fn cola_core_get(
     len: &mut usize,
 ) -> i32
     requires { 72 ≤ length into.old }
-    ensures closed { cola.old.owned.session ≡ None →
-        (result ≡ pos (number answer.Closed)) × (cola.new.owned.session ≡ None)
-        × (into.new ≡ into.old) × (len.new ≡ len.old) }
-    ensures answered { (session : Session) → cola.old.owned.session ≡ Some session →
-        Answered cola.new.owned.session result found
-        (λ new got. Gets session key.now new got × (into.new ≡ value_told got into.old)
-        × (len.new ≡ length_told got len.old)) }
+    ensures closed { IfClosed cola.old (AnswersClosed cola.new result × (into.new ≡ into.old)
+        × (len.new ≡ len.old)) }
+    ensures answered { IfOpen cola.old (λ session. Answered cola.new result found
+        (TellsValue session key.now into.old into.new len.old len.new)) }
 {
     let Some(mut session) = cola.take(alloc) else {
         return Answer::Closed.code();
@@ -158,12 +145,9 @@ pub extern "C" fn cola_core_stamp(
     key: &[u8],
     stamp: &mut u64,
 ) -> i32
-    ensures closed { cola.old.owned.session ≡ None →
-        (result ≡ pos (number answer.Closed)) × (cola.new.owned.session ≡ None)
-        × (stamp.new ≡ stamp.old) }
-    ensures answered { (session : Session) → cola.old.owned.session ≡ Some session →
-        Answered cola.new.owned.session result found
-        (λ new got. Stamps session key.now new got × (stamp.new ≡ stamp_told got stamp.old)) }
+    ensures closed { IfClosed cola.old (AnswersClosed cola.new result × (stamp.new ≡ stamp.old)) }
+    ensures answered { IfOpen cola.old (λ session. Answered cola.new result found
+        (TellsStamp session key.now stamp.old stamp.new)) }
 {
     let Some(mut session) = cola.take(alloc) else {
         return Answer::Closed.code();
@@ -176,10 +160,8 @@ pub extern "C" fn cola_core_stamp(
 /// Takes a key out.
 #[unsafe(no_mangle)]
 pub extern "C" fn cola_core_delete(alloc: Global, cola: &mut Cola, key: &[u8]) -> i32
-    ensures closed { cola.old.owned.session ≡ None →
-        (result ≡ pos (number answer.Closed)) × (cola.new.owned.session ≡ None) }
-    ensures answered { (session : Session) → cola.old.owned.session ≡ Some session →
-        Answered cola.new.owned.session result found (λ new old. Deletes session key.now new old) }
+    ensures closed { IfClosed cola.old (AnswersClosed cola.new result) }
+    ensures answered { IfOpen cola.old (λ session. Answered cola.new result found (Deletes session key.now)) }
 {
     let Some(mut session) = cola.take(alloc) else {
         return Answer::Closed.code();
@@ -192,16 +174,11 @@ pub extern "C" fn cola_core_delete(alloc: Global, cola: &mut Cola, key: &[u8]) -
 /// The number of keys.
 #[unsafe(no_mangle)]
 pub extern "C" fn cola_core_count(alloc: Global, cola: &mut Cola, keys: &mut u64) -> i32
-    ensures closed { cola.old.owned.session ≡ None →
-        (result ≡ pos (number answer.Closed)) × (cola.new.owned.session ≡ None)
-        × (keys.new ≡ keys.old) }
+    ensures closed { IfClosed cola.old (AnswersClosed cola.new result × (keys.new ≡ keys.old)) }
     ensures stays { cola.new.owned.session ≡ cola.old.owned.session }
-    ensures done { (session : Session) → cola.old.owned.session ≡ Some session →
-        result ≡ pos (number answer.Done) }
-    ensures stored { (session : Session) → cola.old.owned.session ≡ Some session →
-        keys.new ≡ session.store.count }
-    ensures answered { (session : Session) (m : Map) → cola.old.owned.session ≡ Some session →
-        HoldsMap session m → keys.new ≡ count m }
+    ensures done { IfOpen cola.old (λ _. result ≡ pos (number answer.Done)) }
+    ensures stored { IfOpen cola.old (λ session. keys.new ≡ session.store.count) }
+    ensures answered { IfOpen cola.old (λ session. (m : Map) → HoldsMap session m → keys.new ≡ count m) }
 {
     let Some(session) = cola.take(alloc) else {
         return Answer::Closed.code();
@@ -272,17 +249,11 @@ pub extern "C" fn cola_core_next(
     rows: &mut [Row],
     given: &mut usize,
 ) -> i32
-    ensures closed { cola.old.owned.session ≡ None →
-        (result ≡ pos (number answer.Closed)) × (cola.new.owned.session ≡ None)
-        × (cursor.new ≡ cursor.old) × (rows.new ≡ rows.old) × (given.new ≡ given.old) }
-    ensures answered { (session : Session) → cola.old.owned.session ≡ Some session →
-        Answered cola.new.owned.session result (gave (length rows.old))
-        (λ new next. Nexts session cursor.old rows.old new cursor.new rows.new next
-        × (given.new ≡ result_unwrap_or next given.old)) }
-    ensures ended { (session : Session) (m : Map) → cola.old.owned.session ≡ Some session →
-        HoldsMap session m → is_good cursor.old ≡ true →
-        (result ≡ pos (number answer.Absent))
-        ↔ ((0 < length rows.old) × (ahead m cursor.old ≡ [])) }
+    ensures closed { IfClosed cola.old (AnswersClosed cola.new result × (cursor.new ≡ cursor.old)
+        × (rows.new ≡ rows.old) × (given.new ≡ given.old)) }
+    ensures answered { IfOpen cola.old (λ session. AnswersNext session cursor.old rows.old cola.new result
+        cursor.new rows.new given.old given.new) }
+    ensures ended { IfOpen cola.old (λ session. IsAbsentAtEnd session cursor.old rows.old result) }
 {
     let Some(mut session) = cola.take(alloc) else {
         return Answer::Closed.code();
@@ -295,14 +266,10 @@ pub extern "C" fn cola_core_next(
 /// Closes the store and opens it again. An error gives the bytes back: then the handle is closed.
 #[unsafe(no_mangle)]
 pub extern "C" fn cola_core_checkpoint(alloc: Global, cola: &mut Cola, region: &mut Region) -> i32
-    ensures closed { cola.old.owned.session ≡ None →
-        (result ≡ pos (number answer.Closed)) × (cola.new.owned.session ≡ None)
-        × (region.new ≡ region.old) }
-    ensures done { (old new : Session) → cola.old.owned.session ≡ Some old →
-        cola.new.owned.session ≡ Some new →
-        (result ≡ pos (number answer.Done)) × (region.new ≡ region.old) × Checkpoints old new }
-    ensures refused { (old : Session) → cola.old.owned.session ≡ Some old →
-        cola.new.owned.session ≡ None → Tells result (Unfinished old region.new) }
+    ensures closed { IfClosed cola.old (AnswersClosed cola.new result × (region.new ≡ region.old)) }
+    ensures done { IfOpen cola.old (λ old. IfOpen cola.new (λ new. (result ≡ pos (number answer.Done))
+        × (region.new ≡ region.old) × Checkpoints old new)) }
+    ensures refused { IfOpen cola.old (λ old. IfClosed cola.new (Tells result (Unfinished old region.new))) }
 {
     let Some(session) = cola.take(alloc) else {
         return Answer::Closed.code();
@@ -323,11 +290,9 @@ pub extern "C" fn cola_core_checkpoint(alloc: Global, cola: &mut Cola, region: &
 /// Closes the store, and gives its bytes back in the region, where they were.
 #[unsafe(no_mangle)]
 pub extern "C" fn cola_core_close(alloc: Global, cola: &mut Cola, region: &mut Region) -> i32
-    ensures closed { cola.old.owned.session ≡ None →
-        (result ≡ pos (number answer.Closed)) × (region.new ≡ region.old) }
+    ensures closed { IfClosed cola.old ((result ≡ pos (number answer.Closed)) × (region.new ≡ region.old)) }
     ensures left { cola.new.owned.session ≡ None }
-    ensures done { (session : Session) → cola.old.owned.session ≡ Some session →
-        (result ≡ pos (number answer.Done)) × Closes session region.new }
+    ensures done { IfOpen cola.old (λ session. (result ≡ pos (number answer.Done)) × Closes session region.new) }
 {
     let Some(session) = cola.take(alloc) else {
         return Answer::Closed.code();

@@ -211,6 +211,7 @@ fn fetch<D: Device>(
 
 /// Makes a buffer hold a block that it does not hold. Where the cache holds the block the buffer borrows it, and else it has
 /// a copy of its own.
+#[inline(never)]
 fn turn<D: Device>(
     device: &mut Cached<D>,
     lasts: &mut [Option<u64>],
@@ -278,6 +279,7 @@ impl<D: Device> Buffers<D> {
     /// Makes a buffer hold a block. Where it does already, nothing changes and no call of the device is made. Else the
     /// block is read by way of the cache, by at most one read of the device, of exactly this block. After an error the
     /// buffer holds none.
+    #[inline(always)]
     pub fn turn_to(&mut self, buffer: usize, block: u64) -> Result<(), DeviceFault>
         requires buffer { buffer < length self.old.lasts }
         requires block { block < self.old.many }

@@ -206,7 +206,7 @@ impl Packed {
     }
 
     /// Writes the cell in the format, in the one way that it has there.
-    #[inline]
+    #[inline(always)]
     pub fn write(&self, format: Format, into: &mut [u8])
         requires size { length into.old ≡ width format }
         requires fits { CellFits format self.now }
@@ -240,7 +240,7 @@ impl Packed {
     }
 
     /// Takes the cell that the bytes spell in the format in its place. False exactly on invalid bytes, and then it stays.
-    #[inline]
+    #[inline(always)]
     pub fn refill(&mut self, format: Format, bytes: &[u8]) -> bool
         requires { length bytes.now ≡ width format }
         ensures cell { MatchBool result (IsSpelling format self.new bytes.now)
@@ -255,8 +255,19 @@ impl Packed {
         true
     }
 
+    /// Takes another cell in its place. Only the bytes of its format are copied.
+    #[inline(always)]
+    pub fn copy_from(&mut self, other: &Packed)
+        ensures { self.new ≡ other.now }
+    {
+        let format = other.format;
+        let width = format.width();
+        copy_in(format, &other.bytes[..width], &mut self.bytes[..width]);
+        self.format = format;
+    }
+
     /// Writes the item with this youth and link in the format.
-    #[inline]
+    #[inline(always)]
     pub fn write_renewed(&self, format: Format, young: bool, link: u32, into: &mut [u8])
         requires size { length into.old ≡ width format }
         requires item { is_look self.now ≡ false }
@@ -268,7 +279,7 @@ impl Packed {
     }
 
     /// Writes the lookahead cell of its key with this link in the format.
-    #[inline]
+    #[inline(always)]
     pub fn write_look(&self, format: Format, link: u32, into: &mut [u8])
         requires size { length into.old ≡ width format }
         requires fits { CellFits format self.now }
@@ -293,7 +304,7 @@ impl Packed {
     }
 
     /// Writes in the format what becomes of the cell.
-    #[inline]
+    #[inline(always)]
     pub fn write_as(&self, format: Format, pass: Pass, into: &mut [u8])
         requires size { length into.old ≡ width format }
         requires may { MayPass pass self.now }

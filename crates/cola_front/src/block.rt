@@ -21,7 +21,7 @@ pub(crate) fn packed_in(format: Format, block: &[u8], place: usize) -> Option<Pa
 
 /// Takes the cell at a place of a block, which is counted in cells, into a packed cell. False exactly where its bytes
 /// spell none.
-#[inline]
+#[inline(always)]
 pub fn refill_from(format: Format, block: &[u8], place: usize, into: &mut Packed) -> bool
     requires { width format * place + width format ≤ length block.now }
     ensures { (if result then Some into.new else None) ≡ spelled_at format block.now place }
@@ -70,7 +70,7 @@ fn fill_as(format: Format, cell: &Packed, pass: Pass, into: &mut [u8])
 }
 
 /// Puts what becomes of a cell at a place of a block, which is counted in cells.
-#[inline]
+#[inline(always)]
 pub fn put_as(format: Format, block: &mut [u8], place: usize, cell: &Packed, pass: Pass)
     requires inside { width format * place + width format ≤ length block.old }
     requires may { MayPass pass cell.now }

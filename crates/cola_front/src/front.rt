@@ -225,7 +225,7 @@ impl Front {
     {
         match &self.cells[place as usize] {
             Some(cell) => {
-                *into = cell.copy();
+                into.copy_from(cell);
                 true
             }
             None => false,

@@ -25,6 +25,11 @@ ByLength fit same (Ok answer) = fit ≡ true
 ByLength fit same (Err Length) = (fit ≡ false) × same
 ByLength fit same (Err _) = fit ≡ true
 
+-- lengths are the only reason of a refusal: it is accepted exactly where what was given fits
+abbrev pub OnlyByLength : {A : Type 0} → Bool → Result A Refusal → Type 0
+OnlyByLength fit (Ok answer) = fit ≡ true
+OnlyByLength fit (Err why) = (why ≡ Length) × (fit ≡ false)
+
 module _ {A : Type 0} (command : Command) (says : A → Reply) (old new : Session) where
   -- on every store: it was asked this, answered so, and is this one afterwards
   abbrev pub Replies : Reply → Type 0

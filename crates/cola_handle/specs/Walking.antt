@@ -3,14 +3,29 @@ use Rattle.std.specs.Prelude.{◌≡◌, ℕ, ◌⊎◌, true, List, [], ◌∷�
 use Rattle.cola_cell.specs.declared.fault.ReadFault.{ReadFault}
 use Rattle.cola_cell.specs.declared.fault.ReadFault.TheVariants as fault
 use Rattle.cola_mapped.specs.Mapped.{counts_of}
+use Rattle.cola_spec.specs.Bounds.{range_bound}
+use Rattle.cola_spec.specs.Map.{Map, pairs_between}
 use Rattle.cola_store.specs.Walks.{Begins, Goes}
+use Rattle.cola_table.specs.Answers.{OnlyDeviceRead}
+use Rattle.cola_table.specs.Terms.{Terms, Call}
 use Rattle.cola_handle.specs.declared.answer.Refusal.{Refusal}
 use Rattle.cola_handle.specs.declared.answer.Refusal.TheVariants.{Length, BadCell}
 use Rattle.cola_handle.specs.declared.cursor.Cursor.{Cursor}
 use Rattle.cola_handle.specs.declared.cursor.Row.{Row}
 use Rattle.cola_handle.specs.declared.session.Session.{Session}
-use Rattle.cola_handle.specs.Cursors.{Pair, row_pair, not_given, is_void, first_key, from_of, end_of}
+use Rattle.cola_handle.specs.Cursors.{Pair, row_pair, not_given, HaveFirst, is_void, first_key, from_of, end_of}
 use Rattle.cola_handle.specs.Open.{bytes_of}
+
+-- of a table that holds a map: the rows have the first of its pairs from `low` on and below `high` that the cursor has not given,
+-- and the map stays; only the device refuses
+abbrev pub FillSays : Map → Cursor → (low : List ℕ) → (high : Option (List ℕ)) → List Row → (Map → Type 0) → Result ℕ ReadFault → Type 0
+FillSays m cursor low high rows Holds (Ok given) = HaveFirst (not_given cursor (pairs_between m low high)) rows given × Holds m
+FillSays m cursor low high rows Holds (Err fault) = OnlyDeviceRead fault
+
+-- a call on a table that makes at most the ticks of a range: its terms stay, and no fault is forgotten
+abbrev pub RangeCall : {T : Type 0} → (T → Terms) → (T → ℕ) → (old new : T) → (before after : ℕ) → Type 0
+RangeCall terms faults old new before after =
+    Call (terms old) (terms new) (faults old) (faults new) before after (range_bound (terms old).depth)
 
 -- a range of a table begins so, and a call on its walk goes so
 module _ {T W : Type 0} (begins : T → List ℕ → Option (List ℕ) → Result W ReadFault → T → Type 0) (goes : T → W → Result (Option Pair) ReadFault → T → W → Type 0) where

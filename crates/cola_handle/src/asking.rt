@@ -1,5 +1,5 @@
 //! The calls of an open store, each on a ledger of its own.
-ghost use Rattle.std.specs.Prelude.{◌≡◌, ◌<◌, ◌≤◌, true, false, IfOk, OnOk, MatchResult};
+ghost use Rattle.std.specs.Prelude.{◌≡◌, ◌<◌, ◌≤◌, IfOk, OnOk};
 ghost use Rattle.cola_cell.specs.Format.{KeyFits, ValueFits};
 ghost use Rattle.cola_spec.specs.Bounds.{get_bound, put_bound};
 ghost use Rattle.cola_spec.specs.Command as spec;
@@ -9,10 +9,9 @@ ghost use Rattle.cola_store.specs.Calls.{TransfersWithin};
 ghost use Rattle.cola_store.specs.Store.{terms_of};
 ghost use Rattle.cola_table.specs.Terms.{shape};
 ghost use Rattle.cola_mapped.specs.Mapped.{counts_of};
-ghost use Rattle.cola_handle.specs.declared.answer.Refusal.TheVariants.{Length};
 ghost use Rattle.cola_handle.specs.Open.{bytes_of, HoldsMap, shape_of, levels_of, place_of};
 ghost use Rattle.cola_handle.specs.Reading.{ReadsFew};
-ghost use Rattle.cola_handle.specs.Calls.{both_fit, ByLength, StoreSays, put_said, put_if_said, GetSays, StampSays, DeleteSays, PutSays, PutIfSays};
+ghost use Rattle.cola_handle.specs.Calls.{both_fit, ByLength, OnlyByLength, StoreSays, put_said, put_if_said, GetSays, StampSays, DeleteSays, PutSays, PutIfSays};
 
 use crate::answer::Refusal;
 use crate::session::Session;
@@ -27,8 +26,7 @@ use std::sync::ledger::{Blank, Ledger};
 fn key_of(store: &Store<MappedDevice>, bytes: &[u8]) -> Result<Key, Refusal>
     ensures value { IfOk result (λ key. key ≡ bytes.now) }
     ensures fits { IfOk result (KeyFits (terms_of store.now).format) }
-    ensures exact { MatchResult result (λ _. is_key (shape (terms_of store.now)) bytes.now ≡ true)
-        (λ why. (why ≡ Length) × (is_key (shape (terms_of store.now)) bytes.now ≡ false)) }
+    ensures exact { OnlyByLength (is_key (shape (terms_of store.now)) bytes.now) result }
 {
     match Key::of(bytes) {
         Some(key) if key.fits(store.format()) => Ok(key),
@@ -43,10 +41,7 @@ fn pair_of(store: &Store<MappedDevice>, key: &[u8], value: &[u8]) -> Result<(Key
     ensures fits { IfOk result
         (λ pair. KeyFits (terms_of store.now).format pair.0
         × ValueFits (terms_of store.now).format pair.1) }
-    ensures exact { MatchResult result
-        (λ _. both_fit (shape (terms_of store.now)) key.now value.now ≡ true)
-        (λ why. (why ≡ Length)
-        × (both_fit (shape (terms_of store.now)) key.now value.now ≡ false)) }
+    ensures exact { OnlyByLength (both_fit (shape (terms_of store.now)) key.now value.now) result }
 {
     let key = key_of(store, key)?;
     match Value::of(value) {

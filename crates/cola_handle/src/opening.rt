@@ -17,8 +17,8 @@ use cola_store::{OpenFault, Store};
 use std::alloc::Global;
 use std::sync::ledger::{Blank, Ledger};
 
-/// So many blocks are kept in memory.
-pub const CACHE: u32 = 64;
+/// No block is kept in a cache: the device is memory, and a copy there would be one more of the same bytes.
+const CACHE: u32 = 0;
 
 fn why(fault: &OpenFault) -> Answer
     ensures { result ≡ open_answer fault.now }

@@ -1,15 +1,14 @@
 //! Rows of an open store, by rising keys.
 ghost use Rattle.std.specs.Prelude.{◌≡◌, ℕ, ◌<◌, ◌≤◌, ◌+◌, ◌++◌, true, [], ◌∷◌, length, take, drop, map, All, IfOk, IfErr, OnErr, MatchResult, option_copied};
 ghost use Rattle.cola_spec.specs.Bounds.{range_bound};
-ghost use Rattle.cola_spec.specs.Map.{Map, pairs_between};
+ghost use Rattle.cola_spec.specs.Map.{Map};
 ghost use Rattle.cola_store.specs.Store.{terms_of};
-ghost use Rattle.cola_table.specs.Answers.{OnlyDeviceRead, ReadFaults};
-ghost use Rattle.cola_table.specs.Terms.{Call};
+ghost use Rattle.cola_table.specs.Answers.{ReadFaults};
 ghost use Rattle.cola_handle.specs.Calls.{ByLength};
-ghost use Rattle.cola_handle.specs.Cursors.{row_pair, IsGoodRow, is_good, not_given, HaveFirst, GaveSome, Writes, Moves, NextSays};
+ghost use Rattle.cola_handle.specs.Cursors.{row_pair, IsGoodRow, is_good, not_given, GaveSome, Writes, Moves, NextSays};
 ghost use Rattle.cola_handle.specs.Open.{HoldsMap, levels_of, place_of};
 ghost use Rattle.cola_handle.specs.Reading.{Reads};
-ghost use Rattle.cola_handle.specs.Walking.{Fills, RangeSays};
+ghost use Rattle.cola_handle.specs.Walking.{Fills, FillSays, RangeCall, RangeSays};
 
 use crate::answer::Refusal;
 use crate::cursor::{Cursor, Row};
@@ -50,16 +49,12 @@ fn fill<T: Table, L: Ledger>(
 ) -> Result<usize, ReadFault>
     requires { is_good cursor.now ≡ true }
     ensures rows { (m : Map) → T.holds table.old m →
-        MatchResult result
-        (λ given. HaveFirst
-        (not_given cursor.now (pairs_between m low.now (option_copied high.entry))) rows.new given
-        × T.holds table.new m) OnlyDeviceRead }
+        FillSays m cursor.now low.now (option_copied high.entry) rows.new (T.holds table.new) result }
     ensures fills { Fills T.begins T.goes cursor.now low.now (option_copied high.entry) table.old
         rows.new result table.new }
     ensures writes { MatchResult result (Writes rows.old rows.new)
         (λ _. (given : ℕ) × Writes rows.old rows.new given) }
-    ensures call { Call (T.terms table.old) (T.terms table.new) (T.faults table.old)
-        (T.faults table.new) steps.old steps.new (range_bound (T.terms table.old).depth) }
+    ensures call { RangeCall T.terms T.faults table.old table.new steps.old steps.new }
     ensures faults { ReadFaults result (T.faults table.old) (T.faults table.new) }
     ensures kept { T.kept table.new ≡ T.kept table.old }
 {

@@ -26,6 +26,7 @@ pub struct Seat {
 /// Searches a run for a key, from index `start` on, which is the link of the run above: it reads at most
 /// eight cells in rising order and stops at the first whose key is at least `key`. Where none of them is, it
 /// is at the run's end, and the link is the last whole eight of the next run, of `next_len` cells.
+#[inline(always)]
 pub fn seek<W: CellSource, L: Ledger>(
     work: &mut W,
     run: &Run,

@@ -31,6 +31,7 @@ impl Head {
     ghost use Rattle.cola_merge.specs.States.{Fetch};
 
     /// The head behind so many consumed cells, not read yet.
+    #[inline(always)]
     pub(crate) fn behind(at: u32) -> Head
         ensures { result ≡ head_at at }
     {
@@ -42,7 +43,7 @@ impl Head {
     }
 
     /// How many cells were consumed.
-    #[inline]
+    #[inline(always)]
     pub(crate) fn at(&self) -> u32
         ensures { result ≡ self.now.at }
     {
@@ -50,7 +51,7 @@ impl Head {
     }
 
     /// The cell that is held.
-    #[inline]
+    #[inline(always)]
     pub(crate) fn cell(&self) -> Option<&Packed>
         ensures { option_copied result ≡ self.now.cell }
     {
@@ -62,7 +63,7 @@ impl Head {
     }
 
     /// Goes on behind the cell, where it stands.
-    #[inline]
+    #[inline(always)]
     pub(crate) fn pass(&mut self)
         requires { self.old.at + 1 < 2 ^ 32 }
         ensures { self.new ≡ head_at (self.old.at + 1) }
@@ -72,7 +73,7 @@ impl Head {
     }
 
     /// Reads the head where it is not held and the feed has one.
-    #[inline]
+    #[inline(always)]
     pub(crate) fn fetch<W: CellSource, L: Ledger>(
         &mut self,
         reader: Reader,

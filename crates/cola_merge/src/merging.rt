@@ -20,6 +20,7 @@ pub struct Merger {
 }
 
 /// Puts what becomes of the head's cell, if it is passed on, behind the shadow.
+#[inline(always)]
 fn emit<W: CellSink, L: Ledger>(
     work: &mut W,
     level: u8,
@@ -97,6 +98,7 @@ impl Merger {
     }
 
     /// Whether each source cell was consumed.
+    #[inline(always)]
     pub fn is_done(&self, aim: &Aim) -> bool
         ensures { IsTrue result ↔ IsUsedUp aim.now self.now }
     {
@@ -152,6 +154,7 @@ impl Merger {
     }
 
     /// What the rules ask for by the heads that are held.
+    #[inline(always)]
     fn choice(&self, aim: &Aim) -> Option<Choice>
         requires small { 8 * self.now.sample.at < 2 ^ 32 }
         ensures choice { as_action self.now result ≡ next_action aim.now self.now }
@@ -162,6 +165,7 @@ impl Merger {
     }
 
     /// The head of this reader.
+    #[inline(always)]
     fn head(&self, reader: Reader) -> &Head
         ensures { result.now ≡ head_of self.now reader }
     {
@@ -173,6 +177,7 @@ impl Merger {
     }
 
     /// Consumes the head of this reader.
+    #[inline(always)]
     fn consume(&mut self, reader: Reader)
         requires small { (head_of self.old reader).at + 1 < 2 ^ 32 }
         ensures { self.new ≡ with_head self.old reader (head_at ((head_of self.old reader).at + 1)) }
@@ -185,6 +190,7 @@ impl Merger {
     }
 
     /// Reads the heads that are not held, and chooses what the rules ask for by the three; none where no source cell is left.
+    #[inline(always)]
     fn next<W: CellSource, L: Ledger>(
         &mut self,
         work: &mut W,
@@ -205,6 +211,7 @@ impl Merger {
     }
 
     /// Takes the step that was chosen: emits its cell, if there is one, and consumes its head.
+    #[inline(always)]
     fn step<W: CellSink, L: Ledger>(
         &mut self,
         work: &mut W,
@@ -229,6 +236,7 @@ impl Merger {
     }
 
     /// Takes one step, where a source cell is left.
+    #[inline(always)]
     fn take<W: CellSink, L: Ledger>(
         &mut self,
         work: &mut W,
@@ -251,6 +259,7 @@ impl Merger {
     }
 
     /// Takes steps until so many are taken or no source cell is left.
+    #[inline(always)]
     fn run<W: CellSink, L: Ledger>(
         &mut self,
         work: &mut W,

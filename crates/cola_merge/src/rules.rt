@@ -23,6 +23,7 @@ pub(crate) struct Choice {
 }
 
 /// What becomes of an item at a head: none for a tombstone that is left out.
+#[inline(always)]
 fn emit(aim: &Aim, link: u32, head: Reader, cell: &Packed) -> Option<Pass>
     ensures emitted { PassesOn aim.now link head cell.now result }
     ensures suits { Suits result (Some cell.now) }
@@ -37,7 +38,7 @@ fn emit(aim: &Aim, link: u32, head: Reader, cell: &Packed) -> Option<Pass>
 }
 
 /// The youth of an item that is emitted for a head.
-#[inline]
+#[inline(always)]
 fn flag(aim: &Aim, head: Reader) -> bool
     ensures { result ≡ flag_of (part_of aim.now) (as_head head) }
 {
@@ -48,7 +49,7 @@ fn flag(aim: &Aim, head: Reader) -> bool
 }
 
 /// Whether a cell is a tombstone that is left out.
-#[inline]
+#[inline(always)]
 fn is_left_out(aim: &Aim, cell: &Packed) -> bool
     ensures { result ≡ aim.now.bottom && is_tombstone cell.now }
 {
@@ -56,6 +57,7 @@ fn is_left_out(aim: &Aim, cell: &Packed) -> bool
 }
 
 /// Consumes a head and emits nothing.
+#[inline(always)]
 fn pass(head: Reader) -> Option<Choice>
     ensures choice { (m : Merger) → as_action m result ≡ Take (as_head head) None }
     ensures suits { (m : Merger) → ChoiceSuits m result }
@@ -64,6 +66,7 @@ fn pass(head: Reader) -> Option<Choice>
 }
 
 /// Emits a lookahead cell of the key of the sample's head.
+#[inline(always)]
 fn look(link: u32) -> Option<Choice>
     ensures choice { ChoosesLook link result }
     ensures suits { (m : Merger) (next : Cell) → m.sample.cell ≡ Some next → ChoiceSuits m result }
@@ -75,6 +78,7 @@ fn look(link: u32) -> Option<Choice>
 }
 
 /// The item at a head against the head of the sample: the item goes first where its key is at most the sample's key.
+#[inline(always)]
 fn emit_item_or_look(
     aim: &Aim,
     link: u32,
@@ -95,6 +99,7 @@ fn emit_item_or_look(
 }
 
 /// Whether the own head is passed over: it is a lookahead cell, or an item that is not wanted.
+#[inline(always)]
 fn passes_own(aim: &Aim, own: &Packed) -> bool
     ensures { result ≡ skips_own (part_of aim.now) (Some (as_cell own.now)) }
 {
@@ -108,6 +113,7 @@ fn passes_own(aim: &Aim, own: &Packed) -> bool
 }
 
 /// Whether the incoming head is passed over: it is a lookahead cell.
+#[inline(always)]
 fn passes_incoming(incoming: &Packed) -> bool
     ensures { result ≡ skips_incoming (Some (as_cell incoming.now)) }
 {
@@ -116,6 +122,7 @@ fn passes_incoming(incoming: &Packed) -> bool
 
 /// The rule that fits where no head is passed over: of two equal keys the own item is dropped, else the smaller key
 /// goes first.
+#[inline(always)]
 fn emit_least(aim: &Aim, link: u32, own: &Head, incoming: &Head, sample: &Head) -> Option<Choice>
     ensures choice { ChoosesLeast aim.now link (heads own.now incoming.now sample.now) result }
     ensures suits { ChoiceSuits (heads own.now incoming.now sample.now) result }
@@ -136,6 +143,7 @@ fn emit_least(aim: &Aim, link: u32, own: &Head, incoming: &Head, sample: &Head) 
 }
 
 /// The first of the five rules that fits the three heads, where emitted cells get this link.
+#[inline(always)]
 pub(crate) fn first_rule(
     aim: &Aim,
     link: u32,

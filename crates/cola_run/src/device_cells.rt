@@ -69,7 +69,7 @@ pub(crate) fn begin_of_tail(geometry: &Geometry, level: u8) -> usize
 }
 
 /// How the shadow of a level stands.
-#[inline]
+#[inline(always)]
 pub(crate) fn shadow_of(shadows: &[Shadow], level: u8) -> Shadow
     requires { level < length shadows.now }
     ensures { result ≡ shadow_at shadows.now level }
@@ -78,6 +78,7 @@ pub(crate) fn shadow_of(shadows: &[Shadow], level: u8) -> Shadow
 }
 
 /// Puts another shadow in the place of the level's.
+#[inline(always)]
 pub(crate) fn set_shadow(shadows: &mut [Shadow], level: u8, shadow: Shadow)
     requires { level < length shadows.old }
     ensures { OneShadow shadows.old shadows.new level shadow }
@@ -86,6 +87,7 @@ pub(crate) fn set_shadow(shadows: &mut [Shadow], level: u8, shadow: Shadow)
 }
 
 /// The same shadow, of which not every cell needs to be on the device.
+#[inline(always)]
 fn unsaved(shadow: Shadow) -> Shadow
     ensures { result ≡ record shadow { saved = false } }
 {
@@ -161,6 +163,7 @@ pub(crate) fn read_by_buffer<D: Device>(
 }
 
 /// Writes the tail of a level to the block of a slot in which an index lies.
+#[inline(never)]
 pub(crate) fn write_tail<D: Device>(
     buffers: &mut Buffers<D>,
     geometry: &Geometry,
@@ -190,6 +193,7 @@ pub(crate) fn write_tail<D: Device>(
 }
 
 /// Whether a push to a shadow of this length fills a block.
+#[inline(always)]
 fn fills_block(geometry: &Geometry, len: u32) -> bool
     requires { len < 2 ^ 24 }
     ensures { result ≡ fills geometry.now len }
@@ -198,6 +202,7 @@ fn fills_block(geometry: &Geometry, len: u32) -> bool
 }
 
 /// A shadow that is one cell longer: it is on the device where its last block is full.
+#[inline(always)]
 pub(crate) fn longer(geometry: &Geometry, shadow: Shadow) -> Shadow
     requires { shadow.len < 2 ^ 24 }
     ensures { result ≡ lengthened geometry.now shadow }
@@ -210,6 +215,7 @@ pub(crate) fn longer(geometry: &Geometry, shadow: Shadow) -> Shadow
 }
 
 /// Appends a cell to the shadow of a level on the device.
+#[inline(always)]
 pub(crate) fn push_on_device<D: Device>(
     buffers: &mut Buffers<D>,
     geometry: &Geometry,
@@ -283,6 +289,7 @@ pub(crate) fn finish_on_device<D: Device>(
 }
 
 /// Appends a cell to the shadow of a level of the front.
+#[inline(always)]
 pub(crate) fn push_in_front(
     front: &mut Front,
     geometry: &Geometry,

@@ -211,7 +211,7 @@ impl<D: Device> CellSink for RunStore<D> {
         self.push_as(level, slot, &packed, Pass::keeping(cell), steps)
     }
 
-    #[inline]
+    #[inline(always)]
     fn push_as<L: Ledger>(
         &mut self,
         level: u8,

@@ -9,7 +9,7 @@ use Rattle.cola_c.proofs.Inside.{inside}
 use Rattle.cola_c.proofs.cola_core_checkpoint.Goals as goal
 
 pub returns-in-Ok-clause-done : goal.returns-in-Ok-clause-done
-returns-in-Ok-clause-done c = λ old new was now.
+returns-in-Ok-clause-done c = λ old was new now.
     let is : c.into_inner.result ≡ old = c.into_inner.ensures ∙ inside _ old _ was c.in-Some.ensures.taken in
     let then : c.in-Ok.session.value ≡ new = same_Some _ _ (sym c.put.ensures ∙ now) in
     let first : Session = c.into_inner.result in

@@ -27,5 +27,5 @@ returns-clause-answered c = λ session is. record {
 }
 
 pub returns-clause-ended : goal.returns-clause-ended
-returns-clause-ended c = λ session m is held good.
+returns-clause-ended c = λ session is m held good.
     ended m session c.next_on-next.new.session c.args.cursor.now c.next_on-next.new.cursor c.args.rows.now c.next_on-next.new.rows c.next_on-next.result _ (search (rules, told c)) c.next_on-next.auto.rows held good (nexts c session is)
