@@ -83,8 +83,8 @@ typedef struct cola_cursor {
 } cola_cursor;
 
 /* How many bytes a store takes: 2^block cells of 64 bytes (version 1) or 128 (version 2) are one block, block from 3 to 9,
- * keys from 1 to COLA_KEYS_MAX. COLA_OPTIONS otherwise. 5 is a good block: a call copies each block that it needs, so that a
- * larger one makes it longer. */
+ * keys from 1 to COLA_KEYS_MAX. COLA_OPTIONS otherwise. 5 to 9 take much the same time: cells are read where they lie, and a
+ * put writes a block once it is full. */
 int32_t cola_size(uint64_t keys, uint8_t block, uint8_t version, uint64_t *bytes);
 
 /* Makes the store of a new file in zero bytes, as many as cola_size says. */

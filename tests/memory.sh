@@ -12,7 +12,7 @@ allowed='
 crates/cola_rows/src/shown.rt allocator() a program of the tests, which prints
 crates/cola_handle/src/loose.rt into_raw the box behind the pointer that C holds, until it is made of it again
 crates/cola_handle/src/loose.rt from_raw the same
-crates/cola_mapped/src/region.rt from_raw a slice of bytes that a caller lends, which are none of the heap
+crates/cola_mapped/src/lent.rt from_raw a slice of bytes that a caller lends, which are none of the heap
 '
 
 # What takes memory out of sight.

@@ -1,5 +1,5 @@
 -- Blocks that are held, copies that agree and reads that are few, through reads and writes.
-use Rattle.std.proofs.Common.{◌≡◌, ◌≢◌, ⊎_elim, ℕ, zero, suc, ◌+◌, ◌-◌, ◌*◌, ◌/◌, ◌%◌, ◌^◌, ◌≤◌, ◌<◌, ◌==◌, false, cond, if◌then◌else◌, List, [], ◌∷◌, length, take, drop, set, map, Option, Some, None, Result, Ok, Err, refl, sym, ◌∙◌, ap, subst, arith}
+use Rattle.std.proofs.Common.{◌≡◌, ◌≢◌, ⊎_elim, ℕ, zero, suc, ◌+◌, ◌-◌, ◌*◌, ◌/◌, ◌%◌, ◌^◌, ◌≤◌, ◌<◌, ◌==◌, Bool, true, false, cond, if◌then◌else◌, List, [], ◌∷◌, length, take, drop, set, map, Option, Some, None, Result, Ok, Err, refl, sym, ◌∙◌, ap, subst, arith}
 use Rattle.std.specs.Prelude.{OnOk, OnErr}
 use Rattle.std.proofs.Math.Nat.{div-eq_of_lt}
 use Rattle.std.proofs.lemmas.Nat.{div-mul-add, div-add-mod'}
@@ -17,7 +17,7 @@ use Rattle.cola_cache.specs.Cache.{Cache, used, untouched, blocks_touched}
 use Rattle.cola_cache.proofs.OrderLemmas.{absent-without, without-absent, absent-outside, absent-back, by-test}
 use Rattle.cola_cache.proofs.CacheLemmas.{apart, agree-put, slice-is, length-take_le}
 use borrow.Rule.Slice.PartMut.{put_mid}
-use Rattle.cola_cache.specs.Blocks.{Made, last_in, forgotten, AreBlocks, HeldWritten, Since, IsSound, IsOwn, AreCopies, AreShared}
+use Rattle.cola_cache.specs.Blocks.{Made, last_in, forgotten, AreBlocks, HeldWritten, Since, IsSound, IsOwn, AreCopies, AreShared, IsInFile, to_copy}
 
 -- blocks without some are blocks
 pub outside-blocks : (first end many : ℕ) (held : List ℕ) → AreBlocks many held → AreBlocks many (outside first end held)
@@ -136,6 +136,38 @@ copies-late told copies new lasts shares buffer block size within same is given 
     copies-put told told copies new lasts lasts shares (set shares buffer None) buffer size refl within refl (length-set shares buffer None) same
     (λ held own. let this : held ≡ block = (let both : Some held ≡ Some block = sym own.0 ∙ is in cc) in rw this given) (λ other held own differ. (own.0, sym (get_or-set_other shares buffer other None None differ) ∙ own.1))
 
+-- what a copy has of all bytes it has of those that are to be copied
+pub copied : (lends : Bool) (told : Option (List ℕ)) (at : ℕ) (bytes : List ℕ) → Gives told at bytes → Gives (to_copy lends told) at bytes
+copied true told at bytes given = tt
+copied false told at bytes given = given
+
+-- and a copy has of all bytes what it has of those, where none are lent
+pub own-given : (lends : Bool) (told : Option (List ℕ)) (at : ℕ) (bytes : List ℕ) → lends ≡ false → Gives (to_copy lends told) at bytes → Gives told at bytes
+own-given true told at bytes none given = absurd (cc)
+own-given false told at bytes none given = given
+
+-- where bytes are lent, no copy is to have any
+pub copies-lent : (lends : Bool) (told : Option (List ℕ)) (copies : List ℕ) (lasts shares : List (Option ℕ)) (buffer : ℕ) (last : Option ℕ) (size : ℕ) → lends ≡ true → AreCopies (to_copy lends told) copies lasts shares size → AreCopies (to_copy lends told) copies (set lasts buffer last) (set shares buffer None) size
+copies-lent true told copies lasts shares buffer last size lent are = record {
+  as_many = are.as_many ∙ ap (λ (n : ℕ). n * size) (sym (length-set lasts buffer last));
+  shares_too = length-set shares buffer None ∙ (are.shares_too ∙ sym (length-set lasts buffer last));
+  agree = λ other block own. tt;
+}
+copies-lent false told copies lasts shares buffer last size lent are = absurd (cc)
+
+-- a cache that keeps no block holds none after a read
+pub used-none : (blocks block : ℕ) (held : List ℕ) → blocks ≡ 0 → held ≡ [] → held ≡ used blocks block held
+used-none blocks block held none empty = rw none empty
+
+-- what a write left of all bytes it left of those that are to be copied
+pub wrote-copied : {T E : Type 0} (lends : Bool) (result : Result T E) (told now : Option (List ℕ)) (at : ℕ) (from : List ℕ) → Wrote result at from told now → Wrote result at from (to_copy lends told) (to_copy lends now)
+wrote-copied true result told now at from wrote = tt
+wrote-copied false result told now at from wrote = wrote
+
+pub range-copied : (lends : Bool) (told : Option (List ℕ)) (at count : ℕ) → HasRange told at count → HasRange (to_copy lends told) at count
+range-copied true told at count inside = tt
+range-copied false told at count inside = inside
+
 -- after one buffer borrows its block
 pub copies-borrowed : (told : Option (List ℕ)) (copies : List ℕ) (lasts shares : List (Option ℕ)) (buffer frame size : ℕ) (last : Option ℕ) → buffer < length lasts → AreCopies told copies lasts shares size → AreCopies told copies (set lasts buffer last) (set shares buffer (Some frame)) size
 copies-borrowed told copies lasts shares buffer frame size last within are = record {
@@ -205,6 +237,13 @@ shared-written (Err fault) written before now lasts shares held are buffer block
 pub write-inside : (told : Option (List ℕ)) (block many size at count : ℕ) → block < many → HasRange told 0 (many * size) → block * size ≤ at → at + count ≤ block * size + size → HasRange told at count
 write-inside None block many size at count less inside begins ends = tt
 write-inside (Some bytes) block many size at count less inside begins ends = omega (arith, apart block many size less, inside, begins, ends)
+
+-- each block of the file lies in it
+pub in-file : (told : Option (List ℕ)) (block many size : ℕ) → block < many → HasRange told 0 (many * size) → many * size < 2 ^ 64 → IsInFile told block size
+in-file told block many size less inside small = record {
+  fits = omega (arith, apart block many size less, small);
+  inside = write-inside told block many size (block * size) size less inside (omega arith) (omega arith);
+}
 
 lasts-set : (lasts : List (Option ℕ)) (buffer many : ℕ) (new : Option ℕ) → buffer < length lasts → ((block : ℕ) → new ≡ Some block → block < many) → ((other last : ℕ) → last_in lasts other ≡ Some last → last < many) → (other last : ℕ) → last_in (set lasts buffer new) other ≡ Some last → last < many
 lasts-set lasts buffer many new within here are other last is = ⊎_elim

@@ -1,5 +1,5 @@
 -- A device in whole blocks behind a cache, with buffers that keep blocks: what a caller sees of it.
-use Rattle.std.specs.Prelude.{◌≡◌, ℕ, ◌+◌, ◌*◌, ◌^◌, ◌≤◌, ◌<◌, ◌≢◌, ◌==◌, Bool, false, if◌then◌else◌, List, [], ◌∷◌, length, replicate, Option, None, Some, Result, MatchResult, IsOk, slice_index_or, slice_set, OnOk, OnErr, ⊤}
+use Rattle.std.specs.Prelude.{◌≡◌, ℕ, ◌+◌, ◌*◌, ◌^◌, ◌≤◌, ◌<◌, ◌≢◌, ◌==◌, Bool, false, if◌then◌else◌, List, [], ◌∷◌, length, replicate, true, Option, None, Some, Result, MatchResult, IsOk, slice_index_or, slice_set, OnOk, OnErr, ⊤}
 use Rattle.cola_device.specs.declared.counts.Counts.{Counts}
 use Rattle.cola_device.specs.declared.device.Device as device
 use Rattle.cola_device.specs.Counts.{Called}
@@ -63,6 +63,11 @@ AreFew blocks counts =
 abbrev pub IsOwn : List (Option ℕ) → List (Option ℕ) → ℕ → ℕ → Type 0
 IsOwn lasts shares buffer block = (last_in lasts buffer ≡ Some block) × (last_in shares buffer ≡ None)
 
+-- what copies are to agree with: nothing where the device lends its bytes, so that none is read
+abbrev pub to_copy : Bool → Option (List ℕ) → Option (List ℕ)
+to_copy true told = None
+to_copy false told = told
+
 -- room for a copy for each buffer: where the buffer does not borrow its block, the copy has the bytes of that block
 pub record AreCopies (told : Option (List ℕ)) (copies : List ℕ) (lasts shares : List (Option ℕ)) (size : ℕ) : Type 0 where
   pub as_many : length copies ≡ length lasts * size
@@ -94,21 +99,26 @@ pub record IsRead {D T E : Type 0} (d : device.Ghosts D) (block : ℕ) (result :
   pub blocks : now.blocks ≡ before.blocks
   pub size : now.size ≡ before.size
 
+-- a block lies in the file that a device has, where it tells
+pub record IsInFile (told : Option (List ℕ)) (block size : ℕ) : Type 0 where
+  pub fits : block * size < 2 ^ 64
+  pub inside : HasRange told (block * size) size
+
 -- a buffer that may be turned to a block: there is one of this number, and the device has that block, with the copies and what is borrowed as they are to be
-pub record CanTurn {D : Type 0} (told : Option (List ℕ)) (cache : Cache D) (copies : List ℕ) (lasts shares : List (Option ℕ)) (buffer block size : ℕ) : Type 0 where
+pub record CanTurn {D : Type 0} (lends : Bool) (told : Option (List ℕ)) (cache : Cache D) (copies : List ℕ) (lasts shares : List (Option ℕ)) (buffer block size : ℕ) : Type 0 where
   pub size_is : size ≡ cache.size
   pub there : buffer < length lasts
   pub most : cache.size ≤ 65536
   pub fits : block * cache.size < 2 ^ 64
   pub inside : HasRange told (block * cache.size) cache.size
-  pub copies_are : AreCopies told copies lasts shares size
+  pub copies_are : AreCopies (to_copy lends told) copies lasts shares size
   pub shared : AreShared cache.held lasts shares
 
 -- what turning a buffer to a block that it does not hold leaves: it holds that block, or none after an error, and all else that is true stays so
 pub record IsTurned {D T E : Type 0} (d : device.Ghosts D) (result : Result T E) (buffer block size : ℕ) (before now : Cache D) (lasts lasts_now shares_now : List (Option ℕ)) (copies_now : List ℕ) : Type 0 where
   pub ok : OnOk result (lasts_now ≡ slice_set lasts buffer (Some block))
   pub err : OnErr result (lasts_now ≡ slice_set lasts buffer None)
-  pub copies : AreCopies (d.bytes now.device) copies_now lasts_now shares_now size
+  pub copies : AreCopies (to_copy d.lends (d.bytes now.device)) copies_now lasts_now shares_now size
   pub shared : AreShared now.held lasts_now shares_now
   pub read : IsRead d block result before now
   pub since : (many : ℕ) (made : Made) → block < many → Since many before.blocks before.held made (d.counts before.device) → Since many now.blocks now.held made (d.counts now.device)

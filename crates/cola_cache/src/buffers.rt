@@ -1,12 +1,12 @@
 //! Whole blocks of a device behind a cache, and numbered buffers, each of which keeps the block that was read last by
 //! way of it.
-ghost use Rattle.std.specs.Prelude.{◌≡◌, ◌≢◌, ℕ, ◌+◌, ◌*◌, ◌^◌, ◌≤◌, ◌<◌, [], ◌∷◌, length, map, replicate, Option, None, Some, IfOk, IfErr, IfSome, OnOk, OnErr, IsOk, slice_set};
+ghost use Rattle.std.specs.Prelude.{◌≡◌, ◌≢◌, ℕ, ◌+◌, ◌*◌, ◌^◌, ◌≤◌, ◌<◌, true, false, [], ◌∷◌, length, map, replicate, Option, None, Some, IfOk, IfErr, IfSome, OnOk, OnErr, IsOk, slice_set};
 ghost use Rattle.std.specs.Box.{boxed_slice_items};
 ghost use Rattle.cola_device.specs.Bytes.{HasRange, Gives, Wrote, part};
 ghost use Rattle.cola_device.specs.Counts.{Called};
 ghost use Rattle.cola_cache.specs.Order.{IsAbsent};
 ghost use Rattle.cola_cache.specs.Cache.{used};
-ghost use Rattle.cola_cache.specs.Blocks.{IsSound, AreFew, AreCopies, AreShared, CanTurn, IsTurned, IsRead, HeldRead, HeldWritten, Made, Since, Stays, forgotten, last_in, new_blocks};
+ghost use Rattle.cola_cache.specs.Blocks.{IsSound, AreFew, AreCopies, AreShared, CanTurn, IsTurned, to_copy, IsInFile, IsRead, HeldRead, HeldWritten, Made, Since, Stays, forgotten, last_in, new_blocks};
 
 use crate::cached::{Cached, size_of_block};
 use cola_device::{Device, DeviceFault};
@@ -32,7 +32,7 @@ pub struct Buffers<D: Device> {
 impl<D: Device> Model for Buffers<D> {
     ghost use Rattle.std.specs.Prelude.{◌≡◌};
     ghost use Rattle.std.specs.Box.{boxed_slice_items};
-    ghost use Rattle.cola_cache.specs.Blocks.{Blocks, IsSound, AreCopies, AreShared};
+    ghost use Rattle.cola_cache.specs.Blocks.{Blocks, IsSound, AreCopies, AreShared, to_copy};
 
     ghost Value = { Blocks D };
 
@@ -48,7 +48,7 @@ impl<D: Device> Model for Buffers<D> {
       lasts = boxed_slice_items b.lasts;
       many = b.many;
       made = record { reads = b.made_reads; faults = b.made_faults };
-    }) × AreCopies (D.bytes b.device.device) (boxed_slice_items b.copies) (boxed_slice_items b.lasts) (boxed_slice_items b.shares) b.size
+    }) × AreCopies (to_copy D.lends (D.bytes b.device.device)) (boxed_slice_items b.copies) (boxed_slice_items b.lasts) (boxed_slice_items b.shares) b.size
         × AreShared b.device.held (boxed_slice_items b.lasts) (boxed_slice_items b.shares) };
 }
 
@@ -76,11 +76,14 @@ fn room(
     Ok((copies, lasts, shares))
 }
 
-/// What a buffer that holds this holds after the block was written.
-fn without(last: Option<u64>, block: u64) -> Option<u64>
-    ensures { result ≡ forgotten block last }
+/// Makes a buffer that holds this block hold none.
+#[inline(always)]
+fn forget_in(last: &mut Option<u64>, block: u64)
+    ensures { last.new ≡ forgotten block last.old }
 {
-    if last == Some(block) { None } else { last }
+    if *last == Some(block) {
+        *last = None;
+    }
 }
 
 /// Makes every buffer that holds this block hold none.
@@ -88,7 +91,7 @@ fn forget(lasts: &mut [Option<u64>], block: u64)
     ensures { lasts.new ≡ map (forgotten block) lasts.old }
 {
     for last in lasts.iter_mut() {
-        *last = without(*last, block);
+        forget_in(last, block);
     }
 }
 
@@ -143,9 +146,9 @@ fn copy_one<D: Device>(
 )
     requires size { size ≡ device.now.size }
     requires buffer { buffer < length lasts.now }
-    requires copies { AreCopies (D.bytes device.now.device) copies.old lasts.now shares.old size }
+    requires copies { AreCopies (to_copy D.lends (D.bytes device.now.device)) copies.old lasts.now shares.old size }
     requires shared { AreShared device.now.held lasts.now shares.old }
-    ensures copies { AreCopies (D.bytes device.now.device) copies.new lasts.now shares.new size }
+    ensures copies { AreCopies (to_copy D.lends (D.bytes device.now.device)) copies.new lasts.now shares.new size }
     ensures here { last_in lasts.now buffer ≡ Some block → last_in shares.new buffer ≡ None }
     ensures others { (other : ℕ) → last_in shares.old other ≡ None → last_in shares.new other ≡ None }
 {
@@ -170,9 +173,9 @@ fn copy_late<D: Device>(
 )
     requires size { size ≡ device.now.size }
     requires absent { IsAbsent block device.now.held }
-    requires copies { AreCopies (D.bytes device.now.device) copies.old lasts.now shares.old size }
+    requires copies { AreCopies (to_copy D.lends (D.bytes device.now.device)) copies.old lasts.now shares.old size }
     requires shared { AreShared device.now.held lasts.now shares.old }
-    ensures copies { AreCopies (D.bytes device.now.device) copies.new lasts.now shares.new size }
+    ensures copies { AreCopies (to_copy D.lends (D.bytes device.now.device)) copies.new lasts.now shares.new size }
     ensures shared { AreShared device.now.held lasts.now shares.new }
     ensures after { AreShared (used device.now.blocks block device.now.held) lasts.now shares.new }
 {
@@ -193,7 +196,7 @@ fn fetch<D: Device>(
     block: u64,
     size: usize,
 ) -> Result<(), DeviceFault>
-    requires can { CanTurn (D.bytes device.old.device) device.old copies.old lasts.old shares.old buffer block size }
+    requires can { CanTurn D.lends (D.bytes device.old.device) device.old copies.old lasts.old shares.old buffer block size }
     requires after { AreShared (used device.old.blocks block device.old.held) lasts.old shares.old }
     ensures { IsTurned D.Device result buffer block size device.old device.new lasts.old lasts.new shares.new copies.new }
 {
@@ -209,7 +212,34 @@ fn fetch<D: Device>(
     }
 }
 
-/// Makes a buffer hold a block that it does not hold. Where the cache holds the block the buffer borrows it, and else it has
+/// Whether the device lends the bytes of its blocks, and no cache is to keep them.
+#[inline(always)]
+fn is_lent<D: Device>(device: &Cached<D>, block: u64) -> bool
+    requires { IsInFile (D.bytes device.now.device) block device.now.size }
+    ensures { result ≡ true → (D.lends ≡ true) × ((device.now.blocks ≡ 0) × (device.now.held ≡ [])) }
+{
+    device.keeps_none() && device.shown(block).is_some()
+}
+
+/// The bytes of the block that a buffer holds where they lie, at a device that lends them.
+#[inline(always)]
+fn lent_to<'a, D: Device>(
+    device: &'a Cached<D>,
+    lasts: &[Option<u64>],
+    buffer: usize,
+) -> Option<&'a [u8]>
+    requires buffer { buffer < length lasts.now }
+    requires inside { (block : ℕ) → last_in lasts.now buffer ≡ Some block → IsInFile (D.bytes device.now.device) block device.now.size }
+    ensures size { IfSome result (λ shown. length shown.now ≡ device.now.size) }
+    ensures given { IfSome result (λ shown. (block : ℕ) → last_in lasts.now buffer ≡ Some block → Gives (D.bytes device.now.device) (block * device.now.size) shown.now) }
+    ensures none { result ≡ None → (block : ℕ) → last_in lasts.now buffer ≡ Some block → D.lends ≡ false }
+{
+    let block = lasts[buffer]?;
+    device.shown(block)
+}
+
+/// Makes a buffer hold a block that it does not hold. Where the device lends its bytes and no cache keeps them, nothing is
+/// read. Where the cache holds the block the buffer borrows it, and else it has
 /// a copy of its own.
 #[inline(never)]
 fn turn<D: Device>(
@@ -221,9 +251,14 @@ fn turn<D: Device>(
     block: u64,
     size: usize,
 ) -> Result<(), DeviceFault>
-    requires { CanTurn (D.bytes device.old.device) device.old copies.old lasts.old shares.old buffer block size }
+    requires { CanTurn D.lends (D.bytes device.old.device) device.old copies.old lasts.old shares.old buffer block size }
     ensures { IsTurned D.Device result buffer block size device.old device.new lasts.old lasts.new shares.new copies.new }
 {
+    if is_lent(device, block) {
+        lasts[buffer] = Some(block);
+        shares[buffer] = None;
+        return Ok(());
+    }
     if let Some(frame) = device.find(block) {
         device.touch(block, frame);
         lasts[buffer] = Some(block);
@@ -307,13 +342,17 @@ impl<D: Device> Buffers<D> {
         )
     }
 
-    /// The bytes of the block that a buffer holds, where the cache has them or else from the buffer's own copy, and any bytes
-    /// where it holds none.
+    /// The bytes of the block that a buffer holds, as the device lends them, or where the cache has them, or else from the
+    /// buffer's own copy; any bytes where it holds none.
+    #[inline(always)]
     pub fn copy(&self, buffer: usize) -> &[u8]
         requires buffer { buffer < length self.now.lasts }
         ensures size { length result.now ≡ self.now.cache.size }
         ensures given { (block : ℕ) → last_in self.now.lasts buffer ≡ Some block → Gives (D.bytes self.now.cache.device) (block * self.now.cache.size) result.now }
     {
+        if let Some(shown) = lent_to(&self.device, &self.lasts, buffer) {
+            return shown;
+        }
         match borrowed(&self.lasts, &self.shares, buffer) {
             Some((block, frame)) => self.device.bytes_of(block, frame),
             None => own_copy(&self.copies, buffer, self.size as usize),

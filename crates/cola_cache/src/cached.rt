@@ -1,5 +1,5 @@
 //! A device over a device, which keeps whole blocks of it in memory.
-ghost use Rattle.std.specs.Prelude.{◌≡◌, ◌≢◌, true, false, Option, ℕ, ◌+◌, ◌-◌, ◌*◌, ◌^◌, ◌/◌, ◌%◌, ◌≤◌, ◌<◌, [], List, Contains, OnOk, OnErr, IfOk, IfErr, IfSome, MatchResult, IsOk, None, Some, length, min, take};
+ghost use Rattle.std.specs.Prelude.{◌≡◌, ◌≢◌, true, false, Option, ℕ, ◌+◌, ◌-◌, ◌*◌, ◌^◌, ◌/◌, ◌%◌, ◌≤◌, ◌<◌, [], List, Contains, OnOk, OnErr, IfOk, IfErr, IfSome, MatchResult, IsOk, None, Some, is_some, length, min, take};
 ghost use Rattle.std.specs.Box.{boxed_slice_items};
 ghost use Rattle.cola_device.specs.Bytes.{IsEmpty, HasSize, HasRange, Gives, LaidOut, Wrote, part, splice};
 ghost use Rattle.cola_device.specs.Counts.{Called};
@@ -223,6 +223,27 @@ impl<D: Device> Cached<D> {
         &self.copies[at..at + self.size as usize]
     }
 
+    /// Whether it keeps no block at all.
+    #[inline(always)]
+    pub(crate) fn keeps_none(&self) -> bool
+        ensures { result ≡ true → (self.now.blocks ≡ 0) × (self.now.held ≡ []) }
+    {
+        self.order.count() == 0
+    }
+
+    /// The bytes of a block where they lie, at a device that lends them. They are no block that is held.
+    #[inline(always)]
+    pub(crate) fn shown(&self, block: u64) -> Option<&[u8]>
+        requires fits { block * self.now.size < 2 ^ 64 }
+        requires inside { HasRange (D.bytes self.now.device) (block * self.now.size) self.now.size }
+        ensures lent { is_some result ≡ D.lends }
+        ensures given { IfSome result (λ shown. Gives (D.bytes self.now.device) (block * self.now.size) shown.now) }
+        ensures size { IfSome result (λ shown. length shown.now ≡ self.now.size) }
+    {
+        self.device
+            .view(block * self.size as u64, self.size as usize)
+    }
+
     /// The device below.
     pub fn inner(&self) -> &D
         ensures { result.now ≡ self.now.device }
@@ -245,6 +266,8 @@ impl<D: Device> Device for Cached<D> {
     ghost bytes = { λ c. D.bytes c.device };
 
     ghost tells = { D.tells };
+
+    ghost lends = { D.lends };
 
     ghost counts = { λ c. D.counts c.device };
 
@@ -343,6 +366,12 @@ impl<D: Device> Device for Cached<D> {
         ensures held { self.new.held ≡ self.old.held }
     {
         self.device.settle()
+    }
+
+    /// The bytes that the device below lends, past the blocks that are held.
+    #[inline(always)]
+    fn view(&self, at: u64, count: usize) -> Option<&[u8]> {
+        self.device.view(at, count)
     }
 
     fn reads(&self) -> u64 {

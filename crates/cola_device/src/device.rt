@@ -1,5 +1,5 @@
 //! The trait of devices.
-ghost use Rattle.std.specs.Prelude.{◌≡◌, ℕ, ◌≤◌, Bool, List, Option, Result, length, is_some, IfOk, OnOk};
+ghost use Rattle.std.specs.Prelude.{◌≡◌, ℕ, ◌≤◌, Bool, false, List, Option, Result, length, is_some, IfOk, IfSome, OnOk};
 ghost use Rattle.cola_device.specs.declared.counts.Counts.{Counts};
 ghost use Rattle.cola_device.specs.declared.device.DeviceFault.{DeviceFault};
 ghost use Rattle.cola_device.specs.Bytes.{IsEmpty, HasSize, HasRange, Gives, LaidOut, Wrote};
@@ -24,6 +24,9 @@ pub trait Device {
 
     /// Whether the devices of this type tell their bytes: all of them do, or none.
     ghost tells: { Bool };
+
+    /// Whether the devices of this type lend their bytes: all of them do, or none.
+    ghost lends: { Bool } = { false };
 
     /// How many faults it met, how many reads and writes it made, and how many calls of `size`, `lay_out` and
     /// `settle`.
@@ -77,6 +80,13 @@ pub trait Device {
         ensures bytes_stay { bytes self.new ≡ bytes self.old }
         ensures kept { kept self.new ≡ kept self.old }
         ensures counts { Called (counts self.old) (counts self.new) 0 0 1 result };
+
+    /// So many bytes from `at` on where they lie: none exactly where it lends none. It is no call that is counted.
+    fn view(&self, at: u64, count: usize) -> Option<&[u8]>
+        requires inside { HasRange (bytes self.now) at count }
+        ensures lent { is_some result ≡ lends }
+        ensures given { IfSome result (λ shown. Gives (bytes self.now) at shown.now) }
+        ensures size { IfSome result (λ shown. length shown.now ≡ count) };
 
     /// How many reads it made.
     fn reads(&self) -> u64

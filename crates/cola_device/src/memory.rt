@@ -214,6 +214,11 @@ impl Device for MemoryDevice {
         self.begin(true)
     }
 
+    /// It lends nothing, so that each read is a call that may fail.
+    fn view(&self, _at: u64, _count: usize) -> Option<&[u8]> {
+        None
+    }
+
     fn reads(&self) -> u64 {
         self.counts.reads
     }

@@ -157,6 +157,11 @@ impl<'a, O: Opener> Device for PathDevice<'a, O> {
         Err(self.counts.fault())
     }
 
+    /// It lends nothing: a file is read.
+    fn view(&self, _at: u64, _count: usize) -> Option<&[u8]> {
+        None
+    }
+
     fn reads(&self) -> u64 {
         self.counts.reads
     }

@@ -36,11 +36,15 @@ pub fn size(keys: u64, block_exp: u8, version: u8) -> Option<u64>
     }
 }
 
-/// Whether every byte is zero.
+/// Whether every byte is zero. No byte ends the loop, so that the compiler reads many at a time.
 fn is_zero(bytes: &[u8]) -> bool
     ensures { IsTrue result ↔ EachIndex bytes.now (λ k. slice_index bytes.now k ≡ 0) }
 {
-    bytes.iter().all(|byte| *byte == 0)
+    let mut ones = 0;
+    for index in 0..bytes.len() {
+        ones |= bytes[index];
+    }
+    ones == 0
 }
 
 /// The spelling of the header of a closed store with no keys.

@@ -11,7 +11,7 @@ ghost use Rattle.cola_handle.specs.Open.{bytes_of, HoldsMap, place_of, device_of
 
 use crate::answer::Answer;
 use crate::session::Session;
-use cola_mapped::{MappedDevice, Region};
+use cola_mapped::{Lent, MappedDevice, Region};
 use cola_outside::Steps;
 use cola_store::{OpenFault, Store};
 use std::alloc::Global;
@@ -63,35 +63,35 @@ fn open_device<L: Ledger>(
     }
 }
 
-/// Opens the store in a region that has bytes.
+/// Opens the store in bytes that were lent, of which there are some.
 fn open_lent<L: Ledger>(
     blank: Blank,
     alloc: Global,
-    region: Region,
+    lent: Lent,
 ) -> Result<Box<Session>, (Region, Answer)>
     requires name { blank.name ≡ L.name }
     requires parts { blank.parts ≡ L.parts }
     requires some { 0 < L.parts }
-    requires lent { IsLent region.bytes }
-    ensures holds { (m : Map) → StandsFor region.bytes m →
+    requires lent { IsLent lent.bytes }
+    ensures holds { (m : Map) → StandsFor lent.bytes m →
         IfOk result (λ session. HoldsMap session.value m) }
     ensures marked { IfOk result
-        (λ session. (device_of session.value).bytes ≡ with_state 1 (bytes_in region.bytes)) }
-    ensures place { IfOk result (λ session. place_of session.value ≡ (region.at, region.len)) }
+        (λ session. (device_of session.value).bytes ≡ with_state 1 (bytes_in lent.bytes)) }
+    ensures place { IfOk result (λ session. place_of session.value ≡ (lent.at, lent.len)) }
     ensures terms { IfOk result
-        (λ session. HasTerms (terms_of session.value.store) (bytes_in region.bytes)) }
-    ensures cause { IfErr result (λ refusal. OpenCause (bytes_in region.bytes) refusal.1) }
-    ensures only { (m : Map) → StandsFor region.bytes m →
+        (λ session. HasTerms (terms_of session.value.store) (bytes_in lent.bytes)) }
+    ensures cause { IfErr result (λ refusal. OpenCause (bytes_in lent.bytes) refusal.1) }
+    ensures only { (m : Map) → StandsFor lent.bytes m →
         IfErr result (λ refusal. refusal.1 ≡ Memory) }
     ensures left { IfErr result
-        (λ refusal. AreLeft (bytes_in region.bytes) (bytes_in refusal.0.bytes) refusal.1) }
-    ensures stands { (m : Map) → StandsFor region.bytes m →
+        (λ refusal. AreLeft (bytes_in lent.bytes) (bytes_in refusal.0.bytes) refusal.1) }
+    ensures stands { (m : Map) → StandsFor lent.bytes m →
         IfErr result (λ refusal. StandsFor refusal.0.bytes m) }
     ensures back { IfErr result (λ refusal. IsSome refusal.0.bytes) }
-    ensures back_at { IfErr result (λ refusal. refusal.0.at ≡ region.at) }
-    ensures back_len { IfErr result (λ refusal. refusal.0.len ≡ region.len) }
+    ensures back_at { IfErr result (λ refusal. refusal.0.at ≡ lent.at) }
+    ensures back_len { IfErr result (λ refusal. refusal.0.len ≡ lent.len) }
 {
-    let store = match open_device::<L>(blank, alloc, MappedDevice::over(region)) {
+    let store = match open_device::<L>(blank, alloc, MappedDevice::over(lent)) {
         Ok(store) => store,
         Err(refusal) => return Err(refusal),
     };
@@ -133,11 +133,11 @@ pub fn open<L: Ledger>(
     ensures back_at { IfErr result (λ refusal. refusal.0.at ≡ region.at) }
     ensures back_len { IfErr result (λ refusal. refusal.0.len ≡ region.len) }
 {
-    let mut region = region;
-    if region.size() == 0 {
-        return Err((region, Answer::Small));
+    let lent = Lent::of(region);
+    if lent.size() == 0 {
+        return Err((lent.into_region(), Answer::Small));
     }
-    open_lent::<L>(blank, alloc, region)
+    open_lent::<L>(blank, alloc, lent)
 }
 
 /// Closes the store: the region has its file, and is where it was.

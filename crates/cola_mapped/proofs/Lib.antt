@@ -1,2 +1,3 @@
 pub mod RegionLemmas
 pub mod RegionSteps
+pub mod LentSteps

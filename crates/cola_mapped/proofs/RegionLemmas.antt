@@ -1,8 +1,7 @@
--- A region with the bytes that it has is the same region.
-use Rattle.std.proofs.Common.{◌≡◌, ℕ, List, ap, sym}
-use Rattle.std.specs.Prelude.{Option, Some}
-use Rattle.cola_mapped.specs.declared.region.Region.{Region}
-use Rattle.cola_mapped.specs.Lending.{with_bytes}
+-- A region that is not empty has bytes.
+use Rattle.std.proofs.Common.{◌≡◌, ℕ, List, refl, sym, true≢false}
+use Rattle.std.specs.Prelude.{Option, Some, None, IsSome}
 
-pub with_bytes-same : (r : Region) (xs : List ℕ) → r.bytes ≡ Some xs → with_bytes r xs ≡ r
-with_bytes-same r xs e = ap (λ (b : Option (List ℕ)). record r { bytes = b }) (sym e)
+pub some_of : (o : Option (List ℕ)) → IsSome o → (xs : List ℕ) × (o ≡ Some xs)
+some_of None s = absurd (true≢false (sym s))
+some_of (Some xs) s = (xs, refl)

@@ -1,21 +1,22 @@
--- What a region owns is taken apart and made. Assumes `Logic`.
-use Rattle.std.proofs.Common.{◌≡◌, ℕ, ◌^◌, ◌<◌, List, [], ◌∷◌, ◌++◌, refl, ap, ◌∙◌, lit<, w64}
-use Rattle.std.specs.Prelude.{Option, Some, None}
+-- What a region owns is told and made. Assumes `Logic`.
+use Rattle.std.proofs.Common.{◌≡◌, ℕ, ◌^◌, ◌<◌, List, [], ◌∷◌, ◌++◌, refl, ◌∙◌, lit<, w64}
+use Rattle.std.specs.Prelude.{Option, None}
 use seplogic.Ra.Ura.{Ura}
-use base.Fraction.{full_share}
-use base.Logic.{never, id⊢}
-use mir.Val.{Val, vint, vptr, vstruct, vcons, vnil, of_list}
+use base.Fml.{Fml}
+use base.Logic.{emp}
+use mir.Syntax.{ty_int, ty_ptr, ty_struct, tcons, tnil}
+use mir.Val.{Val, vint, vstruct, vcons, vnil, of_list}
 use types.Logic.{Logic}
-use types.Kit.{Item, Goal, Seq, Step, step, ‵, ◌$◌, drop, fsplit, fjoin, fpick, fpack, rewrite, feq_i, feq_l, flt_i, flt_l}
+use contract.Monad.{fact, fact_i}
+use types.Kit.{Item, Goal, Step, step, ‵, raw, ◌⊛◌, ◌$◌, use0, join, fjoin, fpack, feq_i, flt_i}
 use denote.RattleType.{RattleType, Valss}
-use denote.Memory.{part_at}
-use denote.Array.{Array}
-use denote.Builtin.{u8}
-use denote.RawPtr.{Ptr, block_ptr, null_ptr, ptr_val, in_a_block, lies_at}
+use denote.Builtin.{usize}
+use denote.RawPtr.{Ptr, RawPtr, block_ptr, null_ptr, ptr_val}
+use denote.Shadow.{shadow}
 use denote.Steps.{nothing}
-use denote.Struct.Struct.{within}
+use denote.Struct.Struct.{Struct, within}
 use denote.Struct.Owning.{shape}
-use Rattle.cola_mapped.specs.Region.{region_at}
+use Rattle.core.proofs.cell.Inside.{Good}
 use Rattle.cola_mapped.specs.contracts.region.Region as region
 
 abbrev pub Row : RattleType
@@ -25,26 +26,30 @@ Row = region.the_row
 abbrev pub words : Ptr → ℕ → Val
 words p n = vstruct (vcons (ptr_val p) (vcons (vint w64 n) vnil))
 
+-- what both rows own of their words
+abbrev pub own_words : Ptr → ℕ → List Val → Fml
+own_words p n = (Struct (record { name = []; args = []; types = []; fields = RawPtr ∷ usize ∷ [] })).own_val (p, (n, tt))
+
+-- what is owned of the words tells them
+pub words_told : (p : Ptr) (n : ℕ) (vs : List Val) → shadow (own_words p n vs) → (vs ≡ words p n ∷ []) × (n < 2 ^ 64)
+words_told p n vs s = (s.1.0 ∙ (λ i. vstruct (of_list (s.1.1.0 i ++ (s.1.1.1.0.0 i ++ []))) ∷ []), s.1.1.1.0.1)
+
+pub ptr_typed : (p : Ptr) → Good ty_ptr (ptr_val p)
+ptr_typed (block_ptr b o) = (tt, tt)
+ptr_typed null_ptr = (tt, record { fits = lit< tt })
+
+pub words_typed : (p : Ptr) (n : ℕ) → n < 2 ^ 64 → Good (ty_struct [] (tcons ty_ptr (tcons (ty_int w64) tnil))) (words p n)
+words_typed (block_ptr b o) n f = (tt, (tt, (record { fits = f }, tt)))
+words_typed null_ptr n f = (tt, (record { fits = lit< tt }, (record { fits = f }, tt)))
+
 module _ {M : Type 1} {𝓤 : Ura M} {𝓛 : Logic 𝓤} {K : Type 0} {Γ : List (Item 𝓤)} {G : Goal 𝓤 𝓛.H} where
-  pub region_had : K → (d : Row.Denot) (vs : List Val) (xs : List ℕ) → d.bytes ≡ Some xs
-      → ((b o : ℕ) → d.at ≡ block_ptr b o → vs ≡ words (block_ptr b o) d.len ∷ [] → d.len < 2 ^ 64 → d.len < 2 ^ 63 → Seq K 𝓛 (‵ (part_at (Array u8 d.len) full_share xs b o) ∷ Γ) G)
-      → Seq K 𝓛 (‵ (Row.own_val d vs) ∷ Γ) G
-  region_had t d vs xs full k =
-      fsplit t $ fpick t (λ vss. fsplit t $ feq_l t (λ all. fsplit t $ feq_l t (λ e₀. fsplit t $ fsplit t $ feq_l t (λ e₁. flt_l t (λ fn. drop t $
-      rewrite t 0 (λ (s : Option (List ℕ)). ‵ (region_at d.at d.len s)) full refl $ fsplit t $ flt_l t (λ low.
-      in_a_block t d.at (λ p. lies_at (Array u8 d.len) full_share p xs) (id⊢ 𝓤 (never 𝓤)) (λ b o e.
-      k b o e (all ∙ ((λ i. vstruct (of_list (e₀ i ++ (e₁ i ++ []))) ∷ []) ∙ ap (λ (p : Ptr). words p d.len ∷ []) e)) fn low)))))))
-
-  pub region_made : K → (b o n : ℕ) (xs : List ℕ) → n < 2 ^ 64 → n < 2 ^ 63
-      → Step K 𝓛 (‵ (Row.own_val (record { at = block_ptr b o; len = n; bytes = Some xs }) (words (block_ptr b o) n ∷ [])) ∷ Γ) G (‵ (part_at (Array u8 n) full_share xs b o) ∷ Γ) G
-  region_made t b o n xs fn low = step (λ s. let v : Val = words (block_ptr b o) n in
-      flt_i t n (2 ^ 63) low $ fjoin t $
-      nothing t $ flt_i t n (2 ^ 64) fn $ feq_i t (List Val) (vint w64 n ∷ []) (vint w64 n ∷ []) refl $ fjoin t $ fjoin t $
-      feq_i t (List Val) (vptr b o ∷ []) (vptr b o ∷ []) refl $ fjoin t $ feq_i t (List Val) (v ∷ []) (v ∷ []) refl $ fjoin t $
-      fpack t (Valss (shape region.the_type).fields) (within (shape region.the_type) (block_ptr b o, (n, tt)) (v ∷ [])) (vptr b o ∷ [], (vint w64 n ∷ [], tt)) $ fjoin t $ s)
-
   pub region_empty : K → Step K 𝓛 (‵ (Row.own_val (record { at = null_ptr; len = 0; bytes = None }) (words null_ptr 0 ∷ [])) ∷ Γ) G Γ G
   region_empty t = step (λ s. let v : Val = words null_ptr 0 in
       nothing t $ nothing t $ flt_i t 0 (2 ^ 64) (lit< tt) $ feq_i t (List Val) (vint w64 0 ∷ []) (vint w64 0 ∷ []) refl $ fjoin t $ fjoin t $
       feq_i t (List Val) (ptr_val null_ptr ∷ []) (ptr_val null_ptr ∷ []) refl $ fjoin t $ feq_i t (List Val) (v ∷ []) (v ∷ []) refl $ fjoin t $
       fpack t (Valss (shape region.the_type).fields) (within (shape region.the_type) (null_ptr, (0, tt)) (v ∷ [])) (ptr_val null_ptr ∷ [], (vint w64 0 ∷ [], tt)) $ fjoin t $ s)
+
+  -- a region that is handed over keeps its fields
+  pub as_before : K → (p : Ptr) (n : ℕ) (bytes : Option (List ℕ)) → Step K 𝓛 ((raw (fact 𝓤 (p ≡ p)) ⊛ raw (fact 𝓤 (n ≡ n)) ⊛ raw (fact 𝓤 (bytes ≡ bytes))) ∷ Γ) G Γ G
+  as_before t p n bytes = step (λ s. use0 𝓛 (raw (fact 𝓤 (bytes ≡ bytes))) (fact_i 𝓤 (bytes ≡ bytes) (emp 𝓤) refl) $ use0 𝓛 (raw (fact 𝓤 (n ≡ n))) (fact_i 𝓤 (n ≡ n) (emp 𝓤) refl) $ join t $
+      use0 𝓛 (raw (fact 𝓤 (p ≡ p))) (fact_i 𝓤 (p ≡ p) (emp 𝓤) refl) $ join t $ s)

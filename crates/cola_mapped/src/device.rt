@@ -1,10 +1,11 @@
 //! A device over bytes that were lent.
-ghost use Rattle.std.specs.Prelude.{◌≡◌, ◌+◌, ◌≤◌, ℕ, true, false, Some, refl, length, is_err, IfOk};
+ghost use Rattle.std.specs.Prelude.{◌≡◌, ◌+◌, ◌≤◌, ℕ, true, false, Some, refl, length, is_some, is_err, IfOk, IfSome};
 ghost use denote.RawPtr.{Ptr};
 ghost use Rattle.cola_device.specs.Bytes.{part};
 ghost use Rattle.cola_mapped.specs.Mapped.{IsLent, unused, counts_of, after_other, after_read, after_write, IsSettle};
 ghost use Rattle.cola_mapped.specs.Region.{bytes_in};
 
+use crate::lent::Lent;
 use crate::region::Region;
 use cola_device::{Device, DeviceFault, MAX_TRANSFER};
 use std::marker::Model;
@@ -14,7 +15,7 @@ use std::marker::Model;
 /// lent the bytes: a settle writes nothing.
 #[derive(Drop)]
 pub struct MappedDevice {
-    region: Region,
+    lent: Lent,
     reads: u64,
     writes: u64,
     others: u64,
@@ -27,25 +28,25 @@ impl Model for MappedDevice {
     ghost Value = { Mapped };
 
     ghost view = { λ d. record {
-      at = d.region.at;
-      len = d.region.len;
-      bytes = bytes_in d.region.bytes;
+      at = d.lent.at;
+      len = d.lent.len;
+      bytes = bytes_in d.lent.bytes;
       reads = d.reads;
       writes = d.writes;
       others = d.others;
     } };
 
-    ghost invariant = { λ d. IsLent d.region.bytes };
+    ghost invariant = { λ d. IsLent d.lent.bytes };
 }
 
 impl MappedDevice {
     /// A device over these bytes.
-    pub fn over(region: Region) -> MappedDevice
-        requires { IsLent region.bytes }
-        ensures { result ≡ unused region.at region.len (bytes_in region.bytes) }
+    pub fn over(lent: Lent) -> MappedDevice
+        requires { IsLent lent.bytes }
+        ensures { result ≡ unused lent.at lent.len (bytes_in lent.bytes) }
     {
         MappedDevice {
-            region,
+            lent,
             reads: 0,
             writes: 0,
             others: 0,
@@ -59,8 +60,8 @@ impl MappedDevice {
         ensures bytes { result.bytes ≡ Some self.bytes }
         ensures lent { IsLent result.bytes }
     {
-        let MappedDevice { region, .. } = self;
-        region
+        let MappedDevice { lent, .. } = self;
+        lent.into_region()
     }
 }
 
@@ -68,6 +69,8 @@ impl Device for MappedDevice {
     ghost bytes = { λ d. Some d.bytes };
 
     ghost tells = { true };
+
+    ghost lends = { true };
 
     ghost counts = { counts_of };
 
@@ -85,7 +88,7 @@ impl Device for MappedDevice {
         ensures after { self.new ≡ after_other self.old }
     {
         self.others = self.others.saturating_add(1);
-        Ok(self.region.size() as u64)
+        Ok(self.lent.size() as u64)
     }
 
     /// It has bytes, so that it is never asked for.
@@ -102,7 +105,7 @@ impl Device for MappedDevice {
         ensures after { self.new ≡ after_read self.old }
     {
         self.reads = self.reads.saturating_add(1);
-        self.region.read(at as usize, into);
+        self.lent.read(at as usize, into);
         Ok(())
     }
 
@@ -113,7 +116,7 @@ impl Device for MappedDevice {
         ensures after { self.new ≡ after_write at from.now self.old }
     {
         self.writes = self.writes.saturating_add(1);
-        self.region.write(at as usize, from);
+        self.lent.write(at as usize, from);
         Ok(())
     }
 
@@ -122,6 +125,17 @@ impl Device for MappedDevice {
     {
         self.others = self.others.saturating_add(1);
         Ok(())
+    }
+
+    /// It lends its bytes as they lie in memory.
+    #[inline(always)]
+    fn view(&self, at: u64, count: usize) -> Option<&[u8]>
+        requires inside { at + count ≤ length self.now.bytes }
+        ensures lent { is_some result ≡ true }
+        ensures given { IfSome result (λ shown. shown.now ≡ part self.now.bytes at count) }
+        ensures size { IfSome result (λ shown. length shown.now ≡ count) }
+    {
+        Some(self.lent.view(at as usize, count))
     }
 
     fn reads(&self) -> u64 {

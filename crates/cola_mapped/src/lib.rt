@@ -2,7 +2,9 @@
 #![tactic(auto)]
 
 mod device;
+mod lent;
 mod region;
 
 pub use device::MappedDevice;
+pub use lent::Lent;
 pub use region::Region;

@@ -1,6 +1,5 @@
-//! Bytes of memory at a pointer.
-ghost use Rattle.std.specs.Prelude.{◌≡◌, ◌+◌, ◌≤◌, ℕ, List, Option, length};
-ghost use Rattle.cola_device.specs.Bytes.{part};
+//! Bytes of memory at a pointer, as C passes them.
+ghost use Rattle.std.specs.Prelude.{◌≡◌, ℕ, List, Option};
 
 use std::marker::Model;
 
@@ -20,11 +19,7 @@ impl Model for Region {
 }
 
 impl Region {
-    ghost use Rattle.std.specs.Prelude.{◌≡◌, ◌+◌, ◌≤◌, None, Some, length, IsSome};
-    ghost use Rattle.std.specs.Borrow.{sem};
-    ghost use Rattle.cola_device.specs.Bytes.{part, splice};
-    ghost use Rattle.cola_mapped.specs.Region.{bytes_in};
-    ghost use Rattle.cola_mapped.specs.Lending.{LendsBytes};
+    ghost use Rattle.std.specs.Prelude.{◌≡◌, None};
 
     /// An empty region.
     pub fn none() -> Region
@@ -35,53 +30,4 @@ impl Region {
             len: 0,
         }
     }
-
-    /// Its bytes.
-    pub fn bytes(&mut self) -> &mut [u8]
-        requires { IsSome self.old.bytes }
-        ensures* writes_back { sem 𝓛 (LendsBytes self.entry result) }
-        ensures value { self.old.bytes ≡ Some result.now }
-    {
-        unsafe { std::slice::from_raw_parts_mut(self.at, self.len) }
-    }
-
-    /// How many bytes it has.
-    pub fn size(&mut self) -> usize
-        requires { IsSome self.old.bytes }
-        ensures value { result ≡ length (bytes_in self.old.bytes) }
-        ensures stays { self.new ≡ self.old }
-    {
-        self.bytes().len()
-    }
-
-    /// A copy of its bytes from a place on.
-    pub fn read(&mut self, at: usize, into: &mut [u8])
-        requires some { IsSome self.old.bytes }
-        requires inside { at + length into.old ≤ length (bytes_in self.old.bytes) }
-        ensures given { into.new ≡ part (bytes_in self.old.bytes) at (length into.old) }
-        ensures stays { self.new ≡ self.old }
-    {
-        copy_part(self.bytes(), at, into);
-    }
-
-    /// Puts bytes in the place of those from a place on.
-    pub fn write(&mut self, at: usize, from: &[u8])
-        requires some { IsSome self.old.bytes }
-        requires inside { at + length from.now ≤ length (bytes_in self.old.bytes) }
-        ensures wrote { self.new.bytes ≡ Some (splice (bytes_in self.old.bytes) at from.now) }
-        ensures at { self.new.at ≡ self.old.at }
-        ensures len { self.new.len ≡ self.old.len }
-    {
-        let bytes = self.bytes();
-        bytes[at..at + from.len()].copy_from_slice(from);
-    }
-}
-
-/// Copies the bytes from a place on. They stay.
-fn copy_part(bytes: &mut [u8], at: usize, into: &mut [u8])
-    requires { at + length into.old ≤ length bytes.old }
-    ensures given { into.new ≡ part bytes.old at (length into.old) }
-    ensures stays { bytes.new ≡ bytes.old }
-{
-    into.copy_from_slice(&bytes[at..at + into.len()]);
 }

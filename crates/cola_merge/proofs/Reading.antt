@@ -22,7 +22,7 @@ use Rattle.cola_merge.specs.declared.aims.Aim.{Aim}
 use Rattle.cola_merge.specs.Fetched.{Head}
 use Rattle.cola_merge.specs.declared.merging.Merger.{Merger}
 use Rattle.cola_merge.specs.Feeds.{feed_of, feed_len, read_len, IsFeed, IsBadAt}
-use Rattle.cola_merge.specs.Heads.{head_of, with_head, consumed, IsHeldCell, IsHead, HasHeads, IsReady, IsFetched, missing_head, missing, held_head, fetched_of, fetched}
+use Rattle.cola_merge.specs.Heads.{head_at, head_of, with_head, consumed, IsHeldCell, IsHead, HasHeads, IsReady, IsFetched, missing_head, missing, held_head, fetched_of, fetched}
 use Rattle.cola_merge.specs.Blocks.{Lasts, run_left, feed_left, blocks_left}
 use Rattle.cola_merge.specs.States.{Spends, IsOther, IsBeside, ReadFailed, Fetch, state, StepCause, StepCalm}
 use Rattle.cola_merge.specs.Advance.{cells_read}
@@ -226,6 +226,16 @@ pub head_of-with : (m : Merger) (reader : Reader) (head : Head) → head_of (wit
 head_of-with m Own head = refl
 head_of-with m Incoming head = refl
 head_of-with m Sample head = refl
+
+-- the head that stands there already
+pub with_same : (m : Merger) (reader : Reader) (head : Head) → head ≡ head_of m reader → with_head m reader head ≡ m
+with_same m Own head e = ap (with_head m Own) e
+with_same m Incoming head e = ap (with_head m Incoming) e
+with_same m Sample head e = ap (with_head m Sample) e
+
+-- the head that stands there, consumed
+pub with_passed : (m : Merger) (reader : Reader) (head passed : Head) → head ≡ head_of m reader → passed ≡ head_at (head.at + 1) → with_head m reader passed ≡ with_head m reader (head_at ((head_of m reader).at + 1))
+with_passed m reader head passed v e = ap (with_head m reader) (e ∙ ap (λ (h : Head). head_at (h.at + 1)) v)
 
 pub consumed-with : (m : Merger) (reader : Reader) (head : Head) (n : ℕ) → head.at ≡ (head_of m reader).at + n → consumed (with_head m reader head) ≡ consumed m + n
 consumed-with m Own head n e = omega (arith, e)

@@ -12,10 +12,10 @@ use Rattle.cola_cell.specs.State.{State}
 use Rattle.cola_cell.specs.ToldCells.{shadow_cells}
 use Rattle.cola_merge.specs.declared.aims.Aim.{Aim}
 use Rattle.cola_merge.specs.declared.aims.Progress.{Progress}
+use Rattle.cola_merge.specs.declared.aims.Progress.TheVariants.{Done}
 use Rattle.cola_merge.specs.Fetched.{Head}
 use Rattle.cola_merge.specs.declared.rules.Choice.{Choice}
 use Rattle.cola_merge.specs.declared.merging.Merger.{Merger}
-use Rattle.cola_merge.specs.Feeds.{feed_len}
 use Rattle.cola_merge.specs.Heads.{head_of, consumed, HasHeads, IsReady, IsUsedUp, missing, fetched, build_of}
 use Rattle.cola_merge.specs.Rules.{as_action, next_action, ChoiceSuits}
 use Rattle.cola_merge.specs.Blocks.{is_last}
@@ -23,7 +23,7 @@ use Rattle.cola_merge.specs.States.{Fetch, MergeState, state, len_of, Goes, Took
 use Rattle.cola_merge.specs.Advance.{cells_read}
 use Rattle.cola_merge.specs.Pulls.{Looks, Looked, Unread, Chosen, Next}
 use Rattle.cola_merge.proofs.Kept.{grows_none}
-use Rattle.cola_merge.proofs.Sums.{spends_then, cause_then, calm_then, refused_then}
+use Rattle.cola_merge.proofs.Sums.{took_then, spends_then, cause_then, calm_then, refused_then}
 use Rattle.cola_merge.proofs.Reading.{ready_by, fetch_looked, fetch_unread}
 use Rattle.cola_merge.proofs.Ruling.{ended_is_used_up}
 
@@ -132,22 +132,14 @@ module _ {A : Type 0} {aim : Aim} {o0 : State} (m : Merger) (n0 : ℕ) (r : HasH
               suits = suits;
             }
 
--- where no source cell is left now, none was before
-used_up_before : {aim : Aim} {s t : MergeState} → Looks aim s t → IsUsedUp aim t.merger → IsUsedUp aim s.merger
-used_up_before {aim} f u = record {
-  own = subst (λ (k : ℕ). feed_len aim.own ≤ k) (f.at_is Own) u.own;
-  incoming = subst (λ (k : ℕ). feed_len aim.incoming ≤ k) (f.at_is Incoming) u.incoming;
-  sample = subst (λ (k : ℕ). feed_len aim.sample ≤ k) (f.at_is Sample) u.sample;
-}
-
 -- the choice by another name
 pub chosen_is : {aim : Aim} {s t : MergeState} (choice : Option Choice) (c : Choice) → choice ≡ Some c → Chosen aim s t choice → Chosen aim s t (Some c)
 chosen_is {aim} {s} {t} choice c e h = subst (λ (x : Option Choice). Chosen aim s t x) e h
 
 -- no choice is left where no source cell is
-pub none_chosen : {aim : Aim} {s t : MergeState} (choice : Option Choice) → choice ≡ None → Chosen aim s t choice → IsUsedUp aim s.merger
+pub none_chosen : {aim : Aim} {s t : MergeState} (choice : Option Choice) → choice ≡ None → Chosen aim s t choice → IsUsedUp aim t.merger
 none_chosen {aim} {s} {t} choice e h =
-    used_up_before h.looked.looks (ended_is_used_up aim t.merger h.fetched (subst (λ (x : Option Choice). as_action t.merger x ≡ next_action aim t.merger) e h.asked))
+    ended_is_used_up aim t.merger h.fetched (subst (λ (x : Option Choice). as_action t.merger x ≡ next_action aim t.merger) e h.asked)
 
 -- ---- heads that were read, as a part of a step
 
@@ -207,13 +199,23 @@ module _ {aim : Aim} {s t : MergeState} (r : IsReady s.held aim s.merger) where
   refused_look fault f = subst (λ (h : Held). Refused aim s (kept_at h t) 0 (step_of_read fault)) (sym f.looks.cells_stay) (refused_kept fault f)
 
 -- a refusal, by the error that is handed on
-pub refused_by : {aim : Aim} {s t : MergeState} (result : Result Unit StepFault) (fault : StepFault) → result ≡ Err fault → Refused aim s t 0 fault → Taken aim s t result
-refused_by {aim} {s} {t} result fault e h = subst (λ (x : Result Unit StepFault). Taken aim s t x) (sym e) h
+pub refused_by : {aim : Aim} {s t : MergeState} (result : Result Bool StepFault) (fault : StepFault) → result ≡ Err fault → Refused aim s t 0 fault → Taken aim s t result
+refused_by {aim} {s} {t} result fault e h = subst (λ (x : Result Bool StepFault). Taken aim s t x) (sym e) h
+
+-- whether a step was taken, as it was tested
+pub was_taken : {aim : Aim} {s t : MergeState} (b : Bool) → b ≡ true → Taken aim s t (Ok b) → Took aim s t 1
+was_taken {aim} {s} {t} b e h = subst (λ (x : Bool). Taken aim s t (Ok x)) e h
 
 -- ---- steps of a quota
 
 pub no_more : (b : Bool) {P : Type 0} → (P → b ≡ true) → b ≡ false → P → ⊥
 no_more b f e p = true≢false (sym (f p) ∙ e)
+
+-- none was taken behind so many
+pub done_ran : {aim : Aim} {s t u : MergeState} {count quota : ℕ} (b : Bool) → b ≡ false → IsReady s.held aim s.merger → Took aim s t count → Taken aim t u (Ok b) → count < quota → TakesQuota aim s u quota (Ok Done)
+done_ran {aim} {s} {t} {u} {count} b e r k h l =
+    let none : Taken aim t u (Ok false) = subst (λ (x : Bool). Taken aim t u (Ok x)) e h in
+    record { steps = (count, omega (arith, l), subst (λ (n : ℕ). Took aim s u n) (let z : count + 0 ≡ count = omega arith in z) (took_then r k none.0), none.1) }
 
 pub refused_ran : {aim : Aim} {s t u : MergeState} {count quota : ℕ} (result : Result Progress StepFault) (fault : StepFault) → result ≡ Err fault → IsReady s.held aim s.merger → Took aim s t count → Refused aim t u 0 fault →
     count < quota → TakesQuota aim s u quota result

@@ -1,5 +1,5 @@
 -- What the calls of a merger leave, by the object, the merger and the ticks before and after them.
-use Rattle.std.specs.Prelude.{ℕ, Option, Result}
+use Rattle.std.specs.Prelude.{ℕ, Bool, Option, Result}
 use Rattle.cola_cell.specs.declared.cell.Cell.{Cell}
 use Rattle.cola_cell.specs.declared.fault.ReadFault.{ReadFault}
 use Rattle.cola_cell.specs.declared.fault.PushFault.{PushFault}
@@ -40,8 +40,8 @@ module _ {W : Type 0} (w : Ghosts W) (before now : W) (aim : Aim) (old new : Mer
   abbrev pub StepLeaves : {A : Type 0} → Result A PushFault → Type 0
   StepLeaves result = Stepped aim (state (w.state before) old ticks) (state (w.state now) new ticks_now) result
 
-  -- what one step leaves, with the reads of its heads
-  abbrev pub TakeLeaves : {A : Type 0} → Result A StepFault → Type 0
+  -- what one step leaves, with the reads of its heads, or their reads alone as no source cell is left
+  abbrev pub TakeLeaves : Result Bool StepFault → Type 0
   TakeLeaves result = Taken aim (state (w.state before) old ticks) (state (w.state now) new ticks_now) result
 
   -- what the steps of a quota leave

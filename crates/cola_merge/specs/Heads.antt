@@ -23,6 +23,10 @@ fresh_head = record { at = 0; cell = None }
 abbrev pub head_at : ℕ → Head
 head_at n = record { at = n; cell = None }
 
+-- a head behind so many consumed cells that holds this cell
+abbrev pub held_at : ℕ → Cell → Head
+held_at n c = record { at = n; cell = Some c }
+
 -- a merger of these three heads
 abbrev pub heads : (own incoming sample : Head) → Merger
 heads own incoming sample = record { own = own; incoming = incoming; sample = sample }

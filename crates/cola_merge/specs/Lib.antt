@@ -1,6 +1,8 @@
 pub mod Fetched
 pub mod Feeds
+pub mod Ends
 pub mod Heads
+pub mod Lending
 pub mod Blocks
 pub mod Rules
 pub mod States

@@ -1,5 +1,5 @@
 -- What steps of a merge do: to the object, to the merger, and what they spend.
-use Rattle.std.specs.Prelude.{◌≡◌, ◌≢◌, ◌⊎◌, ℕ, ◌+◌, ◌*◌, ◌/◌, ◌%◌, ◌^◌, ◌<◌, ◌≤◌, ◌==◌, ⊤, ◌++◌, Option, None, Some, IsSome, Result, Ok, Err}
+use Rattle.std.specs.Prelude.{◌≡◌, ◌≢◌, ◌⊎◌, ℕ, ◌+◌, ◌*◌, ◌/◌, ◌%◌, ◌^◌, ◌<◌, ◌≤◌, ◌==◌, ⊤, ◌++◌, Bool, true, false, Option, None, Some, IsSome, Result, Ok, Err}
 use Rattle.std.specs.Option.{option_map, option_to_list}
 use Rattle.cola_outside.specs.Faults.{Rose}
 use Rattle.cola_runs.specs.Steps.{steps}
@@ -250,9 +250,10 @@ abbrev pub Stepped : {A : Type 0} → Aim → MergeState → MergeState → Resu
 Stepped aim s t (Ok a) = Took aim s t 1
 Stepped aim s t (Err fault) = Refused aim s t 0 (step_of_push fault)
 
--- one step, accepted or refused
-abbrev pub Taken : {A : Type 0} → Aim → MergeState → MergeState → Result A StepFault → Type 0
-Taken aim s t (Ok a) = Took aim s t 1
+-- one step, or none as no source cell is left; or it was refused
+abbrev pub Taken : Aim → MergeState → MergeState → Result Bool StepFault → Type 0
+Taken aim s t (Ok true) = Took aim s t 1
+Taken aim s t (Ok false) = Took aim s t 0 × IsUsedUp aim t.merger
 Taken aim s t (Err fault) = Refused aim s t 0 fault
 
 -- steps of a quota: all of it and source cells are left; or as many as there were source cells; or some, and one was refused

@@ -43,6 +43,14 @@ pub enum Progress {
     More,
 }
 
+/// How many cells each feed of an aim has.
+#[derive(Clone, Copy, Debug)]
+pub(crate) struct Ends {
+    pub(crate) own: u32,
+    pub(crate) incoming: u32,
+    pub(crate) sample: u32,
+}
+
 impl Feed {
     ghost use Rattle.cola_merge.specs.Feeds.{feed_len};
 
@@ -55,6 +63,21 @@ impl Feed {
             Feed::Sampled(run) => run.len / 8,
             Feed::One(_) => 1,
             Feed::Nothing => 0,
+        }
+    }
+}
+
+impl Aim {
+    ghost use Rattle.cola_merge.specs.Ends.{ends_of};
+
+    /// How many cells each feed has.
+    pub(crate) fn ends(&self) -> Ends
+        ensures { result ≡ ends_of self.now }
+    {
+        Ends {
+            own: self.own.len(),
+            incoming: self.incoming.len(),
+            sample: self.sample.len(),
         }
     }
 }

@@ -1,9 +1,11 @@
 //! Cursors and the heads that are held.
 ghost use Rattle.std.specs.Prelude.{◌≡◌, ◌+◌, ◌<◌, ◌^◌, option_copied};
+ghost use Rattle.cola_cell.specs.declared.format.Format.{Format};
+ghost use Rattle.cola_cell.specs.Format.{CellFits};
 ghost use Rattle.cola_cell.specs.Held.{Held};
 
 use crate::aims::Feed;
-use cola_cell::{CellSource, Format, Packed, ReadFault, Reader};
+use cola_cell::{Cell, CellSource, Format, Packed, ReadFault, Reader};
 use cola_outside::Steps;
 use std::marker::Model;
 use std::sync::ledger::Ledger;
@@ -27,7 +29,7 @@ impl Model for Head {
 
 impl Head {
     ghost use Rattle.cola_merge.specs.Feeds.{IsFeed, feed_len};
-    ghost use Rattle.cola_merge.specs.Heads.{head_at, IsHead};
+    ghost use Rattle.cola_merge.specs.Heads.{head_at, held_at, IsHead};
     ghost use Rattle.cola_merge.specs.States.{Fetch};
 
     /// The head behind so many consumed cells, not read yet.
@@ -62,6 +64,16 @@ impl Head {
         }
     }
 
+    /// Holds this cell, where it stands. It is a call of its own, so that no fetch makes room for a cell that it seldom packs.
+    #[inline(never)]
+    fn hold(&mut self, cell: &Cell)
+        requires { CellFits Format.Two cell.now }
+        ensures { self.new ≡ held_at self.old.at cell.now }
+    {
+        self.packed = Packed::of_cell(Format::Two, cell);
+        self.is_held = true;
+    }
+
     /// Goes on behind the cell, where it stands.
     #[inline(always)]
     pub(crate) fn pass(&mut self)
@@ -72,22 +84,24 @@ impl Head {
         self.is_held = false;
     }
 
-    /// Reads the head where it is not held and the feed has one.
+    /// Reads the head where it is not held and the feed, which has so many cells, has one.
     #[inline(always)]
     pub(crate) fn fetch<W: CellSource, L: Ledger>(
         &mut self,
         reader: Reader,
         feed: &Feed,
+        len: u32,
         work: &mut W,
         steps: &mut Steps<L>,
     ) -> Result<(), ReadFault>
+        requires len { len ≡ feed_len feed.now }
         requires feed { IsFeed (W.state work.old).held.fixed feed.now }
         requires head { IsHead (W.state work.old).held feed.now self.old }
         ensures kept { W.kept work.new ≡ W.kept work.old }
         ensures fetch { Fetch (W.state work.old) (W.state work.new) reader feed.now self.old self.new
             steps.old steps.new result }
     {
-        if self.is_held || self.at >= feed.len() {
+        if self.is_held || self.at >= len {
             return Ok(());
         }
         match feed {
@@ -103,10 +117,7 @@ impl Head {
                 work.read_for_into(reader, run.level, run.slot, index, &mut self.packed, steps)?;
                 self.is_held = true;
             }
-            Feed::One(cell) => {
-                self.packed = Packed::of_cell(Format::Two, cell);
-                self.is_held = true;
-            }
+            Feed::One(cell) => self.hold(cell),
             Feed::Nothing => {}
         }
         Ok(())

@@ -1,10 +1,11 @@
 //! The merger.
 ghost use Rattle.std.specs.Prelude.{◌≡◌, ◌+◌, ◌*◌, ◌<◌, ◌≤◌, ◌^◌, ◌↔◌, IsTrue, Some};
+ghost use Rattle.std.specs.Borrow.{sem};
 ghost use Rattle.cola_cell.specs.declared.format.Format.{Format};
 ghost use Rattle.cola_merge.specs.Rules.{HeadFits, Suits, emitted_of};
 ghost use Rattle.cola_merge.specs.Calls.{Adds};
 
-use crate::aims::{Aim, Progress};
+use crate::aims::{Aim, Ends, Progress};
 use crate::heads::Head;
 use crate::rules::{Choice, first_rule};
 use cola_cell::{Cell, CellSink, CellSource, Pass, PushFault, ReadFault, Reader, StepFault};
@@ -54,7 +55,9 @@ fn given(head: &Head, pass: Option<Pass>) -> Option<Cell>
 }
 
 impl Merger {
-    ghost use Rattle.cola_merge.specs.Heads.{fresh, head_at, merger_at, head_of, with_head, HasHeads, IsReady, AreFetched, IsUsedUp};
+    ghost use Rattle.cola_merge.specs.Ends.{ends_of};
+    ghost use Rattle.cola_merge.specs.Heads.{fresh, merger_at, head_of, HasHeads, IsReady, AreFetched, IsUsedUp};
+    ghost use Rattle.cola_merge.specs.Lending.{LendsHead};
     ghost use Rattle.cola_merge.specs.Rules.{as_action, next_action, ChoiceSuits};
     ghost use Rattle.cola_merge.specs.Calls.{AdvanceLeaves, PullLeaves, NextLeaves, StepLeaves, TakeLeaves, RunLeaves, DrawLeaves};
 
@@ -164,28 +167,16 @@ impl Merger {
         first_rule(aim, link, &self.own, &self.incoming, &self.sample)
     }
 
-    /// The head of this reader.
+    /// The head of this reader, to consume it.
     #[inline(always)]
-    fn head(&self, reader: Reader) -> &Head
-        ensures { result.now ≡ head_of self.now reader }
+    fn head_mut(&mut self, reader: Reader) -> &mut Head
+        ensures value { result.now ≡ head_of self.old reader }
+        ensures* writes_back { sem 𝓛 (LendsHead self.entry reader result) }
     {
         match reader {
-            Reader::Own => &self.own,
-            Reader::Incoming => &self.incoming,
-            Reader::Sample => &self.sample,
-        }
-    }
-
-    /// Consumes the head of this reader.
-    #[inline(always)]
-    fn consume(&mut self, reader: Reader)
-        requires small { (head_of self.old reader).at + 1 < 2 ^ 32 }
-        ensures { self.new ≡ with_head self.old reader (head_at ((head_of self.old reader).at + 1)) }
-    {
-        match reader {
-            Reader::Own => self.own.pass(),
-            Reader::Incoming => self.incoming.pass(),
-            Reader::Sample => self.sample.pass(),
+            Reader::Own => &mut self.own,
+            Reader::Incoming => &mut self.incoming,
+            Reader::Sample => &mut self.sample,
         }
     }
 
@@ -195,18 +186,21 @@ impl Merger {
         &mut self,
         work: &mut W,
         aim: &Aim,
+        ends: Ends,
         steps: &mut Steps<L>,
     ) -> Result<Option<Choice>, ReadFault>
+        requires ends { ends ≡ ends_of aim.now }
         requires heads { HasHeads (W.state work.old).held aim.now self.old }
         requires levels { (W.state work.old).held.fixed.levels ≤ 23 }
         ensures kept { W.kept work.new ≡ W.kept work.old }
         ensures next { NextLeaves W.CellSource work.old work.new aim.now
             self.old self.new steps.old steps.new result }
     {
-        self.own.fetch(Reader::Own, &aim.own, work, steps)?;
-        self.incoming
-            .fetch(Reader::Incoming, &aim.incoming, work, steps)?;
-        self.sample.fetch(Reader::Sample, &aim.sample, work, steps)?;
+        self.own
+            .fetch(Reader::Own, &aim.own, ends.own, work, steps)?;
+        self.incoming.fetch(Reader::Incoming, &aim.incoming, ends.incoming, work, steps)?;
+        self.sample
+            .fetch(Reader::Sample, &aim.sample, ends.sample, work, steps)?;
         Ok(self.choice(aim))
     }
 
@@ -229,33 +223,34 @@ impl Merger {
         ensures stepped { StepLeaves W.CellSource work.old work.new aim.now
             self.old self.new steps.old steps.new result }
     {
-        let head = self.head(choice.head);
+        let head = self.head_mut(choice.head);
         emit(work, aim.level, aim.slot, head, choice.pass, steps)?;
-        self.consume(choice.head);
+        head.pass();
         Ok(())
     }
 
-    /// Takes one step, where a source cell is left.
+    /// Takes one step, if a source cell is left: false where none is.
     #[inline(always)]
     fn take<W: CellSink, L: Ledger>(
         &mut self,
         work: &mut W,
         aim: &Aim,
+        ends: Ends,
         steps: &mut Steps<L>,
-    ) -> Result<(), StepFault>
+    ) -> Result<bool, StepFault>
+        requires ends { ends ≡ ends_of aim.now }
         requires ready { IsReady (W.CellSource.state work.old).held aim.now self.old }
-        requires left { IsUsedUp aim.now self.old → ⊥ }
         requires levels { (W.CellSource.state work.old).held.fixed.levels ≤ 23 }
         requires slot_in { ((W.CellSource.state work.old).held.shadows aim.now.level).slot < 2 }
         ensures kept { W.CellSource.kept work.new ≡ W.CellSource.kept work.old }
         ensures taken { TakeLeaves W.CellSource work.old work.new aim.now
             self.old self.new steps.old steps.new result }
     {
-        let Some(choice) = self.next(work, aim, steps)? else {
-            return Ok(());
+        let Some(choice) = self.next(work, aim, ends, steps)? else {
+            return Ok(false);
         };
         self.step(work, aim, &choice, steps)?;
-        Ok(())
+        Ok(true)
     }
 
     /// Takes steps until so many are taken or no source cell is left.
@@ -274,17 +269,18 @@ impl Merger {
         ensures ran { RunLeaves W.CellSource work.old work.new aim.now
             self.old self.new steps.old steps.new quota result }
     {
+        let ends = aim.ends();
         for _ in 0..quota {
-            if self.is_done(aim) {
+            if !self.take(work, aim, ends, steps)? {
                 return Ok(Progress::Done);
             }
-            self.take(work, aim, steps)?;
         }
         if self.is_done(aim) {
             return Ok(Progress::Done);
         }
         Ok(Progress::More)
     }
+
     /// Consumes source cells until one is given or none is left.
     fn draw<W: CellSource, L: Ledger>(
         &mut self,
@@ -298,9 +294,11 @@ impl Merger {
         ensures drawn { DrawLeaves W.CellSource work.old work.new aim.now
             self.old self.new steps.old steps.new result }
     {
-        while let Some(next) = self.next(work, aim, steps)? {
-            let cell = given(self.head(next.head), next.pass);
-            self.consume(next.head);
+        let ends = aim.ends();
+        while let Some(next) = self.next(work, aim, ends, steps)? {
+            let head = self.head_mut(next.head);
+            let cell = given(head, next.pass);
+            head.pass();
             if cell.is_some() {
                 return Ok(cell);
             }

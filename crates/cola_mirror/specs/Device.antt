@@ -1,5 +1,5 @@
 -- A mirror as a device, and as it is made.
-use Rattle.std.specs.Prelude.{ℕ, ◌&&◌}
+use Rattle.std.specs.Prelude.{ℕ, false, ◌&&◌}
 use Rattle.cola_device.specs.declared.device.Device as device
 use Rattle.cola_mirror.specs.declared.sides.Sides.TheVariants.{Both}
 use Rattle.cola_mirror.specs.Mirror.{Pair, Settings, settings, bytes_of, IsSettling}
@@ -10,6 +10,7 @@ module _ {D E : Type 0} (d : device.Ghosts D) (e : device.Ghosts E) where
   mirror_device = record {
     bytes = bytes_of d e;
     tells = d.tells && e.tells;
+    lends = false;
     counts = λ pair. pair.counts;
     Kept = Settings d.Kept e.Kept;
     kept = settings d e;

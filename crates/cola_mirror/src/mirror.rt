@@ -196,6 +196,11 @@ impl<D: Device, E: Device> Device for Mirror<D, E> {
         counted(&mut self.counts, first.or(second))
     }
 
+    /// It lends nothing: a read may go to either side.
+    fn view(&self, _at: u64, _count: usize) -> Option<&[u8]> {
+        None
+    }
+
     fn reads(&self) -> u64 {
         self.counts.reads
     }

@@ -1,5 +1,6 @@
 //! The work of the levels of 1 and more in one mutation.
-ghost use Rattle.std.specs.Prelude.{◌≡◌, ◌+◌, ◌<◌, ◌≤◌, ◌^◌, length};
+ghost use Rattle.std.specs.Prelude.{◌≡◌, ◌+◌, ◌<◌, ◌≤◌, ◌^◌, true, length};
+ghost use Rattle.cola_clock.specs.Clock.{works};
 ghost use Rattle.cola_mutation.specs.Levels.{Fits, AreFit};
 ghost use Rattle.cola_mutation.specs.Calls.{TurnLeaves, TurnsLeave};
 ghost use Rattle.cola_level.specs.Marks.{all_marks_of};
@@ -10,8 +11,33 @@ use cola_level::{Level, aim_of};
 use cola_outside::Steps;
 use std::sync::ledger::Ledger;
 
-/// The turn of one level: its work, where it works at the clock. `upper` is the number of the level above it, which has
-/// a visible run of `above` cells; `below` are the levels behind it.
+/// The turn of a level that works at the clock: `upper` is the number of the level above it, which has a visible run of
+/// `above` cells; `below` are the levels behind it.
+#[inline(never)]
+fn work_now<W: CellSink, L: Ledger>(
+    work: &mut W,
+    level: &mut Level,
+    below: &[Level],
+    clock: u64,
+    upper: u8,
+    above: u32,
+    steps: &mut Steps<L>,
+) -> Result<(), StepFault>
+    requires fits { Fits (W.CellSource.state work.old).held clock upper above
+        level.old (all_marks_of below.now) }
+    requires clock_in { clock < 2 ^ 23 }
+    requires levels_in { upper + length below.now < 22 }
+    requires works { works clock (upper + 1) ≡ true }
+    ensures kept { W.CellSource.kept work.new ≡ W.CellSource.kept work.old }
+    ensures turn { TurnLeaves W.CellSource work.old work.new steps.old steps.new
+        clock upper above level.old level.new below.now result }
+{
+    let aim = aim_of(clock, upper + 1, level.visible, above, below);
+    level.work(work, &aim, steps)
+}
+
+/// The turn of one level: its work, where it works at the clock. The aim of a level that works is made apart, so that one
+/// that rests takes no time for it.
 fn work_level<W: CellSink, L: Ledger>(
     work: &mut W,
     level: &mut Level,
@@ -33,8 +59,7 @@ fn work_level<W: CellSink, L: Ledger>(
     if !works(clock, number) {
         return Ok(());
     }
-    let aim = aim_of(clock, number, level.visible, above, below);
-    level.work(work, &aim, steps)
+    work_now(work, level, below, clock, upper, above, steps)
 }
 
 /// The turns of all levels behind the one of number `upper`, down to the bottom, up to the first that is refused.

@@ -50,6 +50,10 @@ impl Device for Watched {
         self.device.settle()
     }
 
+    fn view(&self, _at: u64, _count: usize) -> Option<&[u8]> {
+        None
+    }
+
     fn reads(&self) -> u64 {
         self.device.reads()
     }

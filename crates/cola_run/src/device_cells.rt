@@ -239,8 +239,6 @@ pub(crate) fn push_on_device<D: Device>(
         shadows.old level result }
 {
     let shadow = shadow_of(shadows, level);
-    // Until the cell is counted, not all of the tail is on the device.
-    set_shadow(shadows, level, unsaved(shadow));
     let place = place_in_tails(geometry, level, shadow.len);
     put_as(geometry.format, tails, place, cell, pass);
     if !fills_block(geometry, shadow.len) {
@@ -252,7 +250,10 @@ pub(crate) fn push_on_device<D: Device>(
             set_shadow(shadows, level, longer(geometry, shadow));
             Ok(())
         }
-        Err(fault) => Err(fault),
+        Err(fault) => {
+            set_shadow(shadows, level, unsaved(shadow));
+            Err(fault)
+        }
     }
 }
 

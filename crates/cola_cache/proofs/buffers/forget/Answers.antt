@@ -6,6 +6,6 @@ use Rattle.cola_cache.proofs.buffers.forget.Goals as goal
 
 pub loop-last-preserved : goal.loop-last-preserved
 loop-last-preserved c =
-    ap (λ (x : Option ℕ). set c.loop-last.lasts c.loop-last.last-index x) c.without.ensures
+    ap (λ (x : Option ℕ). set c.loop-last.lasts c.loop-last.last-index x) c.forget_in.ensures
     ∙ map_over_more (forgotten c.args.block) c.args.lasts.now c.loop-last.lasts c.loop-last.last-index (get_or c.loop-last.lasts c.loop-last.last-index None) c.loop-last-test.true c.loop-last.invariant
     (let within : c.loop-last.last-index < length c.loop-last.lasts = omega (arith, c.loop-last-test.true, c.loop-last.auto.lasts) in get_or_default c.loop-last.lasts c.loop-last.last-index None (get_or c.loop-last.lasts c.loop-last.last-index None) within)

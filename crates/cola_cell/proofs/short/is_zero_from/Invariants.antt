@@ -1,5 +1,5 @@
-use Rattle.std.proofs.Common.{◌≡◌, ◌≤◌, ◌<◌, ◌*◌, ℕ, slice_index}
+use Rattle.std.proofs.Common.{◌≡◌, ◌≤◌, ◌<◌, ◌*◌, ◌↔◌, ℕ, slice_index}
 use Rattle.cola_cell.proofs.short.is_zero_from.Given as goal
 
 abbrev pub invariant-loop-word : goal.invariant-loop-word
-invariant-loop-word l = (k : ℕ) → l.start ≤ k → k < 8 * l.word → slice_index l.room k ≡ 0
+invariant-loop-word l = (l.rest ≡ 0) ↔ ((k : ℕ) → l.start ≤ k → k < 8 * l.word → slice_index l.room k ≡ 0)

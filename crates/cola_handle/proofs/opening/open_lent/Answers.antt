@@ -34,7 +34,7 @@ returns-in-Ok-new-clause-holds g c = λ m stands.
 
 pub returns-in-Ok-new-clause-terms : goal.returns-in-Ok-new-clause-terms
 returns-in-Ok-new-clause-terms g c =
-    subst (λ (s : Session). HasTerms (terms_of s.store) (bytes_in c.args.region.bytes)) (sym c.in-Ok-new.ensures.ok)
+    subst (λ (s : Session). HasTerms (terms_of s.store) (bytes_in c.args.lent.bytes)) (sym c.in-Ok-new.ensures.ok)
     (subst (λ (b : List ℕ). HasTerms (terms_of c.in-Ok.store) b) (ap (λ (d : Mapped). d.bytes) c.over.ensures) c.in-Ok.ensures.terms)
 
 pub returns-in-Err-new-clause-cause : goal.returns-in-Err-new-clause-cause
@@ -42,12 +42,12 @@ returns-in-Err-new-clause-cause g c = subst IsClosedStore (ap (λ (d : Mapped). 
 
 pub returns-in-Err-new-clause-left : goal.returns-in-Err-new-clause-left
 returns-in-Err-new-clause-left g c =
-    let over : c.over.result.bytes ≡ bytes_in c.args.region.bytes = ap (λ (d : Mapped). d.bytes) c.over.ensures in
-    let opened : HasTerms (terms_of c.in-Ok.store) (bytes_in c.args.region.bytes) = subst (λ (b : List ℕ). HasTerms (terms_of c.in-Ok.store) b) over c.in-Ok.ensures.terms in
+    let over : c.over.result.bytes ≡ bytes_in c.args.lent.bytes = ap (λ (d : Mapped). d.bytes) c.over.ensures in
+    let opened : HasTerms (terms_of c.in-Ok.store) (bytes_in c.args.lent.bytes) = subst (λ (b : List ℕ). HasTerms (terms_of c.in-Ok.store) b) over c.in-Ok.ensures.terms in
     let closed : HasTerms (terms_of c.in-Ok.store) (bytes_in c.close.result.bytes) =
     subst (λ (s : Session). HasTerms (terms_of s.store) (bytes_in c.close.result.bytes)) c.in-Err-new.ensures.value_returned c.close.ensures.terms in
     record {
-      terms_stay = λ terms has. subst (λ (t : Terms). HasTerms t (bytes_in c.close.result.bytes)) (same-terms (terms_of c.in-Ok.store) terms (bytes_in c.args.region.bytes) opened has) closed;
+      terms_stay = λ terms has. subst (λ (t : Terms). HasTerms t (bytes_in c.close.result.bytes)) (same-terms (terms_of c.in-Ok.store) terms (bytes_in c.args.lent.bytes) opened has) closed;
       map_stays = λ m stands. c.close.ensures.stands m
           (subst (λ (s : Session). HoldsMap s m) (sym c.in-Err-new.ensures.value_returned) (c.in-Ok.ensures.holds m (subst (λ (b : List ℕ). FileStandsFor b m) (sym over) stands)));
     }

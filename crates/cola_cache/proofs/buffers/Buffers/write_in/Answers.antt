@@ -3,8 +3,8 @@ use Rattle.std.proofs.lemmas.List.{with_items_is}
 use Rattle.std.specs.Vec.{with_items}
 use Rattle.cola_device.specs.Bytes.{HasRange}
 use Rattle.cola_device.proofs.ToldLemmas.{HasRange-Wrote}
-use Rattle.cola_cache.specs.Blocks.{Made, Since, forgotten, last_in}
-use Rattle.cola_cache.proofs.BlocksLemmas.{sound-after, lasts-written, copies-written, shared-written, write-inside, held-written, since-unread, held-after}
+use Rattle.cola_cache.specs.Blocks.{Made, Since, forgotten, last_in, to_copy}
+use Rattle.cola_cache.proofs.BlocksLemmas.{sound-after, lasts-written, copies-written, shared-written, write-inside, held-written, since-unread, held-after, wrote-copied, range-copied}
 use Rattle.cola_cache.proofs.buffers.Buffers.write_in.Goals as goal
 
 pub invariant_of-self : goal.invariant_of-self
@@ -30,7 +30,7 @@ invariant_of-self g c =
           write.settings.0 write.settings.1
           (subst (λ (held : List (Option ℕ)). (other last : ℕ) → last_in held other ≡ Some last → last < i.many) (sym lasts) (lasts-written i.lasts.items.items c.args.block i.many sound.lasts_are))
           (subst (λ (blocks : ℕ). Since i.many blocks c.write.new.self.held made (g.D.Device.counts c.write.new.self.device)) (sym write.settings.0) since),
-      rw lasts (copies-written c.write.result told now c.args.block c.args.at i.size c.args.from.now i.copies.items.items i.lasts.items.items i.shares.items.items write.wrote inside
+      rw lasts (copies-written c.write.result (to_copy g.D.Device.lends told) (to_copy g.D.Device.lends now) c.args.block c.args.at i.size c.args.from.now i.copies.items.items i.lasts.items.items i.shares.items.items (wrote-copied g.D.Device.lends c.write.result told now c.args.at c.args.from.now write.wrote) (range-copied g.D.Device.lends told c.args.at (length c.args.from.now) inside)
           (rw c.self.invariant.0 begins) (rw c.self.invariant.0 ends) c.self.invariant.2),
       rw lasts (shared-written c.write.result c.args.block i.device c.write.new.self i.lasts.items.items i.shares.items.items
           (held-after c.write.result c.args.block c.args.at (length c.args.from.now) i.device c.write.new.self c.requires.some begins ends write.ok write.err) c.self.invariant.3),

@@ -12,5 +12,5 @@ returns-in_ok-read_for_into-in-Sampled-clause-fetch g c =
     subst (λ (h : Head). Fetch (g.W.CellSource.state c.args.work.now) (g.W.CellSource.state c.read_for_into-in-Sampled.new.self) c.args.reader c.args.feed.now h
     (record { at = c.self.inside.at; cell = Some c.read_for_into-in-Sampled.new.into }) c.args.steps.now c.read_for_into-in-Sampled.new.steps (Ok tt))
     c.self.view_is
-    (fetch_sampled c.args.reader c.args.feed.now c.in-Sampled.run' before c.args.steps.now c.read_for_into-in-Sampled.new.steps c.len.result c.read_for_into-in-Sampled.new.into tt
-    c.in-Sampled.is (ap (λ (b : Bool). is_some (if b then Some c.self.inside.packed else None)) c.if-self.false) c.if-self-len.false c.len.ensures c.in_ok-read_for_into-in-Sampled.ensures.one_tick c.in_ok-read_for_into-in-Sampled.ensures.reads)
+    (fetch_sampled c.args.reader c.args.feed.now c.in-Sampled.run' before c.args.steps.now c.read_for_into-in-Sampled.new.steps c.args.len c.read_for_into-in-Sampled.new.into tt
+    c.in-Sampled.is (ap (λ (b : Bool). is_some (if b then Some c.self.inside.packed else None)) c.if-self.false) c.if-self-len.false c.requires.len c.in_ok-read_for_into-in-Sampled.ensures.one_tick c.in_ok-read_for_into-in-Sampled.ensures.reads)

@@ -1,10 +1,11 @@
 -- Source cells are consumed until one is given.
-use Rattle.std.proofs.Common.{◌≤◌, refl, sym, subst, ◌∙◌}
+use Rattle.std.proofs.Common.{◌+◌, ◌<◌, ◌≤◌, refl, sym, subst, ◌∙◌}
 use Rattle.cola_cell.specs.Held.{Held}
-use Rattle.cola_merge.specs.Heads.{HasHeads}
+use Rattle.cola_merge.specs.Heads.{with_head, HasHeads}
+use Rattle.cola_merge.specs.Fetched.{Head}
 use Rattle.cola_merge.specs.Rules.{HeadFits}
 use Rattle.cola_merge.specs.States.{state}
-use Rattle.cola_merge.proofs.Reading.{err_is}
+use Rattle.cola_merge.proofs.Reading.{with_passed, err_is}
 use Rattle.cola_merge.proofs.Stepping.{small_after}
 use Rattle.cola_merge.proofs.Taking.{chosen_is}
 use Rattle.cola_merge.proofs.Pulling.{gave_none, gave_then, gave_chosen, given_by, given_fits, given_gave, suits_by, consumed_chosen, ended_at, drawn_some, none_given, stopped_at, fewer_left}
@@ -20,6 +21,7 @@ pub next-requires : goal.next-requires
 next-requires g c =
     let e = sym c.loop-next.invariant.gave.cells_stay in
     record {
+      ends = c.ends-ends.ensures;
       heads = subst (λ (h : Held). HasHeads h c.args.aim.now c.loop-next.self) e c.loop-next.invariant.gave.heads;
       levels = subst (λ (h : Held). h.fixed.levels ≤ 23) e c.requires.levels;
     }
@@ -28,22 +30,23 @@ pub returns-in_err-next-clause-drawn : goal.returns-in_err-next-clause-drawn
 returns-in_err-next-clause-drawn g c =
     stopped_at c.from_residual.result c.in_err-next.field-0.0 (err_is c.from_residual.result c.in_err-next.field-0.0 c.from_residual.ensures.1) c.loop-next.invariant.gave c.in_err-next.ensures.next
 
-pub consume-requires : goal.consume-requires
-consume-requires g c =
+pub pass-requires : goal.pass-requires
+pass-requires g c =
     let s = chosen_is c.in_ok-next.field-0 c.in-Some.next c.in-Some.is c.in_ok-next.ensures.next in
-    record { small = small_after c.in-Some.next.head s.looked.looks.heads (subst (λ (h : Held). h.fixed.levels ≤ 23) (sym c.loop-next.invariant.gave.cells_stay) c.requires.levels) }
+    subst (λ (h : Head). h.at + 1 < 4294967296) (sym c.head_mut-head.ensures.value)
+    (small_after c.in-Some.next.head s.looked.looks.heads (subst (λ (h : Held). h.fixed.levels ≤ 23) (sym c.loop-next.invariant.gave.cells_stay) c.requires.levels))
 
 pub returns-then-is_some-clause-drawn : goal.returns-then-is_some-clause-drawn
 returns-then-is_some-clause-drawn g c =
     let s = chosen_is c.in_ok-next.field-0 c.in-Some.next c.in-Some.is c.in_ok-next.ensures.next in
     drawn_some c.given-cell.result (sym c.is_some.ensures ∙ c.if-is_some.true)
-    (subst (λ (h : Held). HeadFits h.fixed.format c.given-cell.result) c.loop-next.invariant.gave.cells_stay (given_fits c.in-Some.next s c.given-cell.result (c.given-cell.ensures.fits _) c.head.ensures))
-    (given_gave c.next.new.self c.in-Some.next c.given-cell.result (c.given-cell.ensures.value ∙ given_by c.next.new.self c.in-Some.next c.head.ensures) (gave_then c.loop-next.invariant.gave (gave_chosen c.in-Some.next s c.consume.new.self c.consume.ensures)))
+    (subst (λ (h : Held). HeadFits h.fixed.format c.given-cell.result) c.loop-next.invariant.gave.cells_stay (given_fits c.in-Some.next s c.given-cell.result (c.given-cell.ensures.fits _) c.head_mut-head.ensures.value))
+    (given_gave c.next.new.self c.in-Some.next c.given-cell.result (c.given-cell.ensures.value ∙ given_by c.next.new.self c.in-Some.next c.head_mut-head.ensures.value) (gave_then c.loop-next.invariant.gave (gave_chosen c.in-Some.next s (with_head c.next.new.self c.in-Some.next.head c.pass.new.self) (with_passed c.next.new.self c.in-Some.next.head c.head_mut-head.result.now c.pass.new.self c.head_mut-head.ensures.value c.pass.ensures))))
 
 pub loop-next-smaller : goal.loop-next-smaller
 loop-next-smaller g c =
     let s = chosen_is c.in_ok-next.field-0 c.in-Some.next c.in-Some.is c.in_ok-next.ensures.next in
-    fewer_left c.loop-next.self (gave_chosen c.in-Some.next s c.consume.new.self c.consume.ensures).heads (consumed_chosen c.in-Some.next s c.consume.new.self c.consume.ensures)
+    fewer_left c.loop-next.self (gave_chosen c.in-Some.next s (with_head c.next.new.self c.in-Some.next.head c.pass.new.self) (with_passed c.next.new.self c.in-Some.next.head c.head_mut-head.result.now c.pass.new.self c.head_mut-head.ensures.value c.pass.ensures)).heads (consumed_chosen c.in-Some.next s (with_head c.next.new.self c.in-Some.next.head c.pass.new.self) (with_passed c.next.new.self c.in-Some.next.head c.head_mut-head.result.now c.pass.new.self c.head_mut-head.ensures.value c.pass.ensures))
 
 pub loop-next-preserved : goal.loop-next-preserved
 loop-next-preserved g c =
@@ -51,7 +54,7 @@ loop-next-preserved g c =
     record {
       kept = c.in_ok-next.ensures.kept ∙ c.loop-next.invariant.kept;
       gave = gave_then c.loop-next.invariant.gave (none_given c.given-cell.result (sym c.is_some.ensures ∙ c.if-is_some.false)
-          (given_gave c.next.new.self c.in-Some.next c.given-cell.result (c.given-cell.ensures.value ∙ given_by c.next.new.self c.in-Some.next c.head.ensures) (gave_chosen c.in-Some.next s c.consume.new.self c.consume.ensures)));
+          (given_gave c.next.new.self c.in-Some.next c.given-cell.result (c.given-cell.ensures.value ∙ given_by c.next.new.self c.in-Some.next c.head_mut-head.ensures.value) (gave_chosen c.in-Some.next s (with_head c.next.new.self c.in-Some.next.head c.pass.new.self) (with_passed c.next.new.self c.in-Some.next.head c.head_mut-head.result.now c.pass.new.self c.head_mut-head.ensures.value c.pass.ensures))));
     }
 
 pub returns-clause-drawn : goal.returns-clause-drawn
@@ -60,4 +63,4 @@ returns-clause-drawn g c = ended_at c.in_ok-next.field-0 c.in_default.is c.loop-
 pub given-cell-requires : goal.given-cell-requires
 given-cell-requires g c =
     let s = chosen_is c.in_ok-next.field-0 c.in-Some.next c.in-Some.is c.in_ok-next.ensures.next in
-    record { suits = suits_by c.in-Some.next s c.head.ensures }
+    record { suits = suits_by c.in-Some.next s c.head_mut-head.ensures.value }

@@ -4,7 +4,7 @@ use Rattle.cola_cell.specs.Held.{Fixed}
 use Rattle.cola_merge.specs.States.{state, Took}
 use Rattle.cola_merge.proofs.Sums.{took_none, took_then}
 use Rattle.cola_merge.proofs.Reading.{err_is}
-use Rattle.cola_merge.proofs.Taking.{no_more, refused_ran}
+use Rattle.cola_merge.proofs.Taking.{was_taken, no_more, done_ran, refused_ran}
 use Rattle.cola_merge.proofs.merging.Merger.run.Goals as goal
 
 pub loop-init : goal.loop-init
@@ -16,14 +16,11 @@ loop-init g c = record {
 pub loop-preserved : goal.loop-preserved
 loop-preserved g c = record {
   kept = c.in_ok-take.ensures.kept ∙ c.loop.invariant.kept;
-  took = took_then c.requires.ready c.loop.invariant.took c.in_ok-take.ensures.taken;
+  took = took_then c.requires.ready c.loop.invariant.took (was_taken c.in_ok-take.field-0 c.if-not-branch.false c.in_ok-take.ensures.taken);
 }
 
 pub take-requires-clause-ready : goal.take-requires-clause-ready
 take-requires-clause-ready g c = c.loop.invariant.took.goes.ready
-
-pub take-requires-clause-left : goal.take-requires-clause-left
-take-requires-clause-left g c = no_more c.is_done.result c.is_done.ensures.1 c.if-is_done.false
 
 pub take-requires-clause-levels : goal.take-requires-clause-levels
 take-requires-clause-levels g c = subst (λ (f : Fixed). f.levels ≤ 23) (sym c.loop.invariant.took.goes.grows.around.fixed_is) c.requires.levels
@@ -31,16 +28,16 @@ take-requires-clause-levels g c = subst (λ (f : Fixed). f.levels ≤ 23) (sym c
 pub take-requires-clause-slot_in : goal.take-requires-clause-slot_in
 take-requires-clause-slot_in g c = subst (λ (n : ℕ). n < 2) (sym c.loop.invariant.took.goes.grows.slot_is) c.requires.slot_in
 
+pub returns-then-not-branch : goal.returns-then-not-branch
+returns-then-not-branch g c = record {
+  kept = c.in_ok-take.ensures.kept ∙ c.loop.invariant.kept;
+  ran = done_ran c.in_ok-take.field-0 c.if-not-branch.true c.requires.ready c.loop.invariant.took c.in_ok-take.ensures.taken c.loop-test.true;
+}
+
 pub returns-then-is_done : goal.returns-then-is_done
 returns-then-is_done g c = record {
   kept = c.loop.invariant.kept;
   ran = record { steps = (c.loop.counter, c.loop.auto.counter-end, c.loop.invariant.took, c.is_done.ensures.0 c.if-is_done.true) };
-}
-
-pub returns-then-is_done-2 : goal.returns-then-is_done-2
-returns-then-is_done-2 g c = record {
-  kept = c.loop.invariant.kept;
-  ran = record { steps = (c.loop.counter, c.loop.auto.counter-end, c.loop.invariant.took, c.is_done-2.ensures.0 c.if-is_done-2.true) };
 }
 
 pub returns-in_err-take : goal.returns-in_err-take
@@ -57,7 +54,7 @@ returns g c = record {
       subst (λ (n : ℕ). Took c.args.aim.now (state (g.W.CellSource.state c.args.work.now) c.args.self.now c.args.steps.now)
           (state (g.W.CellSource.state c.loop.work) c.loop.self c.loop.steps) n)
           (let e : c.loop.counter ≡ c.args.quota = omega (arith, c.loop-test.false, c.loop.auto.counter-end) in e) c.loop.invariant.took,
-      no_more c.is_done-2.result c.is_done-2.ensures.1 c.if-is_done-2.false,
+      no_more c.is_done.result c.is_done.ensures.1 c.if-is_done.false,
     );
   };
 }

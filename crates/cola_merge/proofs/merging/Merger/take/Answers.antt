@@ -31,7 +31,8 @@ returns-in_err-choice-clause-taken g c =
     (refused_look c.requires.ready c.in_err-choice.field-0.0 c.in_err-choice.ensures.next)
 
 pub returns-in_default-clause-taken : goal.returns-in_default-clause-taken
-returns-in_default-clause-taken g c = absurd (c.requires.left (none_chosen c.in_ok-choice.field-0 c.in_default.is c.in_ok-choice.ensures.next))
+returns-in_default-clause-taken g c =
+    (took_look c.requires.ready c.in_ok-choice.ensures.next.looked, none_chosen c.in_ok-choice.field-0 c.in_default.is c.in_ok-choice.ensures.next)
 
 pub returns-in_err-step-clause-taken : goal.returns-in_err-step-clause-taken
 returns-in_err-step-clause-taken g c =

@@ -1,6 +1,6 @@
 -- `bytes` lends what the region owns. A walk of its MIR by hand.
-use Rattle.std.proofs.Common.{◌≡◌, ℕ, ◌*◌, ◌^◌, ◌<◌, List, [], ◌∷◌, length, refl, sym, subst, ◌∙◌, arith, true≢false}
-use Rattle.std.specs.Prelude.{Option, Some, None, IsSome}
+use Rattle.std.proofs.Common.{◌≡◌, ℕ, ◌*◌, ◌^◌, ◌<◌, List, [], ◌∷◌, length, refl, sym, subst, ◌∙◌, arith}
+use Rattle.std.specs.Prelude.{Some, IsSome}
 use seplogic.Ra.Ura.{Ura}
 use base.Fraction.{full_share}
 use mir.Syntax.{Body, named, seq, assign, place, rv_opd, copy, return}
@@ -36,12 +36,14 @@ use denote.Triple.Clauses.{Clauses}
 use denote.Triple.Entry.{on_entry}
 use denote.Triple.Walked.{says, needs, Stays, stay_dropped, walk_of, ends_at, Goes-spent_ref}
 use Rattle.std.proofs.raw_atomic.Walks.{proved}
-use Rattle.cola_mapped.proofs.RegionSteps.{Row, words, region_had, region_made}
+use Rattle.cola_mapped.proofs.RegionLemmas.{some_of}
+use Rattle.cola_mapped.proofs.RegionSteps.{words}
+use Rattle.cola_mapped.proofs.LentSteps.{Row, lent_had, lent_made}
 use Rattle.cola_mapped.specs.Lending.{with_bytes}
-use Rattle.cola_mapped.specs.contracts.region.Region.bytes as f
-use Rattle.cola_mapped.specs.contracts.region.Region.bytes.Key.{name as #self}
-use Rattle.cola_mapped.proofs.region.Region.bytes.Statement.{statement}
-use Rattle.cola_mapped.proofs.region.Region.bytes.Code as code
+use Rattle.cola_mapped.specs.contracts.lent.Lent.bytes as f
+use Rattle.cola_mapped.specs.contracts.lent.Lent.bytes.Key.{name as #self}
+use Rattle.cola_mapped.proofs.lent.Lent.bytes.Statement.{statement}
+use Rattle.cola_mapped.proofs.lent.Lent.bytes.Code as code
 
 abbrev stayed : Stays (f.ended).signature.params (f.ended).kept
 stayed = (stay_dropped (mut_ref_to (0 ∷ []) tt (plain (λ _. Row))) no, tt)
@@ -49,10 +51,6 @@ stayed = (stay_dropped (mut_ref_to (0 ∷ []) tt (plain (λ _. Row))) no, tt)
 -- the MIR after the `unsafe` block: its value goes to the result
 abbrev after_block : Body
 after_block = seq (assign (place 0 []) (rv_opd (copy (place 2 [])))) return
-
-some_of : (o : Option (List ℕ)) → IsSome o → (xs : List ℕ) × (o ≡ Some xs)
-some_of None s = absurd (true≢false (sym s))
-some_of (Some xs) s = (xs, refl)
 
 module _ {M : Type 1} {𝓤 : Ura M} (𝓛 : Logic 𝓤) (at_mem : Memory → SProp 𝓤) (run : Routine → Fun 𝓤) (κ : Lft) (q : Share) (rb ro : ℕ) (γ : GName) (h : Row.Denot) where
   open 𝓛 use {H, A}
@@ -77,7 +75,7 @@ module _ {M : Type 1} {𝓤 : Ura M} (𝓛 : Logic 𝓤) (at_mem : Memory → SP
     back same fn low ws e =
         qed 𝓛 (‵ (cells (mem u8) ws b o) ∷ ‵ Rest ∷ []) ∵ use1 𝓛 (‵ (row u8 full_share ws b o)) (whole_out 𝓛 u8 ws b o) $
         feq_i ! ℕ (length ws) h.len (e ∙ same) $ fjoin ! $ use1 𝓛 (‵ (part_at (Array u8 h.len) full_share ws b o)) (bytes_whole 𝓛 full_share h.len ws b o) $
-        region_made ! b o h.len ws fn low $
+        lent_made ! b o h.len ws fn low $
         rewrite ! 0 (λ (p : Ptr). ‵ (Row.own_val (record { at = p; len = h.len; bytes = Some ws }) (words (block_ptr b o) h.len ∷ []))) (sym at_b) refl $ move ! (1 ∷ 0 ∷ []) $ fjoin ! $
         fpack ! (List Val) (λ us. fsep (cell_at full_share Row.mir us rb ro) (Row.own_val (with_bytes h ws) us)) (words (block_ptr b o) h.len ∷ []) $ done !
 
@@ -97,7 +95,7 @@ module _ {M : Type 1} {𝓤 : Ura M} (𝓛 : Logic 𝓤) (at_mem : Memory → SP
       alloc_all ! (λ l. pass_all ! refl ((tt, tt), tt) $
       let En : Env 𝓤 H = env (code.function).locals l in
       move ! (1 ∷ []) $ fsplit ! $ fsplit3 ! $ drop ! $ move ! (3 ∷ []) $ split ! $ move ! (2 ∷ 3 ∷ 0 ∷ []) $
-      opens ! tt Row {h = h} rb ro (λ vs. move ! (1 ∷ []) $ region_had ! h vs xs full (λ b o at_b is fn low.
+      opens ! tt Row {h = h} rb ro (λ vs. move ! (1 ∷ []) $ lent_had ! h vs xs full (λ b o at_b is fn low.
       rewrite ! 1 (λ (ws : List Val). ‵ (cell_at full_share Row.mir ws rb ro)) is refl $
       use1 𝓛 (‵ (fsep (feq ℕ (length xs) h.len) (row u8 full_share xs b o))) (bytes_apart 𝓛 full_share h.len xs b o) $ fsplit ! $ feq_l ! (λ same.
       -- [the bytes; the words; the open borrow; obs; auth]

@@ -1,5 +1,5 @@
--- One level's turn.
-use Rattle.std.proofs.Common.{◌≡◌, ℕ, suc, ◌+◌, ◌-◌, Bool, true, sym, ap, subst, add-one, ◌∙◌, arith}
+-- The turn of a level that works.
+use Rattle.std.proofs.Common.{◌≡◌, ℕ, suc, ◌+◌, ◌-◌, true, sym, ap, subst, add-one, ◌∙◌, arith}
 use Rattle.cola_clock.specs.Clock.{works}
 use Rattle.cola_merge.specs.declared.aims.Aim.{Aim}
 use Rattle.cola_merge.specs.Heads.{IsReady}
@@ -8,18 +8,18 @@ use Rattle.cola_level.specs.Aims.{aim_at}
 use Rattle.cola_level.specs.Works.{Works}
 use Rattle.cola_mutation.specs.Work.{state_of, object_of}
 use Rattle.cola_mutation.proofs.Turning.{turn_works}
-use Rattle.cola_mutation.proofs.working.work_level.Goals as goal
+use Rattle.cola_mutation.proofs.working.work_now.Goals as goal
 
 back : (n : ℕ) → n + 1 - 1 ≡ n
 back n = omega arith
 
 -- whether the level works, by its number
-answer : (t n : ℕ) (r b : Bool) → r ≡ works t (n + 1) → r ≡ b → works t (suc n) ≡ b
-answer t n r b e f = ap (λ (x : ℕ). works t x) (sym (add-one n)) ∙ sym e ∙ f
+answer : (t n : ℕ) → works t (n + 1) ≡ true → works t (suc n) ≡ true
+answer t n e = ap (λ (x : ℕ). works t x) (sym (add-one n)) ∙ e
 
 pub work-requires : goal.work-requires
 work-requires g c =
-    let w = answer c.args.clock c.args.upper c.works.result true c.works.ensures c.if-not-works.false in
+    let w = answer c.args.clock c.args.upper c.requires.works in
     let e = c.aim_of-aim.ensures ∙ ap (λ (n : ℕ). aim_at c.args.clock n c.args.level.now.visible c.args.above (all_marks_of c.args.below.now)) (back c.args.upper) in
     subst (λ (a : Aim). IsReady (g.W.CellSource.state c.args.work.now).held a c.args.level.now.merger) (sym e) (c.requires.fits.ready w)
 
@@ -31,7 +31,7 @@ returns-clause-turn g c =
     let below = all_marks_of c.args.below.now in
     let s = state_of (g.W.CellSource.state c.args.work.now) c.args.steps.now in
     let u = state_of (g.W.CellSource.state c.work.new.work) c.work.new.steps in
-    let w = answer t i c.works.result true c.works.ensures c.if-not-works.false in
+    let w = answer t i c.requires.works in
     let e : c.aim_of-aim.result ≡ aim_at t i c.args.level.now.visible above below = c.aim_of-aim.ensures ∙ ap (λ (n : ℕ). aim_at t n c.args.level.now.visible above below) (back i) in
     turn_works c.work.result t i above s u c.args.level.now c.work.new.self below w c.requires.fits
     (subst (λ (a : Aim). Works a (object_of s) (object_of u) c.args.level.now c.work.new.self s.steps u.steps c.work.result) e c.work.ensures.works)
