@@ -10,7 +10,7 @@ use crate::region::Region;
 use cola_device::{Device, DeviceFault, MAX_TRANSFER};
 use std::marker::Model;
 
-/// A device over a region that owns at least one byte: the device has these bytes, as they lie in memory, and no call on it
+/// A device over lent bytes, of which there is at least one: the device has these bytes, as they lie in memory, and no call on it
 /// fails. It counts its calls up to the last value of `u64`. That what was written outlasts the program is up to whoever
 /// lent the bytes: a settle writes nothing.
 #[derive(Drop)]

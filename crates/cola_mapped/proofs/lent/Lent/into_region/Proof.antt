@@ -1,4 +1,4 @@
--- `into_region` hands over what what was lent owns.
+-- `into_region` hands back what was lent.
 use Rattle.std.proofs.Common.{List, [], ◌∷◌, ◌++◌, refl}
 use mir.Syntax.{Fn}
 use mir.Val.{Val}
