@@ -1,6 +1,6 @@
 //! Whole blocks of a device behind a cache, and numbered buffers, each of which keeps the block that was read last by
 //! way of it.
-ghost use Rattle.std.specs.Prelude.{◌≡◌, ◌≢◌, ℕ, ◌+◌, ◌*◌, ◌^◌, ◌≤◌, ◌<◌, true, false, [], ◌∷◌, length, map, replicate, Option, None, Some, IfOk, IfErr, IfSome, OnOk, OnErr, IsOk, slice_set};
+ghost use Rattle.std.specs.Prelude.{◌≡◌, ◌≢◌, ◌==◌, ℕ, ◌+◌, ◌*◌, ◌^◌, ◌≤◌, ◌<◌, ◌&&◌, true, false, [], ◌∷◌, length, map, replicate, Option, None, Some, is_some, IfOk, IfErr, IfSome, OnOk, OnErr, IsOk, slice_set};
 ghost use Rattle.std.specs.Box.{boxed_slice_items};
 ghost use Rattle.cola_device.specs.Bytes.{HasRange, Gives, Wrote, part};
 ghost use Rattle.cola_device.specs.Counts.{Called};
@@ -212,11 +212,12 @@ fn fetch<D: Device>(
     }
 }
 
-/// Whether the device lends the bytes of its blocks, and no cache is to keep them.
+/// Whether the device lends the bytes of its blocks, and the cache may keep none of them.
 #[inline(always)]
 fn is_lent<D: Device>(device: &Cached<D>, block: u64) -> bool
     requires { IsInFile (D.bytes device.now.device) block device.now.size }
-    ensures { result ≡ true → (D.lends ≡ true) × ((device.now.blocks ≡ 0) × (device.now.held ≡ [])) }
+    ensures is { result ≡ (D.lends && (device.now.blocks == 0)) }
+    ensures held { result ≡ true → device.now.held ≡ [] }
 {
     device.keeps_none() && device.shown(block).is_some()
 }
@@ -238,9 +239,8 @@ fn lent_to<'a, D: Device>(
     device.shown(block)
 }
 
-/// Makes a buffer hold a block that it does not hold. Where the device lends its bytes and no cache keeps them, nothing is
-/// read. Where the cache holds the block the buffer borrows it, and else it has
-/// a copy of its own.
+/// Makes a buffer hold a block that it does not hold. Where the device lends its bytes and the cache may keep no block,
+/// nothing is read. Where the cache holds the block the buffer borrows it, and else it has a copy of its own.
 #[inline(never)]
 fn turn<D: Device>(
     device: &mut Cached<D>,
@@ -252,7 +252,8 @@ fn turn<D: Device>(
     size: usize,
 ) -> Result<(), DeviceFault>
     requires { CanTurn D.lends (D.bytes device.old.device) device.old copies.old lasts.old shares.old buffer block size }
-    ensures { IsTurned D.Device result buffer block size device.old device.new lasts.old lasts.new shares.new copies.new }
+    ensures turned { IsTurned D.Device result buffer block size device.old device.new lasts.old lasts.new shares.new copies.new }
+    ensures lent { D.lends ≡ true → device.old.blocks ≡ 0 → (D.counts device.new.device ≡ D.counts device.old.device) × IsOk result }
 {
     if is_lent(device, block) {
         lasts[buffer] = Some(block);
@@ -312,8 +313,8 @@ impl<D: Device> Buffers<D> {
     }
 
     /// Makes a buffer hold a block. Where it does already, nothing changes and no call of the device is made. Else the
-    /// block is read by way of the cache, by at most one read of the device, of exactly this block. After an error the
-    /// buffer holds none.
+    /// block is read by way of the cache, by at most one read of the device, of exactly this block. It is not read where
+    /// the device lends its bytes and the cache may keep no block. After an error the buffer holds none.
     #[inline(always)]
     pub fn turn_to(&mut self, buffer: usize, block: u64) -> Result<(), DeviceFault>
         requires buffer { buffer < length self.old.lasts }
@@ -323,6 +324,7 @@ impl<D: Device> Buffers<D> {
         ensures same { last_in self.old.lasts buffer ≡ Some block → (self.new ≡ self.old) × IsOk result }
         ensures held { last_in self.old.lasts buffer ≢ Some block → HeldRead result block self.old.cache self.new.cache }
         ensures hit { (IsAbsent block self.old.cache.held → ⊥) → (D.counts self.new.cache.device ≡ D.counts self.old.cache.device) × IsOk result }
+        ensures lent { D.lends ≡ true → self.old.cache.blocks ≡ 0 → (D.counts self.new.cache.device ≡ D.counts self.old.cache.device) × IsOk result }
         ensures bytes_stay { D.bytes self.new.cache.device ≡ D.bytes self.old.cache.device }
         ensures kept { D.kept self.new.cache.device ≡ D.kept self.old.cache.device }
         ensures counts { Called (D.counts self.old.cache.device) (D.counts self.new.cache.device) 1 0 0 result }
@@ -357,6 +359,18 @@ impl<D: Device> Buffers<D> {
             Some((block, frame)) => self.device.bytes_of(block, frame),
             None => own_copy(&self.copies, buffer, self.size as usize),
         }
+    }
+
+    /// So many bytes of the file from a place on, where they lie: none exactly where the device lends none. It is no call
+    /// of the device that is counted.
+    #[inline(always)]
+    pub fn lent(&self, at: u64, count: usize) -> Option<&[u8]>
+        requires inside { at + count ≤ self.now.many * self.now.cache.size }
+        ensures lent { is_some result ≡ D.lends }
+        ensures given { IfSome result (λ shown. Gives (D.bytes self.now.cache.device) at shown.now) }
+        ensures size { IfSome result (λ shown. length shown.now ≡ count) }
+    {
+        self.device.shown_at(at, count)
     }
 
     /// Writes bytes inside one block, which no buffer holds afterwards.

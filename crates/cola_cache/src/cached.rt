@@ -1,5 +1,5 @@
 //! A device over a device, which keeps whole blocks of it in memory.
-ghost use Rattle.std.specs.Prelude.{◌≡◌, ◌≢◌, true, false, Option, ℕ, ◌+◌, ◌-◌, ◌*◌, ◌^◌, ◌/◌, ◌%◌, ◌≤◌, ◌<◌, [], List, Contains, OnOk, OnErr, IfOk, IfErr, IfSome, MatchResult, IsOk, None, Some, is_some, length, min, take};
+ghost use Rattle.std.specs.Prelude.{◌≡◌, ◌≢◌, ◌==◌, true, false, Option, ℕ, ◌+◌, ◌-◌, ◌*◌, ◌^◌, ◌/◌, ◌%◌, ◌≤◌, ◌<◌, [], List, Contains, OnOk, OnErr, IfOk, IfErr, IfSome, MatchResult, IsOk, None, Some, is_some, length, min, take};
 ghost use Rattle.std.specs.Box.{boxed_slice_items};
 ghost use Rattle.cola_device.specs.Bytes.{IsEmpty, HasSize, HasRange, Gives, LaidOut, Wrote, part, splice};
 ghost use Rattle.cola_device.specs.Counts.{Called};
@@ -226,7 +226,8 @@ impl<D: Device> Cached<D> {
     /// Whether it keeps no block at all.
     #[inline(always)]
     pub(crate) fn keeps_none(&self) -> bool
-        ensures { result ≡ true → (self.now.blocks ≡ 0) × (self.now.held ≡ []) }
+        ensures is { result ≡ (self.now.blocks == 0) }
+        ensures held { result ≡ true → self.now.held ≡ [] }
     {
         self.order.count() == 0
     }
@@ -240,8 +241,18 @@ impl<D: Device> Cached<D> {
         ensures given { IfSome result (λ shown. Gives (D.bytes self.now.device) (block * self.now.size) shown.now) }
         ensures size { IfSome result (λ shown. length shown.now ≡ self.now.size) }
     {
-        self.device
-            .view(block * self.size as u64, self.size as usize)
+        self.shown_at(block * self.size as u64, self.size as usize)
+    }
+
+    /// So many bytes from a place on where they lie, at a device that lends them. They are no block that is held.
+    #[inline(always)]
+    pub(crate) fn shown_at(&self, at: u64, count: usize) -> Option<&[u8]>
+        requires inside { HasRange (D.bytes self.now.device) at count }
+        ensures lent { is_some result ≡ D.lends }
+        ensures given { IfSome result (λ shown. Gives (D.bytes self.now.device) at shown.now) }
+        ensures size { IfSome result (λ shown. length shown.now ≡ count) }
+    {
+        self.device.view(at, count)
     }
 
     /// The device below.

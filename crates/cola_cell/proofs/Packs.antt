@@ -1,5 +1,5 @@
 -- Cells that are their bytes.
-use Rattle.std.proofs.Common.{◌%◌, ◌≡◌, ℕ, zero, suc, ◌+◌, ◌-◌, ◌<◌, ◌≤◌, ◌^◌, Bool, true, false, nat_eq, List, [], ◌∷◌, ◌++◌, length, take, drop, slice_index, refl, sym, ap, subst, ◌∙◌, arith}
+use Rattle.std.proofs.Common.{Ordering, Less, Equal, Greater, ◌%◌, ◌≡◌, ℕ, zero, suc, ◌+◌, ◌-◌, ◌<◌, ◌≤◌, ◌^◌, Bool, true, false, nat_eq, List, [], ◌∷◌, ◌++◌, length, take, drop, slice_index, refl, sym, ap, subst, ◌∙◌, arith}
 use Rattle.std.specs.Prelude.{if◌then◌else◌, slice_set, Some, None}
 use Rattle.std.specs.Ordering.{nat_cmp, ordering_then}
 use Rattle.std.specs.Cmp.Lexicographic.{slice_cmp}
@@ -229,6 +229,15 @@ pub front-size : (format : Format) (bytes : List ℕ) (from to : ℕ) (key whole
 front-size format bytes from to key whole is_from is_to s is_whole fits =
     let size = room-size format bytes from to is_from is_to s in
     sym (length-take-le (length (take (to - from) (drop from bytes))) whole (omega (arith, size, few format, ap length is_whole, length-padded 40 key fits)))
+
+-- of two orders in turn the first that is no tie decides
+pub tied : (first second : Ordering) → first ≡ Equal → ordering_then first second ≡ second
+tied first second e = ap (λ (o : Ordering). ordering_then o second) e
+
+pub decided : (first second : Ordering) → (first ≡ Equal → ⊥) → ordering_then first second ≡ first
+decided Less second h = refl
+decided Equal second h = absurd (h refl)
+decided Greater second h = refl
 
 -- the order of the keys of two cells, from that of their rooms
 pub keys-ordered : (format : Format) (left right : List ℕ) (from to : ℕ) → from ≡ key_at format → to ≡ value_at format

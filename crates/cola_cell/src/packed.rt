@@ -266,6 +266,38 @@ impl Packed {
         self.format = format;
     }
 
+    /// Takes what becomes of another cell in its place. Only the bytes of its format are copied.
+    #[inline(always)]
+    pub fn take_as(&mut self, other: &Packed, pass: Pass)
+        requires { MayPass pass other.now }
+        ensures value { self.new ≡ passed pass other.now }
+        ensures fits { (format : Format) → CellFits format other.now → CellFits format self.new }
+    {
+        match pass {
+            Pass::Item { young, link } => {
+                self.copy_from(other);
+                self.set(young, link);
+            }
+            Pass::Look { link } => self.take_look(other, link),
+        }
+    }
+
+    /// Takes the lookahead cell of the key of another cell with this link in its place.
+    fn take_look(&mut self, other: &Packed, link: u32)
+        ensures value { self.new ≡ Cell.Look (key_of other.now) link }
+        ensures fits { (format : Format) → CellFits format other.now → CellFits format self.new }
+    {
+        let format = other.format;
+        let width = format.width();
+        look_in(
+            format,
+            &other.bytes[..width],
+            link,
+            &mut self.bytes[..width],
+        );
+        self.format = format;
+    }
+
     /// Writes the item with this youth and link in the format.
     #[inline(always)]
     pub fn write_renewed(&self, format: Format, young: bool, link: u32, into: &mut [u8])
@@ -412,7 +444,10 @@ fn key_cmp_in(format: Format, bytes: &[u8], key: &Key) -> Ordering
     let room = &bytes[format.key_at()..format.value_at()];
     let len = key.len();
     let whole = key.room(40);
-    words_cmp(room, &whole[..room.len()]).then((bytes[2] as usize).cmp(&len))
+    match words_cmp(room, &whole[..room.len()]) {
+        Ordering::Equal => (bytes[2] as usize).cmp(&len),
+        order => order,
+    }
 }
 
 /// The order of the keys of two cells in one format.
@@ -425,7 +460,10 @@ fn cmp_keys_in(format: Format, left: &[u8], right: &[u8]) -> Ordering
 {
     let from = format.key_at();
     let to = format.value_at();
-    words_cmp(&left[from..to], &right[from..to]).then(left[2].cmp(&right[2]))
+    match words_cmp(&left[from..to], &right[from..to]) {
+        Ordering::Equal => left[2].cmp(&right[2]),
+        order => order,
+    }
 }
 
 /// The key of the cell.

@@ -60,6 +60,7 @@ impl<D: Device> CellSource for Chain<D> {
     }
 
     /// As `read`, into a packed cell.
+    #[inline(always)]
     fn read_into<L: Ledger>(
         &mut self,
         level: u8,

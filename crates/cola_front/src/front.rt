@@ -216,7 +216,7 @@ impl Front {
 
     /// Takes what stands at a place, which is the number of a cell behind the header, into a packed cell: false exactly
     /// where its bytes spell no cell.
-    #[inline]
+    #[inline(always)]
     pub fn read_into(&self, place: u64, into: &mut Packed) -> bool
         requires behind_header { 8 ≤ place }
         requires within { place < 2 * self.now.block }
@@ -242,9 +242,18 @@ impl Front {
         ensures after { self.new ≡ front_with self.old place (passed pass cell.now) }
         ensures sound { IsFront self.old }
     {
-        let cell = cell.copy_as(pass);
-        cell.know(self.format);
-        self.cells[place as usize] = Some(cell);
+        let format = self.format;
+        match &mut self.cells[place as usize] {
+            Some(room) => {
+                room.take_as(cell, pass);
+                room.know(format);
+            }
+            None => {
+                let cell = cell.copy_as(pass);
+                cell.know(format);
+                self.cells[place as usize] = Some(cell);
+            }
+        }
     }
 
     /// Puts a cell at a place behind the header. The device has it after the next `store`.

@@ -1,5 +1,5 @@
 //! Cursors and the heads that are held.
-ghost use Rattle.std.specs.Prelude.{◌≡◌, ◌+◌, ◌<◌, ◌^◌, option_copied};
+ghost use Rattle.std.specs.Prelude.{◌≡◌, ◌+◌, ◌<◌, ◌^◌, None, option_copied};
 ghost use Rattle.cola_cell.specs.declared.format.Format.{Format};
 ghost use Rattle.cola_cell.specs.Format.{CellFits};
 ghost use Rattle.cola_cell.specs.Held.{Held};
@@ -104,6 +104,27 @@ impl Head {
         if self.is_held || self.at >= len {
             return Ok(());
         }
+        self.read(reader, feed, work, steps)
+    }
+
+    /// Reads the next cell of the feed, which has one. It is a call of its own, which has the whole way to the bytes in its
+    /// code: of the three heads of a step one at most is to be read, but for the first step.
+    #[inline(never)]
+    fn read<W: CellSource, L: Ledger>(
+        &mut self,
+        reader: Reader,
+        feed: &Feed,
+        work: &mut W,
+        steps: &mut Steps<L>,
+    ) -> Result<(), ReadFault>
+        requires feed { IsFeed (W.state work.old).held.fixed feed.now }
+        requires head { IsHead (W.state work.old).held feed.now self.old }
+        requires missing { self.old.cell ≡ None }
+        requires left { self.old.at < feed_len feed.now }
+        ensures kept { W.kept work.new ≡ W.kept work.old }
+        ensures fetch { Fetch (W.state work.old) (W.state work.new) reader feed.now self.old self.new
+            steps.old steps.new result }
+    {
         match feed {
             Feed::Run(run) => {
                 let index = self.at;

@@ -53,6 +53,14 @@ finds-block told f block number copy c result some many given is answer =
     (finds-cell told f number c (subst (λ (x : Option Cell). IfSome x (CellFits f)) (sym is) (spelled-fits f (cell_bytes f copy (number % block))))
     (subst (λ (x : Option Cell). IfSome told (λ bytes. decoded f (cell_bytes f bytes number) ≡ x)) (sym is) (copy-cell told f block number copy some many given)))
 
+-- and what is read of the bytes of one cell
+pub finds-one : (told : Option (List ℕ)) (f : Format) (number w : ℕ) (bytes : List ℕ) (c : Option Cell) → w ≡ width f → length bytes ≡ w
+    → Gives told (number * w) bytes → c ≡ decoded f (cell_bytes f bytes 0) → Finds told f number (found number c)
+finds-one told f number w bytes c size many given is =
+    finds-block told f 1 number bytes c (found number c) (omega arith) (many ∙ size ∙ (let e : width f ≡ width f * 1 = omega arith in e))
+    (subst (λ (n : ℕ). Gives told n bytes) (ap (λ (n : ℕ). number * n) size ∙ ap (λ (n : ℕ). n * width f) (let e : number ≡ number / 1 = omega arith in e) ∙ ap (λ (n : ℕ). number / 1 * n) (let e : width f ≡ width f * 1 = omega arith in e)) given)
+    (is ∙ ap (λ (n : ℕ). decoded f (cell_bytes f bytes n)) (let e : 0 ≡ number % 1 = omega arith in e)) refl
+
 -- what was found is not the device's fault
 found-calm : (before now number : ℕ) (c : Option Cell) → now ≡ before → ReadCalm before now (found number c)
 found-calm before now number None e = e

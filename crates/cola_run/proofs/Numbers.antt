@@ -21,6 +21,18 @@ block-before block k n below =
     let e : block * (k + 1) ≡ block * k + block = omega arith in
     omega (arith, more, e)
 
+-- a cell whose number lies in one of so many blocks ends within them, where a cell has `w` bytes
+pub cell-in_blocks : (w b many n : ℕ) → 0 < b → n / b < many → n * w + w ≤ many * (w * b)
+cell-in_blocks w b many n some below =
+    let s = split b n some in
+    let ends = block-before b (n / b) many below in
+    let fits : n + 1 ≤ b * many = (let i = s.is in let r = s.rest in omega (arith, i, r, ends)) in
+    let more : w * (n + 1) ≤ w * (b * many) = mul-le-mul_left w fits in
+    let left : n * w ≡ w * n = mul_comm n w in
+    let right : w * (b * many) ≡ many * (w * b) = sym (mul_assoc w b many) ∙ mul_comm (w * b) many in
+    let next : w * (n + 1) ≡ w * n + w = omega arith in
+    omega (arith, more, left, right, next)
+
 -- numbers of different blocks stand on different sides of a block
 pub block-apart : (block k n : ℕ) → 0 < block → n / block ≢ k → (n + 1 ≤ block * k) ⊎ (block * k + block ≤ n)
 block-apart block k n some apart =

@@ -6,7 +6,7 @@ use Rattle.cola_cell.specs.declared.cell.Reader.{Reader}
 use Rattle.cola_cell.specs.declared.fault.PushFault.{PushFault}
 use Rattle.cola_cell.specs.declared.fault.ReadFault.{ReadFault}
 use Rattle.cola_cell.specs.declared.sink.Shadow.{Shadow}
-use Rattle.cola_cell.specs.Flat.{shadow_at}
+use Rattle.cola_cell.specs.Flat.{shadow_at, found}
 use Rattle.cola_cell.specs.Held.{Held}
 use Rattle.cola_cell.specs.Places.{number_of}
 use Rattle.cola_cell.specs.Reads.{Reads}
@@ -38,6 +38,11 @@ abbrev pub ReadsBy : {D : Type 0} (d : device.Ghosts D) → (before now : Store 
     Result Cell ReadFault → Type 0
 ReadsBy d before now reader level slot index result =
     Reads (state_of d.bytes d.counts before) (state_of d.bytes d.counts now) (buffer_for reader level) level slot index result
+
+-- a cell, or none, is what stands at this number in the bytes of the device of these buffers
+abbrev pub FindsIn : {D : Type 0} (d : device.Ghosts D) → Blocks D → Geometry → (number : ℕ) → Option Cell → Type 0
+FindsIn d buffers geometry number cell =
+    Finds (d.bytes buffers.cache.device) geometry.format number (found number cell)
 
 -- what a read finds at a place in the bytes of the device of these buffers
 abbrev pub FindsAt : {D : Type 0} (d : device.Ghosts D) → Blocks D → Geometry → (level slot index : ℕ) → Result Cell ReadFault → Type 0

@@ -9,7 +9,8 @@ ghost use Rattle.cola_run.specs.Cells.{IsOnDevice, block_cells, block_bytes, fil
 ghost use Rattle.cola_run.specs.Parts.{OneShadow, MetFault, fills, lengthened};
 ghost use Rattle.cola_run.specs.Turns.{Turns};
 ghost use Rattle.cola_front.specs.Front.{front_with};
-ghost use Rattle.cola_run.specs.Calls.{FindsAt, WritesTail, WritesAt, PushesBelow, PushWrites, FinishesBelow, FinishWrites, UnsavedHasRoom, OneLonger};
+ghost use Rattle.cola_cache.specs.Blocks.{last_in};
+ghost use Rattle.cola_run.specs.Calls.{FindsIn, FindsAt, WritesTail, WritesAt, PushesBelow, PushWrites, FinishesBelow, FinishWrites, UnsavedHasRoom, OneLonger};
 
 use cola_cache::Buffers;
 use cola_cell::{Packed, Pass, PushFault, ReadFault, Shadow};
@@ -128,8 +129,35 @@ pub(crate) fn taken_or_bad(taken: bool, number: u64) -> Result<(), ReadFault>
     }
 }
 
+/// Takes the cell of this number into a packed cell: from where the device lends its bytes, or else from the block that a
+/// buffer holds. False exactly where its bytes spell none.
+#[inline(always)]
+fn refill_by<D: Device>(
+    buffers: &Buffers<D>,
+    geometry: &Geometry,
+    buffer: usize,
+    number: u64,
+    into: &mut Packed,
+) -> bool
+    requires buffer { buffer < length buffers.now.lasts }
+    requires inside { number / block_cells geometry.now < buffers.now.many }
+    requires small { number < 2 ^ 26 }
+    requires held { last_in buffers.now.lasts buffer ≡ Some (number / block_cells geometry.now) }
+    requires size { buffers.now.cache.size ≡ block_bytes geometry.now }
+    ensures { FindsIn D.Device buffers.now geometry.now number (if result then Some into.new else None) }
+{
+    let width = geometry.format.width();
+    match buffers.lent(number * width as u64, width) {
+        Some(lent) => refill_from(geometry.format, lent, 0, into),
+        None => {
+            let place = number % cells_of_block(geometry) as u64;
+            refill_from(geometry.format, buffers.copy(buffer), place as usize, into)
+        }
+    }
+}
+
 /// Reads a cell of a level on the device by way of a buffer.
-#[inline]
+#[inline(always)]
 pub(crate) fn read_by_buffer<D: Device>(
     buffers: &mut Buffers<D>,
     geometry: &Geometry,
@@ -152,12 +180,7 @@ pub(crate) fn read_by_buffer<D: Device>(
 {
     let number = geometry.place(level, slot, index);
     match buffers.turn_to(buffer, block_at(geometry, level, slot, index)) {
-        Ok(()) => {
-            let place = number % cells_of_block(geometry) as u64;
-            let copy = buffers.copy(buffer);
-            let taken = refill_from(geometry.format, copy, place as usize, into);
-            taken_or_bad(taken, number)
-        }
+        Ok(()) => taken_or_bad(refill_by(buffers, geometry, buffer, number, into), number),
         Err(_) => Err(ReadFault::Device),
     }
 }

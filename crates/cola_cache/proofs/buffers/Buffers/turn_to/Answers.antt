@@ -10,7 +10,7 @@ use Rattle.cola_cache.proofs.buffers.Buffers.turn_to.Goals as goal
 pub invariant_of-self : goal.invariant_of-self
 invariant_of-self g c =
     let i = c.self.inside in
-    let turned = c.turn.ensures in
+    let turned = c.turn.ensures.turned in
     let made : Made = record { reads = i.made_reads; faults = i.made_faults } in
     let less : c.args.block < i.many = rw (← c.self.view_is) at c.requires.block in
     let within : c.args.buffer < length i.lasts.items.items = rw (← c.self.view_is) at c.requires.buffer in
