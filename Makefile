@@ -4,6 +4,8 @@
 #     make check                        the tests of what was built
 #     make install PREFIX=/usr/local    DESTDIR=.. puts all of it below another folder
 #     make uninstall PREFIX=/usr/local
+#
+# make library, make dist, make deb and make wheel stand in bindings/c/library.mk and packaging/packages.mk.
 
 PREFIX = /usr/local
 DESTDIR =
@@ -23,18 +25,18 @@ program:
 	./cola mem 1 </dev/null
 
 check: program
-	for it in launcher create run mirror examples shards manual install documents; do tests/$$it.sh || exit 1; done
+	for it in launcher create run signals mirror examples shards manual install documents; do tests/$$it.sh || exit 1; done
 
 # The manual page and the plots, made anew of docs/COMMANDS.md and bench/measured.md.
 documents:
-	awk -v version="$$(./cola --version | sed 's/^cola //; s/,.*//')" -f docs/manual.awk docs/COMMANDS.md >docs/cola.1
+	awk -v version="$$(cat VERSION)" -f docs/manual.awk docs/COMMANDS.md >docs/cola.1
 	awk -v folder=bench -f bench/plots.awk bench/measured.md
 
 install: install-program
 
 # (no toolchain is asked for: what is installed is what was built)
 install-program:
-	test -x crates/cola/out/cola || { echo 'cola: make builds the program first' >&2; exit 1; }
+	@test -x crates/cola/out/cola || { echo 'cola: the program was not built: the first run of ./cola builds it, as make does' >&2; exit 1; }
 	$(INSTALL) -d '$(bin)' '$(program)' '$(texts)' '$(manual)' '$(completion)'
 	$(INSTALL) -m 755 cola '$(bin)/cola'
 	$(INSTALL) -m 755 crates/cola/out/cola '$(program)/cola'
@@ -48,5 +50,6 @@ uninstall-program:
 	rm -f '$(bin)/cola' '$(program)/cola' '$(texts)/COMMANDS.md' '$(manual)/cola.1' '$(completion)/cola'
 	-rmdir '$(program)' '$(texts)' 2>/dev/null
 
-# The library, where there is one: it adds to all, check, install and uninstall.
+# The library, where there is one: it adds to all, check, install and uninstall. And packages of what was built.
 -include bindings/c/library.mk
+-include packaging/packages.mk

@@ -8,8 +8,8 @@ cells=${1:-1000000}
 work=$(mktemp -d)
 trap 'rm -rf "$work"' EXIT
 cc -O2 -o "$work/plain" "$top/bench/blocks.c"
-(cd "$top/crates/cola_run_bench" && rt run >"$work/build" 2>&1) || { cat "$work/build"; exit 1; }
-cp "$top/crates/cola_run_bench/out/cola_run_bench" "$work/ours"
+"$top/bench/timed.sh" cola_run_bench "$work/ours" \
+    byteorder cola_outside cola_cell cola_device cola_filedev cola_layout cola_run cola_store
 for run in 1 2 3; do
     for program in 'ours 0' 'plain 0' 'ours 4096' 'plain 4096'; do
         rm -f "$work/file"

@@ -7,8 +7,7 @@ rounds=${1:-200000}
 work=$(mktemp -d)
 trap 'rm -rf "$work"' EXIT
 cc -O2 -o "$work/plain" "$top/bench/cells.c"
-(cd "$top/crates/cola_cell_bench" && rt run >"$work/build" 2>&1) || { cat "$work/build"; exit 1; }
-cp "$top/crates/cola_cell_bench/out/cola_cell_bench" "$work/ours"
+"$top/bench/timed.sh" cola_cell_bench "$work/ours" byteorder cola_cell
 for run in 1 2 3 4 5 6 7; do
     for program in ours plain; do
         "$work/$program" "$rounds" | tail -1 | sed "s/^/$program /" >>"$work/times"

@@ -1,9 +1,9 @@
+/* SPDX-License-Identifier: MIT */
 /* An ordered key-value store in one file, for C.
  *
  * The store lies in bytes that the caller brings: a file mapped into memory (bindings/c/cola_file.h does that), or any
  * memory. cola_create makes a store in them; cola_open opens it; from then on the bytes are the library's, until cola_close
- * gives them back. Every call is bounded: a put or a delete makes at most 40 cell accesses for each level of the store,
- * a get at most 8, and no call takes memory but cola_open and cola_checkpoint.
+ * gives them back. No call takes memory but cola_open and cola_checkpoint.
  *
  *     cola store = COLA_INIT;
  *     if (cola_open(&store, bytes, length) != COLA_OK) ..
@@ -15,6 +15,14 @@
  *
  * Where a call has nothing to say of a place, as the length of a value that is not there, or is refused, the place stays as it
  * was; only the rows of a refused cola_next may be others.
+ *
+ * What a call takes is bounded, by the levels of the store, of which there is one more for twice the keys, or by the keys:
+ *   - the same for every store: cola_size, cola_stored_size, cola_count, cola_seek;
+ *   - by the levels: cola_put, cola_put_if and cola_delete make at most 40 cell accesses for each, cola_get and cola_stamp 8;
+ *     cola_open reads and cola_close writes at most a block for each and three more; cola_checkpoint does both;
+ *   - by the keys: cola_create looks at each byte; cola_next passes over deleted keys that still have a cell, and before one
+ *     row there may be nearly as many of them as the store has cells; where there are few, a row takes some cell accesses;
+ *   - by the bytes of the store: the calls of cola_file.h but an opening, which see.
  *
  * One thread at a time may call with one store; stores in other bytes are independent. There is no global state, no output.
  *
@@ -86,6 +94,11 @@ typedef struct cola_cursor {
  * keys from 1 to COLA_KEYS_MAX. COLA_OPTIONS otherwise. 5 to 9 take much the same time: cells are read where they lie, and a
  * put writes a block once it is full. */
 int32_t cola_size(uint64_t keys, uint8_t block, uint8_t version, uint64_t *bytes);
+
+/* How many bytes the store takes that lies in a file of so many bytes, by the first head_len of them: 512, or all of a shorter
+ * file. The file may be longer. COLA_SMALL, COLA_NOT_STORE, COLA_NOT_CLOSED as cola_open answers of all its bytes; COLA_OK does
+ * not say that no cell is damaged. */
+int32_t cola_stored_size(const void *head, size_t head_len, uint64_t length, uint64_t *bytes);
 
 /* Makes the store of a new file in zero bytes, as many as cola_size says. */
 int32_t cola_create(void *bytes, size_t len, uint64_t keys, uint8_t block, uint8_t version);

@@ -3,23 +3,7 @@
 # `create`, and that no other words make or change a file. It runs the program through ./cola, which
 # builds it where rt ci has not.
 # The last line is 'N passed, M failed', and the status is 0 only where none failed.
-set -u
-root=$(cd "$(dirname "$0")/.." && pwd -P) || exit 1
-room=$(mktemp -d) || exit 1
-trap 'rm -rf "$room"' EXIT
-passed=0 failed=0
-
-# check WHAT COMMAND..: counts whether the command ends with 0.
-check() {
-    local what=$1
-    shift
-    if "$@"; then
-        passed=$((passed + 1))
-    else
-        failed=$((failed + 1))
-        printf 'FAILED: %s\n' "$what"
-    fi
-}
+. "$(dirname "$0")/lib.sh"
 
 # ends STATUS WORD..: whether the program, with these words and no input, ends so and writes nothing.
 ends() {
@@ -81,5 +65,4 @@ for words in 'create no' 'create no --keys 0' 'create no --keys 16777217' 'creat
     check "$words makes no file" is_absent no
 done
 
-echo "$passed passed, $failed failed"
-[ "$failed" -eq 0 ]
+finish

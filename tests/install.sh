@@ -2,25 +2,10 @@
 # `make install-program` into a folder of its own, and the command that it installs, on a PATH with no toolchain: a first
 # session, the manual, the completion, statuses with their causes, and the same from a link. What only root or only others can
 # try is skipped, and that is said. The last line is 'N passed, M failed', and the status is 0 only where none failed.
-set -u
-root=$(cd "$(dirname "$0")/.." && pwd -P) || exit 1
-room=$(mktemp -d) || exit 1
+. "$(dirname "$0")/lib.sh"
 mounted=
 trap 'cd /; [ -z "$mounted" ] || umount "$room/small"; rm -rf "$room"' EXIT
 chmod 755 "$room"
-passed=0 failed=0
-
-# check WHAT COMMAND..: counts whether the command ends with 0.
-check() {
-    local what=$1
-    shift
-    if "$@"; then
-        passed=$((passed + 1))
-    else
-        failed=$((failed + 1))
-        printf 'FAILED: %s\n' "$what"
-    fi
-}
 
 # run COMMAND..: leaves the status in $status, and what it wrote in $room/out and $room/err.
 run() {
@@ -34,8 +19,7 @@ caused() { [ "$(tail -n +2 "$room/err")" = "cola: $1" ] || { cat "$room/err"; fa
 
 if ! command -v make >/dev/null; then
     echo 'install: make is not here; skipped'
-    echo '0 passed, 0 failed'
-    exit 0
+    finish
 fi
 "$root/cola" mem 4 </dev/null >/dev/null || exit 1 # (says what it does where it still has to build)
 prefix="$room/a prefix"
@@ -45,6 +29,20 @@ run make -s -C "$root" install-program PREFIX=/usr DESTDIR="$room/stage"
 check 'and below another folder' test -x "$room/stage/usr/bin/cola"
 check 'with the manual' cmp "$root/docs/cola.1" "$room/stage/usr/share/man/man1/cola.1"
 check 'with the completion' cmp "$root/docs/cola.bash" "$room/stage/usr/share/bash-completion/completions/cola"
+
+# In a clone in which nothing was built, and in one with the program alone: what was built is installed, and a line says what
+# is to be built for the rest.
+mkdir "$room/clone"
+tar -C "$root" --exclude=./crates --exclude=./.git --exclude=./out -cf - . | tar -C "$room/clone" -xf -
+run make -s -C "$room/clone" install PREFIX="$room/none"
+check 'where nothing was built make install fails' test "$status" -ne 0
+check 'says so in one line' test "$(grep '^cola: ' "$room/err")" = 'cola: the program was not built: the first run of ./cola builds it, as make does'
+check 'and installs nothing' test ! -e "$room/none"
+mkdir -p "$room/clone/crates/cola/out"
+cp "$root/crates/cola/out/cola" "$room/clone/crates/cola/out/cola"
+run make -s -C "$room/clone" install PREFIX="$room/some"
+check 'where the program alone was built it is installed' test "$("$room/some/bin/cola" --version)" = "$("$root/cola" --version)"
+check 'and a line says how the library is built' test "$(grep -c '^cola: ' "$room/err")" -eq 1
 
 # A PATH without a toolchain, on which cola is the installed one.
 PATH=$prefix/bin:$(tr ':' '\n' <<<"$PATH" | while read -r it; do [ -x "$it/rt" ] || printf '%s:' "$it"; done)
@@ -65,7 +63,7 @@ check 'it serves a session' wrote_text $'new\nval Ada\n'
 check 'and says nothing' test ! -s "$room/err"
 run cola
 check 'with no words it ends with 2' ended 2
-check 'and says how it is called' grep -q '^cola: .*cola create FILE --keys N' "$room/err"
+check 'and names the modes' grep -q '^cola: there is no word; the first one is a mode: create, ' "$room/err"
 run cola run missing </dev/null
 check 'a file that is not there ends with 5' ended 5
 check 'and its cause is said' caused 'missing: there is no such file'
@@ -90,7 +88,12 @@ if command -v as >/dev/null && as true 2>/dev/null; then
     [ "$(id -u)" -ne 0 ] || chown 65534 closed
     run as cola run closed </dev/null
     check 'a file that may not be written ends with 5' ended 5
-    check 'and its cause is said' caused 'closed: no permission to read and write it, or its file system is read-only'
+    check 'and its cause is said' caused 'closed: may be read but not written; the program opens it for writing too, in every mode: give it a copy'
+    run as cola check closed
+    check 'nor tested' caused 'closed: may be read but not written; the program opens it for writing too, in every mode: give it a copy'
+    chmod 0 closed
+    run as cola check closed
+    check 'nor is one that may not be read' caused 'closed: no permission to read it'
     mkdir apart && chmod 555 apart
     run as cola create apart/one --keys 1
     check 'a folder that may not be written ends with 5' ended 5
@@ -114,5 +117,4 @@ run make -s -C "$root" uninstall-program PREFIX="$prefix"
 check 'it is removed' ended 0
 check 'and leaves no file' test -z "$(find "$prefix" -type f)"
 
-echo "$passed passed, $failed failed"
-[ "$failed" -eq 0 ]
+finish

@@ -1,36 +1,13 @@
 #!/usr/bin/env bash
 # The library as users of C, Rust and Python meet it: it is built, installed and linked, the header is compiled alone, each of
-# its answers is met, random calls are compared with a sorted array, and copies of the file are opened by the program. Processes
-# are killed in mid-session. The examples and the first programs of the documents are run, under valgrind and with the
+# its answers is met, random calls are compared with a sorted array, and copies of the file are opened by the program. Each call
+# of the system fails, and processes are killed in front of each, behind each, and in mid-session. The examples and the first programs of the documents are run, under valgrind and with the
 # compiler's sanitizers too. What needs a tool that is not there is skipped, and that is said.
 #
 #     tests/library.sh [FOLDER]    (FOLDER has the libcola.a and libcola.so to be tested; else they are made of what make library or the gate built here)
 #
 # The last line is 'N passed, M failed', and the status is 0 only where none failed.
-set -u
-root=$(cd "$(dirname "$0")/.." && pwd -P) || exit 1
-room=$(mktemp -d) || exit 1
-trap 'rm -rf "$room"' EXIT
-passed=0 failed=0
-
-# check WHAT COMMAND..: counts whether the command ends with 0.
-check() {
-    local what=$1
-    shift
-    if "$@"; then
-        passed=$((passed + 1))
-    else
-        failed=$((failed + 1))
-        printf 'FAILED: %s\n' "$what"
-    fi
-}
-
-# finish: the last line, and the end.
-finish() {
-    echo "$passed passed, $failed failed"
-    [ "$failed" -eq 0 ]
-    exit
-}
+. "$(dirname "$0")/lib.sh"
 
 # is_there TOOL WHAT: whether there is such a command; says that WHAT is skipped where there is none.
 is_there() {
@@ -41,31 +18,9 @@ is_there cc 'the library' || finish
 is_there make 'the library' || finish
 
 cd "$root" || exit 1
-# is_newer FILE: whether the file is there, and no text of a crate is newer.
-is_newer() {
-    [ -e "$1" ] && [ -z "$(find crates.txt crates -path '*/out' -prune -o -type f \( -name '*.rt' -o -name '*.antt' -o -name crates.txt \) -newer "$1" -print | head -n 1)" ]
-}
-
-# compile CORE: the proved part, by the toolchain's compiler over the proved libraries that the gate leaves here, so that cola_c alone is proved once more.
-# (rt lib takes none of these, and would prove all that cola_c stands on.)
-compile() {
-    local kit words=() it
-    kit=$(dirname "$(dirname "$(readlink -f "$(command -v rt)")")")
-    for it in $(sed -n 's/^cola_c staticlib: *//p' crates.txt); do words+=(--extern "$it=$root/crates/$it/out/rlib/$it.rlib"); done
-    for it in "$root"/crates/*/out/rlib; do words+=(-L "dependency=$it"); done
-    (cd crates/cola_c && "$kit/bin/rattle" build --crate-name cola_c src/lib.rt --extern "std=$kit/rlibs/std.rlib" -L "dependency=$kit/rlibs" "${words[@]}" \
-        --antt-project "$kit/rattle/logic/antt-project.json" --logic-built "$kit/logic_built" --links cola_c= --crate-type staticlib --jobs 2 \
-        --toolchain "$kit/toolchain" --backend llvm -o "$1")
-}
-
 library=${1:-$room/library}
 if [ $# -eq 0 ]; then
-    core=$root/crates/cola_c/out/libcola_c.a
-    if ! is_newer "$core"; then
-        is_newer crates/cola_handle/out/rlib/cola_handle.rlib || { echo 'skipped: the library, of which nothing is built here (make library builds it)'; finish; }
-        core=$room/libcola_c.a
-        compile "$core" >"$room/compiled" 2>&1 || cat "$room/compiled"
-    fi
+    core=$(tests/core.sh) || { check 'the proved part of the library is built' false; finish; }
     make -s -f bindings/c/library.mk library CORE="$core" LIBRARY="$library" >"$room/made" 2>&1
     made=$?
     [ "$made" -eq 0 ] || cat "$room/made"
@@ -78,6 +33,8 @@ program=$root/crates/cola/out/cola
 strict="-std=gnu11 -Wall -Wextra -Werror"
 folders="-Iinclude -Ibindings/c -Itests/library"
 fails="-Wl,--wrap=malloc,--wrap=realloc" # (the test of errors counts allocations)
+calls="close fchmod flock fstat fsync ftruncate mkostemp mmap msync munmap open posix_fallocate pread pwrite rename stat unlink"
+wraps=$(printf -- '-Wl,--wrap=%s ' $calls) # (the test of failing calls counts these)
 
 # compiles OUT FLAGS FILE..: whether the C compiler takes the files without a warning.
 compiles() {
@@ -115,26 +72,39 @@ check 'the answers of the header are those of the crate' has_answers
 
 has_calls() {
     cat include/cola.h bindings/c/cola_file.h | sed -n 's/^[a-z].*[ *]\(cola_[a-z_]*\)(.*/\1/p' | sort >"$room/header"
-    nm -D --defined-only "$library/libcola.so" | awk '{ print $3 }' | sort >"$room/calls"
+    nm -D --defined-only "$library/libcola.so" | awk '$2 != "A" { if (!sub(/@@COLA_[0-9.]*$/, "", $3)) $3 = $3 " has no version"; print $3 }' | sort >"$room/calls"
     [ "$(wc -l <"$room/header")" -ge 18 ] && diff "$room/header" "$room/calls"
 }
-check 'libcola.so has the calls of the headers, and nothing else' has_calls
+check 'libcola.so has the calls of the headers, each with its version, and nothing else' has_calls
+
+# has_wraps: whether the calls of the system that the library makes are those that the test lets fail. (getpid and sysconf do not fail.)
+has_wraps() {
+    ar p "$library/libcola.a" cola_file.o >"$room/cola_file.o" || return
+    nm -u "$room/cola_file.o" | awk '{ print $2 }' | grep -vE '^(cola_|_)|^(getpid|sysconf|snprintf|strrchr)$' | sort >"$room/calls"
+    printf '%s\n' $calls | diff - "$room/calls"
+}
+check 'the test of failing calls knows each call of the system' has_wraps
 
 # The calls.
+check 'what is handed to the proved calls compiles' cc -O1 -g $strict $folders tests/library/handed.c bindings/c/cola.c -o "$room/handed"
+check 'what is handed to the proved calls' quietly "$room/handed"
 check 'the test of answers compiles' compiles errors "-O2 -g $fails" tests/library/errors.c
 check 'the test of random calls compiles' compiles random '-O2 -g' tests/library/random.c
 check 'the test of killed processes compiles' compiles killed '-O2 -g' tests/library/killed.c
+check 'the test of failing calls compiles' compiles failing "-O2 -g $wraps" tests/library/failing.c
 check 'the example in C compiles' compiles words '-O2 -g' examples/words.c
 check 'each answer is met' quietly "$room/errors" "$room"
 # (a hundred thousand of these calls are on small stores)
 check 'random calls, and a copy for the program after each hundred' quietly "$room/random" "$room" 125000 100 "$program"
 check 'killed processes leave a file that is refused, and their last copy' quietly "$room/killed" "$room" 20
+check 'a call of the system that fails, or is the last, leaves a file that is whole or refused' quietly "$room/failing" "$room"
 check 'an index of words in C' is_index "$room/words"
 "$program" check "$room/index" >"$room/out"
 check 'its file is sound' grep -qx 'sound 85' "$room/out"
 
 if is_there valgrind 'the calls under valgrind'; then
     valgrind="valgrind -q --error-exitcode=99 --leak-check=full --show-leak-kinds=all"
+    check 'what is handed to the proved calls, under valgrind' quietly $valgrind "$room/handed"
     check 'each answer, under valgrind' quietly $valgrind "$room/errors" "$room"
     check 'random calls, under valgrind' quietly $valgrind "$room/random" "$room" 3000 500
     check 'an index of words in C, under valgrind' is_index $valgrind "$room/words"
@@ -142,6 +112,8 @@ fi
 sanitizers="-O1 -g -fsanitize=address,undefined -fno-sanitize-recover=all"
 echo 'int main(void) { return 0; }' >"$room/empty.c"
 if cc $sanitizers "$room/empty.c" -o "$room/empty" 2>/dev/null && "$room/empty"; then
+    check 'what is handed on compiles with sanitizers' cc $sanitizers $strict $folders tests/library/handed.c bindings/c/cola.c -o "$room/handed_sane"
+    check 'what is handed on, with sanitizers' quietly "$room/handed_sane"
     check 'the tests compile with sanitizers' compiles errors_sane "$sanitizers $fails" tests/library/errors.c bindings/c/*.c
     check 'random calls compile with sanitizers' compiles random_sane "$sanitizers" tests/library/random.c bindings/c/*.c
     check 'the example compiles with sanitizers' compiles words_sane "$sanitizers" examples/words.c bindings/c/*.c
@@ -157,7 +129,8 @@ prefix="$room/prefix"
 with_make() { quietly make -s -f bindings/c/library.mk "$1-library" LIBRARY="$library" PREFIX="$prefix" DESTDIR=; }
 check 'it is installed' with_make install
 check 'nothing else is written' [ "$(cd "$prefix" && find . -type f | LC_ALL=C sort | tr '\n' ' ')" = \
-    './include/cola.h ./include/cola_file.h ./lib/libcola.a ./lib/libcola.so ./lib/pkgconfig/cola.pc ' ]
+    './include/cola.h ./include/cola_file.h ./lib/libcola.a ./lib/libcola.so.1 ./lib/pkgconfig/cola.pc ./share/cola/cola.py ./share/man/man3/cola.3 ' ]
+check 'a program that is linked without a number finds it' [ "$(readlink "$prefix/lib/libcola.so")" = libcola.so.1 ]
 # first PAGE WORD: the first block of a page that has the word.
 first() {
     awk -v word="$2" '/^    / || (/^$/ && block != "") { block = block substr($0, 5) "\n"; next }
@@ -169,7 +142,7 @@ first docs/C.md '#include' >"$room/first/notes.c"
 if is_there pkg-config 'the first program of docs/C.md'; then
     export PKG_CONFIG_PATH=$prefix/lib/pkgconfig
     check 'the first program in C compiles' cc -Wall -Wextra -Werror "$room/first/notes.c" $(pkg-config --cflags --libs cola) -o "$room/first/notes.program"
-    check 'the first program in C writes what it should' writes_ada ./notes.program
+    check 'the first program in C writes what it should' writes_ada env LD_LIBRARY_PATH="$prefix/lib" ./notes.program
 fi
 if is_there cargo 'the crate for Rust'; then
     export COLA_LIB_DIR=$library CARGO_TARGET_DIR=$room/target CARGO_HOME=$room/cargo TMPDIR=$room
@@ -202,6 +175,7 @@ if is_there python3 'the module for Python'; then
     rm -f "$room/first/notes"
     check 'the first program in Python writes what it should' writes_ada python3 notes.py
 fi
+check 'the program and the library at one file, at once' tests/crash/beside.sh "$program" "$library"
 check 'it is taken off' with_make uninstall
 check 'no file of it is left' [ -z "$(find "$prefix" -type f)" ]
 for page in docs/C.md docs/RUST.md docs/PYTHON.md; do

@@ -2,23 +2,7 @@
 # The manual page and the completion of bash: that docs/cola.1 is made of docs/COMMANDS.md, has all that this has, and is
 # shown without a warning; and what is completed. No program is run. The last line is 'N passed, M failed', and the status is
 # 0 only where none failed.
-set -u
-root=$(cd "$(dirname "$0")/.." && pwd -P) || exit 1
-room=$(mktemp -d) || exit 1
-trap 'rm -rf "$room"' EXIT
-passed=0 failed=0
-
-# check WHAT COMMAND..: counts whether the command ends with 0.
-check() {
-    local what=$1
-    shift
-    if "$@"; then
-        passed=$((passed + 1))
-    else
-        failed=$((failed + 1))
-        printf 'FAILED: %s\n' "$what"
-    fi
-}
+. "$(dirname "$0")/lib.sh"
 
 cd "$root" || exit 1
 version=$("$root/cola" --version | sed 's/^cola \([^,]*\),.*/\1/')
@@ -85,5 +69,4 @@ check 'no number of keys' completed '' create new --keys ''
 check 'nothing where there is no such mode' completed '' nothing ''
 check 'it is for cola' test "$(complete -p cola)" = 'complete -o filenames -F _cola cola'
 
-echo "$passed passed, $failed failed"
-[ "$failed" -eq 0 ]
+finish

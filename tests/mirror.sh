@@ -2,24 +2,9 @@
 # Sessions over two real files, and files made equal again, in a folder of its own. Where a small file system can be mounted
 # in memory, one of the files stands on it and fails in mid-session for want of room; where none can, that is skipped and said.
 # The last line is 'N passed, M failed', and the status is 0 only where none failed.
-set -u
-root=$(cd "$(dirname "$0")/.." && pwd -P) || exit 1
-room=$(mktemp -d) || exit 1
+. "$(dirname "$0")/lib.sh"
 mounted=
 trap 'cd /; [ -z "$mounted" ] || umount "$room/small"; rm -rf "$room"' EXIT
-passed=0 failed=0
-
-# check WHAT COMMAND..: counts whether the command ends with 0.
-check() {
-    local what=$1
-    shift
-    if "$@"; then
-        passed=$((passed + 1))
-    else
-        failed=$((failed + 1))
-        printf 'FAILED: %s\n' "$what"
-    fi
-}
 
 # replies STATUS REPLIES LINES WORD..: whether the program, with these words and these lines, each given with commas for
 # line feeds, writes these replies and ends so.
@@ -73,5 +58,4 @@ else
     echo 'mirror: no small file system can be mounted here; a side that runs out of room is skipped'
 fi
 
-echo "$passed passed, $failed failed"
-[ "$failed" -eq 0 ]
+finish

@@ -10,30 +10,14 @@
 #
 # The program is built where it is not current, by rt run in its crate. Rows of failing allocations need a C compiler, and
 # are skipped where there is none. The last line is 'N passed, M failed', and the status is 0 only where none failed.
-set -u
-root=$(cd "$(dirname "$0")/.." && pwd -P) || exit 1
-room=$(mktemp -d) || exit 1
-trap 'rm -rf "$room"' EXIT
+. "$(dirname "$0")/lib.sh"
 program=$root/crates/cola_rows/out/cola_rows
-passed=0 failed=0
 
 # Made lines of each kind, for about 100 seconds together.
 lines=250000
 # Changed files.
 files=1000
 seed=1
-
-# check WHAT COMMAND..: counts whether the command ends with 0.
-check() {
-    local what=$1
-    shift
-    if "$@"; then
-        passed=$((passed + 1))
-    else
-        failed=$((failed + 1))
-        printf 'FAILED: %s\n' "$what"
-    fi
-}
 
 # The folders of the texts that the program is built from, below the root.
 folders() {
@@ -130,5 +114,4 @@ case ${1-} in
     done
     ;;
 esac
-printf '%s passed, %s failed\n' "$passed" "$failed"
-[ "$failed" -eq 0 ]
+finish

@@ -2,23 +2,7 @@
 # Sessions over files that the program makes, in a folder of its own: the first run of the README, the statuses of `run`
 # on a real file, and the examples with their output. It runs the program through ./cola, which builds it where rt ci has not.
 # The last line is 'N passed, M failed', and the status is 0 only where none failed.
-set -u
-root=$(cd "$(dirname "$0")/.." && pwd -P) || exit 1
-room=$(mktemp -d) || exit 1
-trap 'rm -rf "$room"' EXIT
-passed=0 failed=0
-
-# check WHAT COMMAND..: counts whether the command ends with 0.
-check() {
-    local what=$1
-    shift
-    if "$@"; then
-        passed=$((passed + 1))
-    else
-        failed=$((failed + 1))
-        printf 'FAILED: %s\n' "$what"
-    fi
-}
+. "$(dirname "$0")/lib.sh"
 
 # replies STATUS REPLIES LINES WORD..: whether the program, with these words and these lines, each given with commas for
 # line feeds, writes these replies and ends so.
@@ -137,5 +121,4 @@ fi
 check 'an index of words' gives words "$root/examples/words.sh" <"$root/examples/sonnet.txt"
 check 'a collector of log lines' gives log "$root/examples/log.sh"
 
-echo "$passed passed, $failed failed"
-[ "$failed" -eq 0 ]
+finish

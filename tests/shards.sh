@@ -1,23 +1,7 @@
 #!/usr/bin/env bash
 # The script that serves a session over several files: its replies are those of one file, for worked lines and for made ones.
 # The last line is 'N passed, M failed', and the status is 0 only where none failed.
-set -u
-root=$(cd "$(dirname "$0")/.." && pwd -P) || exit 1
-room=$(mktemp -d) || exit 1
-trap 'rm -rf "$room"' EXIT
-passed=0 failed=0
-
-# check WHAT COMMAND..: counts whether the command ends with 0.
-check() {
-    local what=$1
-    shift
-    if "$@"; then
-        passed=$((passed + 1))
-    else
-        failed=$((failed + 1))
-        printf 'FAILED: %s\n' "$what"
-    fi
-}
+. "$(dirname "$0")/lib.sh"
 
 shards=$root/examples/shards.sh
 "$root/cola" mem 4 </dev/null >/dev/null || exit 1 # (says what it does where it still has to build)
@@ -66,5 +50,4 @@ check 'a session that one file refuses ends with its status' test $? -eq 7
 check 'the lines before it are answered' test "$(wc -l <written)" -eq 1
 check 'and it is said which file it was' grep -q '^shards: the session over file 1 ended before it answered' err
 
-echo "$passed passed, $failed failed"
-[ "$failed" -eq 0 ]
+finish

@@ -1,7 +1,11 @@
 /* The calls of cola.h: they test pointers for NULL, and leave all else to the proved calls of crates/cola_c, which take none.
  *
- * A length above every limit goes on as one above the limit, so that no more bytes are looked at than a key or a value has. */
+ * A length above every limit goes on as one above the limit, so that no more bytes are looked at than a key or a value has.
+ * Of a place that is to be written any bytes make a number, but not any byte is a bool: so what is handed on is a bool, or a
+ * cursor, of this file's own, and the caller's is written behind the call. */
 #include "cola.h"
+
+#include <string.h>
 
 /* The bytes of a store, lent from an opening to a closing. */
 typedef struct cola_region {
@@ -11,6 +15,7 @@ typedef struct cola_region {
 
 /* What crates/cola_c exports: as in cola.h, but no pointer is NULL. */
 int32_t cola_core_size(uint64_t keys, uint8_t block, uint8_t version, uint64_t *bytes);
+int32_t cola_core_stored_size(const void *head, size_t head_len, uint64_t length, uint64_t *bytes);
 int32_t cola_core_create(void *bytes, size_t len, uint64_t keys, uint8_t block, uint8_t version);
 int32_t cola_core_open(cola *store, cola_region *region);
 int32_t cola_core_put(cola *store, const void *key, size_t key_len, const void *value, size_t value_len, bool *was);
@@ -40,6 +45,11 @@ int32_t cola_size(uint64_t keys, uint8_t block, uint8_t version, uint64_t *bytes
     return cola_core_size(keys, block, version, bytes);
 }
 
+int32_t cola_stored_size(const void *head, size_t head_len, uint64_t length, uint64_t *bytes) {
+    if (is_null(head, head_len) || bytes == NULL) return COLA_NULL;
+    return cola_core_stored_size(some(head), head_len, length, bytes);
+}
+
 int32_t cola_create(void *bytes, size_t len, uint64_t keys, uint8_t block, uint8_t version) {
     if (bytes == NULL) return COLA_NULL;
     return cola_core_create(bytes, len, keys, block, version);
@@ -52,13 +62,15 @@ int32_t cola_open(cola *store, void *bytes, size_t len) {
 }
 
 int32_t cola_put(cola *store, const void *key, size_t key_len, const void *value, size_t value_len, bool *was) {
-    bool unasked;
+    bool told = false;
     if (store == NULL || is_null(key, key_len) || is_null(value, value_len)) return COLA_NULL;
-    return cola_core_put(store, some(key), of_key(key_len), some(value), of_value(value_len), was == NULL ? &unasked : was);
+    int32_t answer = cola_core_put(store, some(key), of_key(key_len), some(value), of_value(value_len), &told);
+    if (answer == COLA_OK && was != NULL) *was = told;
+    return answer;
 }
 
 int32_t cola_put_if(cola *store, const void *key, size_t key_len, uint64_t seen, const void *value, size_t value_len, uint64_t *stamp) {
-    uint64_t unasked;
+    uint64_t unasked = 0;
     if (store == NULL || is_null(key, key_len) || is_null(value, value_len)) return COLA_NULL;
     return cola_core_put_if(store, some(key), of_key(key_len), seen, some(value), of_value(value_len), stamp == NULL ? &unasked : stamp);
 }
@@ -84,14 +96,30 @@ int32_t cola_count(cola *store, uint64_t *count) {
 }
 
 int32_t cola_seek(cola_cursor *cursor, const void *low, size_t low_len, const void *high, size_t high_len) {
+    cola_cursor place = {0};
     if (cursor == NULL || is_null(low, low_len) || is_null(high, high_len)) return COLA_NULL;
-    return cola_core_seek(cursor, some(low), of_key(low_len), some(high), of_key(high_len), high != NULL);
+    int32_t answer = cola_core_seek(&place, some(low), of_key(low_len), some(high), of_key(high_len), high != NULL);
+    if (answer == COLA_OK) *cursor = place;
+    return answer;
+}
+
+/* Whether a bool of the caller's is true, which any byte but 0 makes it. */
+static bool is_true(const bool *it) {
+    unsigned char byte;
+    memcpy(&byte, it, 1);
+    return byte != 0;
 }
 
 int32_t cola_next(cola *store, cola_cursor *cursor, cola_row *rows, size_t most, size_t *given) {
-    cola_row none;
+    cola_row none = {0};
+    cola_cursor place;
     if (store == NULL || cursor == NULL || (rows == NULL && most > 0) || given == NULL) return COLA_NULL;
-    return cola_core_next(store, cursor, rows == NULL ? &none : rows, most, given);
+    memcpy(&place, cursor, sizeof place);
+    place.behind = is_true(&cursor->behind);
+    place.bounded = is_true(&cursor->bounded);
+    int32_t answer = cola_core_next(store, &place, rows == NULL ? &none : rows, most, given);
+    if (answer == COLA_OK) *cursor = place;
+    return answer;
 }
 
 int32_t cola_checkpoint(cola *store) {

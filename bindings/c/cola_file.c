@@ -6,6 +6,7 @@
 #include <fcntl.h>
 #include <limits.h>
 #include <stdio.h>
+#include <stdlib.h>
 #include <string.h>
 #include <sys/file.h>
 #include <sys/mman.h>
@@ -21,15 +22,38 @@ static size_t first_of(size_t length) {
     return length < page ? length : page;
 }
 
-/* Writes bytes at a place of the file, and waits until they are on the disk. */
+/* Writes bytes at a place of the file, and waits until they are on the disk. A system that takes none and gives no reason is a
+ * disk that fails. */
 static bool write_all(int descriptor, const char *bytes, size_t length, size_t place) {
     while (length > 0) {
         ssize_t wrote = pwrite(descriptor, bytes, length, (off_t)place);
         if (wrote < 0 && errno == EINTR) continue;
+        if (wrote == 0) errno = EIO;
         if (wrote <= 0) return false;
         bytes += wrote, place += (size_t)wrote, length -= (size_t)wrote;
     }
     return fsync(descriptor) == 0;
+}
+
+/* Reads the first bytes of the file, and answers how many it gave, fewer at its end alone; -1 on failure. */
+static ssize_t read_first(int descriptor, char *bytes, size_t length) {
+    size_t had = 0;
+    while (had < length) {
+        ssize_t got = pread(descriptor, bytes + had, length - had, (off_t)had);
+        if (got < 0 && errno == EINTR) continue;
+        if (got < 0) return -1;
+        if (got == 0) break;
+        had += (size_t)got;
+    }
+    return (ssize_t)had;
+}
+
+/* Gives up the lock, which a child or a mapping may have too, and closes the file. */
+static void let_go(int descriptor) {
+    int error = errno;
+    flock(descriptor, LOCK_UN);
+    close(descriptor);
+    errno = error;
 }
 
 /* Waits until a name in a folder is on the disk. */
@@ -39,12 +63,15 @@ static bool sync_name(const char *path) {
     if (end != NULL && end - path >= PATH_MAX) return errno = ENAMETOOLONG, false;
     snprintf(folder, sizeof folder, "%.*s", end == NULL ? 1 : end == path ? 1 : (int)(end - path), end == NULL ? "." : path);
     int descriptor = open(folder, O_RDONLY | O_DIRECTORY | O_CLOEXEC);
-    bool synced = descriptor >= 0 && fsync(descriptor) == 0;
-    if (descriptor >= 0) close(descriptor);
+    if (descriptor < 0) return false;
+    bool synced = fsync(descriptor) == 0;
+    int error = errno;
+    close(descriptor);
+    errno = error;
     return synced;
 }
 
-/* Takes room on the disk for the whole file. */
+/* Takes room on the disk for the first bytes of the file. */
 static bool take_room(int descriptor, size_t length) {
     int error = posix_fallocate(descriptor, 0, (off_t)length);
     errno = error;
@@ -72,33 +99,37 @@ int32_t cola_file_create(const char *path, uint64_t keys, uint8_t block, uint8_t
     bool is_new = descriptor >= 0;
     if (!is_new && errno == EEXIST) descriptor = open(path, O_RDWR | O_CLOEXEC);
     if (descriptor < 0) return COLA_SYSTEM;
-    if (flock(descriptor, LOCK_EX | LOCK_NB) != 0 || fstat(descriptor, &about) != 0) {
-        answer = COLA_SYSTEM;
-    } else if (about.st_size != 0) {
-        answer = COLA_NOT_EMPTY;
-    } else {
-        answer = lay_out(descriptor, (size_t)length, keys, block, version);
+    /* What is undone where the store is not made. What another process came to first is left to it. */
+    bool removes = is_new, empties = false;
+    answer = COLA_SYSTEM;
+    if (flock(descriptor, LOCK_EX | LOCK_NB) != 0) {
+        removes = is_new && errno != EWOULDBLOCK;
+    } else if (fstat(descriptor, &about) == 0) {
+        removes = is_new && about.st_size == 0;
+        empties = !is_new && about.st_size == 0;
+        answer = about.st_size != 0 ? COLA_NOT_EMPTY : lay_out(descriptor, (size_t)length, keys, block, version);
         if (answer == COLA_OK && !sync_name(path)) answer = COLA_SYSTEM;
-        int error = errno;
-        if (answer != COLA_OK && (is_new ? unlink(path) : ftruncate(descriptor, 0)) != 0) error = errno;
-        errno = error;
     }
     int error = errno;
-    close(descriptor);
+    if (answer != COLA_OK && removes) unlink(path);
+    if (answer != COLA_OK && empties && ftruncate(descriptor, 0) != 0) error = errno;
     errno = error;
+    let_go(descriptor);
     return answer;
 }
 
-/* Maps the file and opens the store in it. Of a file that begins as a store all room is taken first. */
-static int32_t map_and_open(cola_file *file, int descriptor, size_t length) {
+/* Maps the file's store, of which room is taken and whose header is this, and opens it. */
+static int32_t map_and_open(cola_file *file, int descriptor, size_t length, const char *head) {
     char *bytes = mmap(NULL, length, PROT_READ | PROT_WRITE, MAP_SHARED, descriptor, 0);
     if (bytes == MAP_FAILED) return COLA_SYSTEM;
     int32_t answer = COLA_SYSTEM;
-    if ((length < 8 || memcmp(bytes, "COLASTOR", 8) != 0 || take_room(descriptor, length)) &&
-        mmap(bytes, first_of(length), PROT_READ | PROT_WRITE, MAP_PRIVATE | MAP_FIXED, descriptor, 0) != MAP_FAILED) {
+    if (mmap(bytes, first_of(length), PROT_READ | PROT_WRITE, MAP_PRIVATE | MAP_FIXED, descriptor, 0) != MAP_FAILED) {
         answer = cola_open(&file->store, bytes, length);
         if (answer == COLA_OK && !write_all(descriptor, bytes, HEADER, 0)) {
-            cola_close(&file->store); /* (in memory alone: the file says what it said) */
+            int error = errno;
+            cola_close(&file->store);               /* (in memory alone) */
+            write_all(descriptor, head, HEADER, 0); /* the mark is taken back, where the disk lets it be */
+            errno = error;
             answer = COLA_SYSTEM;
         }
     }
@@ -115,40 +146,57 @@ static int32_t map_and_open(cola_file *file, int descriptor, size_t length) {
     return COLA_OK;
 }
 
-int32_t cola_file_open(cola_file *file, const char *path) {
+/* Opens the store in a locked file. The file's first bytes are judged before room is taken, and that for the store alone. */
+static int32_t judge_and_open(cola_file *file, int descriptor) {
+    char head[HEADER];
+    uint64_t length;
     struct stat about;
+    if (fstat(descriptor, &about) != 0) return COLA_SYSTEM;
+    ssize_t had = read_first(descriptor, head, about.st_size < HEADER ? (size_t)about.st_size : HEADER);
+    if (had < 0) return COLA_SYSTEM;
+    int32_t answer = cola_stored_size(head, (size_t)had, (uint64_t)about.st_size, &length);
+    if (answer != COLA_OK) return answer;
+    if (!take_room(descriptor, (size_t)length)) return COLA_SYSTEM;
+    return map_and_open(file, descriptor, (size_t)length, head);
+}
+
+int32_t cola_file_open(cola_file *file, const char *path) {
     if (file == NULL || path == NULL) return COLA_NULL;
     if (file->bytes != NULL) return COLA_IN_USE;
     int descriptor = open(path, O_RDWR | O_CLOEXEC);
     if (descriptor < 0) return COLA_SYSTEM;
-    int32_t answer = COLA_SYSTEM;
-    if (flock(descriptor, LOCK_EX | LOCK_NB) == 0 && fstat(descriptor, &about) == 0)
-        answer = about.st_size == 0 ? COLA_SMALL : map_and_open(file, descriptor, (size_t)about.st_size);
-    if (answer != COLA_OK) {
-        int error = errno;
-        close(descriptor);
-        errno = error;
-    }
+    int32_t answer = flock(descriptor, LOCK_EX | LOCK_NB) == 0 ? judge_and_open(file, descriptor) : COLA_SYSTEM;
+    if (answer != COLA_OK) let_go(descriptor);
     return answer;
 }
 
-/* Writes the bytes of a closed store to a new file, which then takes the place of the one named copy. */
+/* Whether the name is that of the file: then a copy of that name would take the file's place. Or that could not be told. */
+static bool is_same(const struct stat *own, const char *copy) {
+    struct stat other;
+    if (stat(copy, &other) != 0) return errno != ENOENT;
+    bool same = other.st_dev == own->st_dev && other.st_ino == own->st_ino;
+    if (same) errno = EINVAL;
+    return same;
+}
+
+/* Writes the bytes of a closed store to a new file of a name that no file has, the header last, so that the file is no store
+ * before it is whole. It then takes the place of the one named copy. */
 static bool write_copy(const cola_file *file, const char *copy) {
     char unfinished[PATH_MAX];
-    struct stat own, other;
-    if (snprintf(unfinished, sizeof unfinished, "%s.new", copy) >= PATH_MAX) return errno = ENAMETOOLONG, false;
-    if (fstat(file->descriptor, &own) != 0) return false;
-    if (stat(copy, &other) == 0 && other.st_dev == own.st_dev && other.st_ino == own.st_ino) return errno = EINVAL, false;
-    int descriptor = open(unfinished, O_WRONLY | O_CREAT | O_TRUNC | O_CLOEXEC, own.st_mode & 0777);
+    struct stat own;
+    if (snprintf(unfinished, sizeof unfinished, "%s.new-XXXXXX", copy) >= PATH_MAX) return errno = ENAMETOOLONG, false;
+    if (fstat(file->descriptor, &own) != 0 || is_same(&own, copy)) return false;
+    int descriptor = mkostemp(unfinished, O_CLOEXEC);
     if (descriptor < 0) return false;
-    bool wrote = write_all(descriptor, file->bytes, file->length, 0);
+    const char *bytes = file->bytes;
+    bool is_copied = fchmod(descriptor, own.st_mode & 0777) == 0 &&
+                     write_all(descriptor, bytes + HEADER, file->length - HEADER, HEADER) &&
+                     write_all(descriptor, bytes, HEADER, 0) && rename(unfinished, copy) == 0;
     int error = errno;
     close(descriptor);
-    if (wrote && rename(unfinished, copy) == 0) return sync_name(copy);
-    if (wrote) error = errno;
-    unlink(unfinished);
+    if (!is_copied) unlink(unfinished);
     errno = error;
-    return false;
+    return is_copied && sync_name(copy);
 }
 
 int32_t cola_file_checkpoint(cola_file *file, const char *copy) {
@@ -156,11 +204,11 @@ int32_t cola_file_checkpoint(cola_file *file, const char *copy) {
     if (file->bytes == NULL || file->owner != (long)getpid()) return COLA_CLOSED;
     int32_t answer = cola_close(&file->store);
     if (answer != COLA_OK) return answer;
-    bool copied = write_copy(file, copy);
+    bool is_copied = write_copy(file, copy);
     int error = errno;
     answer = cola_open(&file->store, file->bytes, file->length);
     errno = error;
-    return answer != COLA_OK ? answer : copied ? COLA_OK : COLA_SYSTEM;
+    return answer != COLA_OK ? answer : is_copied ? COLA_OK : COLA_SYSTEM;
 }
 
 int32_t cola_file_close(cola_file *file) {
@@ -169,7 +217,8 @@ int32_t cola_file_close(cola_file *file) {
     int32_t answer = COLA_OK;
     char *bytes = file->bytes;
     size_t first = first_of(file->length);
-    if (file->owner == (long)getpid()) {
+    bool is_owner = file->owner == (long)getpid();
+    if (is_owner) {
         answer = cola_close(&file->store);
         if (answer == COLA_CLOSED) answer = COLA_OK; /* (a checkpoint had no memory to open it again) */
         /* All that lies behind the header, and then the header, which says that the store is closed. */
@@ -180,7 +229,7 @@ int32_t cola_file_close(cola_file *file) {
     }
     int error = errno;
     munmap(bytes, file->length);
-    close(file->descriptor);
+    is_owner ? let_go(file->descriptor) : (void)close(file->descriptor);
     *file = (cola_file)COLA_FILE_INIT;
     errno = error;
     return answer;

@@ -1,31 +1,41 @@
 # The library for C, a part of the Makefile at the top. libcola.a is the proved crate cola_c, the toolchain's heap and
-# bindings/c in one archive; libcola.so is the same, for languages that load it.
+# bindings/c in one archive; libcola.so.1 is the same, for programs and languages that load it.
 #
 #     make library                     builds both in $(LIBRARY)
-#     make install-library             installs what was built, the headers and cola.pc
+#     make install-library             installs what was built, the headers with their manual page, cola.pc and cola.py
 #     make uninstall-library           removes what was installed
 #     make check-library               builds, and runs tests/library.sh on what was built
 #
-# CORE names another libcola_c.a than the one that rt lib builds.
+# CORE names another libcola_c.a than the one that rt lib builds. The library's number rises where a program that was
+# linked with the one before no longer runs with it; what is added to cola.map gets the version that adds it.
 
 PREFIX ?= /usr/local
+LIBDIR ?= $(PREFIX)/lib
 INSTALL ?= install
 CFLAGS ?= -O2
 LIBRARY = out/lib
 
+version := $(shell cat VERSION)
+shared = libcola.so.1
 strict = -std=gnu11 -Wall -Wextra -Werror -fPIC -Iinclude
 heap = $(dir $(shell rt doc))c/liblibc_c.a
 objects = $(patsubst bindings/c/%.c,$(LIBRARY)/%.o,$(wildcard bindings/c/*.c))
 headers = include/cola.h bindings/c/cola_file.h
-libraries = $(DESTDIR)$(PREFIX)/lib
+libraries = $(DESTDIR)$(LIBDIR)
 included = $(DESTDIR)$(PREFIX)/include
+pages = $(DESTDIR)$(PREFIX)/share/man/man3
+modules = $(DESTDIR)$(PREFIX)/share/cola
 
 .PHONY: library install-library uninstall-library check-library always
 
 all: library
-install: install-library
 uninstall: uninstall-library
 check: check-library
+
+# What was built is installed: behind a first run of ./cola that is the program alone.
+install:
+	@if [ -f '$(LIBRARY)/$(shared)' ]; then $(MAKE) --no-print-directory install-library; \
+	    else echo 'cola: the library for programs is not installed, since it was not built: make library builds it' >&2; fi
 
 library: $(LIBRARY)/libcola.a $(LIBRARY)/libcola.so
 
@@ -43,22 +53,29 @@ $(LIBRARY)/libcola.a: $(CORE) $(objects)
 	rm -f $@
 	printf '%s\n' 'create $@' 'addlib $(CORE)' 'addlib $(heap)' $(objects:%='addmod %') save end | $(AR) -M
 
-$(LIBRARY)/libcola.so: $(LIBRARY)/libcola.a bindings/c/cola.map
-	$(CC) $(LDFLAGS) -shared -Wl,-soname,libcola.so -Wl,--version-script=bindings/c/cola.map -Wl,-z,defs -o $@ \
+$(LIBRARY)/$(shared): $(LIBRARY)/libcola.a bindings/c/cola.map
+	$(CC) $(LDFLAGS) -shared -Wl,-soname,$(shared) -Wl,--version-script=bindings/c/cola.map -Wl,-z,defs -o $@ \
 	    -Wl,--whole-archive $< -Wl,--no-whole-archive
 
+$(LIBRARY)/libcola.so: $(LIBRARY)/$(shared)
+	ln -sf $(shared) $@
+
 install-library:
-	test -f '$(LIBRARY)/libcola.so' || { echo 'cola: make builds the library first' >&2; exit 1; }
-	$(INSTALL) -d '$(libraries)/pkgconfig' '$(included)'
+	@test -f '$(LIBRARY)/$(shared)' || { echo 'cola: make library builds the library first' >&2; exit 1; }
+	$(INSTALL) -d '$(libraries)/pkgconfig' '$(included)' '$(pages)' '$(modules)'
 	$(INSTALL) -m 644 '$(LIBRARY)/libcola.a' '$(libraries)/libcola.a'
-	$(INSTALL) -m 755 '$(LIBRARY)/libcola.so' '$(libraries)/libcola.so'
+	$(INSTALL) -m 644 '$(LIBRARY)/$(shared)' '$(libraries)/$(shared)'
+	ln -sf $(shared) '$(libraries)/libcola.so'
 	$(INSTALL) -m 644 $(headers) '$(included)'
-	sed 's|@PREFIX@|$(PREFIX)|' bindings/c/cola.pc.in >'$(libraries)/pkgconfig/cola.pc'
-	chmod 644 '$(libraries)/pkgconfig/cola.pc'
+	sed 's|@PREFIX@|$(PREFIX)|; s|@LIBDIR@|$(LIBDIR:$(PREFIX)/%=$${prefix}/%)|; s|@VERSION@|$(version)|' bindings/c/cola.pc.in >'$(libraries)/pkgconfig/cola.pc'
+	awk -v version='$(version)' -f docs/header.awk $(headers) >'$(pages)/cola.3'
+	chmod 644 '$(libraries)/pkgconfig/cola.pc' '$(pages)/cola.3'
+	$(INSTALL) -m 644 bindings/python/cola.py '$(modules)/cola.py'
 
 uninstall-library:
-	rm -f '$(libraries)/libcola.a' '$(libraries)/libcola.so' '$(libraries)/pkgconfig/cola.pc'
-	rm -f '$(included)/cola.h' '$(included)/cola_file.h'
+	rm -f '$(libraries)/libcola.a' '$(libraries)/libcola.so' '$(libraries)/$(shared)' '$(libraries)/pkgconfig/cola.pc'
+	rm -f '$(included)/cola.h' '$(included)/cola_file.h' '$(pages)/cola.3' '$(modules)/cola.py'
+	-rmdir '$(modules)' 2>/dev/null
 
 check-library: library
 	tests/library.sh '$(LIBRARY)'

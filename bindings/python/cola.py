@@ -1,3 +1,4 @@
+# SPDX-License-Identifier: MIT
 """An ordered key-value store in one file: a mapping of bytes to bytes.
 
     import cola
@@ -15,16 +16,22 @@ A store is for a number of keys that is chosen when its file is made. Keys are o
 bytes and values up to 32, or up to 40 and 72 in a file of version 2. A process that dies leaves a file that is refused from
 then on (NotClosed): go back to the copy of the last checkpoint.
 
-Threads may share a store: no call lets another thread run before it has ended. It stands on libcola.so over ctypes alone.
+Threads may share a store: one call on it is made at a time, and other threads run while a file is made, opened, copied or
+closed. It stands on libcola.so over ctypes alone.
 """
 
 import ctypes
 import ctypes.util
+import operator
 import os
+import threading
+import weakref
 from collections.abc import ItemsView, MutableMapping, ValuesView
 
 __all__ = ["create", "open", "Store", "Error", "Full", "Worn", "Closed", "Length", "Options", "NotEmpty", "NotStore",
            "Small", "NotClosed", "BadCell", "Overfull", "KEY_MAX", "VALUE_MAX", "KEYS_MAX"]
+
+__version__ = "1.0"
 
 KEY_MAX = 40  #: bytes of a key in a file of version 2; 24 in one of version 1
 VALUE_MAX = 72  #: bytes of a value in a file of version 2; 32 in one of version 1
@@ -128,12 +135,30 @@ class _Cursor(ctypes.Structure):
                 ("bounded", ctypes.c_bool), ("from_", ctypes.c_uint8 * KEY_MAX), ("until", ctypes.c_uint8 * KEY_MAX)]
 
 
+def _declare(library, calls):
+    """Says what the calls take; each answers a number."""
+    for call, words in calls.items():
+        getattr(library, call).argtypes = words
+        getattr(library, call).restype = ctypes.c_int32
+    return library
+
+
 def _load():
-    """libcola.so: the file that COLA_LIBRARY names, else where the system finds it."""
-    name = os.environ.get("COLA_LIBRARY") or ctypes.util.find_library("cola") or "libcola.so"
-    library = ctypes.PyDLL(name, use_errno=True)  # (PyDLL: the other threads wait)
+    """libcola.so, twice: for calls of some microseconds, by which the interpreter waits, and for those that wait for a disk,
+    while other threads run. It is the file that COLA_LIBRARY names, else that of the module's wheel, else where the system
+    finds it."""
+    named = os.environ.get("COLA_LIBRARY")
+    carried = os.path.join(os.path.dirname(__file__), "cola.libs", "libcola.so.1")
+    name = named or (os.path.exists(carried) and carried) or ctypes.util.find_library("cola") or "libcola.so.1"
+    try:
+        quick, slow = ctypes.PyDLL(name, use_errno=True), ctypes.CDLL(name, use_errno=True)
+    except OSError as error:
+        raise ImportError(f"{error}: COLA_LIBRARY {'has to name' if named else 'may name'} the file of libcola.so "
+                          "(make library builds out/lib/libcola.so)", name="cola") from None
     at, size, text, number = ctypes.c_void_p, ctypes.c_size_t, ctypes.c_char_p, ctypes.POINTER(ctypes.c_uint64)
-    for call, words in {
+    quick.cola_strerror.argtypes = [ctypes.c_int32]
+    quick.cola_strerror.restype = ctypes.c_char_p
+    return _declare(quick, {
         "cola_put": [at, text, size, text, size, at],
         "cola_put_if": [at, text, size, ctypes.c_uint64, text, size, number],
         "cola_get": [at, text, size, text, ctypes.POINTER(size)],
@@ -142,19 +167,26 @@ def _load():
         "cola_count": [at, number],
         "cola_seek": [ctypes.POINTER(_Cursor), text, size, text, size],
         "cola_next": [at, ctypes.POINTER(_Cursor), ctypes.POINTER(_Row), size, ctypes.POINTER(size)],
+    }), _declare(slow, {
         "cola_file_create": [text, ctypes.c_uint64, ctypes.c_uint8, ctypes.c_uint8],
         "cola_file_open": [ctypes.POINTER(_File), text],
         "cola_file_checkpoint": [ctypes.POINTER(_File), text],
         "cola_file_close": [ctypes.POINTER(_File)],
-    }.items():
-        getattr(library, call).argtypes = words
-        getattr(library, call).restype = ctypes.c_int32
-    library.cola_strerror.argtypes = [ctypes.c_int32]
-    library.cola_strerror.restype = ctypes.c_char_p
-    return library
+    })
 
 
-_library = _load()
+_library, _files = _load()
+_open_stores = weakref.WeakValueDictionary()  # by id: those that were opened here and are there still
+
+
+def _renew_locks():
+    """In a process made by fork no thread is left that could give up a lock."""
+    for store in list(_open_stores.values()):
+        store._lock = threading.RLock()
+
+
+if hasattr(os, "register_at_fork"):
+    os.register_at_fork(after_in_child=_renew_locks)
 
 
 def _check(answer, path=None):
@@ -177,12 +209,21 @@ def _bytes(it):
     raise TypeError(f"a key or a value is bytes, and not {type(it).__name__}")
 
 
+def _path(path):
+    """The bytes of a path, of which none is zero."""
+    path = os.fsencode(path)
+    if b"\0" in path:
+        raise ValueError("a path has no zero byte")
+    return path
+
+
 def create(path, keys, block=5, version=1):
     """Makes the file of a new, closed store for so many keys, with blocks of 2**block cells. A file that is there has to be
     empty (NotEmpty)."""
+    keys, block, version = operator.index(keys), operator.index(block), operator.index(version)
     if not (0 <= keys < 1 << 64 and 0 <= block < 256 and 0 <= version < 256):
         raise Options("no store has these keys, this block or this version")
-    _check(_library.cola_file_create(os.fsencode(path), keys, block, version), path)
+    _check(_files.cola_file_create(_path(path), keys, block, version), path)
 
 
 def open(path):
@@ -208,9 +249,11 @@ class Store(MutableMapping):
     """
 
     def __init__(self, path):
+        self._lock = threading.RLock()  # (a signal's handler may call while a call of its own thread is made)
         self._file = _File(descriptor=-1)
         self._at = ctypes.byref(self._file)
-        _check(_library.cola_file_open(self._file, os.fsencode(path)), path)
+        _check(_files.cola_file_open(self._file, _path(path)), path)
+        _open_stores[id(self)] = self
 
     def __enter__(self):
         return self
@@ -221,17 +264,21 @@ class Store(MutableMapping):
     def __del__(self):
         file = getattr(self, "_file", None)
         if file is not None and file.bytes:
-            _library.cola_file_close(file)
+            _files.cola_file_close(file)
 
     def close(self):
         """Closes the store and its file; then all is on the disk. A store that is closed stays so."""
-        if self._file.bytes:
-            _check(_library.cola_file_close(self._file))
+        with self._lock:
+            if self._file.bytes:
+                _check(_files.cola_file_close(self._file))
 
     def checkpoint(self, copy):
         """Makes a copy of the store as it is now, a closed store, in a file that is replaced as a whole and is on the disk
-        then. It writes as many bytes as the file has."""
-        _check(_library.cola_file_checkpoint(self._file, os.fsencode(copy)), copy)
+        then. It writes as many bytes as the store's file has; other threads run meanwhile, and wait where they call with
+        this store."""
+        name = _path(copy)
+        with self._lock:
+            _check(_files.cola_file_checkpoint(self._file, name), copy)
 
     def __getitem__(self, key):
         if isinstance(key, slice):
@@ -239,7 +286,8 @@ class Store(MutableMapping):
         key = _bytes(key)
         value = ctypes.create_string_buffer(VALUE_MAX)
         length = ctypes.c_size_t()
-        answer = _library.cola_get(self._at, key, len(key), value, length)
+        with self._lock:
+            answer = _library.cola_get(self._at, key, len(key), value, length)
         if answer == _NONE:
             raise KeyError(key)
         _check(answer)
@@ -247,18 +295,21 @@ class Store(MutableMapping):
 
     def __setitem__(self, key, value):
         key, value = _bytes(key), _bytes(value)
-        _check(_library.cola_put(self._at, key, len(key), value, len(value), None))
+        with self._lock:
+            _check(_library.cola_put(self._at, key, len(key), value, len(value), None))
 
     def __delitem__(self, key):
         key = _bytes(key)
-        answer = _library.cola_delete(self._at, key, len(key))
+        with self._lock:
+            answer = _library.cola_delete(self._at, key, len(key))
         if answer == _NONE:
             raise KeyError(key)
         _check(answer)
 
     def __len__(self):
         count = ctypes.c_uint64()
-        _check(_library.cola_count(self._at, count))
+        with self._lock:
+            _check(_library.cola_count(self._at, count))
         return count.value
 
     def __iter__(self):
@@ -272,9 +323,12 @@ class Store(MutableMapping):
 
     def put_if(self, key, seen, value):
         """Puts the value where the key has the stamp that was seen, 0 where it is absent, and says whether it did."""
-        key, value = _bytes(key), _bytes(value)
+        key, value, seen = _bytes(key), _bytes(value), operator.index(seen)
+        if not 0 <= seen < 1 << 64:
+            raise ValueError("a stamp is a number from 0 to 2**64 - 1")
         stamp = ctypes.c_uint64()
-        answer = _library.cola_put_if(self._at, key, len(key), seen, value, len(value), stamp)
+        with self._lock:
+            answer = _library.cola_put_if(self._at, key, len(key), seen, value, len(value), stamp)
         if answer != _OTHER:
             _check(answer)
         return answer == _OK
@@ -283,7 +337,8 @@ class Store(MutableMapping):
         """The number of the put that gave the key its value; 0 where it is absent, and in a file of version 1."""
         key = _bytes(key)
         stamp = ctypes.c_uint64()
-        answer = _library.cola_stamp(self._at, key, len(key), stamp)
+        with self._lock:
+            answer = _library.cola_stamp(self._at, key, len(key), stamp)
         if answer != _NONE:
             _check(answer)
         return stamp.value
@@ -306,7 +361,8 @@ class Store(MutableMapping):
         rows = (_Row * _ROWS)()
         given = ctypes.c_size_t()
         while True:
-            answer = _library.cola_next(self._at, cursor, rows, _ROWS, given)
+            with self._lock:
+                answer = _library.cola_next(self._at, cursor, rows, _ROWS, given)
             if answer == _NONE:
                 return
             _check(answer)

@@ -4,8 +4,11 @@ import os
 import random
 import shutil
 import signal
+import subprocess
+import sys
 import tempfile
 import threading
+import time
 import unittest
 
 import cola
@@ -107,6 +110,33 @@ class Stores(unittest.TestCase):
         self.assertEqual(store[b"hits"], b"2")
         self.assertGreater(store.stamp(b"hits"), seen)
 
+    def test_a_stamp_is_a_number_of_64_bits(self):
+        store = self.store(version=2)
+        self.assertTrue(store.put_if(b"hits", 0, b"1"))
+        for seen in -1, 1 << 64, 1 << 70:
+            with self.assertRaises(ValueError):
+                store.put_if(b"hits", seen, b"2")
+        for seen in None, "0", 0.0:
+            with self.assertRaises(TypeError):
+                store.put_if(b"hits", seen, b"2")
+        self.assertFalse(store.put_if(b"hits", (1 << 64) - 1, b"2"))
+        self.assertEqual(dict(store), {b"hits": b"1"})
+
+    def test_a_path_has_no_zero_byte(self):
+        store = self.store()
+        for path in self.path + "\0.store", os.fsencode(self.copy) + b"\0":
+            for call in (lambda: cola.create(path, 10), lambda: cola.open(path), lambda: store.checkpoint(path)):
+                with self.assertRaises(ValueError):
+                    call()
+        self.assertEqual(os.listdir(self.folder), ["store"])
+
+    def test_a_library_that_is_missing_is_named(self):
+        named = os.path.join(self.folder, "libcola.so")
+        done = subprocess.run([sys.executable, "-c", "import cola"], env={**os.environ, "COLA_LIBRARY": named}, capture_output=True)
+        self.assertEqual(done.returncode, 1)
+        last = done.stderr.decode().splitlines()[-1]
+        self.assertTrue(last.startswith("ImportError: ") and named in last and "COLA_LIBRARY" in last, last)
+
     def test_files_that_are_refused(self):
         with self.assertRaises(cola.Options):
             cola.create(self.path, 0)
@@ -173,6 +203,67 @@ class Stores(unittest.TestCase):
             thread.join()
         self.assertEqual(len(store), 800)
         self.assertEqual([key for key, value in store.items() if not key.startswith(value)], [])
+
+    def test_other_threads_run_while_a_copy_is_made(self):
+        store = self.store(keys=1 << 18)  # (a file of 64 MiB)
+        store[b"a"] = b"1"
+        beats, done = [], threading.Event()
+
+        def beat():
+            while not done.is_set():
+                beats.append(time.monotonic())
+                time.sleep(0.0005)
+
+        thread = threading.Thread(target=beat)
+        thread.start()
+        begun = time.monotonic()
+        store.checkpoint(self.copy)
+        ended = time.monotonic()
+        done.set()
+        thread.join()
+        self.assertGreater(sum(begun < beat < ended for beat in beats), 5)
+
+    def test_calls_on_a_store_wait_for_each_other(self):
+        store = self.store()
+
+        def work(name):
+            for at in range(100):
+                store[name + b"%d" % at] = name
+                if at % 20 == 0:
+                    store.checkpoint(self.copy)
+
+        threads = [threading.Thread(target=work, args=(bytes([letter]),)) for letter in b"abc"]
+        for thread in threads:
+            thread.start()
+        for thread in threads:
+            thread.join()
+        store.checkpoint(self.copy)
+        with cola.open(self.copy) as copy:
+            self.assertEqual(len(copy), 300)
+            self.assertEqual(dict(copy), dict(store))
+
+    def test_a_forked_process_waits_for_no_thread_of_its_parent(self):
+        store = self.store()
+        store[b"a"] = b"1"
+        held, done = threading.Event(), threading.Event()
+
+        def hold():
+            with store._lock:  # (as a checkpoint does)
+                held.set()
+                done.wait()
+
+        thread = threading.Thread(target=hold)
+        thread.start()
+        held.wait()
+        child = os.fork()
+        if child == 0:
+            signal.alarm(10)
+            store.close()  # (leaves the file to the parent)
+            os._exit(0)
+        self.assertEqual(os.waitpid(child, 0)[1], 0)
+        done.set()
+        thread.join()
+        self.assertEqual(dict(store), {b"a": b"1"})
 
 
 if __name__ == "__main__":

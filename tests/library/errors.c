@@ -7,6 +7,7 @@
  * that was met; all have to be. */
 #include <errno.h>
 #include <fcntl.h>
+#include <glob.h>
 #include <signal.h>
 #include <stdio.h>
 #include <sys/resource.h>
@@ -92,6 +93,31 @@ static void of_sizes(void) {
     ANSWERS(COLA_OPTIONS, cola_size(1000, 5, 3, &length));
     ANSWERS(COLA_NULL, cola_size(1000, 5, 1, NULL));
     HOLDS(length == 7);
+}
+
+/* How many bytes a file's store takes, by the file's first bytes: as an opening of all its bytes answers. */
+static void of_stored_sizes(void) {
+    uint64_t length, stored = 7;
+    uint8_t *bytes = store_of(30, 3, 2, 20, &length);
+    ANSWERS(COLA_NULL, cola_stored_size(NULL, 512, length, &stored));
+    ANSWERS(COLA_NULL, cola_stored_size(bytes, 512, length, NULL));
+    ANSWERS(COLA_SMALL, cola_stored_size(NULL, 0, 0, &stored));
+    ANSWERS(COLA_SMALL, cola_stored_size(bytes, 511, 511, &stored));
+    ANSWERS(COLA_SMALL, cola_stored_size(bytes, 512, length - 1, &stored));
+    bytes[0] ^= 1;
+    ANSWERS(COLA_NOT_STORE, cola_stored_size(bytes, 512, length, &stored));
+    ANSWERS(COLA_NOT_STORE, cola_stored_size(bytes, 512, 512, &stored));
+    bytes[0] ^= 1, bytes[14] = 1;
+    ANSWERS(COLA_SMALL, cola_stored_size(bytes, 512, length - 1, &stored));
+    ANSWERS(COLA_NOT_CLOSED, cola_stored_size(bytes, 512, length, &stored));
+    HOLDS(stored == 7);
+    bytes[14] = 0;
+    ANSWERS(COLA_OK, cola_stored_size(bytes, 512, length, &stored));
+    HOLDS(stored == length);
+    stored = 7;
+    ANSWERS(COLA_OK, cola_stored_size(bytes, (size_t)length, length + 12345, &stored));
+    HOLDS(stored == length);
+    free(bytes);
 }
 
 static void of_new_stores(void) {
@@ -263,6 +289,7 @@ static void of_nulls(cola *store) {
     ANSWERS(COLA_NULL, cola_seek(NULL, "a", 1, NULL, 0));
     ANSWERS(COLA_NULL, cola_seek(&cursor, NULL, 1, NULL, 0));
     ANSWERS(COLA_NULL, cola_seek(&cursor, "a", 1, NULL, 1));
+    memset(&cursor, 0xAB, sizeof cursor); /* (what a caller's cursor had is not looked at) */
     ANSWERS(COLA_OK, cola_seek(&cursor, "a", 1, NULL, 0));
     ANSWERS(COLA_NULL, cola_next(NULL, &cursor, &row, 1, &length));
     ANSWERS(COLA_NULL, cola_next(store, NULL, &row, 1, &length));
@@ -352,7 +379,7 @@ static void of_calls(int version) {
     free(bytes);
 }
 
-static char path[4096], other_path[4096], unfinished_path[4096];
+static char path[4096], other_path[4096], near_path[4096], unfinished[4096];
 
 static void write_file(const char *where, const void *bytes, size_t length) {
     FILE *it = fopen(where, "wb");
@@ -362,6 +389,49 @@ static void write_file(const char *where, const void *bytes, size_t length) {
 static long long length_of(const char *where) {
     struct stat about;
     return stat(where, &about) == 0 ? (long long)about.st_size : -1;
+}
+
+/* Whether a copy that was not finished is left. */
+static bool is_unfinished_left(void) {
+    glob_t names;
+    bool is_left = glob(unfinished, 0, NULL, &names) == 0;
+    if (is_left) globfree(&names);
+    return is_left;
+}
+
+/* A child that waits until it is told, and ends as another program, so that a tool that looks for leaks finds none. */
+static void lives_on(int done[2]) {
+    char it;
+    if (read(done[0], &it, 1) == 1) execlp("true", "true", (char *)NULL);
+    _exit(9);
+}
+
+/* A parent that dies with an open store, and its child that lives on, and has the lock until it ends. */
+static void of_a_parent_that_dies(int ready[2], int done[2]) {
+    cola_file file = COLA_FILE_INIT;
+    int32_t answer = COLA_SYSTEM;
+    int status = -1;
+    char it = 0;
+    ANSWERS(COLA_OK, cola_file_open(&file, path));
+    ANSWERS(COLA_OK, cola_file_checkpoint(&file, other_path));
+    ANSWERS(COLA_OK, cola_file_close(&file));
+    pid_t parent = fork();
+    if (parent == 0) {
+        if (cola_file_open(&file, path) != COLA_OK) _exit(9);
+        if (fork() == 0) lives_on(done);
+        if (write(ready[1], &it, 1) == 1) pause();
+        _exit(9);
+    }
+    HOLDS(read(ready[0], &it, 1) == 1);
+    kill(parent, SIGKILL);
+    waitpid(parent, &status, 0);
+    HOLDS(WIFSIGNALED(status));
+    ANSWERS(COLA_SYSTEM, cola_file_open(&file, path));
+    HOLDS(errno == EWOULDBLOCK);
+    HOLDS(write(done[1], &it, 1) == 1);
+    for (int tries = 0; tries < 1000 && answer == COLA_SYSTEM; tries++) usleep(10000), answer = cola_file_open(&file, path);
+    ANSWERS(COLA_NOT_CLOSED, answer);
+    HOLDS(rename(other_path, path) == 0);
 }
 
 /* Another process that has the file open: what an opening of it answers here. */
@@ -396,8 +466,38 @@ static void of_two_processes(void) {
     waitpid(child, &status, 0);
     HOLDS(status == 0);
     ANSWERS(COLA_OK, cola_put(&file.store, "parent", 6, "goes on", 7, NULL));
+    child = fork(); /* one that lives on does not keep the lock of a file that its parent closes */
+    if (child == 0) lives_on(done);
     ANSWERS(COLA_OK, cola_file_close(&file));
+    ANSWERS(COLA_OK, cola_file_open(&file, path));
+    ANSWERS(COLA_OK, cola_file_close(&file));
+    HOLDS(write(done[1], &it, 1) == 1);
+    waitpid(child, &status, 0);
+    HOLDS(status == 0);
+    of_a_parent_that_dies(ready, done);
     close(ready[0]), close(ready[1]), close(done[0]), close(done[1]);
+}
+
+/* Room is taken for a store, and not for what a file has behind it, or for a file that is refused. */
+static void of_longer_files(void) {
+    cola_file file = COLA_FILE_INIT;
+    struct stat about;
+    off_t longer = (off_t)1 << 31;
+    int descriptor = open(path, O_RDWR);
+    HOLDS(ftruncate(descriptor, longer) == 0);
+    ANSWERS(COLA_OK, cola_file_open(&file, path));
+    HOLDS(file.length == 8192);
+    ANSWERS(COLA_OK, cola_file_checkpoint(&file, other_path));
+    ANSWERS(COLA_OK, cola_file_close(&file));
+    HOLDS(fstat(descriptor, &about) == 0 && about.st_size == longer && about.st_blocks < 2048);
+    HOLDS(length_of(other_path) == 8192);
+    HOLDS(pwrite(descriptor, "c", 1, 0) == 1);
+    ANSWERS(COLA_NOT_STORE, cola_file_open(&file, path));
+    HOLDS(pwrite(descriptor, "C", 1, 0) == 1 && pwrite(descriptor, "\1", 1, 14) == 1);
+    ANSWERS(COLA_NOT_CLOSED, cola_file_open(&file, path));
+    HOLDS(fstat(descriptor, &about) == 0 && about.st_blocks < 2048);
+    HOLDS(pwrite(descriptor, "", 1, 14) == 1 && ftruncate(descriptor, 8192) == 0);
+    close(descriptor);
 }
 
 static void of_files(void) {
@@ -449,12 +549,27 @@ static void of_files(void) {
     setrlimit(RLIMIT_FSIZE, &less);
     ANSWERS(COLA_SYSTEM, cola_file_checkpoint(&file, other_path));
     setrlimit(RLIMIT_FSIZE, &before);
-    HOLDS(length_of(other_path) == -1 && length_of(unfinished_path) == -1);
+    HOLDS(length_of(other_path) == -1 && !is_unfinished_left());
     ANSWERS(COLA_OK, cola_file_checkpoint(&file, other_path));
     ANSWERS(COLA_OK, cola_file_close(&file));
     HOLDS(length_of(other_path) == 8192);
     ANSWERS(COLA_OK, cola_file_open(&file, other_path));
     ANSWERS(COLA_OK, cola_file_close(&file));
+
+    /* A copy has the mode of its store, and no name that another file has is taken meanwhile. */
+    struct stat about;
+    HOLDS(rename(path, near_path) == 0 && chmod(near_path, 0604) == 0);
+    ANSWERS(COLA_OK, cola_file_open(&file, near_path));
+    ANSWERS(COLA_OK, cola_put(&file.store, "b", 1, "1", 1, NULL));
+    ANSWERS(COLA_OK, cola_file_checkpoint(&file, path));
+    ANSWERS(COLA_OK, cola_put(&file.store, "b", 1, "2", 1, NULL));
+    ANSWERS(COLA_OK, cola_file_close(&file));
+    HOLDS(length_of(near_path) == 8192 && length_of(path) == 8192 && !is_unfinished_left());
+    HOLDS(stat(path, &about) == 0 && (about.st_mode & 0777) == 0604);
+    ANSWERS(COLA_OK, cola_file_open(&file, near_path));
+    ANSWERS(COLA_OK, cola_file_close(&file));
+    HOLDS(rename(near_path, path) == 0);
+    of_longer_files();
 
     /* A checkpoint that has no memory to open the store again leaves it closed, with its map. */
     ANSWERS(COLA_OK, cola_file_open(&file, path));
@@ -484,11 +599,14 @@ int main(int count, char **words) {
     if (count < 2) return fprintf(stderr, "errors FOLDER\n"), 2;
     snprintf(path, sizeof path, "%s/errors.store", words[1]);
     snprintf(other_path, sizeof other_path, "%s/errors.copy", words[1]);
-    snprintf(unfinished_path, sizeof unfinished_path, "%s/errors.copy.new", words[1]);
+    snprintf(near_path, sizeof near_path, "%s/errors.store.new", words[1]);
+    snprintf(unfinished, sizeof unfinished, "%s/errors.*.new-*", words[1]);
     unlink(path);
     unlink(other_path);
+    unlink(near_path);
     signal(SIGXFSZ, SIG_IGN);
     of_sizes();
+    of_stored_sizes();
     of_new_stores();
     of_openings();
     of_damaged_stores();

@@ -1,8 +1,9 @@
 /* A process that is killed in mid-session, at each of many moments: its file is refused from then on, and the copy of its
- * last checkpoint has the map of that moment.
+ * last checkpoint has the map of that moment. A copy that was not finished is refused, or has such a map too.
  *
  *     killed FOLDER TIMES
  */
+#include <glob.h>
 #include <signal.h>
 #include <stdio.h>
 #include <sys/wait.h>
@@ -13,7 +14,7 @@
 
 enum { KEYS = 5000, EVERY = 500 };
 
-static char path[4096], copy[4096], saved[5000];
+static char path[4096], copy[4096], unfinished[5000];
 
 #define HOLDS(is) ((is) ? (void)0 : (fprintf(stderr, "killed: line %d: not so: %s\n", __LINE__, #is), exit(1)))
 
@@ -89,19 +90,27 @@ static void one_time(int time) {
     HOLDS(cola_file_open(&file, path) == COLA_NOT_CLOSED);
     long puts = puts_of(copy);
     HOLDS(puts % EVERY == 0 && (puts == last || puts == last + EVERY));
+    glob_t left;
+    if (glob(unfinished, 0, NULL, &left) == 0) {
+        HOLDS(left.gl_pathc == 1);
+        int32_t answer = cola_file_open(&file, left.gl_pathv[0]);
+        HOLDS(answer == COLA_OK || answer == COLA_SMALL || answer == COLA_NOT_STORE);
+        if (answer == COLA_OK) HOLDS(cola_file_close(&file) == COLA_OK && puts_of(left.gl_pathv[0]) == last + EVERY);
+        HOLDS(unlink(left.gl_pathv[0]) == 0);
+        globfree(&left);
+    }
     /* The copy takes the file's place, and the session goes on. */
     HOLDS(rename(copy, path) == 0);
     HOLDS(cola_file_open(&file, path) == COLA_OK);
     HOLDS(cola_put(&file.store, "zz", 2, "on", 2, NULL) == COLA_OK);
     HOLDS(cola_file_close(&file) == COLA_OK);
-    snprintf(saved, sizeof saved, "%s.new", copy);
-    unlink(saved);
 }
 
 int main(int count, char **words) {
     if (count < 3) return fprintf(stderr, "killed FOLDER TIMES\n"), 2;
     snprintf(path, sizeof path, "%.4000s/killed.store", words[1]);
     snprintf(copy, sizeof copy, "%.4000s/killed.copy", words[1]);
+    snprintf(unfinished, sizeof unfinished, "%s.new-*", copy);
     int times = atoi(words[2]);
     for (int time = 0; time < times; time++) one_time(time);
     printf("killed %d times\n", times);

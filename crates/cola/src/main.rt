@@ -7,15 +7,15 @@ mod replies;
 
 use crate::replies::{Asking, Replies, Waiting};
 use cola_command::serve;
-use cola_filedev::FileDevice;
+use cola_filedev::{LockedDevice, Locks};
 use cola_io::{StdSink, StdSource};
 use cola_outside::Steps;
 use cola_status::Status;
 use cola_words::{Opening, files_of};
 use std::cell::RefCell;
+use std::fs::File;
 use std::io::BufWriter;
 use std::marker::Brand;
-use std::os::unix::fs::FileExt;
 use std::process::ExitCode;
 use std::rt::{Env, Files};
 use std::sync::ledger::{Blank, Ledger};
@@ -30,34 +30,29 @@ fn take_words<R: Env + AllocGlobal>(rt: &R) -> Option<Vec<String>> {
     Some(words)
 }
 
-/// The file that a word names, opened so by the first call on it; none where a mode has none.
-fn file_of<'a, R: Files>(
-    rt: &'a R,
+/// The file that a word names, opened so by the first call on it, and locked; none where a mode has none.
+fn file_of<'a, R: Files<File = File>>(
+    locks: &'a Locks<'a, R>,
     words: &'a [String],
     opening: Option<Opening>,
-) -> FileDevice<'a, R>
-where
-    R::File: FileExt,
-{
+) -> LockedDevice<'a, R> {
     let (place, make) = match opening {
         Some(Opening::Existing(place)) => (place, false),
         Some(Opening::Made(place)) => (place, true),
-        None => return FileDevice::none(rt),
+        None => return LockedDevice::none(locks.opener()),
     };
     match words.get(place as usize) {
-        Some(path) => FileDevice::new(rt, path.as_str(), make),
-        None => FileDevice::none(rt),
+        Some(path) => LockedDevice::new(locks.opener(), path.as_str(), make),
+        None => LockedDevice::none(locks.opener()),
     }
 }
 
 /// Serves the words over their files, standard input and standard output, with steps on a ledger of their own.
-fn run<L: Ledger, R: Files + Input + Print + AllocGlobal>(
+fn run<L: Ledger, R: Files<File = File> + Input + Print + AllocGlobal>(
     blank: Blank,
     rt: &R,
     words: &[String],
 ) -> u8
-where
-    R::File: FileExt,
     requires name { blank.name ≡ L.name }
     requires parts { blank.parts ≡ L.parts }
     requires some { 0 < L.parts }
@@ -73,8 +68,9 @@ where
     let mut sink = StdSink::new(Waiting { replies: &replies });
     let mut steps = Steps::<L>::begin(blank);
     let (first, second) = files_of(words);
-    let first = file_of(rt, words, first);
-    let second = file_of(rt, words, second);
+    let locks = Locks::new(rt);
+    let first = file_of(&locks, words, first);
+    let second = file_of(&locks, words, second);
     let served = serve(
         rt.alloc(),
         words,

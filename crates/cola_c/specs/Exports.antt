@@ -1,5 +1,5 @@
 -- What a call by C says of the session behind its handle.
-use Rattle.std.specs.Prelude.{◌≡◌, ◌<◌, ◌≤◌, ◌↔◌, ℕ, ℤ, pos, true, Bool, Option, Some, List, [], length, Result, IfOk, IfErr, OnOk, OnErr, None, IsSome}
+use Rattle.std.specs.Prelude.{◌≡◌, ◌<◌, ◌≤◌, ◌↔◌, ℕ, ℤ, pos, true, Bool, Option, Some, List, [], length, Result, Ok, Err, IfOk, IfErr, OnOk, OnErr, None, IsSome}
 use Rattle.std.specs.Result.{result_unwrap_or}
 use Rattle.cola_spec.specs.Bounds.{put_bound, get_bound, range_bound}
 use Rattle.cola_spec.specs.Command as command
@@ -27,6 +27,7 @@ use Rattle.cola_handle.specs.Open.{bytes_of, HoldsMap, shape_of, levels_of, Stay
 use Rattle.cola_handle.specs.Reading.{Reads, ReadsFew}
 use Rattle.cola_handle.specs.Walking.{RangeSays}
 use Rattle.cola_handle.specs.Created.{HasSize}
+use Rattle.cola_handle.specs.Stored.{StoredSays}
 use Rattle.cola_handle.specs.Lent.{StandsFor, HasTerms, OpenCause, AreLeft}
 
 -- this is said where the handle is closed
@@ -146,6 +147,11 @@ abbrev pub Sizes : (keys block_exp version before now : ℕ) → Answer → Type
 Sizes keys block_exp version before now Done = HasSize keys block_exp version (Some now)
 Sizes keys block_exp version before now Options = HasSize keys block_exp version None × (now ≡ before)
 Sizes keys block_exp version before now _ = ⊥
+
+-- how many bytes the closed store of a file takes, or the refusal that the file's first bytes tell: then the place keeps what it had
+abbrev pub SizesStored : (file : List ℕ) → (before now : ℕ) → Answer → Type 0
+SizesStored file before now Done = StoredSays file (Ok now)
+SizesStored file before now why = StoredSays file (Err why) × (now ≡ before)
 
 module _ (before : Region) where
   -- an opening: the session has the bytes of the region, with the mark that the store is in use

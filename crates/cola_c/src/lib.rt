@@ -9,8 +9,9 @@ ghost use Rattle.cola_handle.specs.declared.answer.Answer.TheVariants as answer;
 ghost use Rattle.cola_handle.specs.Cursors.{are_short, IsSet, ahead, end_at, gave};
 ghost use Rattle.cola_handle.specs.Numbers.{number, found, made, made_if};
 ghost use Rattle.cola_handle.specs.Open.{HoldsMap};
-ghost use Rattle.cola_c.specs.Exports.{IfClosed, IfOpen, AnswersClosed, Answered, TellsValue, TellsStamp, Deletes, TellsPut, TellsPutIf, Nexts, AnswersNext, IsAbsentAtEnd, Tells, Opens, IsRefused, Closes, Checkpoints, Unfinished, Sizes};
+ghost use Rattle.cola_c.specs.Exports.{IfClosed, IfOpen, AnswersClosed, Answered, TellsValue, TellsStamp, Deletes, TellsPut, TellsPutIf, Nexts, AnswersNext, IsAbsentAtEnd, Tells, Opens, IsRefused, Closes, Checkpoints, Unfinished, Sizes, SizesStored};
 ghost use Rattle.cola_handle.specs.Created.{Creates};
+ghost use Rattle.cola_handle.specs.Stored.{Begins};
 
 use cola_handle::{
     Answer, Cola, Cursor, Refusal, Row, Session, tell_delete, tell_put, tell_put_if, tell_stamp,
@@ -33,6 +34,21 @@ pub extern "C" fn cola_core_size(keys: u64, block: u8, version: u8, bytes: &mut 
             Answer::Done.code()
         }
         None => Answer::Options.code(),
+    }
+}
+
+/// How many bytes the closed store of a file takes, by the file's first 512 bytes, or all of a shorter one, and its length.
+#[unsafe(no_mangle)]
+pub extern "C" fn cola_core_stored_size(head: &[u8], size: u64, bytes: &mut u64) -> i32
+    ensures { (file : List ℕ) → Begins head.now size file →
+        Tells result (SizesStored file bytes.old bytes.new) }
+{
+    match cola_handle::stored_size(head, size) {
+        Ok(stored) => {
+            *bytes = stored;
+            Answer::Done.code()
+        }
+        Err(why) => why.code(),
     }
 }
 

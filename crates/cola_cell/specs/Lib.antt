@@ -17,6 +17,5 @@ pub mod State
 pub mod Reads
 pub mod ToldCells
 pub mod Looks
-pub mod Shapes
 pub mod ObjectLaws
 pub mod Laws

@@ -11,7 +11,7 @@ use Rattle.cola_layout.specs.declared.header.Header.{Header}
 use Rattle.cola_layout.specs.declared.geometry.Geometry.{Geometry}
 use Rattle.cola_layout.specs.declared.marks.Marks.{Marks}
 use Rattle.cola_layout.specs.Marks.{numbers_of, all_numbers, no_marks}
-use Rattle.cola_image.specs.Cells.{file_spots}
+use Rattle.cola_layout.specs.Cells.{file_spots}
 use Rattle.cola_image.specs.Standing.{LevelsStandFor, found_in}
 use Rattle.cola_image.proofs.StandingLemmas.{stand-alike}
 use Rattle.cola_level.specs.Marks.{all_marks_of}

@@ -4,7 +4,7 @@ use Rattle.cola_spec.specs.Map.{Map}
 use Rattle.cola_cell.specs.Held.{Held, IsTelling}
 use Rattle.cola_layout.specs.declared.header.Header.{Header}
 use Rattle.cola_layout.specs.Marks.{all_numbers}
-use Rattle.cola_image.specs.Cells.{file_spots}
+use Rattle.cola_layout.specs.Cells.{file_spots}
 use Rattle.cola_image.specs.Standing.{LevelsStandFor, found_in}
 use Rattle.cola_mutation.specs.Standing.{StandsFor}
 use Rattle.cola_run.specs.Saving.{SameReads, AreFileSpots}

@@ -3,7 +3,7 @@ use Rattle.std.proofs.Common.{◌≡◌, ◌∙◌, ℕ, zero, suc, ◌+◌, ◌
 use Rattle.cola_cell.specs.Held.{Held, LawCell, Spots}
 use Rattle.cola_clock.specs.Clock.{period, visible_slot}
 use Rattle.cola_clock.specs.Marks.{Marks, marks_at}
-use Rattle.cola_image.specs.Cells.{slot_cells}
+use Rattle.cola_layout.specs.Cells.{slot_cells}
 use Rattle.cola_laws.specs.Chain.{visibles}
 use Rattle.cola_laws.specs.Slots.{level_of, levels_of}
 use Rattle.cola_layout.specs.declared.header.Header.{Header}

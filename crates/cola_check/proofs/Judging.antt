@@ -14,7 +14,7 @@ use Rattle.cola_cell.specs.Spent.{ReadCalm}
 use Rattle.cola_cell.specs.State.{State}
 use Rattle.cola_clock.specs.Clock.{visible_slot}
 use Rattle.cola_device.specs.declared.device.Device as device
-use Rattle.cola_image.specs.Cells.{cell_bytes, file_spots}
+use Rattle.cola_layout.specs.Cells.{cell_bytes, file_spots}
 use Rattle.cola_layout.specs.declared.geometry.Geometry.{Geometry}
 use Rattle.cola_layout.specs.declared.header.Header.{Header}
 use Rattle.cola_layout.specs.Fields.{fields_of}

@@ -34,3 +34,4 @@ mod TestsAt
 mod Turning
 mod WalkBlocks
 mod Windows
+pub mod CheckSaid

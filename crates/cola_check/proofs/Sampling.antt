@@ -5,7 +5,7 @@ use Rattle.std.specs.Option.{option_map}
 use Rattle.std.proofs.lemmas.Option.{slice_get_past}
 use Rattle.cola_runs.specs.Cells.{Entry, Look, key_of, look_keys, count_looks, sample, IsOldValue}
 use Rattle.cola_runs.proofs.Counts.{looks_are_keys}
-use Rattle.cola_runs.proofs.PlainLemmas.{refuses}
+use Rattle.cola_runs.proofs.Deciding.{refuses}
 use Rattle.cola_runs.proofs.Samples.{sample_length, sample_at}
 use Rattle.cola_cell.specs.declared.cell.Cell.{Cell}
 use Rattle.cola_cell.specs.declared.cell.Run.{Run}

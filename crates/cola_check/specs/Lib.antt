@@ -4,6 +4,7 @@ pub mod Blocks
 pub mod Carrying
 pub mod Chains
 pub mod Check
+pub mod CheckLaws
 pub mod Cut
 pub mod Firsts
 pub mod Found

@@ -30,4 +30,4 @@ mod walk;
 
 pub use checking::check;
 pub use fault::CheckFault;
-pub use laws::tested_files_are_read_by_blocks;
+pub use laws::{tested_files_are_read_by_blocks, tests_are_answered};

@@ -19,7 +19,7 @@ use Rattle.cola_spec.specs.Command.{Command, Put, PutIf, Del, Get, Stamp, Range,
 use Rattle.cola_spec.specs.Machine as machine
 use Rattle.cola_spec.specs.Machine.{State, Turn, History, kind_of, turn_text, turns_text, ticks_of, faulted_steps}
 use Rattle.cola_spec.specs.Bounds.{request_bound}
-use Rattle.cola_cell.specs.Shapes.{shape_of}
+use Rattle.cola_shapes.specs.Shapes.{shape_of}
 use Rattle.cola_line.proofs.Listing.{take_beyond}
 use Rattle.cola_store.specs.Store.{levels_of}
 use Rattle.cola_store.specs.Table.{store_table}

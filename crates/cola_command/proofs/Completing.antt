@@ -26,7 +26,7 @@ use Rattle.cola_store.proofs.OpenLaws.{opens-to}
 use Rattle.cola_session.specs.Ends.{Ending, Well, Ill, ReadToEnd, NothingFails, SessionEnds, NotBegun, Status0, Status3, Status4, Status5, Status9}
 use Rattle.cola_session.specs.Reading.{input_limit}
 use Rattle.cola_command.specs.File.{Sizes, shape, sizes_in}
-use Rattle.cola_status.specs.Statuses.{refusal_status}
+use Rattle.cola_workload.specs.Refused.{refusal_status}
 use Rattle.cola_command.specs.Headline.{FileEnds, StandsAs, NotOpened, WroteAll, CarriesAll, asked, last_close}
 use Rattle.cola_command.specs.HeadlineLaws.{PlainHistory, NoneFails, AnsweredPlainly, TransferredFew, Completes, Answered, OutOfMemory}
 use Rattle.cola_session.proofs.CutOff.{not-faulted, only-reopened}

@@ -15,8 +15,8 @@ use Rattle.cola_words.specs.declared.mode.Mode.{Mode}
 use Rattle.cola_words.specs.declared.mode.Mode.TheVariants.{Mem, Create, Run, Gen, Upgrade, Check, Load, Grow, Rebuild}
 use Rattle.cola_status.specs.declared.status.Status.TheVariants as known
 use Rattle.cola_status.specs.Statuses.{IsStatus}
-use Rattle.cola_status.proofs.Known.{one, opening-known}
-use Rattle.cola_workload.proofs.Known.{gen-known}
+use Rattle.cola_status.proofs.Known.{one}
+use Rattle.cola_workload.proofs.Known.{opening-known, gen-known}
 use Rattle.cola_filling.proofs.Known.{load-known, grow-known}
 use Rattle.cola_session.specs.Ends.{Ending, SessionEnds, NotBegun, Status0, Status3, Status4, Status5, Status9}
 use Rattle.cola_check.specs.declared.fault.CheckFault.{CheckFault}

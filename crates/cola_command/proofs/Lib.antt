@@ -17,3 +17,4 @@ pub mod Checking
 pub mod Mirroring
 pub mod Looks
 pub mod Known
+pub mod ModesSaid

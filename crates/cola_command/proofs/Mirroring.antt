@@ -18,7 +18,7 @@ use Rattle.cola_mirror.proofs.SoundLemmas.{first-calm, second-calm}
 use Rattle.cola_store.specs.declared.fault.OpenFault.{OpenFault}
 use Rattle.cola_store.specs.declared.fault.OpenFault.TheVariants as fault
 use Rattle.cola_session.specs.Ends.{NotBegun, Status0, Status3, Status4, Status5, Status9}
-use Rattle.cola_status.specs.Statuses.{refusal_status}
+use Rattle.cola_workload.specs.Refused.{refusal_status}
 use Rattle.cola_command.specs.Headline.{FileEnds}
 use Rattle.cola_command.specs.HeadlineLaws.{NoneFails, Completes, Answered, OutOfMemory}
 use Rattle.cola_command.specs.Mirrored.{mirrored_status, IsMirrored, MirrorEnds, NotCompared, Differ, Mirrored}

@@ -8,7 +8,7 @@ use Rattle.cola_opening.specs.Judged.{file_size, HasHeader}
 use Rattle.cola_spec.specs.Map.{Shape, Map}
 use Rattle.cola_spec.specs.Machine as machine
 use Rattle.cola_spec.specs.Machine.{State}
-use Rattle.cola_cell.specs.Shapes.{shape_of}
+use Rattle.cola_shapes.specs.Shapes.{shape_of}
 use Rattle.cola_image.specs.Standing.{HeaderStandsFor, with_state}
 use Rattle.cola_command.specs.declared.place.Place.{Place}
 use Rattle.cola_command.specs.declared.place.Place.TheVariants.{Open, Closing, Closed}

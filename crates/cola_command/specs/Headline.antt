@@ -18,10 +18,10 @@ use Rattle.cola_spec.specs.Machine as machine
 use Rattle.cola_spec.specs.Machine.{State, Turn, PlainStep, FaultedStep, kind_of, Step, History, turns_text, ticks_of}
 use Rattle.cola_spec.specs.Bounds.{request_bound}
 use Rattle.cola_table.specs.Replies.{turn_of}
-use Rattle.cola_cell.specs.Shapes.{shape_of}
+use Rattle.cola_shapes.specs.Shapes.{shape_of}
 use Rattle.cola_image.specs.Standing.{HeaderStandsFor}
 use Rattle.cola_store.specs.declared.fault.OpenFault.{OpenFault}
-use Rattle.cola_status.specs.Statuses.{refusal_status}
+use Rattle.cola_workload.specs.Refused.{refusal_status}
 use Rattle.cola_command.specs.declared.place.Place.TheVariants as place
 use Rattle.cola_command.specs.declared.file.Session.{Session}
 use Rattle.cola_store.specs.Store.{Stored}

@@ -8,3 +8,6 @@ pub mod Checked
 pub mod HeadlineLaws
 pub mod MirrorLaws
 pub mod Serves
+pub mod CheckLaws
+pub mod UpgradeLaws
+pub mod RebuildLaws

@@ -34,7 +34,7 @@ ghost use Rattle.cola_words.specs.declared.mode.Mode.TheVariants.{Mem, Create, R
 ghost use Rattle.cola_command.specs.declared.place.Place.TheVariants as place;
 ghost use Rattle.cola_session.specs.Ends.{Ending, Well, Ill, Anyhow, WroteFront};
 ghost use Rattle.cola_command.specs.File.{Sizes, IsOfSizes, device_of, format_of, shape, sizes_in, table_in};
-ghost use Rattle.cola_status.specs.Statuses.{refusal_status};
+ghost use Rattle.cola_workload.specs.Refused.{refusal_status};
 ghost use Rattle.cola_command.specs.Headline.{AreAsked, CarriedOut, CarriesAll, CarriesFront, EndsBy, FileEnds, FrontLed, IsKnown, IsLeft, IsLeftWhole, Known, LeftBy, LinesLed, NotOpened, WroteAll, WroteLines, WroteSome, asked, sizes_known};
 ghost use Rattle.cola_session.specs.Home.{FaultsOver, LineLeads, Point, cut_after, depth_in};
 ghost use Rattle.cola_session.specs.Memory.{MemoryEnds, Replied, RepliedFront, StepsWithin, lines_bound, replies};
@@ -48,7 +48,7 @@ ghost use Rattle.cola_command.specs.Serves.{CreateEnds, Serves, UpgradeEnds};
 ghost use Rattle.cola_command.specs.Turns.{Begun, CloseCause, KeepsFormat, OpenCause, WasLed, file_home};
 ghost use Rattle.cola_command.specs.declared.file.Session.{Session};
 ghost use Rattle.cola_command.specs.declared.place.Place.{Place};
-ghost use Rattle.cola_cell.specs.Shapes.{shape_of};
+ghost use Rattle.cola_shapes.specs.Shapes.{shape_of};
 ghost use Rattle.cola_store.specs.Calls.{AnswersTurn};
 ghost use Rattle.cola_store.specs.Transfers.{ReadsOnce};
 ghost use Rattle.cola_store.specs.Table.{store_table};

@@ -9,6 +9,7 @@ mod laws;
 mod lines;
 mod mirror_laws;
 mod mirrored;
+mod mode_laws;
 mod place;
 mod program;
 mod serving;
@@ -30,6 +31,7 @@ pub use mirror_laws::{
     files_that_differ, mirrored_files_are_left, mirrored_sessions_complete,
     mirrored_turns_count_faults, mirrors_have_statuses,
 };
+pub use mode_laws::{checks_are_told, rebuilds_are_told, upgrades_are_told};
 pub use place::Place;
 pub use program::{Served, serve};
 pub use serving_laws::{

@@ -8,7 +8,8 @@ use cola_device::Device;
 use cola_io::{Sink, Source};
 use cola_outside::Steps;
 use cola_session::serve_lines;
-use cola_status::{Status, opening_status};
+use cola_status::Status;
+use cola_workload::opening_status;
 use std::alloc::Global;
 use std::sync::ledger::Ledger;
 

@@ -12,3 +12,5 @@ pub mod Places
 pub mod Staying
 pub mod Saving
 pub mod Turns
+pub mod Turning
+pub mod Stopping

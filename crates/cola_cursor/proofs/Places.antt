@@ -22,7 +22,7 @@ use Rattle.cola_cursor.specs.declared.line.Line.{Line}
 use Rattle.cola_cursor.specs.declared.cursor.Cursor.{Cursor}
 use Rattle.cola_cursor.specs.Giving.{SeekGives}
 use Rattle.cola_cursor.specs.Lines.{LineFits, Reading}
-use Rattle.cola_cursor.specs.Standing.{runs_of, rests, befores, AreSearched, AreApart, Stands, Ahead}
+use Rattle.cola_cursor.specs.Standing.{runs_of, rests, befores, AreSearched, AreApart, StandsAlong, AheadAlong}
 use Rattle.cola_cursor.specs.Seeking.{LevelsRise, places_from, range_ticks, cells_of, RunsCause}
 use Rattle.cola_cursor.proofs.Least.{by_bool}
 
@@ -50,12 +50,12 @@ rest_same a b xs ys e = cc
 no_places : (a : ℕ) (xs : List ℕ) → [] ≡ a ∷ xs → ⊥
 no_places a xs e = cc
 
-rests_places : (key : List ℕ) (lines : List Line) (lists : List (List LawCell)) → map (λ (x : Line). x.place) lines ≡ map (place key_cmp key) lists → rests lines lists ≡ rests_from key_cmp key lists
+rests_places : (key : List ℕ) (lines : List Line) (lists : List (List LawCell)) → map (λ (x : Line). x.place) lines ≡ map (place key_cmp key) lists → rests false lines lists ≡ rests_from key_cmp key lists
 rests_places key [] [] e = refl
 rests_places key [] (cells ∷ lists) e = absurd (no_places (place key_cmp key cells) (map (place key_cmp key) lists) e)
 rests_places key (line ∷ lines) [] e = refl
 rests_places key (line ∷ lines) (cells ∷ lists) e =
-    ap (λ n. drop n cells ∷ rests lines lists) (first_same line.place (place key_cmp key cells) _ _ e)
+    ap (λ n. drop n cells ∷ rests false lines lists) (first_same line.place (place key_cmp key cells) _ _ e)
     ∙ ap (λ z. drop (place key_cmp key cells) cells ∷ z) (rests_places key lines lists (rest_same line.place (place key_cmp key cells) _ _ e))
 
 -- ---- keys on both sides of a place
@@ -68,14 +68,14 @@ is_less Greater e = cc
 before_place : (key : List ℕ) (cells : List LawCell) → AllByRecursion (λ c. key_cmp (laws.key_of c) key ≡ Less) (take (place key_cmp key cells) cells)
 before_place key [] = tt
 before_place key (c ∷ cells) =
-    by_bool (λ b. is_lt (key_cmp (laws.key_of c) key) ≡ b → AllByRecursion (λ d. key_cmp (laws.key_of d) key ≡ Less) (take (cond b (suc (place key_cmp key cells)) 0) (c ∷ cells)))
+    by_bool false (λ b. is_lt (key_cmp (laws.key_of c) key) ≡ b → AllByRecursion (λ d. key_cmp (laws.key_of d) key ≡ Less) (take (cond b (suc (place key_cmp key cells)) 0) (c ∷ cells)))
     (λ e. (is_less _ e, before_place key cells)) (λ e. tt) (is_lt (key_cmp (laws.key_of c) key)) refl
 
 after_place : (key : List ℕ) (cells : List LawCell) → laws.IsRising key_cmp cells → AllByRecursion (λ d. is_lt (key_cmp (laws.key_of d) key) ≡ false) (drop (place key_cmp key cells) cells)
 unfolding IsStrictlySortedBy
 after_place key [] h = tt
 after_place key (c ∷ cells) h =
-    by_bool (λ b. is_lt (key_cmp (laws.key_of c) key) ≡ b → AllByRecursion (λ d. is_lt (key_cmp (laws.key_of d) key) ≡ false) (drop (cond b (suc (place key_cmp key cells)) 0) (c ∷ cells)))
+    by_bool false (λ b. is_lt (key_cmp (laws.key_of c) key) ≡ b → AllByRecursion (λ d. is_lt (key_cmp (laws.key_of d) key) ≡ false) (drop (cond b (suc (place key_cmp key cells)) 0) (c ∷ cells)))
     (λ e. after_place key cells h.1) (λ e. none_below nat_list_cmp_total key c cells e h) (is_lt (key_cmp (laws.key_of c) key)) refl
 
 across : (key a b : List ℕ) → key_cmp a key ≡ Less → is_lt (key_cmp b key) ≡ false → key_cmp a b ≡ Less
@@ -91,7 +91,7 @@ all_change f [] h = tt
 all_change f (x ∷ xs) h = (f x h.0, all_change f xs h.1)
 
 befores_below : (key : List ℕ) (lines : List Line) (lists : List (List LawCell)) → map (λ (x : Line). x.place) lines ≡ map (place key_cmp key) lists →
-    AllByRecursion (AllByRecursion (λ c. key_cmp (laws.key_of c) key ≡ Less)) (befores lines lists)
+    AllByRecursion (AllByRecursion (λ c. key_cmp (laws.key_of c) key ≡ Less)) (befores false lines lists)
 befores_below key [] lists e = tt
 befores_below key (line ∷ lines) [] e = tt
 befores_below key (line ∷ lines) (cells ∷ lists) e = (
@@ -104,30 +104,30 @@ rests_above key [] h = tt
 rests_above key (cells ∷ lists) h = (after_place key cells h.0, rests_above key lists h.1)
 
 pub apart_at_places : (key : List ℕ) (lines : List Line) (lists : List (List LawCell)) → AllByRecursion (laws.IsRising key_cmp) lists → map (λ (x : Line). x.place) lines ≡ map (place key_cmp key) lists →
-    AreApart (befores lines lists) (rests lines lists)
+    AreApart false (befores false lines lists) (rests false lines lists)
 apart_at_places key lines lists h e =
-    let above : AllByRecursion (AllByRecursion (λ d. is_lt (key_cmp (laws.key_of d) key) ≡ false)) (rests lines lists) =
+    let above : AllByRecursion (AllByRecursion (λ d. is_lt (key_cmp (laws.key_of d) key) ≡ false)) (rests false lines lists) =
     subst (λ (z : List (List LawCell)). AllByRecursion (AllByRecursion (λ d. is_lt (key_cmp (laws.key_of d) key) ≡ false)) z) (sym (rests_places key lines lists e)) (rests_above key lists h) in
-    all_change (λ cells. all_change (λ c b. all_change (λ others. all_change (λ d a. across key (laws.key_of c) (laws.key_of d) b a) others) (rests lines lists) above) cells) (befores lines lists) (befores_below key lines lists e)
+    all_change (λ cells. all_change (λ c b. all_change (λ others. all_change (λ d a. across key (laws.key_of c) (laws.key_of d) b a) others) (rests false lines lists) above) cells) (befores false lines lists) (befores_below key lines lists e)
 
 -- ---- the cursor
 
-same_runs : (held : Held) {runs others : List Run} (lists : List (List LawCell)) → runs ≡ others → AreRuns held runs lists → AreRuns held others lists
+pub same_runs : (held : Held) {runs others : List Run} (lists : List (List LawCell)) → runs ≡ others → AreRuns held runs lists → AreRuns held others lists
 same_runs held lists e r = subst (λ (x : List Run). AreRuns held x lists) e r
 
 -- where a cursor begins at a key, its places keep the keys apart
-begun_apart : (key : List ℕ) (cursor : Cursor) (lists : List (List LawCell)) → AreSearched key lists → map (λ (x : Line). x.place) cursor.lines.items ≡ places_from key 0 lists →
-    AreApart (befores cursor.lines.items lists) (rests cursor.lines.items lists)
+pub begun_apart : (key : List ℕ) (cursor : Cursor) (lists : List (List LawCell)) → AreSearched key lists → map (λ (x : Line). x.place) cursor.lines.items ≡ places_from key 0 lists →
+    AreApart false (befores false cursor.lines.items lists) (rests false cursor.lines.items lists)
 begun_apart key cursor lists a p = apart_at_places key cursor.lines.items lists (sampled_rise key_cmp lists a.sampled) (at_places key cursor.lines.items lists a p)
 
 -- where a cursor stands that begins at a key, in lines that stand in its runs
-pub begun_stands : (held : Held) (key : List ℕ) (runs : List Run) (cursor : Cursor) → AllByRecursion (LineFits held) cursor.lines.items → runs_of cursor.lines.items ≡ runs →
-    ((lists : List (List LawCell)) → AreRuns held runs lists → map (λ (x : Line). x.place) cursor.lines.items ≡ places_from key 0 lists) → Stands held cursor
+pub begun_stands : (held : Held) (key : List ℕ) (runs : List Run) (cursor : Cursor) → AllByRecursion (LineFits false held) cursor.lines.items → runs_of cursor.lines.items ≡ runs →
+    ((lists : List (List LawCell)) → AreRuns held runs lists → map (λ (x : Line). x.place) cursor.lines.items ≡ places_from key 0 lists) → StandsAlong false held cursor
 begun_stands held key runs cursor f e p = record { fit = f; apart = λ lists r a. begun_apart key cursor lists (a key) (p lists (same_runs held lists e r)) }
 
 -- and the pairs that are ahead of it
 pub begun_ahead : (held : Held) (key : List ℕ) (runs : List Run) (cursor : Cursor) → runs_of cursor.lines.items ≡ runs → (lists : List (List LawCell)) → AreRuns held runs lists → AreSearched key lists →
-    map (λ (x : Line). x.place) cursor.lines.items ≡ places_from key 0 lists → Ahead held cursor (live key_cmp (between key_cmp key cursor.end) lists)
+    map (λ (x : Line). x.place) cursor.lines.items ≡ places_from key 0 lists → AheadAlong false held cursor (live key_cmp (between key_cmp key cursor.end) lists)
 begun_ahead held key runs cursor e lists r a p = record {
   lists = lists;
   told = same_runs held lists (sym e) r;
@@ -139,7 +139,7 @@ begun_ahead held key runs cursor e lists r a p = record {
 
 -- ---- what it costs
 
-few_runs : (held : Held) (least : ℕ) (runs : List Run) → AllByRecursion (HasRun held) runs → LevelsRise least runs → least ≤ held.fixed.levels → least + length runs ≤ held.fixed.levels
+pub few_runs : (held : Held) (least : ℕ) (runs : List Run) → AllByRecursion (HasRun held) runs → LevelsRise least runs → least ≤ held.fixed.levels → least + length runs ≤ held.fixed.levels
 few_runs held least [] h l m = omega arith
 few_runs held least (run ∷ runs) h l m =
     let i = h.0.level_in in
@@ -147,7 +147,7 @@ few_runs held least (run ∷ runs) h l m =
     let a = l.0 in
     omega arith
 
-few_cells : (held : Held) (least : ℕ) (runs : List Run) → AllByRecursion (HasRun held) runs → LevelsRise least runs → least ≤ held.fixed.levels → cells_of runs + 2 ^ (least + 2) ≤ 2 ^ (held.fixed.levels + 2)
+pub few_cells : (held : Held) (least : ℕ) (runs : List Run) → AllByRecursion (HasRun held) runs → LevelsRise least runs → least ≤ held.fixed.levels → cells_of runs + 2 ^ (least + 2) ≤ 2 ^ (held.fixed.levels + 2)
 few_cells held least [] h l m = let p : 2 ^ (least + 2) ≤ 2 ^ (held.fixed.levels + 2) = pow_mono (omega arith) in omega arith
 few_cells held least (run ∷ runs) h l m =
     let i = h.0.level_in in

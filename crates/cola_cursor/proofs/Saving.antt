@@ -20,7 +20,7 @@ restored_push (s ∷ saved) one lines = ap (λ x. set x s.number s.line) (restor
 restored_set : (saved : List Saved) (lines : List Line) (i : ℕ) (x line : Line) → set (restored saved (set lines i x)) i line ≡ set (restored saved lines) i line
 restored_set [] lines i x line = set-set lines i x line
 restored_set (s ∷ saved) lines i x line =
-    by_bool (λ b. (s.number == i) ≡ b → set (set (restored saved (set lines i x)) s.number s.line) i line ≡ set (set (restored saved lines) s.number s.line) i line)
+    by_bool true (λ b. (s.number == i) ≡ b → set (set (restored saved (set lines i x)) s.number s.line) i line ≡ set (set (restored saved lines) s.number s.line) i line)
     (λ e. let n = eqb-true s.number i e in
     ap (λ k. set (set (restored saved (set lines i x)) k s.line) i line) n ∙ set-set (restored saved (set lines i x)) i s.line line ∙ restored_set saved lines i x line
     ∙ sym (set-set (restored saved lines) i s.line line) ∙ ap (λ k. set (set (restored saved lines) k s.line) i line) (sym n))
@@ -32,7 +32,7 @@ restored_set (s ∷ saved) lines i x line =
 restored_hides : (saved : List Saved) (lines : List Line) (i : ℕ) (x : Line) → is_saved i saved ≡ true → restored saved (set lines i x) ≡ restored saved lines
 restored_hides [] lines i x h = cc
 restored_hides (s ∷ saved) lines i x h =
-    by_bool (λ b. (i == s.number) ≡ b → (b || is_saved i saved) ≡ true → set (restored saved (set lines i x)) s.number s.line ≡ set (restored saved lines) s.number s.line)
+    by_bool true (λ b. (i == s.number) ≡ b → (b || is_saved i saved) ≡ true → set (restored saved (set lines i x)) s.number s.line ≡ set (restored saved lines) s.number s.line)
     (λ e f. subst (λ k. set (restored saved (set lines i x)) k s.line ≡ set (restored saved lines) k s.line) (eqb-true i s.number e) (restored_set saved lines i x s.line))
     (λ e f. ap (λ y. set y s.number s.line) (restored_hides saved lines i x f))
     (i == s.number) refl h
@@ -40,7 +40,7 @@ restored_hides (s ∷ saved) lines i x h =
 -- ---- each number once
 
 other : (m n : ℕ) → (n == m) ≡ false → (m == n) ≡ false
-other m n e = by_bool (λ b. (m == n) ≡ b → b ≡ false) (λ f. absurd (eqb-false n m e (sym (eqb-true m n f)))) (λ f. refl) (m == n) refl
+other m n e = by_bool true (λ b. (m == n) ≡ b → b ≡ false) (λ f. absurd (eqb-false n m e (sym (eqb-true m n f)))) (λ f. refl) (m == n) refl
 
 not_either : (a b : Bool) → (a || b) ≡ false → (a ≡ false) × (b ≡ false)
 not_either true b e = cc
@@ -78,7 +78,7 @@ once_push count saved one h l o = record { distinct = distinct_push saved one h 
 below : (xs : List ℕ) (count q : ℕ) → AllByRecursion (λ n. n < count) xs → list_any (λ n. q == n) xs ≡ true → q < count
 below [] count q h e = cc
 below (x ∷ xs) count q h e =
-    by_bool (λ b. (q == x) ≡ b → (b || list_any (λ n. q == n) xs) ≡ true → q < count)
+    by_bool true (λ b. (q == x) ≡ b → (b || list_any (λ n. q == n) xs) ≡ true → q < count)
     (λ f g. subst (λ n. n < count) (sym (eqb-true q x f)) h.0) (λ f g. below xs count q h.1 g) (q == x) refl e
 
 many : (saved : List Saved) → length (numbers saved) ≡ length saved
@@ -152,6 +152,6 @@ pub saves_from : {olds news : List Line} {before now : List Saved} → before �
 saves_from {olds} {news} {now = now} e h = subst (λ s. Saves olds news s now) e h
 
 -- a refusal leaves the cursor as it was
-pub same_cursor : {T : Type 0} {olds news : List Line} {saved : List Saved} (end : Option (List ℕ)) (result : Result T ReadFault) (fault : ReadFault) → result ≡ Err fault → Saves olds news [] saved →
-    cursor_at (lines_left result saved news) end ≡ cursor_at olds end
-same_cursor {news = news} {saved} end result fault is h = ap (λ r. cursor_at (lines_left r saved news) end) is ∙ ap (λ lines. cursor_at lines end) h.restores
+pub same_cursor : {T : Type 0} {olds news : List Line} {saved : List Saved} (end : Option (List ℕ)) (falls : Bool) (result : Result T ReadFault) (fault : ReadFault) → result ≡ Err fault → Saves olds news [] saved →
+    cursor_at (lines_left result saved news) end falls ≡ cursor_at olds end falls
+same_cursor {news = news} {saved} end falls result fault is h = ap (λ r. cursor_at (lines_left r saved news) end falls) is ∙ ap (λ lines. cursor_at lines end falls) h.restores

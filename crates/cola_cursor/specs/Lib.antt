@@ -1,3 +1,4 @@
+pub mod Way
 pub mod Lines
 pub mod Passing
 pub mod Results
@@ -7,3 +8,5 @@ pub mod Seeking
 pub mod Saving
 pub mod Causes
 pub mod Laws
+pub mod Turning
+pub mod Stopping

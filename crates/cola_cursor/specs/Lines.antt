@@ -1,5 +1,5 @@
 -- Lines of a cursor: how a line stands in its run, and how much of it is left.
-use Rattle.std.specs.Prelude.{◌≡◌, ℕ, ◌+◌, ◌-◌, ◌≤◌, ◌<◌, List, [], ◌∷◌, Option, None, Some, ⊤}
+use Rattle.std.specs.Prelude.{◌≡◌, ℕ, ◌+◌, ◌-◌, ◌≤◌, ◌<◌, List, [], ◌∷◌, Option, None, Some, ⊤, Bool}
 use Rattle.cola_outside.specs.Faults.{Rose}
 use Rattle.cola_cell.specs.declared.cell.Cell.{Cell}
 use Rattle.cola_cell.specs.declared.cell.Run.{Run}
@@ -11,17 +11,7 @@ use Rattle.cola_cell.specs.State.{State}
 use Rattle.cola_cell.specs.Costs.{Costs}
 use Rattle.cola_look.specs.Runs.{HasRun}
 use Rattle.cola_cursor.specs.declared.line.Line.{Line}
-
--- a head that is kept is the cell at the place, which is within the run
-abbrev pub HeadFits : Held → Run → ℕ → Option Cell → Type 0
-HeadFits held run place None = ⊤
-HeadFits held run place (Some cell) = (place < run.len) × Tells (held.spots run.level run.slot place) (Told (as_cell cell))
-
--- a line over an object: its run is one of the object's, its place is within the run or at its end, and so is its head
-pub record LineFits (held : Held) (line : Line) : Type 0 where
-  pub run : HasRun held line.run
-  pub place_in : line.place ≤ line.run.len
-  pub head : HeadFits held line.run line.place line.head
+use Rattle.cola_cursor.specs.Way.{at, spot_at}
 
 -- the head is kept, unless the place is at the end
 abbrev pub HeadIsRead : ℕ → ℕ → Option Cell → Type 0
@@ -60,14 +50,26 @@ pub record Reading (old new : State) (before after : ℕ) : Type 0 where
   pub others_stay : (buffer : Buffer) → (buffer ≡ Search → ⊥) →
       new.spent.lasts buffer ≡ old.spent.lasts buffer
 
--- a cell that a line has still to read whose bytes spell none, and its number
-pub record HasBadAhead (held : Held) (line : Line) (number : ℕ) : Type 0 where
-  pub index : ℕ
-  pub from : line.place ≤ index
-  pub within : index < line.run.len
-  pub bad : IsBad held line.run.level line.run.slot index number
+module _ (falls : Bool) where
+  -- a head that is kept is the cell at the place, which is within the run
+  abbrev pub HeadFits : Held → Run → ℕ → Option Cell → Type 0
+  HeadFits held run place None = ⊤
+  HeadFits held run place (Some cell) = (place < run.len) × Tells (spot_at falls held run place) (Told (as_cell cell))
 
--- the cause of a refused call on a line: the count of faults rose, or a cell ahead is bad
-abbrev pub LineCause : Held → Line → ℕ → ℕ → ReadFault → Type 0
-LineCause held line before now Device = Rose before now
-LineCause held line before now (BadCell number) = HasBadAhead held line number
+  -- a line over an object: its run is one of the object's, its place is within the run or at its end, and so is its head
+  pub record LineFits (held : Held) (line : Line) : Type 0 where
+    pub run : HasRun held line.run
+    pub place_in : line.place ≤ line.run.len
+    pub head : HeadFits held line.run line.place line.head
+
+  -- a cell that a line has still to read whose bytes spell none, and its number
+  pub record HasBadAhead (held : Held) (line : Line) (number : ℕ) : Type 0 where
+    pub index : ℕ
+    pub from : line.place ≤ index
+    pub within : index < line.run.len
+    pub bad : IsBad held line.run.level line.run.slot (at falls line.run.len index) number
+
+  -- the cause of a refused call on a line: the count of faults rose, or a cell ahead is bad
+  abbrev pub LineCause : Held → Line → ℕ → ℕ → ReadFault → Type 0
+  LineCause held line before now Device = Rose before now
+  LineCause held line before now (BadCell number) = HasBadAhead held line number

@@ -1,5 +1,5 @@
 -- Lines that were changed, each saved as it was.
-use Rattle.std.specs.Prelude.{◌≡◌, ℕ, ◌<◌, ◌==◌, Bool, List, [], ◌∷◌, map, length, slice_set, Option, Result, Ok, Err}
+use Rattle.std.specs.Prelude.{Bool, ◌≡◌, ℕ, ◌<◌, ◌==◌, Bool, List, [], ◌∷◌, map, length, slice_set, Option, Result, Ok, Err}
 use Rattle.std.specs.List.{AllByRecursion, IsDistinct, list_any}
 use Rattle.cola_cursor.specs.declared.cursor.Cursor.{Cursor}
 use Rattle.cola_cursor.specs.declared.line.Line.{Line}
@@ -31,8 +31,8 @@ pub record Saves (olds news : List Line) (before now : List Saved) : Type 0 wher
   pub restores : restored now news ≡ restored before olds
 
 -- a cursor at these lines
-abbrev pub cursor_at : List Line → Option (List ℕ) → Cursor
-cursor_at lines end = record { lines = record { items = lines }; end = end }
+abbrev pub cursor_at : List Line → Option (List ℕ) → Bool → Cursor
+cursor_at lines end falls = record { lines = record { items = lines }; end = end; falls = falls }
 
 -- the lines that an answer leaves: after a refusal the saved ones are put back
 abbrev pub lines_left : {T : Type 0} → Result T ReadFault → List Saved → List Line → List Line

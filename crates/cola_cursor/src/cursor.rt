@@ -1,16 +1,21 @@
 //! Cursors.
-ghost use Rattle.std.specs.Prelude.{◌≡◌, ◌≤◌, [], length};
+ghost use Rattle.std.specs.Prelude.{◌≡◌, ◌≤◌, [], All, length, option_copied};
+ghost use Rattle.cola_cell.specs.Looks.{OnlyLooks};
+ghost use Rattle.cola_look.specs.Runs.{HasRun};
 ghost use Rattle.cola_cursor.specs.Giving.{LinesGive};
 ghost use Rattle.cola_cursor.specs.Saving.{Saves, cursor_at};
-ghost use Rattle.cola_cursor.specs.Standing.{Stands};
+ghost use Rattle.cola_cursor.specs.Seeking.{LevelsRise};
+ghost use Rattle.cola_cursor.specs.Standing.{StandsAlong};
+ghost use Rattle.cola_cursor.specs.Turning.{EndGives, TurnedGives, sought};
 
 use crate::line::Line;
 use crate::lines::{least_key, pass_all, read_heads};
 use crate::saved::{Saved, put_back};
-use crate::starts::seek_lines;
+use crate::starts::{end_lines, seek_lines, turned_lines};
 use arrayvec::ArrayVec;
 use cola_cell::{CellSource, Item, Key, MOST_LEVELS, ReadFault, Run, Value};
 use cola_outside::Steps;
+use std::ops::Bound;
 use std::sync::ledger::Ledger;
 
 /// Where a range stands: a line for each run, the newest run first, and the upper end of its keys, which is
@@ -19,15 +24,18 @@ use std::sync::ledger::Ledger;
 pub struct Cursor {
     pub lines: ArrayVec<Line, MOST_LEVELS>,
     pub end: Option<Key>,
+    pub falls: bool,
 }
 
 impl Cursor {
-    ghost use Rattle.std.specs.Prelude.{All, option_copied};
+    ghost use Rattle.std.specs.Prelude.{All, option_copied, false};
+    ghost use Rattle.std.specs.Bound.{bound_map};
     ghost use Rattle.cola_cell.specs.Looks.{OnlyLooks};
     ghost use Rattle.cola_look.specs.Runs.{HasRun};
     ghost use Rattle.cola_cursor.specs.Giving.{SeekGives, NextGives, NextGivesPair};
     ghost use Rattle.cola_cursor.specs.Seeking.{LevelsRise};
-    ghost use Rattle.cola_cursor.specs.Standing.{Stands};
+    ghost use Rattle.cola_cursor.specs.Turning.{SeekBackGives};
+    ghost use Rattle.cola_cursor.specs.Standing.{StandsAlong, Stands};
 
     /// A cursor over the runs, the newest first, at the first key that is at least `lo`; its pairs end below `hi`,
     /// where there is one. It searches each run from the link of the run above it, as a look-up does, in at most
@@ -45,20 +53,47 @@ impl Cursor {
         ensures seeks { SeekGives runs.now.items lo.now (option_copied hi.entry)
             (W.state work.old) (W.state work.new) steps.old steps.new result }
     {
-        let lines = seek_lines(work, runs.as_slice(), lo, steps)?;
+        let lines = seek_lines(work, runs.as_slice(), lo, false, steps)?;
         let end = hi.copied();
-        Ok(Cursor { lines, end })
+        Ok(Cursor {
+            lines,
+            end,
+            falls: false,
+        })
     }
 
-    /// The next pair of the interval, with its stamp, by rising keys; none where no pair is left. After a
-    /// refusal the cursor stands where it was. It makes a tick for each cell that it reads.
+    /// A cursor that falls, from the last key up to `hi` down to `lo`, which is one of its keys, where there is one.
+    /// It searches each run as `seek` does, in at most 8 ticks for each; without an upper bound it reads nothing.
+    pub fn seek_back<W: CellSource, L: Ledger>(
+        work: &mut W,
+        runs: &ArrayVec<Run, MOST_LEVELS>,
+        lo: Option<&Key>,
+        hi: Bound<&Key>,
+        steps: &mut Steps<L>,
+    ) -> Result<Cursor, ReadFault>
+        requires runs { All (HasRun (W.state work.old).held) runs.now.items }
+        requires levels { LevelsRise 0 runs.now.items }
+        ensures looks { OnlyLooks W.CellSource work.old work.new result }
+        ensures seeks { SeekBackGives runs.now.items (option_copied lo.entry)
+            (bound_map (λ key. key.now) hi.entry) (W.state work.old) (W.state work.new)
+            steps.old steps.new result }
+    {
+        match hi {
+            Bound::Included(hi) => turned_at(work, runs, lo, hi, true, steps),
+            Bound::Excluded(hi) => turned_at(work, runs, lo, hi, false, steps),
+            Bound::Unbounded => Ok(turned_at_end(work, runs, lo)),
+        }
+    }
+
+    /// The next pair in a direction, with its stamp; none where no pair is left. After a refusal the cursor stands where
+    /// it was. It makes a tick for each cell that it reads.
     pub fn next_stamped<W: CellSource, L: Ledger>(
         &mut self,
         work: &mut W,
         steps: &mut Steps<L>,
     ) -> Result<Option<(Key, Value, u64)>, ReadFault>
         requires { Stands (W.state work.old).held self.old }
-        ensures { NextGives W.CellSource work.old work.new self.old self.new
+        ensures { NextGives self.old.falls W.CellSource work.old work.new self.old self.new
             steps.old steps.new result }
     {
         let mut saved = ArrayVec::new();
@@ -67,6 +102,7 @@ impl Cursor {
             self.lines.as_mut_slice(),
             &self.end,
             &mut saved,
+            self.falls,
             steps,
         ) {
             Ok(answer) => Ok(answer),
@@ -84,7 +120,7 @@ impl Cursor {
         steps: &mut Steps<L>,
     ) -> Result<Option<(Key, Value)>, ReadFault>
         requires { Stands (W.state work.old).held self.old }
-        ensures { NextGivesPair W.CellSource work.old work.new self.old self.new
+        ensures { NextGivesPair self.old.falls W.CellSource work.old work.new self.old self.new
             steps.old steps.new result }
     {
         match self.next_stamped(work, steps) {
@@ -95,6 +131,50 @@ impl Cursor {
     }
 }
 
+/// A cursor that falls from the last key below `hi`, and with `over` from the last that is at most `hi`.
+fn turned_at<W: CellSource, L: Ledger>(
+    work: &mut W,
+    runs: &ArrayVec<Run, MOST_LEVELS>,
+    lo: Option<&Key>,
+    hi: &Key,
+    over: bool,
+    steps: &mut Steps<L>,
+) -> Result<Cursor, ReadFault>
+    requires runs { All (HasRun (W.state work.old).held) runs.now.items }
+    requires levels { LevelsRise 0 runs.now.items }
+    ensures looks { OnlyLooks W.CellSource work.old work.new result }
+    ensures turns { TurnedGives runs.now.items (option_copied lo.entry) (sought over hi.now)
+        (W.state work.old) (W.state work.new) steps.old steps.new result }
+{
+    let found = seek_lines(work, runs.as_slice(), hi, over, steps)?;
+    let lines = turned_lines(found.as_slice());
+    let end = lo.copied();
+    Ok(Cursor {
+        lines,
+        end,
+        falls: true,
+    })
+}
+
+/// A cursor that falls from the end.
+fn turned_at_end<W: CellSource>(
+    work: &W,
+    runs: &ArrayVec<Run, MOST_LEVELS>,
+    lo: Option<&Key>,
+) -> Cursor
+    requires runs { All (HasRun (W.state work.now).held) runs.now.items }
+    requires levels { LevelsRise 0 runs.now.items }
+    ensures { EndGives (W.state work.now).held runs.now.items (option_copied lo.entry) result }
+{
+    let _held = work;
+    let end = lo.copied();
+    Cursor {
+        lines: end_lines(runs.as_slice()),
+        end,
+        falls: true,
+    }
+}
+
 /// The next pair of the lines below the upper end, with its stamp: it changes the lines in place, and saves each that it
 /// changes. After a refusal they are somewhere on the way.
 fn advance<W: CellSource, L: Ledger>(
@@ -102,18 +182,19 @@ fn advance<W: CellSource, L: Ledger>(
     lines: &mut [Line],
     end: &Option<Key>,
     saved: &mut ArrayVec<Saved, MOST_LEVELS>,
+    falls: bool,
     steps: &mut Steps<L>,
 ) -> Result<Option<(Key, Value, u64)>, ReadFault>
-    requires stands { Stands (W.state work.old).held (cursor_at lines.old end.now) }
+    requires stands { StandsAlong falls (W.state work.old).held (cursor_at lines.old end.now falls) }
     requires few { length lines.old ≤ 23 }
     requires none { saved.old.items ≡ [] }
-    ensures gives { LinesGive W.CellSource work.old work.new end.now lines.old lines.new
+    ensures gives { LinesGive falls W.CellSource work.old work.new end.now lines.old lines.new
         saved.new.items steps.old steps.new result }
     ensures saves { Saves lines.old lines.new [] saved.new.items }
 {
-    read_heads(work, lines, saved, steps)?;
-    while let Some(key) = least_key(lines, end) {
-        let item = pass_all(work, lines, saved, &key, steps)?;
+    read_heads(work, lines, saved, falls, steps)?;
+    while let Some(key) = least_key(lines, end, falls) {
+        let item = pass_all(work, lines, saved, &key, falls, steps)?;
         match item {
             Some(item) => match item {
                 Item::Value { value, stamp } => return Ok(Some((key, value, stamp))),

@@ -11,6 +11,7 @@ mod line;
 mod lines;
 mod saved;
 mod starts;
+mod stop;
 
 pub use cursor::Cursor;
 pub use line::Line;

@@ -1,5 +1,6 @@
 //! A line of a cursor: where it stands in one run.
 ghost use Rattle.std.specs.Prelude.{◌≡◌, ◌+◌, ◌<◌, ◌≤◌, IfOk, IsTrue};
+ghost use Rattle.cola_cursor.specs.Way.{at};
 
 use cola_cell::{CellSource, Item, Key, Packed, ReadFault, Run};
 use cola_outside::Steps;
@@ -29,6 +30,15 @@ impl Default for Line {
     }
 }
 
+/// The index of the cell that comes after so many in a direction.
+#[inline]
+fn index_at(len: u32, place: u32, falls: bool) -> u32
+    requires { place < len }
+    ensures { result ≡ at falls len place }
+{
+    if falls { len - 1 - place } else { place }
+}
+
 /// A copy of a head.
 fn copy_head(head: &Option<Packed>) -> Option<Packed>
     ensures { result ≡ head.now }
@@ -45,26 +55,29 @@ impl Line {
     ghost use Rattle.cola_cursor.specs.Causes.{HasLineCause};
     ghost use Rattle.cola_cursor.specs.Lines.{LineFits, IsReady, left_of, Reading};
     ghost use Rattle.cola_cursor.specs.Passing.{Passes, has_key};
+    ghost use Rattle.cola_cursor.specs.Turning.{turned_line};
     ghost use Rattle.cola_cursor.specs.Results.{Fetches, left_after, item_of};
 
     /// Reads its next cell, unless that is read, or it is at the end.
     pub(crate) fn read_head<W: CellSource, L: Ledger>(
         &mut self,
         work: &mut W,
+        falls: bool,
         steps: &mut Steps<L>,
     ) -> Result<(), ReadFault>
-        requires { LineFits (W.state work.old).held self.old }
-        ensures fetches { OnOk result (Fetches (W.state work.old).held self.old self.new) }
+        requires { LineFits falls (W.state work.old).held self.old }
+        ensures fetches { OnOk result (Fetches falls (W.state work.old).held self.old self.new) }
         ensures left { steps.new + left_after result self.new ≤ steps.old + left_of self.old }
         ensures reading { Reading (W.state work.old) (W.state work.new) steps.old steps.new }
-        ensures cause { HasLineCause W.CellSource work.old work.new self.old result }
+        ensures cause { HasLineCause falls W.CellSource work.old work.new self.old result }
         ensures looks { OnlyLooks W.CellSource work.old work.new result }
     {
         if self.head.is_some() || self.place == self.run.len {
             return Ok(());
         }
         let mut cell = Packed::blank();
-        work.read_into(self.run.level, self.run.slot, self.place, &mut cell, steps)?;
+        let index = index_at(self.run.len, self.place, falls);
+        work.read_into(self.run.level, self.run.slot, index, &mut cell, steps)?;
         self.head = Some(cell);
         Ok(())
     }
@@ -77,6 +90,18 @@ impl Line {
             run: self.run,
             place: self.place,
             head: copy_head(&self.head),
+        }
+    }
+
+    /// The line that goes back from where it stands.
+    pub(crate) fn turned(&self) -> Line
+        requires { self.now.place ≤ self.now.run.len }
+        ensures { result ≡ turned_line self.now }
+    {
+        Line {
+            run: self.run,
+            place: self.run.len - self.place,
+            head: None,
         }
     }
 
@@ -127,21 +152,22 @@ impl Line {
         &mut self,
         work: &mut W,
         key: &Key,
+        falls: bool,
         steps: &mut Steps<L>,
     ) -> Result<Option<Item>, ReadFault>
-        requires fits { LineFits (W.state work.old).held self.old }
+        requires fits { LineFits falls (W.state work.old).held self.old }
         requires ready { IsReady self.old }
-        ensures passes { IfOk result (Passes (W.state work.old).held key.now self.old self.new) }
+        ensures passes { IfOk result (Passes falls (W.state work.old).held key.now self.old self.new) }
         ensures left { steps.new + left_after result self.new ≤ steps.old + left_of self.old }
         ensures reading { Reading (W.state work.old) (W.state work.new) steps.old steps.new }
-        ensures cause { HasLineCause W.CellSource work.old work.new self.old result }
+        ensures cause { HasLineCause falls W.CellSource work.old work.new self.old result }
         ensures looks { OnlyLooks W.CellSource work.old work.new result }
     {
         let mut item: Option<Item> = None;
         while self.has_key(key) {
             item = item.or(self.item());
             self.go_behind();
-            self.read_head(work, steps)?;
+            self.read_head(work, falls, steps)?;
         }
         Ok(item)
     }

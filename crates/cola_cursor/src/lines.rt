@@ -3,8 +3,8 @@ ghost use Rattle.std.specs.Prelude.{◌≡◌, ◌+◌, ◌≤◌, length, None,
 ghost use Rattle.std.specs.List.{AllByRecursion};
 ghost use Rattle.cola_cell.specs.Cell.{key_of};
 ghost use Rattle.cola_cell.specs.Looks.{OnlyLooks};
-ghost use Rattle.cola_cell.specs.Order.{key_cmp};
-ghost use Rattle.cola_pairs.specs.Live.{below_end};
+ghost use Rattle.cola_cursor.specs.Way.{way_cmp, within_end};
+ghost use Rattle.std.specs.Ordering.{is_lt};
 ghost use Rattle.cola_cursor.specs.Causes.{HasLinesCause};
 ghost use Rattle.cola_cursor.specs.Lines.{LineFits, IsReady, all_left, Reading};
 ghost use Rattle.cola_cursor.specs.Passing.{PassAll};
@@ -23,16 +23,17 @@ pub(crate) fn read_heads<W: CellSource, L: Ledger>(
     work: &mut W,
     lines: &mut [Line],
     saved: &mut ArrayVec<Saved, MOST_LEVELS>,
+    falls: bool,
     steps: &mut Steps<L>,
 ) -> Result<(), ReadFault>
-    requires fit { AllByRecursion (LineFits (W.state work.old).held) lines.old }
+    requires fit { AllByRecursion (LineFits falls (W.state work.old).held) lines.old }
     requires few { length lines.old ≤ 23 }
     requires once { SavedOnce (length lines.old) saved.old.items }
-    ensures fetches { OnOk result (FetchAll (W.state work.old).held lines.old lines.new) }
+    ensures fetches { OnOk result (FetchAll falls (W.state work.old).held lines.old lines.new) }
     ensures saves { Saves lines.old lines.new saved.old.items saved.new.items }
     ensures left { steps.new + left_then result lines.new ≤ steps.old + all_left lines.old }
     ensures reading { Reading (W.state work.old) (W.state work.new) steps.old steps.new }
-    ensures cause { HasLinesCause W.CellSource work.old work.new lines.old result }
+    ensures cause { HasLinesCause falls W.CellSource work.old work.new lines.old result }
     ensures looks { OnlyLooks W.CellSource work.old work.new result }
 {
     for i in 0..lines.len() {
@@ -40,30 +41,49 @@ pub(crate) fn read_heads<W: CellSource, L: Ledger>(
             continue;
         }
         save(lines, saved, i);
-        lines[i].read_head(work, steps)?;
+        lines[i].read_head(work, falls, steps)?;
     }
     Ok(())
 }
 
 /// Whether the key of a cell is below the upper end, where there is one.
-fn is_below(cell: &Packed, end: &Option<Key>) -> bool
-    ensures { result ≡ below_end key_cmp end.now (key_of cell.now) }
+fn is_within(cell: &Packed, end: &Option<Key>, falls: bool) -> bool
+    ensures { result ≡ within_end falls end.now (key_of cell.now) }
 {
     match end {
-        Some(end) => cell.key_cmp(end).is_lt(),
+        Some(end) => {
+            let order = cell.key_cmp(end);
+            if falls { !order.is_lt() } else { order.is_lt() }
+        }
         None => true,
+    }
+}
+
+/// Whether the key of a cell comes before that of another in a direction.
+#[inline]
+fn comes_before(cell: &Packed, other: &Packed, falls: bool) -> bool
+    ensures { result ≡ is_lt (way_cmp falls (key_of cell.now) (key_of other.now)) }
+{
+    if falls {
+        other.cmp_keys(cell).is_lt()
+    } else {
+        cell.cmp_keys(other).is_lt()
     }
 }
 
 /// The cell with the lesser key, of one, where there is one, and the next cell of a line: the first where the keys are equal.
 #[inline]
-fn lesser<'a>(least: Option<&'a Packed>, head: &'a Option<Packed>) -> Option<&'a Packed>
-    ensures { key_in result ≡ lowered None (key_in least.entry) head.now }
+fn lesser<'a>(
+    least: Option<&'a Packed>,
+    head: &'a Option<Packed>,
+    falls: bool,
+) -> Option<&'a Packed>
+    ensures { key_in result ≡ lowered falls None (key_in least.entry) head.now }
 {
     match head {
         Some(cell) => match least {
             Some(least) => {
-                if cell.cmp_keys(least).is_lt() {
+                if comes_before(cell, least, falls) {
                     Some(cell)
                 } else {
                     Some(least)
@@ -76,16 +96,16 @@ fn lesser<'a>(least: Option<&'a Packed>, head: &'a Option<Packed>) -> Option<&'a
 }
 
 /// The least of the next keys of the lines below the upper end, if there is one.
-pub(crate) fn least_key(lines: &[Line], end: &Option<Key>) -> Option<Key>
-    ensures { result ≡ least_from end.now None lines.now }
+pub(crate) fn least_key(lines: &[Line], end: &Option<Key>, falls: bool) -> Option<Key>
+    ensures { result ≡ least_from falls end.now None lines.now }
 {
     let mut least: Option<&Packed> = None;
     for i in 0..lines.len() {
-        least = lesser(least, &lines[i].head);
+        least = lesser(least, &lines[i].head, falls);
     }
     match least {
         Some(cell) => {
-            if is_below(cell, end) {
+            if is_within(cell, end, falls) {
                 Some(cell.key())
             } else {
                 None
@@ -101,17 +121,18 @@ pub(crate) fn pass_all<W: CellSource, L: Ledger>(
     lines: &mut [Line],
     saved: &mut ArrayVec<Saved, MOST_LEVELS>,
     key: &Key,
+    falls: bool,
     steps: &mut Steps<L>,
 ) -> Result<Option<Item>, ReadFault>
-    requires fit { AllByRecursion (LineFits (W.state work.old).held) lines.old }
+    requires fit { AllByRecursion (LineFits falls (W.state work.old).held) lines.old }
     requires ready { AllByRecursion IsReady lines.old }
     requires few { length lines.old ≤ 23 }
     requires once { SavedOnce (length lines.old) saved.old.items }
-    ensures passes { IfOk result (PassAll (W.state work.old).held key.now lines.old lines.new) }
+    ensures passes { IfOk result (PassAll falls (W.state work.old).held key.now lines.old lines.new) }
     ensures saves { Saves lines.old lines.new saved.old.items saved.new.items }
     ensures left { steps.new + left_then result lines.new ≤ steps.old + all_left lines.old }
     ensures reading { Reading (W.state work.old) (W.state work.new) steps.old steps.new }
-    ensures cause { HasLinesCause W.CellSource work.old work.new lines.old result }
+    ensures cause { HasLinesCause falls W.CellSource work.old work.new lines.old result }
     ensures looks { OnlyLooks W.CellSource work.old work.new result }
 {
     let mut item: Option<Item> = None;
@@ -120,7 +141,7 @@ pub(crate) fn pass_all<W: CellSource, L: Ledger>(
             continue;
         }
         save(lines, saved, i);
-        let passed = lines[i].pass(work, key, steps)?;
+        let passed = lines[i].pass(work, key, falls, steps)?;
         item = item.or(passed);
     }
     Ok(item)

@@ -1,5 +1,6 @@
 -- A range that is asked for in calls one after the other.
-use Rattle.std.proofs.Common.{◌≡◌, ℕ, ◌+◌, ◌-◌, ◌<◌, ◌≤◌, List, [], ◌++◌, length, take, drop, Result, Ok, Err, refl, sym, ◌∙◌, ap, subst, arith, add_assoc, append_assoc, append-nil, length-append, length-take, length-drop}
+use Rattle.std.proofs.Common.{◌≡◌, ⊎_elim, ℕ, ◌+◌, ◌-◌, ◌<◌, ◌≤◌, List, [], ◌++◌, length, take, drop, min, Result, Ok, Err, sym, ◌∙◌, ap, subst, arith, add_assoc, append_assoc, append-nil, length-append, length-take, length-drop}
+use Rattle.std.proofs.lemmas.Bool.{cases_lt}
 use Rattle.std.proofs.lemmas.List.{length-take-le, take_at, drop_at, drop-drop, drop_all, take_all, take-append-drop}
 use Rattle.std.proofs.Math.Seq.{take-append-add}
 use Rattle.std.specs.IoError.{error_kind}
@@ -103,3 +104,17 @@ pub length-joined : (bytes between : List ℕ) (done : ℕ) → done ≤ length 
 length-joined bytes between done inside is =
     let long : length between ≡ length bytes - done = is ∙ length-left bytes done in
     simp (length-append, length-take) (omega (arith, long))
+
+-- a header, and what stands behind it, of bytes that may be fewer than a header has
+module _ (bytes : List ℕ) (mid : ℕ) (is : mid ≡ min (length bytes) 512) where
+  pub header-part : (part : List ℕ) → part ≡ take mid bytes → part ≡ take 512 bytes
+  header-part part front = front ∙ ⊎_elim
+      (λ (large : 512 < length bytes). let whole : mid ≡ 512 = omega (arith, is, large) in ap (λ (n : ℕ). take n bytes) whole)
+      (λ (small : length bytes ≤ 512). take_all mid bytes (omega (arith, is, small)) ∙ sym (take_all 512 bytes small))
+      (cases_lt 512 (length bytes))
+
+  pub behind-part : (part : List ℕ) → part ≡ drop mid bytes → part ≡ drop 512 bytes
+  behind-part part back = back ∙ ⊎_elim
+      (λ (large : 512 < length bytes). let whole : mid ≡ 512 = omega (arith, is, large) in ap (λ (n : ℕ). drop n bytes) whole)
+      (λ (small : length bytes ≤ 512). drop_all mid bytes (omega (arith, is, small)) ∙ sym (drop_all 512 bytes small))
+      (cases_lt 512 (length bytes))

@@ -1,5 +1,5 @@
 -- Laws of what a device asks of its file, for files of any type.
-use Rattle.std.specs.Prelude.{◌≡◌, ℕ, ◌+◌, ◌≤◌, Bool, true, false, List, length, take, Option, Some, Result, Ok, Err, IsErr, MatchResult, OnOk}
+use Rattle.std.specs.Prelude.{◌≡◌, ℕ, ◌+◌, ◌≤◌, Bool, true, false, List, length, take, drop, Option, Some, Result, Ok, Err, IsErr, MatchResult, OnOk}
 use Rattle.std.specs.Fs.{asks_read, asks_write, asks_append, asks_truncate, asks_create, asks_create_new}
 use Rattle.std.specs.declared.io.Error.{Error}
 use Rattle.cola_device.specs.declared.device.DeviceFault.{DeviceFault}
@@ -8,7 +8,7 @@ use Rattle.cola_filedev.specs.declared.handle.Handle.{Handle}
 use Rattle.cola_filedev.specs.declared.handle.Handle.TheVariants.{Unopened, Open}
 use Rattle.cola_filedev.specs.Handle.{IsRefused}
 use Rattle.cola_filedev.specs.Opening.{Wanted, Openings, Works, options, Asked}
-use Rattle.cola_filedev.specs.Work.{CallAt, InPieces, Taking, Cuts, Laid}
+use Rattle.cola_filedev.specs.Work.{CallAt, InPieces, Takes, Put, Syncs, Written, Cuts, Laid}
 
 -- what is opened is read and written, and made where that is wanted; it is not emptied, and not appended to
 pub record AsWanted (make : Bool) : Type 0 where
@@ -75,7 +75,7 @@ ReadsWhole Gave =
     (bytes_of new ≡ bytes_of old) × OnOk answer (after ≡ part (bytes_of old) at (length after))
 
 -- the writes of a file that has bytes: they put some of theirs in their place, and an error leaves all
-pub record TakesItsOwn {F : Type 0} (Took : F → ℕ → List ℕ → Result ℕ Error → F → Type 0) (bytes_of : F → List ℕ) : Type 0 where
+pub record TakesItsOwn {F : Type 0} (Took : Takes F) (bytes_of : F → List ℕ) : Type 0 where
   pub taken : (old new : F) (at count : ℕ) (from : List ℕ) →
       Took old at from (Ok count) new → bytes_of new ≡ splice (bytes_of old) at (take count from)
   pub count : (old new : F) (at count : ℕ) (from : List ℕ) →
@@ -83,9 +83,28 @@ pub record TakesItsOwn {F : Type 0} (Took : F → ℕ → List ℕ → Result �
   pub stay : (old new : F) (at : ℕ) (from : List ℕ) (error : Error) →
       Took old at from (Err error) new → bytes_of new ≡ bytes_of old
 
-abbrev pub WritesWhole : {F : Type 0} → (F → ℕ → List ℕ → Result ℕ Error → F → Type 0) → Type 0
-WritesWhole Took =
-    (bytes_of : _ → List ℕ) → TakesItsOwn Took bytes_of →
+-- its syncs leave all
+abbrev pub SyncsItsOwn : {F : Type 0} → Syncs F → (F → List ℕ) → Type 0
+SyncsItsOwn Synced bytes_of = (old new : _) (answer : Result (Unit {0}) Error) → Synced old answer new → bytes_of new ≡ bytes_of old
+
+abbrev pub WritesWhole : {F : Type 0} → Takes F → Syncs F → Type 0
+WritesWhole Took Synced =
+    (bytes_of : _ → List ℕ) → TakesItsOwn Took bytes_of → SyncsItsOwn Synced bytes_of →
     (old new : _) (at : ℕ) (from : List ℕ) (answer : Result (Unit {0}) Error) → at + length from ≤ length (bytes_of old) →
-    InPieces (Taking Took) old at from answer from new →
-    OnOk answer (bytes_of new ≡ splice (bytes_of old) at from)
+    Written Took Synced old at from answer new → OnOk answer (bytes_of new ≡ splice (bytes_of old) at from)
+
+-- what a write from byte 0 on did to the header of its file: it was refused and left it, or all else of it stood in the file,
+-- and was synced, before any byte of the header was written
+pub data HeaderLast {F : Type 0} (Took : Takes F) (Synced : Syncs F) (bytes_of : F → List ℕ) (old : F) (from : List ℕ)
+    : Result (Unit {0}) Error → F → Type 0 where
+  waits : {new : F} {error : Error} → take 512 (bytes_of new) ≡ take 512 (bytes_of old) →
+      HeaderLast Took Synced bytes_of old from (Err error) new
+  follows : {behind synced new : F} {answer : Result (Unit {0}) Error} →
+      bytes_of behind ≡ splice (bytes_of old) 512 (drop 512 from) → Synced behind (Ok tt) synced →
+      Put Took synced 0 (take 512 from) answer new → HeaderLast Took Synced bytes_of old from answer new
+
+abbrev pub HeaderIsLast : {F : Type 0} → Takes F → Syncs F → Type 0
+HeaderIsLast Took Synced =
+    (bytes_of : _ → List ℕ) → TakesItsOwn Took bytes_of → SyncsItsOwn Synced bytes_of →
+    (old new : _) (from : List ℕ) (answer : Result (Unit {0}) Error) → length from ≤ length (bytes_of old) →
+    Written Took Synced old 0 from answer new → HeaderLast Took Synced bytes_of old from answer new

@@ -1,7 +1,7 @@
 ghost use Rattle.std.specs.Prelude.{◌≡◌, Option, false, Some, None, refl, is_err};
 ghost use Rattle.cola_device.specs.Counts.{count_fault, count_read, count_write, count_other};
 ghost use Rattle.cola_filedev.specs.Opening.{Wanted, unused, AskedFor, Asked};
-ghost use Rattle.cola_filedev.specs.Work.{InPieces, Taking, Laid};
+ghost use Rattle.cola_filedev.specs.Work.{InPieces, Written, Laid};
 ghost use Rattle.cola_filedev.specs.declared.handle.Handle.TheVariants.{Unopened, Refused};
 
 use crate::access::{OpenedFile, Opener};
@@ -127,7 +127,7 @@ impl<'a, O: Opener> Device for PathDevice<'a, O> {
     }
 
     fn write(&mut self, at: u64, from: &[u8]) -> Result<(), DeviceFault>
-        ensures asked { Asked O.opened self.old.wanted (λ old answer new. InPieces (Taking O.File.took) old at from.now answer from.now new)
+        ensures asked { Asked O.opened self.old.wanted (λ old answer new. Written O.File.took O.File.synced old at from.now answer new)
             self.old.handle result self.new.handle }
         ensures wanted { self.new.wanted ≡ self.old.wanted }
         ensures counted { self.new.counts ≡ count_write (count_fault (is_err result) self.old.counts) }

@@ -3,7 +3,7 @@ ghost use Rattle.std.specs.Prelude.{◌≡◌, ◌↔◌, true, IsTrue};
 ghost use Rattle.std.specs.IoError.{error_kind};
 ghost use Rattle.std.specs.declared.io.ErrorKind.TheVariants.{Interrupted};
 ghost use Rattle.cola_filedev.specs.Opening.{options, OpenedAs, AskedFor, wanted_of};
-ghost use Rattle.cola_filedev.specs.Work.{InPieces, Taking, Laid};
+ghost use Rattle.cola_filedev.specs.Work.{InPieces, Put, Written, Laid};
 
 use crate::access::{OpenedFile, Opener};
 use std::fs::OpenOptions;
@@ -11,6 +11,9 @@ use std::io::{self, ErrorKind};
 
 /// How often an interrupted read or write is made again.
 const TRIES: u32 = 1000;
+
+/// How many bytes a header has. It stands first in a file.
+pub(crate) const HEADER: usize = 512;
 
 #[derive(Drop)]
 pub(crate) enum Handle<O, F> {
@@ -94,9 +97,23 @@ pub(crate) fn read<F: OpenedFile>(file: &mut F, at: u64, into: &mut [u8]) -> io:
     Ok(())
 }
 
-/// All of `from` is taken: a write that takes none of it is a refusal.
+/// The header, if it is among the bytes, is written once all else is synced: so it says of the file what is so, whenever
+/// the process or the machine stops.
 pub(crate) fn write<F: OpenedFile>(file: &mut F, at: u64, from: &[u8]) -> io::Result<()>
-    ensures { InPieces (Taking F.took) file.old at from.now result from.now file.new }
+    ensures { Written F.took F.synced file.old at from.now result file.new }
+{
+    if at > 0 {
+        return put(file, at, from);
+    }
+    let (header, behind) = from.split_at(from.len().min(HEADER));
+    put(file, HEADER as u64, behind)?;
+    file.sync()?;
+    put(file, 0, header)
+}
+
+/// All of `from` is taken: a write that takes none of it is a refusal.
+pub(crate) fn put<F: OpenedFile>(file: &mut F, at: u64, from: &[u8]) -> io::Result<()>
+    ensures { Put F.took file.old at from.now result file.new }
 {
     if from.len() as u64 > u64::MAX - at {
         return Err(io::Error::from(ErrorKind::InvalidInput));

@@ -5,8 +5,10 @@ mod access;
 mod file;
 mod handle;
 pub mod laws;
+mod locks;
 mod system;
 
 pub use access::{OpenedFile, Opener};
 pub use file::PathDevice;
+pub use locks::{LockedDevice, LockedFile, Locking, Locks};
 pub use system::{FileDevice, SystemFile};

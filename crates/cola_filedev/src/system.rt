@@ -17,9 +17,7 @@ where
     ghost opened = { λ _ _ _ _. ⊤ };
 
     fn open(self, path: &str, options: &OpenOptions) -> io::Result<SystemFile<R::File>> {
-        Ok(SystemFile {
-            file: options.open(self, path)?,
-        })
+        Ok(SystemFile::of(options.open(self, path)?))
     }
 }
 
@@ -30,6 +28,12 @@ pub type FileDevice<'a, R> = PathDevice<'a, &'a R>;
 #[derive(Drop)]
 pub struct SystemFile<F> {
     file: F,
+}
+
+impl<F: OpenFile + FileExt + Drop> SystemFile<F> {
+    pub(crate) fn of(file: F) -> SystemFile<F> {
+        SystemFile { file }
+    }
 }
 
 impl<F: OpenFile + FileExt + Drop> OpenedFile for SystemFile<F> {

@@ -14,7 +14,7 @@ use Rattle.cola_report.specs.Line.{LineEnds}
 use Rattle.cola_status.specs.declared.status.Status.TheVariants as known
 use Rattle.cola_status.specs.Statuses.{IsStatus}
 use Rattle.cola_status.proofs.Known.{one}
-use Rattle.cola_cell.specs.Shapes.{shape_of}
+use Rattle.cola_shapes.specs.Shapes.{shape_of}
 use Rattle.cola_filling.specs.Loads as loads
 use Rattle.cola_filling.specs.Loads.{LoadEnds, LoadEndsBy, StopsBefore, load_status, loaded_line, word_line}
 use Rattle.cola_filling.specs.Grows.{GrowEnds, Grown, NotGrown, grow_status}
@@ -42,9 +42,9 @@ module _ {S K D : Type 0} (g : source.Ghosts S) (h : sink.Ghosts K) (d : device.
 
   load-known-by : (geometry : Geometry) (source source' : S) (sink sink' : K) (device device' : D) (n : ℕ) → LoadEndsBy g h d geometry source source' sink sink' device device' n → IsStatus n
   load-known-by geometry source source' sink sink' device device' n (loads.NotBegun fault is begun) = not-begun fault n is
-  load-known-by geometry source source' sink sink' device device' n (loads.Stopped between rose stops) = stopped-known stops
+  load-known-by geometry source source' sink sink' device device' n (loads.Stopped s) = stopped-known s.stops
     where
-      stopped-known : StopsBefore g h d (shape_of geometry.format geometry.keys) source source' sink sink' between device' n → IsStatus n
+      stopped-known : StopsBefore g h d (shape_of geometry.format geometry.keys) source source' sink sink' s.between device' n → IsStatus n
       stopped-known (loads.Status3 is why stopped) = one known.SourceFailed n is
       stopped-known (loads.Status5 is why) = one known.DeviceFailed n is
       stopped-known (loads.Status9 is why stopped) = one known.Spent n is

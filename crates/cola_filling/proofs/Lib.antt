@@ -4,3 +4,5 @@ pub mod Known
 pub mod Whole
 pub mod Sizes
 pub mod GrowEnding
+pub mod LoadSaid
+pub mod GrowSaid

@@ -24,7 +24,7 @@ use Rattle.cola_session.specs.Reading.{AreFirstLines}
 use Rattle.cola_session.proofs.ReadingOn.{ReadSoFar}
 use Rattle.cola_spec.specs.Map.{Shape, key_cmp}
 use Rattle.cola_spec.proofs.OrderLaws.{turned}
-use Rattle.cola_cell.specs.Shapes.{shape_of}
+use Rattle.cola_shapes.specs.Shapes.{shape_of}
 use Rattle.cola_load.specs.declared.said.Said.{Said}
 use Rattle.cola_load.specs.declared.said.Said.TheVariants as saying
 use Rattle.cola_load.specs.declared.answer.Word.{Word}

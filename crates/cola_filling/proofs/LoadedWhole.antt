@@ -9,7 +9,7 @@ use Rattle.cola_layout.specs.declared.geometry.Geometry.{Geometry}
 use Rattle.cola_report.specs.Line.{LineEnds}
 use Rattle.cola_run.specs.Cells.{file_bytes, device_levels}
 use Rattle.cola_session.specs.Ends.{ReadToEnd}
-use Rattle.cola_cell.specs.Shapes.{shape_of}
+use Rattle.cola_shapes.specs.Shapes.{shape_of}
 use Rattle.cola_load.specs.Loading.{Loading, HoldsRows, IsUnfinished, HasBegun, full_blocks}
 use Rattle.cola_filling.specs.Lines.{IsFresh, AreLoaded, LoadFinishes}
 use Rattle.cola_filling.specs.Loads as ends
@@ -31,12 +31,18 @@ module _ {S K D : Type 0} (g : source.Ghosts S) (h : sink.Ghosts K) (d : device.
   -- lines that stopped
   pub stopped : StopsBefore g h d (shape_of old.geometry.format old.geometry.keys) source source' sink sink1 begun-at mid status → LoadEndsBy g h d geometry source source' sink sink1 before mid status
   stopped stops =
-      ends.Stopped begun-at begun.no_fault (subst (λ (G : Geometry). StopsBefore g h d (shape_of G.format G.keys) source source' sink sink1 begun-at mid status) begun.geometry_is stops)
+      ends.Stopped (record {
+        was_empty = begun.was_empty;
+        between = begun-at;
+        begun = begun.no_fault;
+        stops = subst (λ (G : Geometry). StopsBefore g h d (shape_of G.format G.keys) source source' sink sink1 begun-at mid status) begun.geometry_is stops;
+      })
 
   -- all lines
   pub ended : AreLoaded g h d old new source source' sink sink1 begun-at mid → LoadFinishes h d new sink1 sink' mid now status → full_blocks geometry new.rows + (device_levels geometry + 2) ≤ most_writes geometry new.rows
       → LoadEndsBy g h d geometry source source' sink sink' before now status
   ended loaded (inl finished) few = ends.Loaded (record {
+    was_empty = begun.was_empty;
     rows = loaded.rows;
     read = subst (λ (G : Geometry). ReadToEnd g h source source' sink sink (λ lines. HaveNoWord (shape_of G.format G.keys) lines × (loaded.rows ≡ loaded_rows (shape_of G.format G.keys) lines))) begun.geometry_is loaded.read;
     filled =
@@ -54,6 +60,7 @@ module _ {S K D : Type 0} (g : source.Ghosts S) (h : sink.Ghosts K) (d : device.
         (subst (λ n. LineEnds h (loaded_line n) 0 sink1 sink' status) loaded.many finished.wrote);
   })
   ended loaded (inr failed) few = ends.AtEnd failed.status_is (record {
+    was_empty = begun.was_empty;
     rows = loaded.rows;
     read = subst (λ (G : Geometry). ReadToEnd g h source source' sink sink (λ lines. HaveNoWord (shape_of G.format G.keys) lines × (loaded.rows ≡ loaded_rows (shape_of G.format G.keys) lines))) begun.geometry_is loaded.read;
     left =

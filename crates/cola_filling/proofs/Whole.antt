@@ -21,7 +21,7 @@ use Rattle.cola_report.specs.Line.{LineEnds}
 use Rattle.cola_report.specs.Line.LineEnds.{WroteLine, WroteFront}
 use Rattle.cola_session.specs.Ends.{ReadToEnd}
 use Rattle.cola_spec.specs.Map.{Shape}
-use Rattle.cola_cell.specs.Shapes.{shape_of}
+use Rattle.cola_shapes.specs.Shapes.{shape_of}
 use Rattle.cola_filling.specs.Loads as loads
 use Rattle.cola_filling.specs.Loads.{HaveNoWord, HasNotBegun, loaded_rows, loaded_line, load_status, LoadEndsBy, WasLoaded, IsFilledWith, StopsBefore, StandsForLines, CanBeLoaded}
 
@@ -76,7 +76,7 @@ module _ {S K D : Type 0} (g : source.Ghosts S) (h : sink.Ghosts K) (d : device.
 
     pub ends-standing : LoadEndsBy g h d geometry source source' sink sink' device device' 0 → ReadToEnd g h source source' sink sink (StandsForLines keys block_exp format bytes)
     ends-standing (loads.NotBegun fault is begun) = absurd (not-begun fault is)
-    ends-standing (loads.Stopped between rose stops) = absurd (stops-not between stops)
+    ends-standing (loads.Stopped s) = absurd (stops-not s.between s.stops)
     ends-standing (loads.AtEnd is failed) = cc
     ends-standing (loads.Loaded was) = loaded was
 
@@ -116,6 +116,6 @@ module _ {S K D : Type 0} (g : source.Ghosts S) (h : sink.Ghosts K) (d : device.
 
     pub completes : LoadEndsBy g h d geometry source source' sink sink' device device' status → (status ≡ 0) ⊎ (status ≡ 1)
     completes (loads.NotBegun fault e begun) = by-begin fault e begun
-    completes (loads.Stopped between up stops) = by-stop between up stops
+    completes (loads.Stopped s) = by-stop s.between s.begun s.stops
     completes (loads.AtEnd e failed) = absurd (can.device_answers failed.cause)
     completes (loads.Loaded was) = by-line (loaded_line (length was.rows)) was.wrote

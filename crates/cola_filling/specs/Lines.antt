@@ -8,7 +8,7 @@ use Rattle.cola_io.specs.declared.sink.Sink as sink
 use Rattle.cola_report.specs.Line.{LineEnds}
 use Rattle.cola_run.specs.Cells.{device_levels}
 use Rattle.cola_session.specs.Ends.{ReadToEnd}
-use Rattle.cola_cell.specs.Shapes.{shape_of}
+use Rattle.cola_shapes.specs.Shapes.{shape_of}
 use Rattle.cola_load.specs.Filled.{Row}
 use Rattle.cola_load.specs.Loading.{Loading, HoldsRows, IsUnfinished, full_blocks}
 use Rattle.cola_filling.specs.Loads.{HaveNoWord, loaded_rows, loaded_line, IsFilledWith, StopsBefore}

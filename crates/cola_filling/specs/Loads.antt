@@ -3,6 +3,7 @@ use Rattle.std.specs.Prelude.{◌≡◌, ℕ, ◌+◌, ◌*◌, ◌/◌, ◌≤�
 use Rattle.cola_outside.specs.Faults.{Rose}
 use Rattle.cola_cell.specs.declared.format.Format.{Format}
 use Rattle.cola_device.specs.declared.device.Device as device
+use Rattle.cola_device.specs.Bytes.{IsEmpty}
 use Rattle.cola_device.specs.Settling.{IsSettled}
 use Rattle.cola_io.specs.declared.source.Source as source
 use Rattle.cola_io.specs.declared.sink.Sink as sink
@@ -25,7 +26,7 @@ use Rattle.cola_session.specs.Reading.{ReadFor, AreFirstLines}
 use Rattle.cola_spec.specs.Lines.{Line}
 use Rattle.cola_spec.specs.Map.{Shape}
 use Rattle.cola_spec.specs.Reply.{line}
-use Rattle.cola_cell.specs.Shapes.{shape_of}
+use Rattle.cola_shapes.specs.Shapes.{shape_of}
 
 -- the line of so many rows that were loaded
 abbrev pub loaded_line : ℕ → List ℕ
@@ -114,6 +115,7 @@ module _ {S K D : Type 0} (g : source.Ghosts S) (h : sink.Ghosts K) (d : device.
 module _ {S K D : Type 0} (g : source.Ghosts S) (h : sink.Ghosts K) (d : device.Ghosts D) (geometry : Geometry) (source source' : S) (sink sink' : K) (device device' : D) where
   -- all lines were read, none has a word, the file is filled with their rows, and their number was written
   pub record WasLoaded (status : ℕ) : Type 0 where
+    pub was_empty : IsEmpty (d.bytes device)
     pub rows : List Row
     pub read : ReadToEnd g h source source' sink sink (λ lines. HaveNoWord (shape_of geometry.format geometry.keys) lines × (rows ≡ loaded_rows (shape_of geometry.format geometry.keys) lines))
     pub filled : IfSome (d.bytes device') (IsFilledWith geometry 0 rows)
@@ -125,6 +127,7 @@ module _ {S K D : Type 0} (g : source.Ghosts S) (h : sink.Ghosts K) (d : device.
   -- all lines were read, none has a word, and their rows were pushed, but the device refused a call behind the last of them: the
   -- file has no header, or all behind the block with the header
   pub record FailedAtEnd : Type 0 where
+    pub was_empty : IsEmpty (d.bytes device)
     pub rows : List Row
     pub read : ReadToEnd g h source source' sink sink
         (λ lines. HaveNoWord (shape_of geometry.format geometry.keys) lines × (rows ≡ loaded_rows (shape_of geometry.format geometry.keys) lines))
@@ -132,16 +135,24 @@ module _ {S K D : Type 0} (g : source.Ghosts S) (h : sink.Ghosts K) (d : device.
     pub sink_stays : sink' ≡ sink
     pub cause : Rose (d.counts device).faults (d.counts device').faults
 
-  -- it did not begin, for this reason, and nothing was read or written
+  -- it did not begin, for this reason, and nothing was read or written: the device was asked for its size and to be laid out
   pub record HasNotBegun (fault : LoadFault) : Type 0 where
     pub why : Begins d geometry 0 device device' (Err fault)
+    pub spends : Spends (d.counts device) (d.counts device') 0 0 2
     pub source_stays : source' ≡ source
     pub sink_stays : sink' ≡ sink
 
-  -- how a load ends, by the status; of a load that stops at its lines, the device in between is the one over which it began
+  -- it began over an empty device, which met no fault until it was the one in between, and stopped at its lines
+  pub record HasStopped (status : ℕ) : Type 0 where
+    pub was_empty : IsEmpty (d.bytes device)
+    pub between : D
+    pub begun : (d.counts between).faults ≡ (d.counts device).faults
+    pub stops : StopsBefore g h d (shape_of geometry.format geometry.keys) source source' sink sink' between device' status
+
+  -- how a load ends, by the status
   pub data LoadEndsBy (status : ℕ) : Type 0 where
     NotBegun : (fault : LoadFault) → status ≡ load_status fault → HasNotBegun fault → LoadEndsBy status
-    Stopped : (between : D) → (d.counts between).faults ≡ (d.counts device).faults → StopsBefore g h d (shape_of geometry.format geometry.keys) source source' sink sink' between device' status → LoadEndsBy status
+    Stopped : HasStopped status → LoadEndsBy status
     AtEnd : status ≡ 5 → FailedAtEnd → LoadEndsBy status
     Loaded : WasLoaded status → LoadEndsBy status
 

@@ -4,3 +4,4 @@ pub mod Rows
 pub mod Filling
 pub mod Making
 pub mod Turns
+mod Storing

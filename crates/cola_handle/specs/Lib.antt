@@ -7,3 +7,4 @@ pub mod Lent
 pub mod Created
 pub mod Reading
 pub mod Walking
+pub mod Stored

@@ -9,6 +9,7 @@ mod handle;
 mod loose;
 mod opening;
 mod session;
+mod stored;
 mod telling;
 mod walking;
 
@@ -19,5 +20,6 @@ pub use cursor::{Cursor, Row};
 pub use handle::Cola;
 pub use opening::{close, open};
 pub use session::Session;
+pub use stored::stored_size;
 pub use telling::{tell_delete, tell_put, tell_put_if, tell_stamp, tell_value};
 pub use walking::next;

@@ -7,7 +7,7 @@ use Rattle.cola_laws.specs.Chain.{Level}
 use Rattle.cola_laws.specs.Slots.{levels_of}
 use Rattle.cola_cell.specs.ToldCells.{IsTold, AreTold}
 use Rattle.cola_cell.proofs.CellLists.{cells-same}
-use Rattle.cola_image.specs.Cells.{slot_cells}
+use Rattle.cola_layout.specs.Cells.{slot_cells}
 use Rattle.cola_image.specs.Standing.{AreRunsTold, IsSlotAlike, AreRunsAlike}
 
 -- cells that are told alike are listed alike

@@ -1,5 +1,4 @@
 pub mod CellsLemmas
-pub mod PlainLemmas
 pub mod StandingLemmas
 pub mod WorkedNothing
 pub mod WorkedMaps

@@ -18,9 +18,9 @@ use Rattle.cola_layout.proofs.Refusing.{spelling-one}
 use Rattle.cola_spec.specs.Map.{Map, Stored, key_cmp, count, empty_map}
 use Rattle.cola_spec.proofs.Entries.{same_key}
 use Rattle.cola_spec.proofs.MapLaws.{empty_is_map}
-use Rattle.cola_cell.specs.Shapes.{stamped_of, stored_of}
-use Rattle.cola_cell.specs.Shapes.{shape_of}
-use Rattle.cola_image.specs.Cells.{slot_cells, file_spots}
+use Rattle.cola_shapes.specs.Shapes.{stamped_of, stored_of}
+use Rattle.cola_shapes.specs.Shapes.{shape_of}
+use Rattle.cola_layout.specs.Cells.{slot_cells, file_spots}
 use Rattle.cola_image.specs.Standing.{found_in, AreRunsTold, AreRunsAlike, LevelsStandFor, HeaderStandsFor, FileStandsFor}
 use Rattle.cola_image.proofs.CellsLemmas.{levels-alike, runs-told}
 

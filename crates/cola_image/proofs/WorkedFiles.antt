@@ -20,7 +20,7 @@ use Rattle.cola_layout.specs.Header.{header_bytes, head_bytes, marks_bytes}
 use Rattle.cola_layout.specs.Marks.{all_numbers, no_marks}
 use Rattle.cola_spec.specs.Map.{key_cmp}
 use Rattle.cola_cell.specs.ToldCells.{IsTold, AreTold}
-use Rattle.cola_image.specs.Cells.{file_spots, slot_cells}
+use Rattle.cola_layout.specs.Cells.{file_spots, slot_cells}
 use Rattle.cola_image.specs.Standing.{found_in, AreRunsTold, FileStandsFor}
 use Rattle.cola_image.specs.Worked.{marks, header_of, puts_to, map_after, file_of_four, file_of_eight, file_of_eleven, file_of_sixteen}
 use Rattle.cola_image.proofs.WorkedMaps.{and-both, change_of, found-is, all-put, all-fit, all-rise, keys-of, count-is, is-map, stays-few}

@@ -23,8 +23,8 @@ use Rattle.cola_laws.specs.Sound.{HasAtMost, IsAmong}
 use Rattle.cola_laws.proofs.Facts.{few-keys}
 use Rattle.cola_spec.specs.Map.{Stored, EntryFits, IsMap, is_key, is_value, key_cmp, count}
 use Rattle.cola_spec.proofs.Entries.{same_key, entries_empty, entries_insert}
-use Rattle.cola_cell.specs.Shapes.{stamped_of}
-use Rattle.cola_cell.specs.Shapes.{shape_of}
+use Rattle.cola_shapes.specs.Shapes.{stamped_of}
+use Rattle.cola_shapes.specs.Shapes.{shape_of}
 use Rattle.cola_image.specs.Standing.{found_in}
 use Rattle.cola_image.specs.Worked.{after_puts, map_after}
 

@@ -11,7 +11,7 @@ use Rattle.cola_layout.specs.Marks.{all_numbers}
 use Rattle.cola_layout.proofs.Refusing.{spelling-one}
 use Rattle.cola_spec.specs.Map.{Map, key_cmp}
 use Rattle.cola_cell.specs.ToldCells.{AreTold}
-use Rattle.cola_image.specs.Cells.{file_spots, slot_cells}
+use Rattle.cola_layout.specs.Cells.{file_spots, slot_cells}
 use Rattle.cola_image.specs.Standing.{found_in, AreRunsTold, HeaderStandsFor, FileStandsFor}
 use Rattle.cola_image.specs.Worked.{crowded_file, crowded_header}
 

@@ -10,10 +10,10 @@ use Rattle.cola_laws.specs.Slots.{levels_of}
 use Rattle.cola_layout.specs.Header.{Fields, IsSpelling}
 use Rattle.cola_layout.specs.Marks.{all_numbers}
 use Rattle.cola_spec.specs.Map.{Map, IsMap, key_cmp, count}
-use Rattle.cola_cell.specs.Shapes.{stamped_of}
-use Rattle.cola_cell.specs.Shapes.{shape_of}
+use Rattle.cola_shapes.specs.Shapes.{stamped_of}
+use Rattle.cola_shapes.specs.Shapes.{shape_of}
 use Rattle.cola_cell.specs.ToldCells.{AreTold}
-use Rattle.cola_image.specs.Cells.{slot_cells, file_spots}
+use Rattle.cola_layout.specs.Cells.{slot_cells, file_spots}
 
 -- what a map has of a key, as the laws of levels have it
 abbrev pub found_in : Map → List ℕ → Option Stamped

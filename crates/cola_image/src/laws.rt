@@ -9,7 +9,7 @@ ghost use Rattle.cola_layout.specs.Header.{Fields, IsSpelling};
 ghost use Rattle.cola_layout.specs.Marks.{all_numbers, no_marks};
 ghost use Rattle.cola_spec.specs.Bounds.{levels_of};
 ghost use Rattle.cola_spec.specs.Map.{Map, empty_map};
-ghost use Rattle.cola_image.specs.Cells.{file_spots};
+ghost use Rattle.cola_layout.specs.Cells.{file_spots};
 ghost use Rattle.cola_image.specs.Standing.{AreRunsAlike, AreRunsTold, LevelsStandFor, HeaderStandsFor, FileStandsFor};
 ghost use Rattle.cola_image.specs.Worked.{puts_to, map_after, file_of_four, file_of_eight, file_of_eleven, file_of_sixteen, crowded_file, crowded_header};
 

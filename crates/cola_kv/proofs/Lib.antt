@@ -4,3 +4,4 @@ pub mod Listing
 pub mod Carried
 pub mod Ranging
 pub mod Openings
+pub mod Falling

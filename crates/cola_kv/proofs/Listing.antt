@@ -12,7 +12,7 @@ use Rattle.cola_layout.specs.declared.geometry.Geometry.{Geometry}
 use Rattle.cola_run.specs.Cells.{block_cells}
 use Rattle.cola_spec.specs.Bounds.{command_bound}
 use Rattle.cola_spec.specs.Map.{Shape, Map}
-use Rattle.cola_cell.specs.Shapes as shapes
+use Rattle.cola_shapes.specs.Shapes as shapes
 use Rattle.cola_kv.specs.declared.error.Error.{Error}
 use Rattle.cola_kv.specs.declared.error.Error.TheVariants.{Device}
 use Rattle.cola_kv.specs.declared.list.Answer.{Answer}

@@ -29,7 +29,7 @@ range-cause : (A : Type 0) (shape : Shape) (low : List ℕ) (high : Option (List
 range-cause A shape low high before now read.Device faults = faults
 range-cause A shape low high before now (read.BadCell cell) faults = faults
 
-step-cause : (A : Type 0) (before now : ℕ) (f : ReadFault) → ReadFaults {A = A} (Err f) before now → StepCause before now (of_read f)
+pub step-cause : (A : Type 0) (before now : ℕ) (f : ReadFault) → ReadFaults {A = A} (Err f) before now → StepCause before now (of_read f)
 step-cause A before now read.Device faults = faults
 step-cause A before now (read.BadCell cell) faults = faults
 

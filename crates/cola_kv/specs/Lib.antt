@@ -6,3 +6,4 @@ pub mod Calls
 pub mod Listed
 pub mod Ranged
 pub mod Iterated
+pub mod Backward

@@ -2,6 +2,7 @@
 //! where one is wanted.
 #![tactic(auto)]
 
+mod backward;
 mod calls;
 mod counted;
 mod error;

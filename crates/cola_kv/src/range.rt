@@ -14,12 +14,12 @@ use cola_table::Table;
 use std::marker::Brand;
 use std::sync::ledger::{Blank, Ledger};
 
-/// A range of an open store, by rising keys, which borrows it. As an iterator it ends behind the last pair and behind the first
-/// refusal; [`Range::try_next`] asks again what was refused.
+/// A range of an open store, by rising or by falling keys, which borrows it. As an iterator it ends behind the last pair and
+/// behind the first refusal; [`Range::try_next`] asks again what was refused.
 #[derive(Drop)]
 pub struct Range<'a, D: Device> {
-    kv: &'a mut Kv<D>,
-    walk: Cursor,
+    pub(crate) kv: &'a mut Kv<D>,
+    pub(crate) walk: Cursor,
     pub(crate) ended: bool,
 }
 

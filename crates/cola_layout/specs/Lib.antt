@@ -1,5 +1,6 @@
 pub mod Geometry
 pub mod Place
+pub mod Cells
 pub mod Marks
 pub mod Header
 pub mod Fields

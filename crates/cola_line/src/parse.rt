@@ -5,7 +5,7 @@ ghost use Rattle.cola_cell.specs.declared.format.Format.TheVariants.{Two};
 ghost use Rattle.cola_cell.specs.Format.{KeyFits, ValueFits};
 ghost use Rattle.cola_spec.specs.Map.{is_key, is_value};
 ghost use Rattle.cola_spec.specs.Command.{command_of, verb_of, put_of, put_if_of, del_of, get_of, stamp_of, range_of, scan_of, is_number, number_of, alone as alone_of};
-ghost use Rattle.cola_cell.specs.Shapes.{shape_of};
+ghost use Rattle.cola_shapes.specs.Shapes.{shape_of};
 ghost use Rattle.cola_line.specs.Spoken.{spoken, CommandFits};
 ghost use Rattle.cola_line.specs.Words.{words_left};
 

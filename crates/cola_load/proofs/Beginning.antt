@@ -10,7 +10,7 @@ use Rattle.cola_run.proofs.Spots.{both-second}
 use Rattle.cola_run.specs.Cells.{file_bytes}
 use Rattle.std.proofs.lemmas.List.Elements.{All-nil}
 use Rattle.cola_spec.specs.Map.{EntryFits}
-use Rattle.cola_cell.specs.Shapes.{shape_of}
+use Rattle.cola_shapes.specs.Shapes.{shape_of}
 use Rattle.cola_load.specs.Filled.{run_len}
 use Rattle.cola_load.specs.Loading.{Loading, HoldsRows}
 

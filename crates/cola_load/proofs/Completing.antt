@@ -1,5 +1,5 @@
 -- What follows from the answer of growing a file.
-use Rattle.std.proofs.Common.{◌≡◌, ◌⊎◌, inl, inr, ℕ, ◌<◌, ◌≤◌, true, false, List, [], length, take, Option, Some, Result, Ok, Err, sym, ap, subst, ◌∙◌, arith}
+use Rattle.std.proofs.Common.{◌≡◌, ◌⊎◌, inl, inr, ℕ, ◌<◌, ◌≤◌, true, false, List, [], length, take, Option, Some, Result, Ok, Err, refl, sym, ap, subst, ◌∙◌, arith}
 use Rattle.std.specs.Prelude.{IfSome}
 use Rattle.std.specs.FinMap as finite
 use Rattle.std.proofs.lemmas.List.{length-map}
@@ -15,12 +15,11 @@ use Rattle.cola_opening.specs.Judged.{file_size, IsClosedWith, IsSmall, IsNoStor
 use Rattle.cola_opening.proofs.Sizes.{header_fits}
 use Rattle.cola_outside.specs.Faults.{Rose}
 use Rattle.cola_spec.specs.Map.{Map, count}
-use Rattle.cola_cell.specs.Shapes.{shape_of}
+use Rattle.cola_shapes.specs.Shapes.{shape_of}
 use Rattle.cola_load.specs.declared.fault.GrowFault.{GrowFault}
 use Rattle.cola_load.specs.declared.fault.GrowFault.TheVariants.{Small, NotStore, NotClosed, Fewer, OutOfMemory, BadCell, NotEmpty, Disorder, Device}
 use Rattle.cola_load.specs.Filled.{Row, AreRows, IsFilled, rows_of, row_of_entry, map_of, filled_header}
-use Rattle.cola_load.specs.Grow.{HasCopied, HasKeys, IsForNone, HasStopped, Uncalled, NotBegun, Headless, NotFinished, Grows, IsCountOrFull, IsFileOf}
-use Rattle.cola_load.specs.Loading.{IsHeadless}
+use Rattle.cola_load.specs.Grow.{IsFor, HasCopied, HasKeys, IsForNone, IsLeftHeadless, HasStopped, Uncalled, NotBegun, Headless, NotFinished, Grows, MayHaveHeader, IsCountOrFull, IsFileOf}
 use Rattle.cola_load.proofs.FilledLevels.{filled-stands}
 use Rattle.cola_load.proofs.FilledMaps.{map-again}
 
@@ -109,27 +108,49 @@ module _ (header : Fields) (bytes : List ℕ) (m : Map) (stands : HeaderStandsFo
 
 -- ---- what a refusal leaves
 
-module _ {D E : Type 0} (d : device.Ghosts D) (e : device.Ghosts E) (from from_now : D) (to to_now : E) (ticks ticks_now keys block_exp : ℕ) (calm : ¬ Rose (e.counts to).faults (e.counts to_now).faults) where
-  uncalled : to_now ≡ to → (e.bytes to_now ≡ e.bytes to) ⊎ IfSome (e.bytes to_now) IsHeadless
-  uncalled is = inl (ap (λ (x : E). e.bytes x) is)
+module _ {D E : Type 0} (d : device.Ghosts D) (e : device.Ghosts E) (from from_now : D) (to to_now : E) (ticks ticks_now keys block_exp : ℕ) where
+  abbrev Leaves : GrowFault → Type 0
+  Leaves fault = (e.bytes to_now ≡ e.bytes to) ⊎ (IsLeftHeadless e to to_now ⊎ MayHaveHeader e to to_now keys block_exp fault)
 
-  stopped : (header : Header) (geometry : Geometry) (told : Option (List ℕ)) → HasStopped e header geometry told to to_now → (e.bytes to_now ≡ e.bytes to) ⊎ IfSome (e.bytes to_now) IsHeadless
-  stopped header geometry told (Uncalled is) = uncalled is
-  stopped header geometry told (NotBegun failed) = absurd (calm failed.cause)
-  stopped header geometry told (Headless none) = inr none
-  stopped header geometry told (NotFinished rows failed) = absurd (calm failed.cause)
+  uncalled : (fault : GrowFault) → to_now ≡ to → Leaves fault
+  uncalled fault is = inl (ap (λ (x : E). e.bytes x) is)
 
-  pub headless-left : (fault : GrowFault) → Grows d e from from_now to to_now ticks ticks_now keys block_exp (Err fault) → (e.bytes to_now ≡ e.bytes to) ⊎ IfSome (e.bytes to_now) IsHeadless
-  headless-left Small h = uncalled h.untouched
-  headless-left NotStore h = uncalled h.untouched
-  headless-left NotClosed h = uncalled h.untouched
-  headless-left (Fewer count) h = uncalled h.0.untouched
+  stopped : (header : Header) (geometry : Geometry) (told : Option (List ℕ)) → IsFor keys block_exp header.geometry.format geometry → HasStopped e header geometry told to to_now → Leaves Device
+  stopped header geometry told is_for (Uncalled is) = uncalled Device is
+  stopped header geometry told is_for (NotBegun n) = elim n.failed.left [
+    | inl same ↦ inl same
+    | inr partly ↦ inr (inr (record {
+      fault_is = refl;
+      cause = n.failed.cause;
+      format = header.geometry.format;
+      geometry = geometry;
+      is_for = is_for;
+      last = header.last;
+      left = inl (record { partly = partly; spends = n.spends });
+    }))
+  ]
+  stopped header geometry told is_for (Headless none) = inr (inl none)
+  stopped header geometry told is_for (NotFinished rows failed) = inr (inr (record {
+    fault_is = refl;
+    cause = failed.cause;
+    format = header.geometry.format;
+    geometry = geometry;
+    is_for = is_for;
+    last = header.last;
+    left = inr (rows, record { was_empty = failed.was_empty; left = failed.left });
+  }))
+
+  pub headless-left : (fault : GrowFault) → Grows d e from from_now to to_now ticks ticks_now keys block_exp (Err fault) → Leaves fault
+  headless-left Small h = uncalled Small h.untouched
+  headless-left NotStore h = uncalled NotStore h.untouched
+  headless-left NotClosed h = uncalled NotClosed h.untouched
+  headless-left (Fewer count) h = uncalled (Fewer count) h.0.untouched
   headless-left OutOfMemory h = inl h.copies
   headless-left (BadCell number) h = elim h.copies.left [
-    | inl same ↦ uncalled same
-    | inr none ↦ inr none
+    | inl same ↦ uncalled (BadCell number) same
+    | inr none ↦ inr (inl none)
   ]
   headless-left NotEmpty h = inl h.copies.bytes_stay
-  headless-left (Disorder number) h = inr h.copies.left
-  headless-left Device (inl h) = uncalled h.untouched
-  headless-left Device (inr h) = stopped h.header h.geometry (d.bytes from) h.copies
+  headless-left (Disorder number) h = inr (inl h.copies.left)
+  headless-left Device (inl h) = uncalled Device h.untouched
+  headless-left Device (inr h) = stopped h.header h.geometry (d.bytes from) h.is_for h.copies

@@ -13,7 +13,7 @@ use Rattle.cola_cursor.specs.Seeking.{HasBadRun}
 use Rattle.cola_cursor.specs.Standing.{AreSearched}
 use Rattle.cola_device.specs.declared.device.Device as device
 use Rattle.cola_device.specs.Settling.{IsSettled}
-use Rattle.cola_image.specs.Cells.{cell_bytes, file_spots, slot_cells}
+use Rattle.cola_layout.specs.Cells.{cell_bytes, file_spots, slot_cells}
 use Rattle.cola_image.specs.Standing.{LevelsStandFor, HeaderStandsFor}
 use Rattle.cola_image.proofs.StandingLemmas.{stand-alike}
 use Rattle.cola_laws.specs.Chain.{visibles}
@@ -23,10 +23,11 @@ use Rattle.cola_layout.specs.declared.header.Header.{Header}
 use Rattle.cola_layout.specs.Fields.{fields_of}
 use Rattle.cola_layout.specs.Marks.{all_numbers}
 use Rattle.cola_layout.proofs.Levels.{numbers-length, number-at}
+use Rattle.cola_opening.specs.Counted.{Spends}
 use Rattle.cola_outside.specs.Faults.{Rose}
 use Rattle.cola_run.specs.Saving as run
 use Rattle.cola_spec.specs.Map.{Map, Shape}
-use Rattle.cola_cell.specs.Shapes.{shape_of}
+use Rattle.cola_shapes.specs.Shapes.{shape_of}
 use Rattle.cola_cell.specs.ToldCells.{IsTold}
 use Rattle.cola_verdict.specs.Tests.{run_len, tested_of}
 use Rattle.cola_verdict.proofs.Runs.{told-cells}
@@ -37,8 +38,8 @@ use Rattle.cola_load.specs.declared.fault.LoadFault.{LoadFault}
 use Rattle.cola_load.specs.declared.fault.LoadFault.TheVariants as load
 use Rattle.cola_load.specs.Loading.{Loading, HasBegun, Begins, last_key}
 use Rattle.cola_load.specs.Growing.{AreValuesOf, runs_in, least, pair_of, Breaks, OfPairs, Walks, unread_as}
-use Rattle.cola_load.specs.Grow.{AreInFile, IsForNone, Copies, Uncalled, NotBegun, Headless, NotFinished, unbegun_as}
-use Rattle.cola_load.proofs.Maps.{runs-alike, runs-are, begins-near, chain-sampled, chain-says, pairs-all, rows-are, none-breaks, bad-none, bad-cell, no-bad, value-there}
+use Rattle.cola_load.specs.Grow.{AreInFile, OfFilePairs, AreFilePairs, AreFirstPairs, IsForNone, Copies, Uncalled, NotBegun, Headless, NotFinished, unbegun_as}
+use Rattle.cola_load.proofs.Maps.{runs-alike, runs-listed, runs-are, begins-near, chain-sampled, chain-says, pairs-all, rows-are, none-breaks, bad-none, bad-cell, no-bad, value-there}
 use Rattle.cola_pairs.proofs.Order.{all_change}
 
 -- ---- a file that stands for a map
@@ -81,6 +82,9 @@ module _ (header : Header) (held : Held) (bytes : List ℕ) (same : run.AreFileS
 
     file-spelled : (number : ℕ) → HasBadRun held number (runs_in header) → ⊥
     file-spelled number bad = no-bad held header.clock number 0 marks levels.told bad
+
+  file-pairs : (P : List (List ℕ × Stamped) → Type 0) → OfPairs held (runs_in header) P → OfFilePairs header P bytes
+  file-pairs P pairs = λ lists listed searched. pairs lists (runs-listed header.geometry held bytes same header.clock 0 0 marks header.marks_fit within lists listed) searched
 
   file-bad : (number : ℕ) → HasBadRun held number (runs_in header) → decoded header.geometry.format (cell_bytes header.geometry.format bytes number) ≡ None
   file-bad number bad = bad-cell header.geometry held bytes same header.clock number 0 0 marks header.marks_fit within bad
@@ -130,11 +134,12 @@ module _ {E : Type 0} (e : device.Ghosts E) (header : Header) (geometry : Geomet
   load-refused told to before now read.Device result is answer = subst (λ (r : GrowFault). Copies e header geometry told to to (Err r)) (sym is) (Uncalled refl)
 
   -- the new file was not begun
-  pub begin-refused : (told : Option (List ℕ)) (to now : E) (fault : LoadFault) (result : GrowFault) → result ≡ unbegun_as fault → Begins e geometry header.last to now (Err fault) → Copies e header geometry told to now (Err result)
-  begin-refused told to now load.NotEmpty result is begins =
+  pub begin-refused : (told : Option (List ℕ)) (to now : E) (fault : LoadFault) (result : GrowFault) → result ≡ unbegun_as fault → Begins e geometry header.last to now (Err fault) → Spends (e.counts to) (e.counts now) 0 0 2 →
+      Copies e header geometry told to now (Err result)
+  begin-refused told to now load.NotEmpty result is begins spends =
       subst (λ (r : GrowFault). Copies e header geometry told to now (Err r)) (sym is) (record { was = begins.why_is; bytes_stay = begins.bytes_stay })
-  begin-refused told to now load.OutOfMemory result is begins = subst (λ (r : GrowFault). Copies e header geometry told to now (Err r)) (sym is) begins.bytes_stay
-  begin-refused told to now load.Device result is begins = subst (λ (r : GrowFault). Copies e header geometry told to now (Err r)) (sym is) (NotBegun begins)
+  begin-refused told to now load.OutOfMemory result is begins spends = subst (λ (r : GrowFault). Copies e header geometry told to now (Err r)) (sym is) begins.bytes_stay
+  begin-refused told to now load.Device result is begins spends = subst (λ (r : GrowFault). Copies e header geometry told to now (Err r)) (sym is) (NotBegun (record { failed = begins; spends = spends }))
 
   module _ (held : Held) (told : Option (List ℕ)) (same : IfSome told (run.AreFileSpots header.geometry held.spots)) (format : geometry.format ≡ header.geometry.format) (few : header.count ≤ geometry.keys) where
     map-is : (told : Option (List ℕ)) → IfSome told (run.AreFileSpots header.geometry held.spots) → (rows : List Row) → OfPairs held (runs_in header) (λ pairs. pairs ≡ map pair_of rows) →
@@ -157,6 +162,15 @@ module _ {E : Type 0} (e : device.Ghosts E) (header : Header) (geometry : Geomet
     in-file None same rows given = tt
     in-file (Some bytes) same rows given = file-values header held bytes same rows given
 
+    all-pairs : (told : Option (List ℕ)) → IfSome told (run.AreFileSpots header.geometry held.spots) → (rows : List Row) → OfPairs held (runs_in header) (λ pairs. pairs ≡ map pair_of rows) → IfSome told (AreFilePairs header rows)
+    all-pairs None same rows pairs = tt
+    all-pairs (Some bytes) same rows pairs = file-pairs header held bytes same (λ pairs. pairs ≡ map pair_of rows) pairs
+
+    first-pairs : (told : Option (List ℕ)) → IfSome told (run.AreFileSpots header.geometry held.spots) → (rows : List Row) (row : Row) →
+        OfPairs held (runs_in header) (λ pairs. (others : List (List ℕ × Stamped)) × (pairs ≡ map pair_of rows ++ pair_of row ∷ others)) → IfSome told (AreFirstPairs header rows row)
+    first-pairs None same rows row pairs = tt
+    first-pairs (Some bytes) same rows row pairs = file-pairs header held bytes same (λ pairs. (others : List (List ℕ × Stamped)) × (pairs ≡ map pair_of rows ++ pair_of row ∷ others)) pairs
+
     copied : (to mid now : E) (loading : Loading) → HasBegun e geometry header.last to mid loading → (result : Result ℕ GrowFault) → Walks held (runs_in header) geometry header.last (e.counts mid).faults (e.counts now).faults (e.bytes now) result →
         OnOk result (IsSettled e now) → Copies e header geometry told to now result
     copied to mid now loading begun (Ok count) walks settled =
@@ -169,6 +183,7 @@ module _ {E : Type 0} (e : device.Ghosts E) (header : Header) (geometry : Geomet
             filled = walked.filled;
             map_is = map-is told same walks.0 walked.pairs_are;
             given = in-file told same walks.0 walked.given;
+            pairs_are = all-pairs told same walks.0 walked.pairs_are;
             settled = settled;
           },
         )
@@ -178,7 +193,7 @@ module _ {E : Type 0} (e : device.Ghosts E) (header : Header) (geometry : Geomet
     copied to mid now loading begun (Err (Fewer count)) walks settled = walks
     copied to mid now loading begun (Err OutOfMemory) walks settled = absurd walks
     copied to mid now loading begun (Err (BadCell number)) walks settled =
-        let seen = bad-run told same number walks.0 in record { bad = seen.0; no_map = seen.1; left = inr walks.1 }
+        let seen = bad-run told same number walks.0 in record { bad = seen.0; no_map = seen.1; left = inr (record { was_empty = begun.was_empty; no_header = walks.1 }) }
     copied to mid now loading begun (Err NotEmpty) walks settled = absurd walks
     copied to mid now loading begun (Err (Disorder number)) walks settled =
         let broken = walks.1 in
@@ -188,17 +203,19 @@ module _ {E : Type 0} (e : device.Ghosts E) (header : Header) (geometry : Geomet
           number_is = broken.number_is;
           breaks = broken.breaks;
           given = in-file told same (broken.row ∷ walks.0) broken.given;
+          pairs_are = first-pairs told same walks.0 broken.row broken.pairs_are;
           no_map = no-map told same walks.0 broken.row broken.pairs_are broken.breaks;
-          left = broken.headless;
+          left = record { was_empty = begun.was_empty; no_header = broken.headless };
         }
     copied to mid now loading begun (Err Device) walks settled = elim walks [
-      | inl headless ↦ Headless headless
+      | inl headless ↦ Headless (record { was_empty = begun.was_empty; no_header = headless })
       | inr w ↦ NotFinished w.0 (record {
         cause = subst (λ (n : ℕ). Rose n (e.counts now).faults) begun.no_fault w.1.cause;
         was_empty = begun.was_empty;
         left = w.1.left;
         map_is = map-is told same w.0 w.1.pairs_are;
         given = in-file told same w.0 w.1.given;
+        pairs_are = all-pairs told same w.0 w.1.pairs_are;
       })
     ]
 

@@ -1,5 +1,5 @@
 -- One more pair of a walk that is copied, and all of them.
-use Rattle.std.proofs.Common.{◌≡◌, inl, inr, ℕ, ◌+◌, ◌-◌, ◌≤◌, ◌<◌, List, [], ◌∷◌, ◌++◌, length, map, Option, Some, None, Result, Ok, Err, refl, sym, ap, subst, ◌∙◌, arith, length-append}
+use Rattle.std.proofs.Common.{Bool, false, ◌≡◌, inl, inr, ℕ, ◌+◌, ◌-◌, ◌≤◌, ◌<◌, List, [], ◌∷◌, ◌++◌, length, map, Option, Some, None, Result, Ok, Err, refl, sym, ap, subst, ◌∙◌, arith, length-append}
 use Rattle.std.specs.Prelude.{IfSome, IsErrAnd}
 use Rattle.std.proofs.lemmas.List.{append_assoc, append-nil, map-append}
 use Rattle.std.proofs.lemmas.Option.{IfSome_then}
@@ -14,6 +14,8 @@ use Rattle.cola_cursor.specs.Results.{LinesCause, HasBadLine}
 use Rattle.cola_cursor.specs.Seeking.{HasBadRun}
 use Rattle.cola_cursor.specs.Standing.{Ahead, TakesNext, LinesPassed, AnyHasValue, runs_of}
 use Rattle.cola_cursor.specs.Lines.{LineFits}
+use Rattle.cola_cursor.specs.Way.{at}
+use Rattle.cola_cursor.proofs.Keys.{at_within}
 use Rattle.cola_cursor.proofs.Beginning.{all_append}
 use Rattle.std.specs.List.{AllByRecursion}
 use Rattle.cola_device.specs.declared.counts.Counts.{Counts}
@@ -36,29 +38,29 @@ use Rattle.cola_load.specs.Growing.{IsValueOf, pair_of, Breaks, IsFillingOf, Gav
 
 -- ---- lines that go on
 
-pub same-runs : (held : Held) (answered : Option (List ℕ)) (hidden : List ℕ → Type 0) (olds news : List Line) → LinesPassed held answered hidden olds news → runs_of news ≡ runs_of olds
-same-runs held answered hidden [] [] p = refl
-same-runs held answered hidden [] (new ∷ news) p = absurd p
-same-runs held answered hidden (old ∷ olds) [] p = absurd p
-same-runs held answered hidden (old ∷ olds) (new ∷ news) p =
-    ap (λ (r : Run). r ∷ runs_of news) p.0.run_is ∙ ap (λ (rs : List Run). old.run ∷ rs) (same-runs held answered _ olds news p.1)
+pub same-runs : (falls : Bool) (held : Held) (answered : Option (List ℕ)) (hidden : List ℕ → Type 0) (olds news : List Line) → LinesPassed falls held answered hidden olds news → runs_of news ≡ runs_of olds
+same-runs falls held answered hidden [] [] p = refl
+same-runs falls held answered hidden [] (new ∷ news) p = absurd p
+same-runs falls held answered hidden (old ∷ olds) [] p = absurd p
+same-runs falls held answered hidden (old ∷ olds) (new ∷ news) p =
+    ap (λ (r : Run). r ∷ runs_of news) p.0.run_is ∙ ap (λ (rs : List Run). old.run ∷ rs) (same-runs falls held answered _ olds news p.1)
 
-bad-run : (held : Held) (number : ℕ) (lines : List Line) → HasBadLine held number lines → HasBadRun held number (runs_of lines)
-bad-run held number [] bad = bad
-bad-run held number (line ∷ lines) (inl b) = inl (record { index = b.index; within = b.within; bad = b.bad })
-bad-run held number (line ∷ lines) (inr b) = inr (bad-run held number lines b)
+bad-run : (falls : Bool) (held : Held) (number : ℕ) (lines : List Line) → HasBadLine falls held number lines → HasBadRun held number (runs_of lines)
+bad-run falls held number [] bad = bad
+bad-run falls held number (line ∷ lines) (inl b) = inl (record { index = at falls line.run.len b.index; within = at_within falls line.run.len b.index b.within; bad = b.bad })
+bad-run falls held number (line ∷ lines) (inr b) = inr (bad-run falls held number lines b)
 
 -- a value that was passed stands in a run
-pub passed-value : (held other : Held) (answered : Option (List ℕ)) (hidden : List ℕ → Type 0) (row : Row) (olds news : List Line) → LinesPassed held answered hidden olds news → AllByRecursion (LineFits other) news →
-    AnyHasValue held row.key row.value row.stamp olds news → IsValueOf held.spots (runs_of olds) row
-passed-value held other answered hidden row [] news p fits h = absurd h
-passed-value held other answered hidden row (old ∷ olds) [] p fits h = absurd h
-passed-value held other answered hidden row (old ∷ olds) (new ∷ news) p fits (inl h) =
+pub passed-value : (falls now : Bool) (held other : Held) (answered : Option (List ℕ)) (hidden : List ℕ → Type 0) (row : Row) (olds news : List Line) → LinesPassed falls held answered hidden olds news → AllByRecursion (LineFits now other) news →
+    AnyHasValue falls held row.key row.value row.stamp olds news → IsValueOf held.spots (runs_of olds) row
+passed-value falls now held other answered hidden row [] news p fits h = absurd h
+passed-value falls now held other answered hidden row (old ∷ olds) [] p fits h = absurd h
+passed-value falls now held other answered hidden row (old ∷ olds) (new ∷ news) p fits (inl h) =
     let n : new.run.len ≡ old.run.len = ap (λ (r : Run). r.len) p.0.run_is in
     let b = h.before in
     let c = fits.0.place_in in
-    inl (record { index = h.index; within = omega (arith, n, b, c); young = h.young; link = h.link; told = h.told })
-passed-value held other answered hidden row (old ∷ olds) (new ∷ news) p fits (inr h) = inr (passed-value held other answered _ row olds news p.1 fits.1 h)
+    inl (record { index = at falls old.run.len h.index; within = at_within falls old.run.len h.index (omega (arith, n, b, c)); young = h.young; link = h.link; told = h.told })
+passed-value falls now held other answered hidden row (old ∷ olds) (new ∷ news) p fits (inr h) = inr (passed-value falls now held other answered _ row olds news p.1 fits.1 h)
 
 -- ---- a file that has no header yet
 
@@ -144,16 +146,16 @@ module _ (held now : Held) (same : now ≡ held) (begun old new : Cursor) (runs 
       many = let e = copied.many in let l = length-append rows (row ∷ []) in omega (arith, more, e, l);
       key_is = key ∙ sym (last-is rows row);
       holds = pushed E done loading after row rows told told_now copied.holds pushes;
-      given = all_append (IsValueOf held.spots (runs_of begun.lines.items)) rows row copied.given given-here;
+      given = all_append false (IsValueOf held.spots (runs_of begun.lines.items)) rows row copied.given given-here;
     }
 
 -- ---- a refusal
 
 pub next-unread : (held : Held) (begun old new : Cursor) (loading after : Loading) (told : Option (List ℕ)) (rows : List Row) (geometry : Geometry) (last before now : ℕ) (fault : ReadFault) (result : GrowFault) →
-    result ≡ unread_as fault → LinesCause held old.lines.items before now fault → IsCopied held begun old loading told rows → CopiesNext held begun geometry last rows new after told (Err result)
+    result ≡ unread_as fault → LinesCause old.falls held old.lines.items before now fault → IsCopied held begun old loading told rows → CopiesNext held begun geometry last rows new after told (Err result)
 next-unread held begun old new loading after told rows geometry last before now (read.BadCell number) result is cause copied =
     subst (λ (r : GrowFault). CopiesNext held begun geometry last rows new after told (Err r)) (sym is)
-    (subst (HasBadRun held number) copied.runs_are (bad-run held number old.lines.items cause), no-header loading told rows copied.holds)
+    (subst (HasBadRun held number) copied.runs_are (bad-run old.falls held number old.lines.items cause), no-header loading told rows copied.holds)
 next-unread held begun old new loading after told rows geometry last before now read.Device result is cause copied =
     subst (λ (r : GrowFault). CopiesNext held begun geometry last rows new after told (Err r)) (sym is) (no-header loading told rows copied.holds)
 

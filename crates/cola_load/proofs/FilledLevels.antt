@@ -8,7 +8,7 @@ use Rattle.cola_cell.specs.Flat.{spot_of}
 use Rattle.cola_cell.specs.Format.{stamp_limit}
 use Rattle.cola_cell.specs.Held.{Stamped, LawCell, Spots, Told}
 use Rattle.cola_clock.specs.Clock.{period, visible_slot}
-use Rattle.cola_image.specs.Cells.{file_spots, slot_cells}
+use Rattle.cola_layout.specs.Cells.{file_spots, slot_cells}
 use Rattle.cola_image.specs.Standing.{found_in, AreRunsTold, HeaderStandsFor}
 use Rattle.cola_laws.specs.Chain.{Level, value_at}
 use Rattle.cola_laws.specs.Plain.{showing, loaded, IsSoundChain}
@@ -17,7 +17,7 @@ use Rattle.cola_laws.proofs.Loaded.{loaded-sound}
 use Rattle.cola_layout.specs.declared.geometry.Geometry.{Geometry}
 use Rattle.cola_layout.specs.Marks.{all_numbers}
 use Rattle.cola_spec.specs.Map.{key_cmp}
-use Rattle.cola_cell.specs.Shapes.{shape_of}
+use Rattle.cola_shapes.specs.Shapes.{shape_of}
 use Rattle.cola_cell.specs.ToldCells.{cell_at, AreTold}
 use Rattle.cola_cell.proofs.CellLists.{cells-same}
 use Rattle.cola_load.specs.Filled.{Row, map_of, AreRows, run_len, bottom_run, marks_from, filled_header, HasFilledCells, IsFilled}

@@ -20,10 +20,10 @@ use Rattle.cola_laws.specs.Chain.{value_at}
 use Rattle.cola_laws.specs.Sound.{IsBottomRun}
 use Rattle.cola_runs.specs.Cells.{place_cmp, IsRising, IsLinked, IsOldValue}
 use Rattle.cola_runs.specs.Seen.{Seen, Old, holds, seen, value_of}
-use Rattle.cola_runs.proofs.PlainLemmas.{is_less}
+use Rattle.cola_runs.proofs.Deciding.{is_less}
 use Rattle.cola_spec.specs.Map.{Shape, Stored, Map, IsMap, EntryFits, key_cmp, count}
-use Rattle.cola_cell.specs.Shapes.{stamped_of}
-use Rattle.cola_cell.specs.Shapes.{shape_of}
+use Rattle.cola_shapes.specs.Shapes.{stamped_of}
+use Rattle.cola_shapes.specs.Shapes.{shape_of}
 use Rattle.cola_load.specs.Filled.{Row, entry_of, map_of, row_of_entry, rows_of, AreRows, bottom_run}
 use Rattle.cola_load.proofs.FilledRuns.{row_cell}
 

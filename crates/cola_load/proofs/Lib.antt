@@ -17,6 +17,7 @@ pub mod FilledHeaders
 pub mod FilledLevels
 pub mod PlainLists
 pub mod Completing
+pub mod GrowSaid
 pub mod Lengths
 pub mod Placing
 pub mod Beginning

@@ -1,5 +1,5 @@
 -- What the visible runs of a file give, where the file stands for a map.
-use Rattle.std.proofs.Common.{◌≡◌, inl, inr, ℕ, zero, suc, ◌+◌, ◌-◌, ◌≤◌, nat_le, ◌&&◌, Bool, true, false, cond, T, List, [], ◌∷◌, ◌++◌, length, map, filter, Option, Some, None, All, refl, sym, ap, subst, ◌∙◌, arith, length-append, Less, Ordering}
+use Rattle.std.proofs.Common.{◌≡◌, inl, inr, ℕ, zero, suc, ◌+◌, ◌-◌, ◌<◌, ◌≤◌, nat_le, ◌&&◌, Bool, true, false, cond, T, List, [], ◌∷◌, ◌++◌, length, map, filter, Option, Some, None, All, refl, sym, ap, subst, ◌∙◌, arith, length-append, Less, Ordering}
 use Rattle.std.specs.Prelude.{IsTrue}
 use Rattle.std.specs.FinMap as finite
 use Rattle.std.specs.FinMap.{is_sorted}
@@ -14,13 +14,14 @@ use Rattle.cola_cell.specs.declared.cell.Cell.{Cell}
 use Rattle.cola_cell.specs.Decoded.{decoded}
 use Rattle.cola_cell.specs.Flat.{spot_of}
 use Rattle.cola_cell.specs.Held.{Held, LawCell, Stamped, Spot, Spots, Untold, Bad, Told, Tells}
+use Rattle.cola_cell.specs.Listed.{Stands}
 use Rattle.cola_cell.specs.Order.{key_cmp}
 use Rattle.cola_cell.specs.Places.{number_of, slot_size}
 use Rattle.cola_clock.specs.Clock.{visible_slot}
 use Rattle.cola_clock.specs.Marks.{Marks, AreAllMarks}
 use Rattle.cola_cursor.specs.Seeking.{HasBadRun}
 use Rattle.cola_cursor.proofs.Keys.{keys_alike}
-use Rattle.cola_image.specs.Cells.{cell_bytes, file_spots, slot_cells}
+use Rattle.cola_layout.specs.Cells.{cell_bytes, file_spots, slot_cells}
 use Rattle.cola_image.specs.Standing.{found_in, AreRunsTold, AreRunsAlike}
 use Rattle.cola_laws.specs.Chain.{visibles, value_at}
 use Rattle.cola_laws.specs.Plain.{IsSoundChain}
@@ -35,7 +36,7 @@ use Rattle.cola_run.specs.Saving as run
 use Rattle.cola_runs.specs.Cells.{key_of, Entry, Value}
 use Rattle.cola_runs.specs.Search as laws
 use Rattle.cola_spec.specs.Map.{Map, EntryFits, Shape, is_key, count}
-use Rattle.cola_cell.specs.Shapes.{shape_of}
+use Rattle.cola_shapes.specs.Shapes.{shape_of}
 use Rattle.cola_cell.specs.ToldCells.{IsTold, cells}
 use Rattle.cola_cell.proofs.CellLists.{length-cells}
 use Rattle.cola_cell.proofs.ToldRuns.{told_is}
@@ -43,6 +44,7 @@ use Rattle.cola_verdict.specs.Tests.{live_pairs}
 use Rattle.cola_verdict.proofs.Living.{pairs-find, pairs-rise}
 use Rattle.cola_verdict.proofs.Mapped.{stored-pair, entries-are, count-is}
 use Rattle.cola_load.specs.Filled.{Row, row_of_entry, rows_of}
+use Rattle.cola_load.specs.Grow.{AreListed}
 use Rattle.cola_load.specs.Loading.{IsAbove, last_key}
 use Rattle.cola_load.specs.Growing.{IsValueOf, visible_runs, least, pair_of, Breaks}
 use Rattle.cola_load.proofs.VisibleRuns.{slot-in}
@@ -57,6 +59,30 @@ module _ (geometry : Geometry) (held : Held) (bytes : List ℕ) (same : run.AreF
     λ i h. same j (visible_slot t j) i (record { level_in = omega (arith, within); slot_in = slot-in t j; index_in = let f : m.visible ≤ slot_size j = fit.0.visible_fits in omega (arith, h, f) }),
     λ i h. same j (1 - visible_slot t j) i (record { level_in = omega (arith, within); slot_in = omega arith; index_in = let f : m.shadow ≤ slot_size j = fit.0.shadow_fits in omega (arith, h, f) }),
     runs-alike (suc j) m.visible ms fit.1 (omega (arith, within)),
+  )
+
+  stands-there : (j slot i : ℕ) (cells : List LawCell) → j ≤ geometry.bottom → slot < 2 → i + length cells ≤ slot_size j → Stands (file_spots geometry.format bytes j slot) i cells → Stands (held.spots j slot) i cells
+  stands-there j slot i [] low side within told = tt
+  stands-there j slot i (c ∷ cells) low side within told = (
+    same j slot i (record { level_in = omega (arith, low); slot_in = side; index_in = omega (arith, within) }) ∙ told.0,
+    stands-there j slot (suc i) cells low side (omega (arith, within)) told.1,
+  )
+
+  -- runs that the file tells to be lists are those of the object
+  pub runs-listed : (j above : ℕ) (marks : List Marks) → AreAllMarks 0 t j above marks → j + length marks ≤ geometry.bottom + 1 → (lists : List (List LawCell)) →
+      AreListed (file_spots geometry.format bytes) (visible_runs t j marks) lists → AreRuns held (visible_runs t j marks) lists
+  runs-listed j above [] fit within [] listed = tt
+  runs-listed j above [] fit within (cells ∷ lists) listed = listed
+  runs-listed j above (m ∷ ms) fit within [] listed = listed
+  runs-listed j above (m ∷ ms) fit within (cells ∷ lists) listed = (
+    record {
+      length_is = listed.0.0;
+      stands =
+          let f : m.visible ≤ slot_size j = fit.0.visible_fits in
+          let e : m.visible ≡ length cells = listed.0.0 in
+          stands-there j (visible_slot t j) 0 cells (omega (arith, within)) (slot-in t j) (omega (arith, f, e)) listed.0.1;
+    },
+    runs-listed (suc j) m.visible ms fit.1 (omega (arith, within)) lists listed.1,
   )
 
 -- the visible runs are told to be those of the levels

@@ -15,7 +15,7 @@ use Rattle.cola_layout.specs.declared.geometry.Geometry.{Geometry}
 use Rattle.cola_run.specs.Cells.{block_bytes, file_bytes}
 use Rattle.cola_run.proofs.Heads.{block-least}
 use Rattle.cola_spec.specs.Map.{Stored, Shape, key_cmp, EntryFits}
-use Rattle.cola_cell.specs.Shapes.{shape_of}
+use Rattle.cola_shapes.specs.Shapes.{shape_of}
 use Rattle.cola_load.specs.Filled.{Row, AreRows, entry_of, run_len}
 use Rattle.cola_load.specs.Loading.{Loading, HoldsRows, HasCells, SameRows, PutsRow, Pushes, StaysInFront, IsAbove, last_key}
 

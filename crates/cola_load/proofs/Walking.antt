@@ -14,7 +14,7 @@ use Rattle.cola_cursor.specs.Standing.{Ahead, AreSearched, runs_of}
 use Rattle.cola_layout.specs.declared.geometry.Geometry.{Geometry}
 use Rattle.cola_look.specs.Runs.{AreRuns}
 use Rattle.cola_pairs.specs.Live.{live, between}
-use Rattle.cola_cell.specs.Shapes.{shape_of}
+use Rattle.cola_shapes.specs.Shapes.{shape_of}
 use Rattle.cola_load.specs.declared.fault.GrowFault.{GrowFault}
 use Rattle.cola_load.specs.declared.fault.GrowFault.TheVariants.{Small, NotStore, NotClosed, Fewer, OutOfMemory, BadCell, NotEmpty, Disorder, Device}
 use Rattle.cola_load.specs.Filled.{Row, AreRows, IsFilled}

@@ -8,7 +8,7 @@ use Rattle.cola_cell.specs.Decoded.{decoded}
 use Rattle.cola_cell.specs.Format.{width}
 use Rattle.cola_cell.specs.Held.{LawCell, as_cell}
 use Rattle.cola_cell.specs.Places.{number_of}
-use Rattle.cola_image.specs.Cells.{cell_bytes}
+use Rattle.cola_layout.specs.Cells.{cell_bytes}
 use Rattle.cola_image.specs.Worked.{puts_to}
 use Rattle.cola_layout.specs.declared.geometry.Geometry.{Geometry}
 use Rattle.cola_layout.specs.declared.marks.Marks.{Marks}

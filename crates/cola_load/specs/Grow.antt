@@ -1,12 +1,17 @@
 -- What growing a file answers, with the cause of each answer, and what both devices have then.
-use Rattle.std.specs.Prelude.{◌≡◌, ◌⊎◌, ℕ, ◌+◌, ◌≤◌, ◌<◌, true, List, ◌∷◌, length, Option, None, Result, Ok, Err, IfSome, option_map}
+use Rattle.std.specs.Prelude.{◌≡◌, ◌⊎◌, ℕ, ◌+◌, ◌≤◌, ◌<◌, true, List, [], ◌∷◌, ◌++◌, length, map, Option, None, Result, Ok, Err, IfSome, ⊤, option_map}
 use Rattle.cola_cell.specs.Decoded.{decoded}
+use Rattle.cola_cell.specs.declared.cell.Run.{Run}
 use Rattle.cola_cell.specs.declared.format.Format.{Format}
+use Rattle.cola_cell.specs.Held.{LawCell, Spots, Stamped}
+use Rattle.cola_cell.specs.Listed.{Stands}
+use Rattle.cola_cell.specs.Order.{key_cmp}
 use Rattle.cola_cursor.specs.Seeking.{range_ticks}
+use Rattle.cola_cursor.specs.Standing.{AreSearched}
 use Rattle.cola_device.specs.declared.device.Device as device
 use Rattle.cola_device.specs.Bytes.{IsEmpty}
 use Rattle.cola_device.specs.Settling.{IsSettled}
-use Rattle.cola_image.specs.Cells.{cell_bytes, file_spots}
+use Rattle.cola_layout.specs.Cells.{cell_bytes, file_spots}
 use Rattle.cola_image.specs.Standing.{HeaderStandsFor}
 use Rattle.cola_layout.specs.declared.geometry.Geometry.{Geometry}
 use Rattle.cola_layout.specs.declared.header.Header.{Header}
@@ -18,17 +23,18 @@ use Rattle.cola_opening.specs.declared.fault.ClosedFault.TheVariants as closed
 use Rattle.cola_opening.specs.Counted.{Spends}
 use Rattle.cola_outside.specs.Faults.{Rose}
 use Rattle.cola_opening.specs.Judged.{IsClosedWith, IsSmall, IsNoStore, IsInUse, IsSeen, FailedReading}
+use Rattle.cola_pairs.specs.Live.{live, between}
 use Rattle.cola_run.specs.Cells.{device_levels}
 use Rattle.cola_run.specs.Store.{beside}
 use Rattle.cola_spec.specs.Map.{Map, count}
-use Rattle.cola_cell.specs.Shapes.{shape_of}
+use Rattle.cola_shapes.specs.Shapes.{shape_of}
 use Rattle.cola_load.specs.declared.fault.GrowFault.{GrowFault}
 use Rattle.cola_load.specs.declared.fault.GrowFault.TheVariants.{Small, NotStore, NotClosed, Fewer, OutOfMemory, BadCell, NotEmpty, Disorder, Device}
 use Rattle.cola_load.specs.declared.fault.LoadFault.{LoadFault}
 use Rattle.cola_load.specs.declared.fault.LoadFault.TheVariants as load
 use Rattle.cola_load.specs.Filled.{Row, AreRows, IsFilled, rows_of, filled_header}
-use Rattle.cola_load.specs.Loading.{HasFailed, IsHeadless, IsUnfinished, last_key}
-use Rattle.cola_load.specs.Growing.{AreValuesOf, runs_in, Breaks, BothCalm, WritesRows}
+use Rattle.cola_load.specs.Loading.{HasFailed, IsPartlyLaid, IsHeadless, IsUnfinished, last_key}
+use Rattle.cola_load.specs.Growing.{AreValuesOf, runs_in, least, pair_of, Breaks, BothCalm, WritesRows}
 
 -- a block suits a store for so many keys
 abbrev pub Suits : ℕ → ℕ → Type 0
@@ -64,6 +70,35 @@ IsForNone header bytes = (m : Map) → ¬ HeaderStandsFor (fields_of header) byt
 abbrev pub AreInFile : Header → List Row → List ℕ → Type 0
 AreInFile header rows bytes = AreValuesOf (file_spots header.geometry.format bytes) (runs_in header) rows
 
+-- runs are told to be these lists of cells, one by one
+abbrev pub AreListed : Spots → List Run → List (List LawCell) → Type 0
+AreListed spots [] [] = ⊤
+AreListed spots [] (cells ∷ lists) = ⊥
+AreListed spots (run ∷ runs) [] = ⊥
+AreListed spots (run ∷ runs) (cells ∷ lists) =
+    ((run.len ≡ length cells) × Stands (spots run.level run.slot) 0 cells) × AreListed spots runs lists
+
+-- where the visible runs of a file with this header are told, each in order and with the sample of the next, this holds of
+-- their live pairs
+abbrev pub OfFilePairs : Header → (List (List ℕ × Stamped) → Type 0) → List ℕ → Type 0
+OfFilePairs header P bytes = (lists : List (List LawCell)) →
+    AreListed (file_spots header.geometry.format bytes) (runs_in header) lists → AreSearched least lists →
+    P (live key_cmp (between key_cmp least None) lists)
+
+-- these rows are the live pairs of the visible runs
+abbrev pub AreFilePairs : Header → List Row → List ℕ → Type 0
+AreFilePairs header rows = OfFilePairs header (λ pairs. pairs ≡ map pair_of rows)
+
+-- these rows are the first of them, and this one is the next
+abbrev pub AreFirstPairs : Header → List Row → Row → List ℕ → Type 0
+AreFirstPairs header rows row = OfFilePairs header (λ pairs.
+    (others : List (List ℕ × Stamped)) × (pairs ≡ map pair_of rows ++ pair_of row ∷ others))
+
+-- the new file was empty, and has no header
+pub record IsLeftHeadless {E : Type 0} (e : device.Ghosts E) (to to_now : E) : Type 0 where
+  pub was_empty : IsEmpty (e.bytes to)
+  pub no_header : IfSome (e.bytes to_now) IsHeadless
+
 -- how many cells of a file with this lowest level are read at most, and how many reads of the device are made for it: those of
 -- a load, and one for each tick
 abbrev pub grow_ticks : ℕ → ℕ
@@ -85,24 +120,26 @@ module _ {E : Type 0} (e : device.Ghosts E) (header : Header) (geometry : Geomet
     pub map_is : IfSome told (λ bytes.
         (m : Map) → HeaderStandsFor (fields_of header) bytes m → rows ≡ rows_of m)
     pub given : IfSome told (AreInFile header rows)
+    pub pairs_are : IfSome told (AreFilePairs header rows)
     pub settled : IsSettled e to_now
 
-  -- a cell of the file is none, and the new file was not called or has no header
+  -- a cell of the file is none, and the new file was not called, or was empty and has no header
   pub record HasBad (number : ℕ) : Type 0 where
     pub bad : IfSome told (λ bytes.
         decoded header.geometry.format (cell_bytes header.geometry.format bytes number) ≡ None)
     pub no_map : IfSome told (IsForNone header)
-    pub left : (to_now ≡ to) ⊎ IfSome (e.bytes to_now) IsHeadless
+    pub left : (to_now ≡ to) ⊎ IsLeftHeadless e to to_now
 
-  -- the pair with this number may not come behind the rows before it, and the new file has no header
+  -- the pair with this number may not come behind the rows before it, and the new file was empty and has no header
   pub record IsDisordered (number : ℕ) : Type 0 where
     pub rows : List Row
     pub row : Row
     pub number_is : number ≡ length rows + 1
     pub breaks : Breaks geometry header.last (length rows) (last_key rows) row
     pub given : IfSome told (AreInFile header (row ∷ rows))
+    pub pairs_are : IfSome told (AreFirstPairs header rows row)
     pub no_map : IfSome told (IsForNone header)
-    pub left : IfSome (e.bytes to_now) IsHeadless
+    pub left : IsLeftHeadless e to to_now
 
   -- the new file had a byte, and stays
   pub record IsOccupied : Type 0 where
@@ -118,12 +155,19 @@ module _ {E : Type 0} (e : device.Ghosts E) (header : Header) (geometry : Geomet
     pub map_is : IfSome told (λ bytes.
         (m : Map) → HeaderStandsFor (fields_of header) bytes m → rows ≡ rows_of m)
     pub given : IfSome told (AreInFile header rows)
+    pub pairs_are : IfSome told (AreFilePairs header rows)
 
-  -- one of the devices refused a call: the new file was not called, was not begun, has no header, or was not finished
+  -- the new file was not begun, and nothing was written to it
+  pub record IsNotBegun : Type 0 where
+    pub failed : HasFailed e geometry header.last to to_now
+    pub spends : Spends (e.counts to) (e.counts to_now) 0 0 2
+
+  -- one of the devices refused a call: the new file was not called, was not begun, was empty and has no header, or was not
+  -- finished
   pub data HasStopped : Type 0 where
     Uncalled : to_now ≡ to → HasStopped
-    NotBegun : HasFailed e geometry header.last to to_now → HasStopped
-    Headless : IfSome (e.bytes to_now) IsHeadless → HasStopped
+    NotBegun : IsNotBegun → HasStopped
+    Headless : IsLeftHeadless e to to_now → HasStopped
     NotFinished : (rows : List Row) → IsNotFinished rows → HasStopped
 
   -- what copying the map answered
@@ -189,6 +233,28 @@ module _ {D E : Type 0} (d : device.Ghosts D) (e : device.Ghosts E) (from from_n
   Grows keys block_exp (Err NotEmpty) = HasCopied keys block_exp (Err NotEmpty)
   Grows keys block_exp (Err (Disorder number)) = HasCopied keys block_exp (Err (Disorder number))
   Grows keys block_exp (Err Device) = FailedAtHeader ⊎ HasCopied keys block_exp (Err Device)
+
+module _ {E : Type 0} (e : device.Ghosts E) (to to_now : E) where
+  -- the new file's own device refused to be laid out: it may have any bytes, at most as many as were asked for, and nothing was
+  -- written to it
+  pub record IsNotLaidOut (geometry : Geometry) (last : ℕ) : Type 0 where
+    pub partly : IsPartlyLaid e geometry last to to_now
+    pub spends : Spends (e.counts to) (e.counts to_now) 0 0 2
+
+  -- it refused a call behind the last of these rows: the new file has no header, or all behind the block with the header
+  pub record IsNotWhole (geometry : Geometry) (last : ℕ) (rows : List Row) : Type 0 where
+    pub was_empty : IsEmpty (e.bytes to)
+    pub left : IfSome (e.bytes to_now) (IsUnfinished geometry last rows)
+
+  -- where a fault of the new file's own device may leave a header: in the layout, and behind the last row
+  pub record MayHaveHeader (keys block_exp : ℕ) (fault : GrowFault) : Type 0 where
+    pub fault_is : fault ≡ Device
+    pub cause : Rose (e.counts to).faults (e.counts to_now).faults
+    pub format : Format
+    pub geometry : Geometry
+    pub is_for : IsFor keys block_exp format geometry
+    pub last : ℕ
+    pub left : IsNotLaidOut geometry last ⊎ ((rows : List Row) × IsNotWhole geometry last rows)
 
 -- an answer that is this count, or that there was no memory
 abbrev pub IsCountOrFull : ℕ → Result ℕ GrowFault → Type 0

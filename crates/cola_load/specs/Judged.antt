@@ -3,7 +3,7 @@ use Rattle.std.specs.Prelude.{ℕ, ◌≡◌, ◌+◌, ◌||◌, false, List, []
 use Rattle.std.specs.List.{flat_map}
 use Rattle.cola_cell.specs.declared.format.Format.{Format}
 use Rattle.cola_cell.specs.Format.{KeyFits, ValueFits}
-use Rattle.cola_cell.specs.Shapes.{shape_of}
+use Rattle.cola_shapes.specs.Shapes.{shape_of}
 use Rattle.cola_spec.specs.Map.{Shape}
 use Rattle.cola_spec.specs.Lines.{Line}
 use Rattle.cola_load.specs.declared.said.Said.{Said}

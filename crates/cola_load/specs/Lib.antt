@@ -5,4 +5,5 @@ pub mod Filled
 pub mod Loading
 pub mod Growing
 pub mod Grow
+pub mod GrowLaws
 pub mod PlainLines

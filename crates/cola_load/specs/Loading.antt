@@ -17,7 +17,7 @@ use Rattle.cola_layout.specs.declared.geometry.Geometry.{Geometry}
 use Rattle.cola_run.specs.Cells.{block_cells, block_bytes, device_levels, file_bytes, tail_number, tails_bytes}
 use Rattle.cola_run.specs.Saving.{SameFront, SameLevels}
 use Rattle.cola_spec.specs.Map.{key_cmp}
-use Rattle.cola_cell.specs.Shapes.{shape_of}
+use Rattle.cola_shapes.specs.Shapes.{shape_of}
 use Rattle.cola_load.specs.declared.fault.LoadFault.{LoadFault}
 use Rattle.cola_load.specs.declared.fault.LoadFault.TheVariants.{NotEmpty, OutOfMemory, Device}
 use Rattle.cola_load.specs.Filled.{Row, AreRows, run_len, filled_cell, IsFilled}

@@ -5,7 +5,7 @@ ghost use Rattle.std.specs.FinMap as finite;
 ghost use Rattle.cola_cell.specs.declared.cell.Cell.TheVariants.{Look};
 ghost use Rattle.cola_cell.specs.declared.format.Format.{Format};
 ghost use Rattle.cola_cell.specs.Format.{stamp_limit};
-ghost use Rattle.cola_image.specs.Cells.{slot_cells, file_spots};
+ghost use Rattle.cola_layout.specs.Cells.{slot_cells, file_spots};
 ghost use Rattle.cola_image.specs.Standing.{HeaderStandsFor};
 ghost use Rattle.cola_image.specs.Worked.{key_of_put};
 ghost use Rattle.cola_laws.specs.Plain.{loaded};
@@ -14,7 +14,7 @@ ghost use Rattle.cola_layout.specs.declared.geometry.Geometry.{Geometry};
 ghost use Rattle.cola_layout.specs.Header.{IsSound};
 ghost use Rattle.cola_layout.specs.Marks.{all_numbers};
 ghost use Rattle.cola_spec.specs.Map.{Shape, Map, IsMap, count};
-ghost use Rattle.cola_cell.specs.Shapes.{shape_of};
+ghost use Rattle.cola_shapes.specs.Shapes.{shape_of};
 ghost use Rattle.cola_load.specs.Filled.{Row, entry_of, map_of, rows_of, AreRows, worked_rows};
 ghost use Rattle.cola_load.specs.Filled.{run_len, filled_cell, bottom_run, filled_header, HasFilledCells, IsFilled};
 

@@ -394,11 +394,12 @@ fn copy_file<D: Device, E: Device, L: Ledger>(
 /// more than the new store is for, has a stamp above the last number of `from`, or does not fit the format: no file that
 /// stands for a map has one. `Device` where one of the two refused a call.
 ///
-/// After `BadCell` the new file was not called, or has no header: its first 512 bytes are zero. After `Disorder` it has none.
-/// After `Device` it was not called, kept its bytes where it refused to tell its size, has any bytes where it refused to be laid
-/// out, has no header where the call was refused before the last row was pushed, and behind that as [`Loader::finish`] says:
-/// only then, and where the new file's device failed, may it have a header. After every other refusal it keeps its bytes. `from`
-/// is not written, and comes back. Each cell of its visible runs is read once at most, beside a search in eight cells of each.
+/// After `BadCell` the new file was not called, or was empty and has no header: its first 512 bytes are zero. After `Disorder` it
+/// was empty and has none. After `Device` it was not called, kept its bytes where it refused to tell its size, has any bytes, and
+/// was not written, where it refused to be laid out, has no header where the call was refused before the last row was pushed, and
+/// behind that as [`Loader::finish`] says: only by a fault of its own device in the layout or behind the last row may it have a
+/// header. After every other refusal it keeps its bytes, and so does one that had a byte, whatever is answered. `from` is not
+/// written, and comes back. As many ticks are made at most as by a range over all.
 pub fn grow<D: Device, E: Device, L: Ledger>(
     alloc: Global,
     from: D,

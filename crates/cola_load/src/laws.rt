@@ -2,7 +2,7 @@
 ghost use Rattle.std.specs.Prelude.{◌≡◌, ◌≤◌, ◌⊎◌, ℕ, All, length, List, [], ◌∷◌, ◌++◌, Some, None, codes};
 ghost use Rattle.cola_cell.specs.declared.format.Format.{Format};
 ghost use Rattle.cola_cell.specs.declared.format.Format.TheVariants.{One, Two};
-ghost use Rattle.cola_cell.specs.Shapes.{shape_of};
+ghost use Rattle.cola_shapes.specs.Shapes.{shape_of};
 ghost use Rattle.cola_spec.specs.Map.{Shape};
 ghost use Rattle.cola_spec.specs.Lines.{Line, Text, TooLong};
 ghost use Rattle.cola_spec.specs.Laws.{Rises};

@@ -2,7 +2,7 @@
 //! are read anew for it. It is for tests.
 
 ghost use Rattle.std.specs.Prelude.{◌≡◌, ◌<◌, ◌^◌, ℕ, IfOk, length, option_copied};
-ghost use Rattle.cola_cell.specs.Shapes.{shape_of};
+ghost use Rattle.cola_shapes.specs.Shapes.{shape_of};
 ghost use Rattle.cola_load.specs.Said.{as_line};
 ghost use Rattle.cola_load.specs.PlainLines.{lines_of};
 ghost use Rattle.cola_load.specs.Rows.{rows_said, is_end, has_end, is_not_above, last_key, word_at, word_behind, rows_of, word_of};

@@ -2,7 +2,7 @@
 ghost use Rattle.std.specs.Prelude.{◌≡◌, ℕ, option_copied, Some, None, if◌then◌else◌, IfSome};
 ghost use Rattle.cola_cell.specs.Format.{KeyFits, ValueFits};
 ghost use Rattle.cola_spec.specs.Map.{is_key, is_value};
-ghost use Rattle.cola_cell.specs.Shapes.{shape_of};
+ghost use Rattle.cola_shapes.specs.Shapes.{shape_of};
 ghost use Rattle.cola_line.specs.Words.{words_left};
 ghost use Rattle.cola_load.specs.Said.{said, text_said, verb_said, row_said, pair_said, end_said, as_line, SaidFits};
 

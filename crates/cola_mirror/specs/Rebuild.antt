@@ -107,10 +107,11 @@ module _ {D E : Type 0} (d : device.Ghosts D) (e : device.Ghosts E) (from from_n
     pub source : FailedReading d from from_now
     pub untouched : to_now ≡ to
 
-  -- the other device failed as its size was asked or as it was laid out
+  -- the other device failed as its size was asked or as it was laid out, and it was called for nothing else
   pub record FailedReady : Type 0 where
     pub source : IsSeen d from IsClosedFile 1 1 from_now
     pub cause : Rose (e.counts to).faults (e.counts to_now).faults
+    pub spends : Spends (e.counts to) (e.counts to_now) 0 0 2
     pub left : (e.bytes to_now ≡ e.bytes to) ⊎ (IsEmpty (e.bytes to) × IfBoth (d.bytes from) (e.bytes to_now) (λ bytes new. length new ≤ length bytes))
 
   -- one of the two failed as the bytes behind the first 512 were copied: the other has all its bytes, and no new header

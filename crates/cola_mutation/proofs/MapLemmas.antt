@@ -17,7 +17,7 @@ use Rattle.cola_laws.specs.Sound.{IsAmong, HasAtMost}
 use Rattle.cola_laws.proofs.Facts.{few-keys}
 use Rattle.cola_spec.specs.Map.{Shape, Stored, Map, key_cmp, count, next_stamp, with_value, after_delete}
 use Rattle.cola_spec.proofs.MapLaws.{new_entry}
-use Rattle.cola_cell.specs.Shapes.{stamped_of}
+use Rattle.cola_shapes.specs.Shapes.{stamped_of}
 use Rattle.cola_image.specs.Standing.{found_in}
 
 mapped : (b : Bool) (x : Option Stored) (s : Stored) → option_map stamped_of (cond b (Some s) x) ≡ cond b (Some (stamped_of s)) (option_map stamped_of x)

@@ -2,8 +2,8 @@
 ghost use Rattle.std.specs.Prelude.{◌≡◌, length, IfOk};
 
 use crate::rows::{Row, Stretch, What, rows_of};
-use cola_runs::plain::cells::{PlainCell, PlainItem, PlainPart};
-use cola_runs::plain::weave::{sample, weave};
+use cola_plain_runs::cells::{PlainCell, PlainItem, PlainPart};
+use cola_plain_runs::weave::{sample, weave};
 use std::alloc::{AllocError, Global};
 
 /// A number that looks drawn at random.

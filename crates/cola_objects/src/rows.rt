@@ -4,7 +4,7 @@ ghost use Rattle.cola_cell.specs.declared.format.Format.TheVariants.{One};
 ghost use Rattle.cola_cell.specs.Format.{CellFits, ItemFits, KeyFits};
 
 use cola_cell::{Cell, Item, Key, Value};
-use cola_runs::plain::cells::{PlainCell, PlainItem};
+use cola_plain_runs::cells::{PlainCell, PlainItem};
 use std::alloc::{AllocError, Global};
 
 /// A cell with a key and a value of one byte.

@@ -9,15 +9,17 @@ use crate::chains::{made_chain, worked_chain};
 use crate::rows::{Row, What, item_of, key_of, rows_of};
 use crate::runs::{put_chain, put_run};
 use arrayvec::ArrayVec;
-use cola_cell::{CellSink, CellSource, FlatCells, Item, MOST_LEVELS, ReadFault, Run, Value};
+use cola_cell::{CellSink, CellSource, FlatCells, Item, Key, MOST_LEVELS, ReadFault, Run, Value};
 use cola_cursor::Cursor;
 use cola_look::{Seat, sample_index, seek, window};
 use cola_outside::Steps;
-use cola_pairs::plain::live_pairs;
-use cola_runs::plain::cells::{PlainCell, PlainItem};
+use cola_plain_runs::cells::{PlainCell, PlainItem};
+use cola_plain_runs::pairs::live_pairs;
+use cola_reverse::plain::falling;
 use cola_search::find;
 use std::alloc::Global;
 use std::marker::Brand;
+use std::ops::Bound;
 use std::process::Abort;
 use std::sync::ledger::{Blank, Ledger};
 use std::test::Fail;
@@ -191,6 +193,53 @@ fn ranges<W: CellSource, L: Ledger>(
     gives(rt, work, &mut cursor, &pairs, steps)
 }
 
+/// The bound of a key.
+fn key_bound(high: Bound<u8>) -> Option<Bound<Key>> {
+    Some(match high {
+        Bound::Included(high) => Bound::Included(key_of(high)?),
+        Bound::Excluded(high) => Bound::Excluded(key_of(high)?),
+        Bound::Unbounded => Bound::Unbounded,
+    })
+}
+
+/// A cursor that falls from a bound, down to a key where there is one, gives the plain program's pairs, reversed.
+fn falls<W: CellSource, L: Ledger>(
+    rt: &impl Abort,
+    alloc: Global,
+    work: &mut W,
+    runs: &ArrayVec<Run, MOST_LEVELS>,
+    chain: &[Vec<Row>],
+    ends: (Option<u8>, Bound<u8>),
+    steps: &mut Steps<L>,
+) -> Result<(), Fail>
+    requires runs { All (HasRun (W.state work.old).held) runs.now.items }
+    requires rise { LevelsRise 0 runs.now.items }
+    ensures { (W.state work.new).held ≡ (W.state work.old).held }
+{
+    let (low, high) = ends;
+    let all = live_pairs(alloc, chain, &0, &None)?;
+    let pairs = falling(alloc, &all, &low, &high)?;
+    let low = low.and_then(key_of);
+    let high = key_bound(high).ok_or("no key")?;
+    let sought = Cursor::seek_back(work, runs, low.as_ref(), high.as_ref(), steps);
+    let mut cursor = sought.ok().ok_or("refused")?;
+    gives(rt, work, &mut cursor, &pairs, steps)
+}
+
+/// The upper bounds of a falling range, of which each interval has one.
+fn bound_of(high: Option<u8>, seed: u8) -> Bound<u8> {
+    match high {
+        Some(high) => {
+            if seed % 2 == 0 {
+                Bound::Included(high)
+            } else {
+                Bound::Excluded(high)
+            }
+        }
+        None => Bound::Unbounded,
+    }
+}
+
 /// Intervals with both ends, and without an upper end, whose ends are 14 keys apart. The seed moves the ends, so that 98
 /// seeds in turn have every interval of the keys up to 70, all of which are even.
 fn ranges_all<W: CellSource, L: Ledger>(
@@ -212,6 +261,16 @@ fn ranges_all<W: CellSource, L: Ledger>(
             high => Some(14 * high + 2 * (seed / 14 % 7)),
         };
         ranges(rt, alloc, work, runs, chain, (low, high), steps)?;
+        let down_to = if low == 0 { None } else { Some(low) };
+        falls(
+            rt,
+            alloc,
+            work,
+            runs,
+            chain,
+            (down_to, bound_of(high, seed)),
+            steps,
+        )?;
     }
     Ok(())
 }
@@ -262,7 +321,36 @@ fn worked_one<W: CellSink, L: Ledger>(
     ranges(rt, alloc, work, &runs, &chain, (22, Some(25)), steps)?;
     assert!(rt; work.ticked().wrapping_sub(before) <= 100);
     ranges(rt, alloc, work, &runs, &chain, (33, None), steps)?;
-    ranges(rt, alloc, work, &runs, &chain, (9, Some(3)), steps)
+    ranges(rt, alloc, work, &runs, &chain, (9, Some(3)), steps)?;
+    let before = work.ticked();
+    falls(
+        rt,
+        alloc,
+        work,
+        &runs,
+        &chain,
+        (Some(22), Bound::Included(24)),
+        steps,
+    )?;
+    assert!(rt; work.ticked().wrapping_sub(before) <= 100);
+    falls(
+        rt,
+        alloc,
+        work,
+        &runs,
+        &chain,
+        (Some(9), Bound::Excluded(3)),
+        steps,
+    )?;
+    falls(
+        rt,
+        alloc,
+        work,
+        &runs,
+        &chain,
+        (None, Bound::Unbounded),
+        steps,
+    )
 }
 
 fn chains<L: Ledger>(rt: &impl Abort, alloc: Global, blank: Blank) -> Result<(), Fail>

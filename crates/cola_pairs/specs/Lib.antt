@@ -1,3 +1,2 @@
 pub mod Live
 pub mod Walk
-pub mod Plain

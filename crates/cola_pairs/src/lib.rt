@@ -6,7 +6,6 @@
 #![tactic(auto)]
 
 mod living;
-pub mod plain;
 mod walking;
 
 pub use living::{live_at_key, live_from_places, live_of_entries};

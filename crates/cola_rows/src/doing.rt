@@ -94,6 +94,14 @@ fn run_from(
     Ok((out, calls))
 }
 
+/// Adds how many allocations a session makes, where the one with a number was the first that it did not make.
+fn push_allocations(caller: Caller, number: u64, out: &mut String) -> Result<(), Fault> {
+    if caller == Caller::Allocation && number > 0 {
+        writeln!(out, "allocations {}", number - 1)?;
+    }
+    Ok(())
+}
+
 /// Does sessions once for each failing call, until fewer calls are made.
 fn run_calls(
     alloc: Global,
@@ -110,7 +118,8 @@ fn run_calls(
         let twist = Twist::Call(caller, number);
         let (outcome, calls) = run_from(alloc, parts, is_first, twist, left)?;
         if calls.of(caller) < number {
-            break;
+            groups.end(out)?;
+            return push_allocations(caller, number, out);
         }
         groups.take(number, outcome, out)?;
     }

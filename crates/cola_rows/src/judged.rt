@@ -4,7 +4,7 @@ use crate::files::{device_of, file_after_puts, simple_session};
 use crate::talk::{Talk, WITH_STAMPS, WITHOUT_STAMPS, next_number};
 use cola_layout::Header;
 use cola_plain::shape::Shape;
-use cola_verdict::plain::verdict_of;
+use cola_plain_files::verdict::verdict_of;
 use cola_verdict::{Flaw, Verdict};
 use std::alloc::{AllocError, Global};
 

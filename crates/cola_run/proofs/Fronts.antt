@@ -14,7 +14,7 @@ use Rattle.cola_clock.specs.Clock.{visible_slot}
 use Rattle.cola_layout.specs.Marks.{marks_of}
 use Rattle.cola_layout.proofs.Levels.{fits-here}
 use Rattle.cola_layout.proofs.Powers.{next_power, power-le}
-use Rattle.cola_image.specs.Cells.{file_spots}
+use Rattle.cola_layout.specs.Cells.{file_spots}
 use Rattle.cola_run.specs.Saving.{run_len, IsFrontRun, AreFrontRunsSpelled, IsLowestBad}
 use Rattle.cola_run.specs.Loading.{BadInLevel, BadInFront, NoneBadInFront}
 

@@ -21,7 +21,7 @@ use Rattle.cola_layout.proofs.Places.{device-behind, place-behind, front-below}
 use Rattle.cola_layout.proofs.Powers.{next_power, power-le}
 use Rattle.cola_run.specs.Cells.{Lower, block_cells, block_bytes, file_bytes, device_cell, known_spot, told_spot, spots_of, IsShape, IsBacked, cells_by}
 use Rattle.cola_run.specs.Saving.{AreFileSpots, AreLevelSpots, SameLevels, SameBehind}
-use Rattle.cola_image.specs.Cells.{file_spots}
+use Rattle.cola_layout.specs.Cells.{file_spots}
 use Rattle.cola_run.specs.Loading.{StaySound, AreSavedBelow}
 use Rattle.cola_run.proofs.Lowers.{on-device}
 use Rattle.cola_run.proofs.Spots.{tail-is, device-in, device-out, device-is, spot-there, spot-front, spot-device, spots-stay}

@@ -13,7 +13,7 @@ use Rattle.cola_clock.specs.Clock.{visible_slot}
 use Rattle.cola_device.specs.declared.counts.Counts.{Counts}
 use Rattle.cola_device.specs.declared.device.Device as device
 use Rattle.cola_device.specs.Settling.{IsSettled}
-use Rattle.cola_image.specs.Cells.{file_spots}
+use Rattle.cola_layout.specs.Cells.{file_spots}
 use Rattle.cola_layout.specs.declared.geometry.Geometry.{Geometry}
 use Rattle.cola_layout.specs.declared.header.Header.{Header}
 use Rattle.cola_layout.specs.Marks.{marks_of}

@@ -10,5 +10,4 @@ pub mod Builds
 pub mod Samples
 pub mod Searches
 mod Worked
-pub mod PlainLemmas
-pub mod PlainWeave
+pub mod Deciding

@@ -3,4 +3,3 @@ pub mod Seen
 pub mod Weave
 pub mod Steps
 pub mod Search
-pub mod Plain

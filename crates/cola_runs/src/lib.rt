@@ -10,7 +10,6 @@
 #![tactic(auto)]
 
 mod building;
-pub mod plain;
 mod sampling;
 mod searching;
 mod weaving;

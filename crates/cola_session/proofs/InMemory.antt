@@ -18,7 +18,7 @@ use Rattle.cola_spec.specs.Machine.{State, Open, Turn, Kind, PlainStep, FaultedS
 use Rattle.cola_spec.specs.Bounds.{request_bound}
 use Rattle.cola_table.specs.declared.table.Table as table
 use Rattle.cola_table.specs.Flat.{Flat}
-use Rattle.cola_cell.specs.Shapes.{shape_of}
+use Rattle.cola_shapes.specs.Shapes.{shape_of}
 use Rattle.cola_line.specs.Replied.{KindFaults}
 use Rattle.cola_line.proofs.Listing.{take_beyond}
 use Rattle.cola_session.specs.declared.memory.MemorySession.{MemorySession}

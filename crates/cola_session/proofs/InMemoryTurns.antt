@@ -15,7 +15,7 @@ use Rattle.cola_spec.specs.Machine.{State, Open, Turn, Kind, PlainStep, StepOf, 
 use Rattle.cola_table.specs.declared.table.Table as table
 use Rattle.cola_table.specs.Flat.{Flat}
 use Rattle.cola_table.specs.Replies.{turn_of}
-use Rattle.cola_cell.specs.Shapes.{shape_of}
+use Rattle.cola_shapes.specs.Shapes.{shape_of}
 use Rattle.cola_session.specs.declared.memory.MemorySession.{MemorySession}
 use Rattle.cola_session.specs.Home.{Asked, Cause, Turned, cut_by_request, depth_in}
 use Rattle.cola_session.specs.Memory.{memory_home, state_of, table_in, close_answer, open_answer}

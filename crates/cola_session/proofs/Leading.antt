@@ -15,7 +15,7 @@ use Rattle.cola_spec.specs.Reply.{reply_text}
 use Rattle.cola_spec.specs.Machine.{State, Turn, Step, History, turn_text}
 use Rattle.cola_spec.specs.Bounds.{request_bound}
 use Rattle.cola_table.specs.declared.table.Table as table
-use Rattle.cola_cell.specs.Shapes.{shape_of}
+use Rattle.cola_shapes.specs.Shapes.{shape_of}
 use Rattle.cola_line.specs.Replied.{Wrote}
 use Rattle.cola_session.specs.Home.{Home, Point, point, depth_in, cut_by_request, IsAtSome, Cause, Turned, LineLeads, LinesLead, Leads, AllLead, FrontLead}
 

@@ -12,7 +12,7 @@ use Rattle.cola_spec.specs.Reply.{Reply}
 use Rattle.cola_spec.specs.Machine.{State, Turn, Step, History, kind_of, by_command, turn_text, turns_text, ticks_of}
 use Rattle.cola_spec.specs.Bounds.{request_bound}
 use Rattle.cola_table.specs.declared.table.Table as table
-use Rattle.cola_cell.specs.Shapes.{shape_of}
+use Rattle.cola_shapes.specs.Shapes.{shape_of}
 use Rattle.cola_line.specs.Given.{Given}
 use Rattle.cola_line.specs.Replied.{Wrote, KindFaults}
 use Rattle.cola_session.specs.Ends.{SessionEnds, UnlessIll}

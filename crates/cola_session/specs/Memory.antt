@@ -13,7 +13,7 @@ use Rattle.cola_spec.specs.Reply as reply
 use Rattle.cola_spec.specs.Bounds.{request_bound}
 use Rattle.cola_spec.specs.Machine.{State, Open, Closed, plain_turns, turns_text}
 use Rattle.cola_table.specs.Flat.{Flat}
-use Rattle.cola_cell.specs.Shapes.{shape_of}
+use Rattle.cola_shapes.specs.Shapes.{shape_of}
 use Rattle.cola_session.specs.declared.memory.MemorySession.{MemorySession}
 use Rattle.cola_session.specs.Home.{Home}
 use Rattle.cola_session.specs.Ends.{SessionEnds, UnlessIll, Untouched, WroteFront}

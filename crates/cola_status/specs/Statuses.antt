@@ -1,7 +1,5 @@
 -- The statuses that the program ends with, by their numbers.
 use Rattle.std.specs.Prelude.{ℕ, ◌≡◌, List, [], ◌∷◌}
-use Rattle.cola_store.specs.declared.fault.OpenFault.{OpenFault}
-use Rattle.cola_store.specs.declared.fault.OpenFault.TheVariants as fault
 use Rattle.cola_status.specs.declared.status.Status.{Status}
 use Rattle.cola_status.specs.declared.status.Status.TheVariants.{Done, OutOfMemory, WrongWords, SourceFailed, SinkFailed, DeviceFailed, NotStore, NotClosed, NotEmpty, Spent, BadCell, NoRoom, AlreadyWide, Broken, BadLine, TooFewKeys, FilesDiffer, FirstLost, SecondLost}
 
@@ -35,12 +33,3 @@ all_statuses = Done ∷ OutOfMemory ∷ WrongWords ∷ SourceFailed ∷ SinkFail
 pub record IsStatus (n : ℕ) : Type 0 where
   pub which : Status
   pub is : n ≡ number_of which
-
--- the status of a file that was not opened
-abbrev pub refusal_status : OpenFault → ℕ
-refusal_status fault.OutOfMemory = 1
-refusal_status fault.Device = 5
-refusal_status fault.NotStore = 6
-refusal_status fault.Small = 6
-refusal_status fault.NotClosed = 7
-refusal_status (fault.BadCell cell) = 10

@@ -5,4 +5,4 @@ mod laws;
 mod status;
 
 pub use laws::statuses_are_apart;
-pub use status::{Status, opening_status};
+pub use status::Status;

@@ -1,9 +1,9 @@
 //! The statuses that the program ends with: the number of each, and what it means.
 ghost use Rattle.std.specs.Prelude.{◌≡◌};
 ghost use Rattle.std.specs.Array.Iter.{array_into_iter_items};
-ghost use Rattle.cola_status.specs.Statuses.{all_statuses, number_of, refusal_status};
+ghost use Rattle.cola_status.specs.Statuses.{all_statuses, number_of};
+ghost use Rattle.cola_status.specs.Texts.{text_of};
 
-use cola_store::OpenFault;
 use std::array;
 
 /// How the program ends.
@@ -67,7 +67,9 @@ impl Status {
     }
 
     /// What it means, in a few words.
-    pub fn text(self) -> &'static str {
+    pub fn text(self) -> &'static str
+        ensures { result.now ≡ text_of self }
+    {
         match self {
             Status::Done => {
                 "all was done; a session read its input to the end, wrote all replies and closed its file"
@@ -109,20 +111,5 @@ impl Status {
                 "all was done, and the second file of the mirror was lost: the first one has what was written"
             }
         }
-    }
-}
-
-/// The status of a file that was not opened, as its number: 1 where there was no memory, 5 where the device failed, 6 where
-/// the file has no store or not all of one, 7 where its store is in use, and 10 where a cell is no spelling.
-pub fn opening_status(fault: OpenFault) -> u8
-    ensures { result ≡ refusal_status fault }
-{
-    match fault {
-        OpenFault::OutOfMemory => Status::OutOfMemory as u8,
-        OpenFault::Device => Status::DeviceFailed as u8,
-        OpenFault::NotStore => Status::NotStore as u8,
-        OpenFault::Small => Status::NotStore as u8,
-        OpenFault::NotClosed => Status::NotClosed as u8,
-        OpenFault::BadCell(_) => Status::BadCell as u8,
     }
 }

@@ -23,7 +23,7 @@ use Rattle.cola_opening.specs.Counted.{Spends}
 use Rattle.cola_opening.specs.Judged.{file_size}
 use Rattle.cola_opening.proofs.Spending.{called-spends, spends-more}
 use Rattle.cola_spec.specs.Map.{Map}
-use Rattle.cola_image.specs.Cells.{file_spots}
+use Rattle.cola_layout.specs.Cells.{file_spots}
 use Rattle.cola_image.specs.Standing.{AreRunsAlike}
 use Rattle.cola_image.proofs.StandingLemmas.{stand-alike}
 use Rattle.cola_run.specs.Store.{Store, IsStore}

@@ -8,3 +8,4 @@ pub mod Rising
 pub mod Walking
 mod Whole
 pub mod OpenLaws
+pub mod Falling

@@ -21,7 +21,7 @@ use Rattle.cola_opening.specs.Counted.{Spends}
 use Rattle.cola_opening.specs.Judged.{IsSeen}
 use Rattle.cola_opening.proofs.Spending.{called-spends, spends-then}
 use Rattle.cola_spec.specs.Map.{Map}
-use Rattle.cola_image.specs.Cells.{file_spots}
+use Rattle.cola_layout.specs.Cells.{file_spots}
 use Rattle.cola_image.specs.Standing.{HeaderStandsFor, FileStandsFor, with_state}
 use Rattle.cola_image.proofs.StandingLemmas.{stand-alike}
 use Rattle.cola_run.specs.Saving.{AreFileSpots, header_shadow, AreFrontRunsSpelled, IsLowestBad, LoadSpends}

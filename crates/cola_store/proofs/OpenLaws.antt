@@ -19,7 +19,7 @@ use Rattle.cola_opening.specs.Judged.{file_size, IsSmall, IsNoStore, IsInUse}
 use Rattle.cola_opening.proofs.Sizes.{header_fits}
 use Rattle.cola_spec.specs.Map.{Map, empty_map}
 use Rattle.cola_cell.specs.ToldCells.{AreTold}
-use Rattle.cola_image.specs.Cells.{file_spots}
+use Rattle.cola_layout.specs.Cells.{file_spots}
 use Rattle.cola_image.specs.Standing.{AreRunsTold, HeaderStandsFor, FileStandsFor, with_state}
 use Rattle.cola_run.specs.Saving.{IsFrontRun, SameBehind, run_len}
 use Rattle.cola_store.specs.declared.fault.CreateFault.{CreateFault}

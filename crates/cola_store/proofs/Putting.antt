@@ -28,8 +28,8 @@ use Rattle.cola_spec.proofs.Entries.{same_key}
 use Rattle.cola_spec.proofs.OrderLaws.{pair_fits}
 use Rattle.cola_table.specs.declared.PutFault.{PutFault}
 use Rattle.cola_table.specs.Answers.{put_answer, PutRefused, OnlyDevice}
-use Rattle.cola_cell.specs.Shapes.{stamped_of}
-use Rattle.cola_cell.specs.Shapes.{shape_of}
+use Rattle.cola_shapes.specs.Shapes.{stamped_of}
+use Rattle.cola_shapes.specs.Shapes.{shape_of}
 use Rattle.cola_table.specs.Terms.{shape}
 use Rattle.cola_image.specs.Standing.{found_in}
 use Rattle.cola_mutation.proofs.MapLemmas.{found-put}

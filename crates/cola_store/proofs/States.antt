@@ -10,7 +10,7 @@ use Rattle.cola_cell.specs.Places.{number_of}
 use Rattle.cola_layout.specs.Header.{Fields, IsSpelling, IsNoSpelling, header_bytes, head_bytes}
 use Rattle.cola_layout.proofs.Places.{place-behind}
 use Rattle.cola_layout.proofs.Refusing.{no-state}
-use Rattle.cola_image.specs.Cells.{cell_bytes, file_spots}
+use Rattle.cola_layout.specs.Cells.{cell_bytes, file_spots}
 use Rattle.cola_image.specs.Standing.{with_state}
 
 -- ---- the cells

@@ -27,7 +27,7 @@ use Rattle.cola_spec.specs.Map as map
 use Rattle.cola_spec.specs.Reply as reply
 use Rattle.cola_table.specs.Answers.{OnlyDevice, StepFaults}
 use Rattle.cola_table.specs.Terms.{Terms, shape, Call}
-use Rattle.cola_cell.specs.Shapes.{stamped_of}
+use Rattle.cola_shapes.specs.Shapes.{stamped_of}
 use Rattle.cola_image.specs.Standing.{found_in}
 use Rattle.cola_look.specs.Outcome.{Found, Answers}
 use Rattle.cola_search.specs.Finds.{Finds}
@@ -400,12 +400,12 @@ module _ {D : Type 0} (bytes : D → Option (List ℕ)) (store : Stored D) (now 
   pub walks-refused : (account : Account) → WalksStay bytes store (record { chain = now; count = store.count; last = store.last; account = account })
   walks-refused account = record {
     standing = λ walk stands. record {
-      cursor = stands_stay (held_of bytes store) (chain.held_of bytes now) walk (ap (λ (f : Fixed). f.levels) fixed) (lines-stay (held_of bytes store) (chain.held_of bytes now) store.chain.clock 0 store.chain.levels walk.lines.items stands.visible (λ level index h. stay level index (omega (arith, h)))) stands.cursor;
+      cursor = stands_stay walk.falls (held_of bytes store) (chain.held_of bytes now) walk (ap (λ (f : Fixed). f.levels) fixed) (lines-stay (held_of bytes store) (chain.held_of bytes now) store.chain.clock 0 store.chain.levels walk.lines.items stands.visible (λ level index h. stay level index (omega (arith, h)))) stands.cursor;
       visible = stands.visible ∙ sym runs-kept;
     };
     pairs_ahead = λ walk pairs ahead. record {
       stamped = ahead.stamped;
-      cursor = ahead_stays (held_of bytes store) (chain.held_of bytes now) walk ahead.stamped (lines-stay (held_of bytes store) (chain.held_of bytes now) store.chain.clock 0 store.chain.levels walk.lines.items ahead.visible (λ level index h. stay level index (omega (arith, h)))) ahead.cursor;
+      cursor = ahead_stays walk.falls (held_of bytes store) (chain.held_of bytes now) walk ahead.stamped (lines-stay (held_of bytes store) (chain.held_of bytes now) store.chain.clock 0 store.chain.levels walk.lines.items ahead.visible (λ level index h. stay level index (omega (arith, h)))) ahead.cursor;
       pairs_are = ahead.pairs_are;
       visible = ahead.visible ∙ sym runs-kept;
     };

@@ -21,7 +21,7 @@ use Rattle.cola_abstract.specs.Cell as laws
 use Rattle.cola_spec.specs.Map as spec
 use Rattle.cola_spec.specs.Map.{Map, pairs_between, is_before}
 use Rattle.cola_table.specs.Answers.{OnlyDeviceRead, RangeAnswers, NextAnswers}
-use Rattle.cola_cell.specs.Shapes.{stamped_of}
+use Rattle.cola_shapes.specs.Shapes.{stamped_of}
 use Rattle.cola_image.specs.Standing.{found_in}
 use Rattle.cola_device.specs.declared.counts.Counts.{Counts}
 use Rattle.cola_level.specs.declared.level.Level.{Level}
@@ -35,7 +35,8 @@ use Rattle.cola_cursor.specs.Results.{LinesCause, HasBadLine}
 use Rattle.cola_cursor.specs.Seeking.{LevelsRise, RunsCause, HasBadRun, range_ticks, left_sought}
 use Rattle.cola_cursor.specs.Standing as standing
 use Rattle.cola_cursor.specs.Standing.{runs_of, TakesNext, LinesPassed, AnyHasValue, IsPassed, none_hidden, answered_key, with_stamp}
-use Rattle.cola_cursor.proofs.Keys.{keys_alike}
+use Rattle.cola_cursor.proofs.Keys.{keys_alike, at_within}
+use Rattle.cola_cursor.specs.Way.{at}
 use Rattle.cola_chain.specs.Runs.{visible_runs, AreSearched}
 use Rattle.cola_store.specs.Store as opened
 use Rattle.cola_store.specs.Store.{Stored, Holds, held_of, spent_of, levels_of}
@@ -60,54 +61,54 @@ no-bad-run held (run ∷ runs) [] number told bad = told
 no-bad-run held (run ∷ runs) (cells ∷ lists) number told (inl b) = not-bad held run cells b.index number told.0 b.within b.bad
 no-bad-run held (run ∷ runs) (cells ∷ lists) number told (inr b) = no-bad-run held runs lists number told.1 b
 
-no-bad-line : (held : Held) (lines : List Line) (lists : List (List LawCell)) (number : ℕ) → AreRuns held (runs_of lines) lists → HasBadLine held number lines → ⊥
-no-bad-line held [] lists number told bad = bad
-no-bad-line held (line ∷ lines) [] number told bad = told
-no-bad-line held (line ∷ lines) (cells ∷ lists) number told (inl b) = not-bad held line.run cells b.index number told.0 b.within b.bad
-no-bad-line held (line ∷ lines) (cells ∷ lists) number told (inr b) = no-bad-line held lines lists number told.1 b
+no-bad-line : (falls : Bool) (held : Held) (lines : List Line) (lists : List (List LawCell)) (number : ℕ) → AreRuns held (runs_of lines) lists → HasBadLine falls held number lines → ⊥
+no-bad-line falls held [] lists number told bad = bad
+no-bad-line falls held (line ∷ lines) [] number told bad = told
+no-bad-line falls held (line ∷ lines) (cells ∷ lists) number told (inl b) = not-bad held line.run cells (at falls line.run.len b.index) number told.0 (at_within falls line.run.len b.index b.within) b.bad
+no-bad-line falls held (line ∷ lines) (cells ∷ lists) number told (inr b) = no-bad-line falls held lines lists number told.1 b
 
 pub only-runs : (held : Held) (runs : List Run) (lists : List (List LawCell)) (before now : ℕ) (fault : ReadFault) → AreRuns held runs lists → RunsCause held runs before now fault → OnlyDeviceRead fault
 only-runs held runs lists before now Device told cause = tt
 only-runs held runs lists before now (BadCell number) told cause = no-bad-run held runs lists number told cause
 
-pub only-lines : (held : Held) (lines : List Line) (lists : List (List LawCell)) (before now : ℕ) (fault : ReadFault) → AreRuns held (runs_of lines) lists → LinesCause held lines before now fault → OnlyDeviceRead fault
-only-lines held lines lists before now Device told cause = tt
-only-lines held lines lists before now (BadCell number) told cause = no-bad-line held lines lists number told cause
+pub only-lines : (falls : Bool) (held : Held) (lines : List Line) (lists : List (List LawCell)) (before now : ℕ) (fault : ReadFault) → AreRuns held (runs_of lines) lists → LinesCause falls held lines before now fault → OnlyDeviceRead fault
+only-lines falls held lines lists before now Device told cause = tt
+only-lines falls held lines lists before now (BadCell number) told cause = no-bad-line falls held lines lists number told cause
 
 -- Lines that go on
 
-pub same-runs : (held : Held) (answered : Option (List ℕ)) (hidden : List ℕ → Type 0) (olds news : List Line) → LinesPassed held answered hidden olds news → runs_of news ≡ runs_of olds
-same-runs held answered hidden [] [] p = refl
-same-runs held answered hidden [] (new ∷ news) p = absurd p
-same-runs held answered hidden (old ∷ olds) [] p = absurd p
-same-runs held answered hidden (old ∷ olds) (new ∷ news) p =
-    ap (λ (r : Run). r ∷ runs_of news) p.0.run_is ∙ ap (λ (rs : List Run). old.run ∷ rs) (same-runs held answered _ olds news p.1)
+pub same-runs : (falls : Bool) (held : Held) (answered : Option (List ℕ)) (hidden : List ℕ → Type 0) (olds news : List Line) → LinesPassed falls held answered hidden olds news → runs_of news ≡ runs_of olds
+same-runs falls held answered hidden [] [] p = refl
+same-runs falls held answered hidden [] (new ∷ news) p = absurd p
+same-runs falls held answered hidden (old ∷ olds) [] p = absurd p
+same-runs falls held answered hidden (old ∷ olds) (new ∷ news) p =
+    ap (λ (r : Run). r ∷ runs_of news) p.0.run_is ∙ ap (λ (rs : List Run). old.run ∷ rs) (same-runs falls held answered _ olds news p.1)
 
-ahead-falls : (held : Held) (answered : Option (List ℕ)) (hidden : List ℕ → Type 0) (olds news : List Line) → LinesPassed held answered hidden olds news → all_ahead news ≤ all_ahead olds
-ahead-falls held answered hidden [] [] p = omega arith
-ahead-falls held answered hidden [] (new ∷ news) p = absurd p
-ahead-falls held answered hidden (old ∷ olds) [] p = absurd p
-ahead-falls held answered hidden (old ∷ olds) (new ∷ news) p =
+ahead-falls : (falls : Bool) (held : Held) (answered : Option (List ℕ)) (hidden : List ℕ → Type 0) (olds news : List Line) → LinesPassed falls held answered hidden olds news → all_ahead news ≤ all_ahead olds
+ahead-falls falls held answered hidden [] [] p = omega arith
+ahead-falls falls held answered hidden [] (new ∷ news) p = absurd p
+ahead-falls falls held answered hidden (old ∷ olds) [] p = absurd p
+ahead-falls falls held answered hidden (old ∷ olds) (new ∷ news) p =
     let n : new.run.len ≡ old.run.len = ap (λ (r : Run). r.len) p.0.run_is in
     let g = p.0.goes in
-    let rest = ahead-falls held answered _ olds news p.1 in
+    let rest = ahead-falls falls held answered _ olds news p.1 in
     omega (arith, n, g, rest)
 
-fewer : (held other : Held) (answered : Option (List ℕ)) (hidden : List ℕ → Type 0) (key value : List ℕ) (stamp : ℕ) (olds news : List Line) →
-    LinesPassed held answered hidden olds news → AllByRecursion (LineFits other) news → AnyHasValue held key value stamp olds news → all_ahead news < all_ahead olds
-fewer held other answered hidden key value stamp [] news p fits h = absurd h
-fewer held other answered hidden key value stamp (old ∷ olds) [] p fits h = absurd h
-fewer held other answered hidden key value stamp (old ∷ olds) (new ∷ news) p fits (inl h) =
+fewer : (falls now : Bool) (held other : Held) (answered : Option (List ℕ)) (hidden : List ℕ → Type 0) (key value : List ℕ) (stamp : ℕ) (olds news : List Line) →
+    LinesPassed falls held answered hidden olds news → AllByRecursion (LineFits now other) news → AnyHasValue falls held key value stamp olds news → all_ahead news < all_ahead olds
+fewer falls now held other answered hidden key value stamp [] news p fits h = absurd h
+fewer falls now held other answered hidden key value stamp (old ∷ olds) [] p fits h = absurd h
+fewer falls now held other answered hidden key value stamp (old ∷ olds) (new ∷ news) p fits (inl h) =
     let n : new.run.len ≡ old.run.len = ap (λ (r : Run). r.len) p.0.run_is in
     let a = h.from in
     let b = h.before in
     let c = fits.0.place_in in
-    let rest = ahead-falls held answered _ olds news p.1 in
+    let rest = ahead-falls falls held answered _ olds news p.1 in
     omega (arith, n, a, b, c, rest)
-fewer held other answered hidden key value stamp (old ∷ olds) (new ∷ news) p fits (inr h) =
+fewer falls now held other answered hidden key value stamp (old ∷ olds) (new ∷ news) p fits (inr h) =
     let n : new.run.len ≡ old.run.len = ap (λ (r : Run). r.len) p.0.run_is in
     let g = p.0.goes in
-    let rest = fewer held other answered _ key value stamp olds news p.1 fits.1 h in
+    let rest = fewer falls now held other answered _ key value stamp olds news p.1 fits.1 h in
     omega (arith, n, g, rest)
 
 one-head : (head : Option Cell) → heads_of head ≤ 1
@@ -136,22 +137,22 @@ few-lines lines runs levels before after visible n few stays left =
     omega (arith, l, n, a, p, few, stays, left)
 
 -- a walk has few cells ahead where it begins
-pub few-ahead : (high : Option (List ℕ)) (runs : List Run) (levels before after : ℕ) (result : Result Cursor ReadFault) → length runs ≤ 23 → levels ≤ 23 →
-    IfOk result (λ walk. (runs_of walk.lines.items ≡ runs) × (walk.end ≡ high)) → before ≤ after → after + left_sought result ≤ before + range_ticks levels →
+pub few-ahead : (end : Option (List ℕ)) (falls : Bool) (runs : List Run) (levels before after : ℕ) (result : Result Cursor ReadFault) → length runs ≤ 23 → levels ≤ 23 →
+    IfOk result (λ walk. (runs_of walk.lines.items ≡ runs) × (walk.end ≡ end) × (walk.falls ≡ falls)) → before ≤ after → after + left_sought result ≤ before + range_ticks levels →
     IfOk result (λ walk. cells_ahead walk < 2 ^ 64)
-few-ahead high runs levels before after (Ok walk) n few begins stays left = few-lines walk.lines.items runs levels before after begins.0 n few stays left
-few-ahead high runs levels before after (Err fault) n few begins stays left = tt
+few-ahead end falls runs levels before after (Ok walk) n few begins stays left = few-lines walk.lines.items runs levels before after begins.0 n few stays left
+few-ahead end falls runs levels before after (Err fault) n few begins stays left = tt
 
 -- The pairs of a map are the live pairs of runs that have of each key what the map has
 
-stored : List ℕ × spec.Stored → List ℕ × Stamped
+unfoldable pub stored : List ℕ × spec.Stored → List ℕ × Stamped
 stored e = (e.0, stamped_of e.1)
 
 found-stored : (b : Bool) (s : spec.Stored) (x : Option spec.Stored) → cond b (Some (stamped_of s)) (option_map stamped_of x) ≡ option_map stamped_of (cond b (Some s) x)
 found-stored true s x = refl
 found-stored false s x = refl
 
-find-stored : (q : List ℕ) (es : List (List ℕ × spec.Stored)) → find key_cmp q (map stored es) ≡ option_map stamped_of (find key_cmp q es)
+pub find-stored : (q : List ℕ) (es : List (List ℕ × spec.Stored)) → find key_cmp q (map stored es) ≡ option_map stamped_of (find key_cmp q es)
 unfolding stored
 find-stored q [] = refl
 find-stored q (e ∷ es) =
@@ -163,7 +164,7 @@ unfolding stored
 below-stored k [] = refl
 below-stored k (e ∷ es) = ap (λ (b : Bool). is_lt (key_cmp k e.0) && b) (below-stored k es)
 
-sorted-stored : (es : List (List ℕ × spec.Stored)) → is_sorted key_cmp (map stored es) ≡ is_sorted key_cmp es
+pub sorted-stored : (es : List (List ℕ × spec.Stored)) → is_sorted key_cmp (map stored es) ≡ is_sorted key_cmp es
 unfolding stored
 sorted-stored [] = refl
 sorted-stored (e ∷ es) =
@@ -174,7 +175,7 @@ ends-same : (high : Option (List ℕ)) (k : List ℕ) → is_before high k ≡ b
 ends-same None k = refl
 ends-same (Some h) k = refl
 
-kept-pair : (b : Bool) (e : List ℕ × spec.Stored) (es : List (List ℕ × Stamped)) → cond b (spec.pair_of e ∷ map pair_of es) (map pair_of es) ≡ map pair_of (cond b (stored e ∷ es) es)
+pub kept-pair : (b : Bool) (e : List ℕ × spec.Stored) (es : List (List ℕ × Stamped)) → cond b (spec.pair_of e ∷ map pair_of es) (map pair_of es) ≡ map pair_of (cond b (stored e ∷ es) es)
 unfolding stored
 kept-pair true e es = refl
 kept-pair false e es = refl
@@ -202,23 +203,23 @@ pairs-live m low high lists values =
 -- The calls on walks
 
 after-runs : (held : Held) (result : Result (Option (List ℕ × List ℕ × ℕ)) ReadFault) (walk after : Cursor) →
-    IfOk result (λ answer. LinesPassed held (answered_key answer) none_hidden walk.lines.items after.lines.items) → OnErr result (after ≡ walk) →
+    IfOk result (λ answer. LinesPassed walk.falls held (answered_key answer) none_hidden walk.lines.items after.lines.items) → OnErr result (after ≡ walk) →
     runs_of after.lines.items ≡ runs_of walk.lines.items
-after-runs held (Ok answer) walk after passes refused = same-runs held (answered_key answer) none_hidden walk.lines.items after.lines.items passes
+after-runs held (Ok answer) walk after passes refused = same-runs walk.falls held (answered_key answer) none_hidden walk.lines.items after.lines.items passes
 after-runs held (Err fault) walk after passes refused = ap (λ (w : Cursor). runs_of w.lines.items) refused
 
 pub fewer-ahead : (held other : Held) (stamp : ℕ) (result : Result (Option (List ℕ × List ℕ)) ReadFault) (walk after : Cursor) →
-    IfOk (with_stamp stamp result) (λ answer. LinesPassed held (answered_key answer) none_hidden walk.lines.items after.lines.items) → IfOk (with_stamp stamp result) (IsPassed held walk.lines.items after.lines.items) →
+    IfOk (with_stamp stamp result) (λ answer. LinesPassed walk.falls held (answered_key answer) none_hidden walk.lines.items after.lines.items) → IfOk (with_stamp stamp result) (IsPassed walk.falls held walk.lines.items after.lines.items) →
     standing.Stands other after → IfOk result (λ answer. OnSome answer (cells_ahead after < cells_ahead walk))
 fewer-ahead held other stamp (Ok None) walk after passes pair stands = tt
-fewer-ahead held other stamp (Ok (Some p)) walk after passes pair stands = fewer held other (Some p.0) none_hidden p.0 p.1 stamp walk.lines.items after.lines.items passes stands.fit pair
+fewer-ahead held other stamp (Ok (Some p)) walk after passes pair stands = fewer walk.falls after.falls held other (Some p.0) none_hidden p.0 p.1 stamp walk.lines.items after.lines.items passes stands.fit pair
 fewer-ahead held other stamp (Err fault) walk after passes pair stands = tt
 
 module _ {D : Type 0} (bytes : D → Option (List ℕ)) (old new : Stored D) (held_is : held_of bytes new ≡ held_of bytes old) (runs_are : opened.runs_of new ≡ opened.runs_of old) where
   pub range-right : (m : Map) (low : List ℕ) (high : Option (List ℕ)) (runs : List Run) (lists : List (List LawCell)) (before now : ℕ) (result : Result Cursor ReadFault) →
       Holds bytes new m → runs ≡ opened.runs_of old → AreSearched (held_of bytes old) runs lists (found_in m) →
       ((lists : List (List LawCell)) → AreRuns (held_of bytes old) runs lists → standing.AreSearched low lists → IfOk result (λ walk. standing.Ahead (held_of bytes old) walk (live key_cmp (between key_cmp low high) lists))) →
-      IfOk result (λ walk. (runs_of walk.lines.items ≡ runs) × (walk.end ≡ high)) → IfErr result (RunsCause (held_of bytes old) runs before now) →
+      IfOk result (λ walk. (runs_of walk.lines.items ≡ runs) × (walk.end ≡ high) × (walk.falls ≡ false)) → IfErr result (RunsCause (held_of bytes old) runs before now) →
       RangeAnswers m low high (Holds bytes new) (Ahead bytes new) result
   range-right m low high runs lists before now (Ok walk) holds visible ready ahead begins cause = (
     record {
@@ -233,19 +234,19 @@ module _ {D : Type 0} (bytes : D → Option (List ℕ)) (old new : Stored D) (he
       (only-runs (held_of bytes old) runs lists before now fault ready.told cause, holds)
 
   pub next-stands : (stamp : ℕ) (result : Result (Option (List ℕ × List ℕ)) ReadFault) (walk after : Cursor) → Stands bytes old walk → standing.Stands (held_of bytes new) after →
-      IfOk (with_stamp stamp result) (λ answer. LinesPassed (held_of bytes old) (answered_key answer) none_hidden walk.lines.items after.lines.items) → OnErr (with_stamp stamp result) (after ≡ walk) → Stands bytes new after
+      IfOk (with_stamp stamp result) (λ answer. LinesPassed walk.falls (held_of bytes old) (answered_key answer) none_hidden walk.lines.items after.lines.items) → OnErr (with_stamp stamp result) (after ≡ walk) → Stands bytes new after
   next-stands stamp result walk after stood stands passes refused =
       record { cursor = stands; visible = after-runs (held_of bytes old) (with_stamp stamp result) walk after passes refused ∙ stood.visible ∙ sym runs_are }
 
   pub next-right : (pairs : List (List ℕ × List ℕ)) (stamp : ℕ) (result : Result (Option (List ℕ × List ℕ)) ReadFault) (walk after : Cursor) (before now : ℕ) → Ahead bytes old walk pairs →
       ((stamped : List (List ℕ × Stamped)) → standing.Ahead (held_of bytes old) walk stamped → TakesNext (standing.Ahead (held_of bytes new) after) stamped (with_stamp stamp result)) →
-      IfOk (with_stamp stamp result) (λ answer. LinesPassed (held_of bytes old) (answered_key answer) none_hidden walk.lines.items after.lines.items) → OnErr (with_stamp stamp result) (after ≡ walk) →
-      IfErr (with_stamp stamp result) (LinesCause (held_of bytes old) walk.lines.items before now) → NextAnswers (Ahead bytes new after) pairs result
+      IfOk (with_stamp stamp result) (λ answer. LinesPassed walk.falls (held_of bytes old) (answered_key answer) none_hidden walk.lines.items after.lines.items) → OnErr (with_stamp stamp result) (after ≡ walk) →
+      IfErr (with_stamp stamp result) (LinesCause walk.falls (held_of bytes old) walk.lines.items before now) → NextAnswers (Ahead bytes new after) pairs result
   next-right pairs stamp result walk after before now ahead takes passes refused cause =
       answers result (takes ahead.stamped ahead.cursor) (after-runs (held_of bytes old) (with_stamp stamp result) walk after passes refused ∙ ahead.visible ∙ sym runs_are) cause
     where
       answers : (result : Result (Option (List ℕ × List ℕ)) ReadFault) → TakesNext (standing.Ahead (held_of bytes new) after) ahead.stamped (with_stamp stamp result) → runs_of after.lines.items ≡ opened.runs_of new →
-          IfErr (with_stamp stamp result) (LinesCause (held_of bytes old) walk.lines.items before now) → NextAnswers (Ahead bytes new after) pairs result
+          IfErr (with_stamp stamp result) (LinesCause walk.falls (held_of bytes old) walk.lines.items before now) → NextAnswers (Ahead bytes new after) pairs result
       answers (Ok None) took visible cause = (
         ahead.pairs_are ∙ ap (λ (ps : List (List ℕ × Stamped)). map pair_of ps) took.0,
         record { stamped = []; cursor = took.1; pairs_are = refl; visible = visible },
@@ -256,7 +257,7 @@ module _ {D : Type 0} (bytes : D → Option (List ℕ)) (old new : Stored D) (he
         record { stamped = took.0; cursor = took.2; pairs_are = refl; visible = visible },
       )
       answers (Err fault) took visible cause = (
-        only-lines (held_of bytes old) walk.lines.items ahead.cursor.lists before now fault ahead.cursor.told cause,
+        only-lines walk.falls (held_of bytes old) walk.lines.items ahead.cursor.lists before now fault ahead.cursor.told cause,
         record { stamped = ahead.stamped; cursor = took; pairs_are = ahead.pairs_are; visible = visible },
       )
 

@@ -16,8 +16,8 @@ use Rattle.cola_layout.specs.declared.geometry.Geometry.{Geometry}
 use Rattle.cola_layout.specs.Fields.{fields_of}
 use Rattle.cola_opening.proofs.Sizes.{header_fits}
 use Rattle.cola_spec.specs.Map.{Map, IsMap, count}
-use Rattle.cola_cell.specs.Shapes.{shape_of}
-use Rattle.cola_image.specs.Cells.{file_spots}
+use Rattle.cola_shapes.specs.Shapes.{shape_of}
+use Rattle.cola_layout.specs.Cells.{file_spots}
 use Rattle.cola_image.specs.Standing.{LevelsStandFor, with_state, found_in, FileStandsFor}
 use Rattle.cola_level.specs.declared.level.Level.{Level}
 use Rattle.cola_level.specs.Marks.{all_marks_of}

@@ -10,7 +10,7 @@ use Rattle.cola_layout.specs.Fields.{fields_of}
 use Rattle.cola_opening.specs.Counted.{Spends}
 use Rattle.cola_opening.specs.Judged.{HasHeader, file_size}
 use Rattle.cola_spec.specs.Map.{Map}
-use Rattle.cola_image.specs.Cells.{file_spots}
+use Rattle.cola_layout.specs.Cells.{file_spots}
 use Rattle.cola_image.specs.Standing.{HeaderStandsFor}
 use Rattle.cola_run.specs.Store.{Store, held_of, device_of}
 use Rattle.cola_run.specs.Saving.{SameReads, IsFrontLast, SameBehind, SettlesTwice}

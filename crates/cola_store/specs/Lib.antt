@@ -10,3 +10,4 @@ pub mod Sessions
 pub mod Table
 pub mod OnMaps
 pub mod Laws
+pub mod Backward

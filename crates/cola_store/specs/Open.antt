@@ -8,7 +8,7 @@ use Rattle.cola_layout.specs.declared.header.Header.{Header}
 use Rattle.cola_layout.specs.Fields.{fields_of}
 use Rattle.cola_opening.specs.Counted.{Spends}
 use Rattle.cola_opening.specs.Judged.{HasHeader, IsSmall, IsNoStore, IsSeen, IsInUse}
-use Rattle.cola_image.specs.Cells.{file_spots}
+use Rattle.cola_layout.specs.Cells.{file_spots}
 use Rattle.cola_image.specs.Standing.{with_state}
 use Rattle.cola_run.specs.Store.{Store, held_of, device_of}
 use Rattle.cola_run.specs.Saving.{AreFileSpots, AreFrontRunsSpelled, IsLowestBad, IsLoaded}

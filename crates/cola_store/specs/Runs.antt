@@ -4,7 +4,7 @@ use Rattle.cola_cell.specs.Held.{Held}
 use Rattle.cola_layout.specs.declared.header.Header.{Header}
 use Rattle.cola_layout.specs.Marks.{all_numbers}
 use Rattle.cola_spec.specs.Map.{Map, IsMap, count}
-use Rattle.cola_cell.specs.Shapes.{shape_of}
+use Rattle.cola_shapes.specs.Shapes.{shape_of}
 use Rattle.cola_image.specs.Standing.{LevelsStandFor, FileStandsFor}
 use Rattle.cola_run.specs.Saving.{header_shadow}
 

@@ -1,5 +1,5 @@
 -- Walks over an open store: when one stands, which pairs are ahead of it, and what its calls say on every file.
-use Rattle.std.specs.Prelude.{◌≡◌, ℕ, ◌+◌, ◌≤◌, List, map, Option, Result, Ok, Err, IfOk, IfErr}
+use Rattle.std.specs.Prelude.{◌≡◌, false, ℕ, ◌+◌, ◌≤◌, List, map, Option, Result, Ok, Err, IfOk, IfErr}
 use Rattle.cola_cell.specs.declared.fault.ReadFault.{ReadFault}
 use Rattle.cola_cell.specs.Held.{LawCell, Stamped}
 use Rattle.cola_cell.specs.Spent.{Spent}
@@ -65,16 +65,17 @@ module _ {D : Type 0} (bytes : D → Option (List ℕ)) (counts : D → Counts) 
 
   -- why a next is: the count of faults rose, or this cell that a line of the walk reads next is bad
   abbrev pub NextCause : (old new : Stored D) → Cursor → ReadFault → Type 0
-  NextCause old new walk = LinesCause (held_of bytes old) walk.lines.items (faults_of counts old) (faults_of counts new)
+  NextCause old new walk = LinesCause walk.falls (held_of bytes old) walk.lines.items (faults_of counts old) (faults_of counts new)
 
   -- what the lines of a walk pass where a next answers this
   abbrev pub Passes : Stored D → (walk after : Cursor) → Option (List ℕ × List ℕ × ℕ) → Type 0
   Passes old walk after answer =
-      LinesPassed (held_of bytes old) (answered_key answer) none_hidden walk.lines.items after.lines.items
+      LinesPassed walk.falls (held_of bytes old) (answered_key answer) none_hidden walk.lines.items after.lines.items
 
   -- a range with these ends gives a walk whose place in each visible run is where a search stops, or is refused with its cause
   pub record Begins (old : Stored D) (low : List ℕ) (high : Option (List ℕ)) (result : Result Cursor ReadFault) (new : Stored D) : Type 0 where
     pub ends : IfOk result (λ walk. walk.end ≡ high)
+    pub way : IfOk result (λ walk. walk.falls ≡ false)
     pub places : (lists : List (List LawCell)) → AreRuns (held_of bytes old) (runs_of old) lists →
         IfOk result (λ walk. map (λ line. line.place) walk.lines.items ≡ places_from low 0 lists)
     pub cause : IfErr result (RangeCause old new)
@@ -85,11 +86,12 @@ module _ {D : Type 0} (bytes : D → Option (List ℕ)) (counts : D → Counts) 
   -- a walk gives a pair that it passed, with some stamp, or none where every line ends, and passes no other value; or it is refused with its cause
   pub record Goes (old : Stored D) (walk : Cursor) (result : Result (Option (List ℕ × List ℕ)) ReadFault) (new : Stored D) (after : Cursor) : Type 0 where
     pub stamp : ℕ
-    pub answers : IfOk (with_stamp stamp result) (λ answer. AnswerCause after (answered_key answer))
+    pub answers : IfOk (with_stamp stamp result) (λ answer. AnswerCause walk.falls after (answered_key answer))
     pub pair : IfOk (with_stamp stamp result)
-        (IsPassed (held_of bytes old) walk.lines.items after.lines.items)
+        (IsPassed walk.falls (held_of bytes old) walk.lines.items after.lines.items)
     pub passes : IfOk (with_stamp stamp result) (Passes old walk after)
     pub end_is : after.end ≡ walk.end
+    pub way_is : after.falls ≡ walk.falls
     pub cause : IfErr result (NextCause old new walk)
     pub turns : TurnsBy old new (left_after after result) (left_of walk)
     pub same : Same bytes counts old new

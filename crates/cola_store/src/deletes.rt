@@ -60,7 +60,7 @@ impl<D: Device> Store<D> {
         ensures walks { OnErr result (WalksStay D.bytes self.old self.new) }
     {
         let after = self.keys_now().saturating_sub(1);
-        let last = self.last();
+        let last = self.last_number();
         match self.write(key, &Item::Tombstone, after, last, steps) {
             Ok(()) => Ok(Some(*value)),
             Err(fault) => Err(fault),

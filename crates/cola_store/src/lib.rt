@@ -2,6 +2,7 @@
 #![tactic(auto)]
 
 mod account;
+mod backward;
 mod calls;
 mod closing;
 mod conditional;

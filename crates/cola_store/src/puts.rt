@@ -55,7 +55,7 @@ impl<D: Device> Store<D> {
     {
         match self.format() {
             Format::One => false,
-            Format::Two => self.last() >= LAST_STAMP,
+            Format::Two => self.last_number() >= LAST_STAMP,
         }
     }
 
@@ -67,7 +67,7 @@ impl<D: Device> Store<D> {
     {
         match self.format() {
             Format::One => 0,
-            Format::Two => self.last() + 1,
+            Format::Two => self.last_number() + 1,
         }
     }
 

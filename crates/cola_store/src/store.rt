@@ -88,7 +88,7 @@ impl<D: Device> Store<D> {
     }
 
     /// The last number that was given to a value.
-    pub(crate) fn last(&self) -> u64
+    pub(crate) fn last_number(&self) -> u64
         ensures value { result ≡ self.now.last }
         ensures sound { IsStored D.bytes D.counts self.now }
     {

@@ -15,7 +15,7 @@ use Rattle.std.proofs.lemmas.List.Edits.{length-insert, length-remove}
 use Rattle.std.proofs.lemmas.List.Elements.{All-append, All-set, All-cons, All-take, All-drop}
 use Rattle.cola_cell.specs.declared.format.Format.TheVariants.{One}
 use Rattle.cola_spec.specs.Map.{Stored, EntryFits, New, Old, Full, key_cmp, empty_map, put_outcome, after_put, after_delete, value_of}
-use Rattle.cola_cell.specs.Shapes.{shape_of}
+use Rattle.cola_shapes.specs.Shapes.{shape_of}
 use Rattle.cola_table.specs.Flat.{AreFlat, map_of, HasKeyAt, LacksKey}
 use Rattle.cola_table.proofs.Places.{find-place, put-present, put-absent, without-present}
 

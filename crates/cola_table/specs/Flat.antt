@@ -6,7 +6,7 @@ use Rattle.std.specs.FinMap as finite
 use Rattle.std.specs.Coded.{Coded, code_by, coded×, coded_list, coded_ℕ}
 use Rattle.cola_cell.specs.declared.format.Format.TheVariants.{One}
 use Rattle.cola_spec.specs.Map.{Stored, Map, EntryFits, key_cmp, map_code, stored_code, pair_of, is_before}
-use Rattle.cola_cell.specs.Shapes.{shape_of}
+use Rattle.cola_shapes.specs.Shapes.{shape_of}
 use Rattle.cola_table.specs.Terms.{Terms}
 
 -- the most keys that a table in memory holds, and its map

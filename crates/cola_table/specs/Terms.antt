@@ -1,7 +1,7 @@
 -- What a table is held to: its format, its limit and its levels, which no call changes, and what one call may spend.
 use Rattle.std.specs.Prelude.{ℕ, ◌+◌, ◌≤◌, ◌≡◌}
 use Rattle.cola_cell.specs.declared.format.Format.{Format}
-use Rattle.cola_cell.specs.Shapes.{shape_of}
+use Rattle.cola_shapes.specs.Shapes.{shape_of}
 use Rattle.cola_spec.specs.Map.{Shape}
 
 -- the format of a table's keys and values, the most keys that it holds, and the number that bounds its cell accesses

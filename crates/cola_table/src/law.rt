@@ -6,8 +6,8 @@ ghost use Rattle.cola_cell.specs.declared.cell.Item.TheVariants.{Value};
 ghost use Rattle.cola_cell.specs.Format.{KeyFits, ItemFits};
 ghost use Rattle.cola_cell.specs.Held.{Stamped};
 ghost use Rattle.cola_spec.specs.Map.{Map, IsMap, Stored};
-ghost use Rattle.cola_cell.specs.Shapes.{shape_of};
-ghost use Rattle.cola_cell.specs.Shapes.{stamped_of, stored_of};
+ghost use Rattle.cola_shapes.specs.Shapes.{shape_of};
+ghost use Rattle.cola_shapes.specs.Shapes.{stamped_of, stored_of};
 
 /// What a map stores of a key and what the laws of runs have of it in a cell are one: a value with a
 /// stamp. Each is the other with the same value and the same stamp.

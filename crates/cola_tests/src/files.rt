@@ -3,7 +3,7 @@
 ghost use Rattle.std.specs.Prelude.{⊤};
 
 use cola_device::{Device, DeviceFault};
-use cola_filedev::{FileDevice, OpenedFile, Opener, PathDevice};
+use cola_filedev::{FileDevice, LockedDevice, Locks, OpenedFile, Opener, PathDevice};
 use std::fs::{self, OpenOptions};
 use std::io::{self, ErrorKind};
 use std::test::Fail;
@@ -13,6 +13,8 @@ const WRITTEN: &str = "cola_tests_written";
 const HELD: &str = "cola_tests_held";
 
 const LATE: &str = "cola_tests_late";
+
+const LOCKED: &str = "cola_tests_locked";
 
 /// Opens the file.
 #[derive(Drop)]
@@ -149,7 +151,7 @@ fn keeps_what_a_file_holds(rt: HostRuntime) -> Result<(), Fail> {
 #[test]
 fn is_refused_by_a_full_device(rt: HostRuntime) {
     let mut device = FileDevice::new(&rt, "/dev/full", false);
-    assert_eq!(rt; device.write(0, b"a"), Err(DeviceFault));
+    assert_eq!(rt; device.write(1, b"a"), Err(DeviceFault));
     assert_eq!(rt; device.lay_out(1), Err(DeviceFault));
     assert_eq!(rt; device.settle(), Err(DeviceFault));
     assert_eq!(rt; device.read(0, &mut [1]), Ok(()));
@@ -161,4 +163,28 @@ fn is_refused_a_folder(rt: HostRuntime) {
     let mut device = FileDevice::new(&rt, ".", true);
     assert_eq!(rt; device.settle(), Err(DeviceFault));
     assert_eq!(rt; FileDevice::none(&rt).settle(), Err(DeviceFault));
+}
+
+/// Who has the lock of a file writes it, by each of its devices, and another reads it, and writes it once the lock is given up.
+#[test]
+fn keeps_others_from_writing(rt: HostRuntime) -> Result<(), Fail> {
+    fs::write(&rt, LOCKED, b"abc".as_slice())?;
+    let (locks, others) = (Locks::new(&rt), Locks::new(&rt));
+    {
+        let mut device = LockedDevice::new(locks.opener(), LOCKED, false);
+        device.write(0, b"x")?;
+        LockedDevice::new(locks.opener(), LOCKED, true).write(1, b"y")?;
+        let mut other = LockedDevice::new(others.opener(), LOCKED, true);
+        let mut found = [0; 3];
+        other.read(0, &mut found)?;
+        assert_eq!(rt; found, *b"xyc");
+        assert_eq!(rt; other.size(), Ok(3));
+        assert_eq!(rt; other.write(2, b"z"), Err(DeviceFault));
+        assert_eq!(rt; other.lay_out(3), Err(DeviceFault));
+        assert_eq!(rt; fs::read(&rt, LOCKED)?.as_slice(), b"xyc".as_slice());
+    }
+    LockedDevice::new(others.opener(), LOCKED, false).write(2, b"z")?;
+    assert_eq!(rt; fs::read(&rt, LOCKED)?.as_slice(), b"xyz".as_slice());
+    fs::remove_file(&rt, LOCKED)?;
+    Ok(())
 }

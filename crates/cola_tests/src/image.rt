@@ -1,7 +1,7 @@
 //! The cells of a file by its bytes alone: where each stands, and bytes that end before a cell.
 use crate::made::put_at;
 use cola_cell::Format;
-use cola_image::plain::{cell_of_file, run_of_file};
+use cola_plain_files::cells::{cell_of_file, run_of_file};
 use std::alloc::{AllocError, Global};
 use std::process::Abort;
 use std::test::Fail;

@@ -29,8 +29,6 @@ mod line;
 #[cfg(test)]
 mod made;
 #[cfg(test)]
-mod mirror;
-#[cfg(test)]
 mod pairs;
 #[cfg(test)]
 mod plain;

@@ -1,6 +1,6 @@
 //! The live pairs of two small runs, by the plain program.
-use cola_pairs::plain::live_pairs;
-use cola_runs::plain::cells::{PlainCell, PlainItem};
+use cola_plain_runs::cells::{PlainCell, PlainItem};
+use cola_plain_runs::pairs::live_pairs;
 use std::alloc::AllocError;
 
 fn item(key: u32, item: PlainItem<u32>) -> PlainCell<u32, u32> {

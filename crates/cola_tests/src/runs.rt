@@ -1,7 +1,7 @@
 //! A merge at the bottom by the plain program: steps that stop and resume, beside the whole weave.
-use cola_runs::plain::cells::{PlainCell, PlainItem, PlainPart, is_well_formed};
-use cola_runs::plain::merge::{PlainBuild, take_step};
-use cola_runs::plain::weave::{sample, weave};
+use cola_plain_runs::cells::{PlainCell, PlainItem, PlainPart, is_well_formed};
+use cola_plain_runs::merge::{PlainBuild, take_step};
+use cola_plain_runs::weave::{sample, weave};
 use std::alloc::{AllocError, Global};
 use std::process::Abort;
 

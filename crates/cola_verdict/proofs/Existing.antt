@@ -8,7 +8,7 @@ use Rattle.cola_cell.specs.Flat.{spot_of}
 use Rattle.cola_cell.specs.Held.{LawCell, Bad}
 use Rattle.cola_cell.specs.Places.{number_of}
 use Rattle.cola_clock.specs.Clock.{visible_slot}
-use Rattle.cola_image.specs.Cells.{cell_bytes}
+use Rattle.cola_layout.specs.Cells.{cell_bytes}
 use Rattle.cola_laws.specs.Chain.{visibles}
 use Rattle.cola_layout.specs.Header.{Fields}
 use Rattle.cola_cell.specs.ToldCells.{IsTold}

@@ -17,13 +17,13 @@ use Rattle.cola_cell.specs.Spelling.{IsSpelling}
 use Rattle.cola_cell.proofs.DecodedLemmas.{decoded_spells}
 use Rattle.cola_clock.specs.Clock.{visible_slot}
 use Rattle.cola_clock.specs.Marks.{Marks}
-use Rattle.cola_image.specs.Cells.{slot_cells, file_spots, cell_bytes}
+use Rattle.cola_layout.specs.Cells.{slot_cells, file_spots, cell_bytes}
 use Rattle.cola_image.specs.Standing.{AreRunsTold}
 use Rattle.cola_cell.specs.Places.{number_of}
 use Rattle.cola_laws.specs.Chain.{visibles}
 use Rattle.cola_laws.specs.Slots.{levels_of}
 use Rattle.cola_spec.specs.Map.{EntryFits, is_key, is_value, last_stamp}
-use Rattle.cola_cell.specs.Shapes.{shape_of, is_stamped}
+use Rattle.cola_shapes.specs.Shapes.{shape_of, is_stamped}
 use Rattle.cola_cell.specs.ToldCells.{cells, cell_at, IsTold}
 use Rattle.cola_verdict.proofs.Holding.{CellHolds}
 use Rattle.cola_verdict.proofs.Mapped.{stored-pair}

@@ -12,11 +12,3 @@ pub mod Unique
 pub mod Alike
 pub mod Broken
 pub mod Existing
-pub mod PlainRuns
-pub mod PlainSeen
-pub mod PlainLevels
-pub mod PlainLive
-pub mod PlainTests
-pub mod PlainFile
-pub mod PlainLoading
-pub mod PlainFlaws

@@ -13,7 +13,7 @@ use Rattle.cola_laws.specs.Chain.{value_at}
 use Rattle.cola_pairs.proofs.Order.{by_bool}
 use Rattle.cola_spec.specs.Map.{Map, Stored, count}
 use Rattle.cola_spec.proofs.Entries.{same_key}
-use Rattle.cola_cell.specs.Shapes.{stamped_of, stored_of}
+use Rattle.cola_shapes.specs.Shapes.{stamped_of, stored_of}
 use Rattle.cola_verdict.specs.Tests.{live_pairs}
 use Rattle.cola_verdict.proofs.Living.{pairs-find, pairs-rise}
 

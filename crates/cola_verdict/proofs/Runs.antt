@@ -4,7 +4,7 @@ use Rattle.std.proofs.lemmas.Bool.{eqb-true, eqb-false, eq-eqb, ne_eqb}
 use Rattle.cola_cell.specs.Held.{Spots}
 use Rattle.cola_clock.specs.Clock.{visible_slot}
 use Rattle.cola_clock.specs.Marks.{Marks, no_marks, marks_at}
-use Rattle.cola_image.specs.Cells.{slot_cells}
+use Rattle.cola_layout.specs.Cells.{slot_cells}
 use Rattle.cola_image.specs.Standing.{AreRunsTold, AreRunsAlike}
 use Rattle.cola_laws.specs.Slots.{levels_of, all_marks_of, AreHeld}
 use Rattle.cola_laws.proofs.InSlots.{held-marks}

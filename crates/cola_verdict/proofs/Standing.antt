@@ -8,7 +8,7 @@ use Rattle.cola_cell.specs.Format.{width}
 use Rattle.cola_cell.specs.Held.{LawCell, Stamped}
 use Rattle.cola_cell.specs.Order.{key_cmp}
 use Rattle.cola_clock.specs.Marks.{Marks, AreChainMarks}
-use Rattle.cola_image.specs.Cells.{file_spots}
+use Rattle.cola_layout.specs.Cells.{file_spots}
 use Rattle.cola_image.specs.Standing.{found_in, HeaderStandsFor}
 use Rattle.cola_laws.specs.Chain.{visibles, value_at}
 use Rattle.cola_laws.specs.Plain.{empty_level, IsSoundChain}
@@ -16,7 +16,7 @@ use Rattle.cola_laws.specs.Slots.{all_marks_of}
 use Rattle.cola_layout.specs.Header.{Fields, IsSpelling}
 use Rattle.cola_layout.specs.Marks as layout
 use Rattle.cola_spec.specs.Map.{Map, IsMap, EntryFits, count}
-use Rattle.cola_cell.specs.Shapes.{shape_of}
+use Rattle.cola_shapes.specs.Shapes.{shape_of}
 use Rattle.cola_verdict.specs.Tests.{FileLevel, Tested, tested_of, levels_in, level_at, below_at, live_pairs, ShadowAt}
 use Rattle.cola_verdict.specs.Verdict.{Passes, IsVerdict}
 use Rattle.cola_verdict.specs.declared.verdict.Flaw.TheVariants.{Cell, Order, Sample, Length, Shadow, Live, Count, Stamp}

@@ -9,7 +9,7 @@ use Rattle.cola_runs.specs.Weave.{IsCut}
 use Rattle.cola_cell.specs.Held.{LawCell, Stamped, Spots, Bad}
 use Rattle.cola_cell.specs.Order.{key_cmp}
 use Rattle.cola_cell.specs.Places.{number_of}
-use Rattle.cola_image.specs.Cells.{slot_cells, file_spots}
+use Rattle.cola_layout.specs.Cells.{slot_cells, file_spots}
 use Rattle.cola_laws.specs.Chain as chain
 use Rattle.cola_laws.specs.Plain.{empty_level}
 use Rattle.cola_laws.specs.Slots.{levels_of}

@@ -4,7 +4,6 @@
 #![tactic(auto)]
 
 pub mod laws;
-pub mod plain;
 mod verdict;
 
 pub use verdict::{Flaw, Verdict};

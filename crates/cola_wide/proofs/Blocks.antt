@@ -10,7 +10,7 @@ use Rattle.cola_device.proofs.BytesLemmas.{length-splice, part-splice, part-spli
 use Rattle.cola_layout.specs.Header.{Fields}
 use Rattle.cola_layout.proofs.Places.{place-behind}
 use Rattle.cola_clock.specs.Clock.{visible_slot}
-use Rattle.cola_image.specs.Cells.{cell_bytes}
+use Rattle.cola_layout.specs.Cells.{cell_bytes}
 use Rattle.cola_wide.specs.Runs.{IsOfRun}
 use Rattle.cola_wide.specs.Copied.{block_cells, cells_of, IsSpelled, SpellSameCell, IsCopied, IsBad, IsBlockCopied, IsBlockBad, IsBlockOf, AreSpelled, AreCopied, IsLowestBad, IsBegun, IsFilled}
 

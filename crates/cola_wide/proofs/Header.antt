@@ -17,9 +17,9 @@ use Rattle.cola_layout.specs.Marks.{all_numbers, numbers_of, marks_of}
 use Rattle.cola_layout.proofs.Levels.{number-at, numbers-length, fits-here}
 use Rattle.cola_layout.proofs.Places.{place-behind, place-within}
 use Rattle.cola_spec.specs.Map.{Map, IsMap, EntryFits, Stored}
-use Rattle.cola_cell.specs.Shapes.{shape_of}
+use Rattle.cola_shapes.specs.Shapes.{shape_of}
 use Rattle.cola_cell.specs.ToldCells.{AreTold, IsTold}
-use Rattle.cola_image.specs.Cells.{cell_bytes, file_spots}
+use Rattle.cola_layout.specs.Cells.{cell_bytes, file_spots}
 use Rattle.cola_image.specs.Standing.{IsSlotAlike, AreRunsAlike, AreRunsTold, LevelsStandFor, HeaderStandsFor}
 use Rattle.cola_image.proofs.StandingLemmas.{stand-alike}
 use Rattle.cola_wide.specs.Runs.{IsAmong, IsOfRun}

@@ -9,7 +9,7 @@ use Rattle.cola_device.specs.Bytes.{part}
 use Rattle.cola_layout.specs.Header.{Fields}
 use Rattle.cola_layout.specs.Header as layout
 use Rattle.cola_spec.specs.Map.{Map}
-use Rattle.cola_image.specs.Cells.{cell_bytes}
+use Rattle.cola_layout.specs.Cells.{cell_bytes}
 use Rattle.cola_image.specs.Standing.{HeaderStandsFor}
 use Rattle.cola_wide.specs.Runs.{IsOfRun}
 

@@ -9,7 +9,7 @@ ghost use Rattle.cola_cell.specs.declared.format.Format.TheVariants.{One, Two};
 ghost use Rattle.cola_clock.specs.Clock.{visible_slot};
 ghost use Rattle.cola_device.specs.Bytes.{IsEmpty, part};
 ghost use Rattle.cola_device.specs.Settling.{IsSettled};
-ghost use Rattle.cola_image.specs.Cells.{cell_bytes};
+ghost use Rattle.cola_layout.specs.Cells.{cell_bytes};
 ghost use Rattle.cola_image.specs.Standing.{HeaderStandsFor};
 ghost use Rattle.cola_layout.specs.Fields.{fields_of};
 ghost use Rattle.cola_layout.specs.Header as layout;

@@ -7,13 +7,16 @@ use Rattle.cola_gen.specs.declared.Tally.{Tally}
 use Rattle.cola_io.specs.declared.sink.Sink as sink
 use Rattle.cola_store.specs.declared.fault.CreateFault.{CreateFault}
 use Rattle.cola_store.specs.declared.fault.CreateFault.TheVariants as create
+use Rattle.cola_store.specs.declared.fault.OpenFault.{OpenFault}
+use Rattle.cola_store.specs.declared.fault.OpenFault.TheVariants as fault
 use Rattle.cola_store.specs.Table.{store_table}
 use Rattle.cola_table.specs.declared.PutFault.{PutFault}
 use Rattle.cola_table.specs.declared.PutFault.TheVariants as put
 use Rattle.cola_status.specs.declared.status.Status.TheVariants as known
 use Rattle.cola_status.specs.Statuses.{IsStatus}
-use Rattle.cola_status.proofs.Known.{one, opening-known}
+use Rattle.cola_status.proofs.Known.{one}
 use Rattle.cola_report.specs.Line.{LineEnds}
+use Rattle.cola_workload.specs.Refused.{refusal_status}
 use Rattle.cola_workload.specs.Workload.{making_status, filling_status, asking_status, FillingRefused, AskingRefused, AskEnds, GenEnds}
 use Rattle.cola_report.specs.Line.LineEnds.{WroteLine, WroteFront}
 use Rattle.cola_workload.specs.Workload.FillingRefused.{NotMade, NotOpened, NotFilled, NotClosed}
@@ -22,6 +25,14 @@ use Rattle.cola_workload.specs.Workload.AskEnds.{Told, AskRefused}
 use Rattle.cola_workload.specs.Workload.GenEnds.{FillDone, FillRefused}
 
 -- ---- refusals
+
+pub opening-known : (why : OpenFault) (n : ℕ) → n ≡ refusal_status why → IsStatus n
+opening-known fault.OutOfMemory n is = one known.OutOfMemory n is
+opening-known fault.Device n is = one known.DeviceFailed n is
+opening-known fault.NotStore n is = one known.NotStore n is
+opening-known fault.Small n is = one known.NotStore n is
+opening-known fault.NotClosed n is = one known.NotClosed n is
+opening-known (fault.BadCell cell) n is = one known.BadCell n is
 
 making-known : (why : CreateFault) (n : ℕ) → n ≡ making_status why → IsStatus n
 making-known create.Keys n is = one known.WrongWords n is

@@ -39,7 +39,7 @@ use Rattle.cola_store.specs.Create.{Created, Made, IsNewFile, Suits, new_header}
 use Rattle.cola_store.specs.Open.{Opens, HasBadCell, IsReady}
 use Rattle.cola_store.specs.Sessions.{IsStoreOpened, IsStoreClosed}
 use Rattle.cola_store.specs.Store.{Stored, Holds, geometry_of, kept_of}
-use Rattle.cola_status.specs.Statuses.{refusal_status}
+use Rattle.cola_workload.specs.Refused.{refusal_status}
 use Rattle.cola_report.specs.Line.{LineEnds}
 use Rattle.cola_workload.specs.Workload.{no_tally, workload_line, right_line, making_status, filling_status, asking_status, Filled, Asked, WasFilled, WasAsked, FillingRefused, AskingRefused, AskEnds, GenEnds, IsFileOfOdd, EndsOnEmpty, FaultsCaused}
 use Rattle.cola_report.specs.Line.LineEnds.{WroteLine, WroteFront}

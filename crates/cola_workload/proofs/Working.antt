@@ -28,7 +28,7 @@ use Rattle.cola_store.specs.declared.fault.OpenFault.TheVariants as open_fault
 use Rattle.cola_store.specs.Create.{Created}
 use Rattle.cola_store.specs.Open.{Opens}
 use Rattle.cola_store.specs.Store.{Stored}
-use Rattle.cola_status.specs.Statuses.{refusal_status}
+use Rattle.cola_workload.specs.Refused.{refusal_status}
 use Rattle.cola_report.specs.Line.{LineEnds}
 use Rattle.cola_workload.specs.Workload.{Fills, Asks, FillEnds, AskEnds, GenEnds, making_status, filling_status, asking_status}
 use Rattle.cola_report.specs.Line.LineEnds.{WroteLine, WroteFront}

@@ -32,7 +32,7 @@ use Rattle.cola_store.specs.Close.{IsClosed, StillOwes}
 use Rattle.cola_store.specs.Sessions.{OpensStore, IsStoreOpened, ClosesStore, IsStoreClosed, IsStoreOwed}
 use Rattle.cola_store.specs.Store.{Stored}
 use Rattle.cola_report.specs.Line.{LineEnds}
-use Rattle.cola_status.specs.Statuses.{refusal_status}
+use Rattle.cola_workload.specs.Refused.{refusal_status}
 use Rattle.cola_run.specs.Store as run
 
 -- The line

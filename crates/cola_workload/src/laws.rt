@@ -23,7 +23,7 @@ ghost use Rattle.cola_store.specs.declared.closing.Closing.{Closing};
 ghost use Rattle.cola_store.specs.declared.fault.CreateFault.{CreateFault};
 ghost use Rattle.cola_store.specs.declared.fault.CreateFault.TheVariants as create;
 ghost use Rattle.cola_store.specs.declared.fault.OpenFault.{OpenFault};
-ghost use Rattle.cola_status.specs.Statuses.{refusal_status};
+ghost use Rattle.cola_workload.specs.Refused.{refusal_status};
 ghost use Rattle.cola_table.specs.Answers.{PutFaults, ReadFaults};
 ghost use Rattle.cola_table.specs.Replies.{put_refused};
 ghost use Rattle.cola_table.specs.declared.PutFault.{PutFault};

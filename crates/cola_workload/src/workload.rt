@@ -12,13 +12,14 @@ ghost use Rattle.cola_workload.specs.Workload as spec;
 ghost use Rattle.cola_workload.specs.Workload.{workload_line, ClosedOnce, ClosedLate, AskEnds, FillEnds, FillFaults, filled_device, GenEnds, FaultsCaused, EndsOnEmpty};
 ghost use Rattle.cola_run.specs.Store as run;
 
+use crate::refused::opening_status;
 use cola_cell::{Format, ReadFault};
 use cola_device::Device;
 use cola_gen::{Tally, generate, verify};
 use cola_io::Sink;
 use cola_outside::Steps;
 use cola_report::{Text, push_bytes, push_number, write_line};
-use cola_status::{Status, opening_status};
+use cola_status::Status;
 use cola_store::{Closing, CreateFault, Store, create_as};
 use cola_table::{PutFault, Table};
 use std::alloc::Global;

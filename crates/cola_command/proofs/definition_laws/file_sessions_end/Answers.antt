@@ -9,7 +9,7 @@ use Rattle.cola_spec.specs.Lines.{Line}
 use Rattle.cola_store.specs.declared.fault.OpenFault.{OpenFault}
 use Rattle.cola_store.specs.declared.fault.OpenFault.TheVariants as fault
 use Rattle.cola_session.specs.Ends.{Ending, Ill, SessionEnds, NotBegun, Status0, Status3, Status4, Status5, Status9}
-use Rattle.cola_status.specs.Statuses.{refusal_status}
+use Rattle.cola_workload.specs.Refused.{refusal_status}
 use Rattle.cola_session.specs.Reading.{ReadFor, AreFirstLines}
 use Rattle.cola_command.proofs.definition_laws.file_sessions_end.Goals as goal
 

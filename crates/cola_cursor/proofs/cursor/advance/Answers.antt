@@ -20,60 +20,60 @@ loop-key-init g c = record {
   reading = c.in_ok-read_heads.ensures.reading;
   left = c.in_ok-read_heads.ensures.left;
   saves = saves_from c.requires.none c.in_ok-read_heads.ensures.saves;
-  quiet = quiet_begins (g.W.CellSource.state c.args.work.now).held (cursor_at c.args.lines.now c.args.end.now) c.read_heads.new.lines c.in_ok-read_heads.ensures.fetches;
+  quiet = quiet_begins c.args.falls (g.W.CellSource.state c.args.work.now).held (cursor_at c.args.lines.now c.args.end.now c.args.falls) c.read_heads.new.lines c.in_ok-read_heads.ensures.fetches;
 }
 
 pub loop-key-smaller-in-Tombstone : goal.loop-key-smaller-in-Tombstone
 loop-key-smaller-in-Tombstone g c =
     let i = c.loop-key.invariant in
-    pass_less (g.W.CellSource.state c.args.work.now).held c.in-Some.key c.loop-key.lines c.pass_all.new.lines c.in_ok-item.item
-    (same_pass c.in-Some.key c.loop-key.lines c.pass_all.new.lines c.in_ok-item.item i.looks.cells_stay c.in_ok-item.ensures.passes)
-    (key_there i.quiet c.in-Some.key (sym c.least_key.ensures ∙ c.in-Some.is))
+    pass_less c.args.falls (g.W.CellSource.state c.args.work.now).held c.in-Some.key c.loop-key.lines c.pass_all.new.lines c.in_ok-item.item
+    (same_pass c.args.falls c.in-Some.key c.loop-key.lines c.pass_all.new.lines c.in_ok-item.item i.looks.cells_stay c.in_ok-item.ensures.passes)
+    (key_there c.args.falls i.quiet c.in-Some.key (sym c.least_key.ensures ∙ c.in-Some.is))
 
 pub loop-key-preserved-in-Tombstone : goal.loop-key-preserved-in-Tombstone
 loop-key-preserved-in-Tombstone g c =
     let i = c.loop-key.invariant in
-    let p = same_pass c.in-Some.key c.loop-key.lines c.pass_all.new.lines c.in_ok-item.item i.looks.cells_stay c.in_ok-item.ensures.passes in
+    let p = same_pass c.args.falls c.in-Some.key c.loop-key.lines c.pass_all.new.lines c.in_ok-item.item i.looks.cells_stay c.in_ok-item.ensures.passes in
     record {
       looks = looks_then i.looks c.in_ok-item.ensures.looks;
       reading = reading_then i.reading c.in_ok-item.ensures.reading;
       left = (let q = i.left in let r = c.in_ok-item.ensures.left in omega arith);
       saves = saves_then i.saves c.in_ok-item.ensures.saves;
-      quiet = quiet_tombstone i.quiet c.in-Some.key (sym c.least_key.ensures ∙ c.in-Some.is) c.pass_all.new.lines c.in_ok-item.item p (c.in-Some-item.is ∙ ap Some c.in-Tombstone.is);
+      quiet = quiet_tombstone c.args.falls i.quiet c.in-Some.key (sym c.least_key.ensures ∙ c.in-Some.is) c.pass_all.new.lines c.in_ok-item.item p (c.in-Some-item.is ∙ ap Some c.in-Tombstone.is);
     }
 
 pub loop-key-smaller : goal.loop-key-smaller
 loop-key-smaller g c =
     let i = c.loop-key.invariant in
-    pass_less (g.W.CellSource.state c.args.work.now).held c.in-Some.key c.loop-key.lines c.pass_all.new.lines c.in_ok-item.item
-    (same_pass c.in-Some.key c.loop-key.lines c.pass_all.new.lines c.in_ok-item.item i.looks.cells_stay c.in_ok-item.ensures.passes)
-    (key_there i.quiet c.in-Some.key (sym c.least_key.ensures ∙ c.in-Some.is))
+    pass_less c.args.falls (g.W.CellSource.state c.args.work.now).held c.in-Some.key c.loop-key.lines c.pass_all.new.lines c.in_ok-item.item
+    (same_pass c.args.falls c.in-Some.key c.loop-key.lines c.pass_all.new.lines c.in_ok-item.item i.looks.cells_stay c.in_ok-item.ensures.passes)
+    (key_there c.args.falls i.quiet c.in-Some.key (sym c.least_key.ensures ∙ c.in-Some.is))
 
 pub loop-key-preserved : goal.loop-key-preserved
 loop-key-preserved g c =
     let i = c.loop-key.invariant in
-    let p = same_pass c.in-Some.key c.loop-key.lines c.pass_all.new.lines c.in_ok-item.item i.looks.cells_stay c.in_ok-item.ensures.passes in
+    let p = same_pass c.args.falls c.in-Some.key c.loop-key.lines c.pass_all.new.lines c.in_ok-item.item i.looks.cells_stay c.in_ok-item.ensures.passes in
     record {
       looks = looks_then i.looks c.in_ok-item.ensures.looks;
       reading = reading_then i.reading c.in_ok-item.ensures.reading;
       left = (let q = i.left in let r = c.in_ok-item.ensures.left in omega arith);
       saves = saves_then i.saves c.in_ok-item.ensures.saves;
-      quiet = quiet_none i.quiet c.in-Some.key (sym c.least_key.ensures ∙ c.in-Some.is) c.pass_all.new.lines c.in_ok-item.item p c.in-None.is;
+      quiet = quiet_none c.args.falls i.quiet c.in-Some.key (sym c.least_key.ensures ∙ c.in-Some.is) c.pass_all.new.lines c.in_ok-item.item p c.in-None.is;
     }
 
 pub returns-in_err-read_heads : goal.returns-in_err-read_heads
 returns-in_err-read_heads g c =
     let w = g.W.CellSource in
     let end = c.args.end.now in
-    let old = cursor_at c.args.lines.now end in
-    let new = cursor_at (lines_left c.from_residual.result c.read_heads.new.saved.items c.read_heads.new.lines) end in
+    let old = cursor_at c.args.lines.now end c.args.falls in
+    let new = cursor_at (lines_left c.from_residual.result c.read_heads.new.saved.items c.read_heads.new.lines) end c.args.falls in
     let h = c.in_err-read_heads.ensures in
     let fault = c.in_err-read_heads.field-0.0 in
     let is = err_is c.from_residual.result fault c.from_residual.ensures.1 in
     let saves = saves_from c.requires.none h.saves in
     record {
-      gives = stayed w c.args.work.now c.read_heads.new.work old new c.args.steps.now c.read_heads.new.steps h.reading
-          c.from_residual.result fault (looks_refused fault c.from_residual.result looked_none h.looks is) is (same_cursor end c.from_residual.result fault is saves) c.requires.stands h.left h.cause;
+      gives = stayed c.args.falls w c.args.work.now c.read_heads.new.work old new c.args.steps.now c.read_heads.new.steps h.reading
+          c.from_residual.result fault (looks_refused fault c.from_residual.result looked_none h.looks is) is (same_cursor end c.args.falls c.from_residual.result fault is saves) refl c.requires.stands h.left h.cause;
       saves = saves;
     }
 
@@ -83,16 +83,16 @@ returns-in_err-item g c =
     let i = c.loop-key.invariant in
     let end = c.args.end.now in
     let result = c.from_residual-in_err-item.result in
-    let old = cursor_at c.args.lines.now end in
-    let new = cursor_at (lines_left result c.pass_all.new.saved.items c.pass_all.new.lines) end in
+    let old = cursor_at c.args.lines.now end c.args.falls in
+    let new = cursor_at (lines_left result c.pass_all.new.saved.items c.pass_all.new.lines) end c.args.falls in
     let h = c.in_err-item.ensures in
     let fault = c.in_err-item.field-0.0 in
     let is = err_is result fault c.from_residual-in_err-item.ensures.1 in
     let saves = saves_then i.saves h.saves in
     record {
-      gives = stayed w c.args.work.now c.pass_all.new.work old new c.args.steps.now c.pass_all.new.steps (reading_then i.reading h.reading)
-          result fault (looks_refused fault result i.looks h.looks is) is (same_cursor end result fault is saves) c.requires.stands (let q = i.left in let r = h.left in omega (arith, q, r))
-          (step_cause (w.state c.args.work.now).spent.faults (w.state c.loop-key.work).spent.faults (w.state c.pass_all.new.work).spent.faults fault i.looks.cells_stay i.looks.calm i.quiet h.cause);
+      gives = stayed c.args.falls w c.args.work.now c.pass_all.new.work old new c.args.steps.now c.pass_all.new.steps (reading_then i.reading h.reading)
+          result fault (looks_refused fault result i.looks h.looks is) is (same_cursor end c.args.falls result fault is saves) refl c.requires.stands (let q = i.left in let r = h.left in omega (arith, q, r))
+          (step_cause c.args.falls (w.state c.args.work.now).spent.faults (w.state c.loop-key.work).spent.faults (w.state c.pass_all.new.work).spent.faults fault i.looks.cells_stay i.looks.calm i.quiet h.cause);
       saves = saves;
     }
 
@@ -108,16 +108,16 @@ returns-in-Value g c =
     let key = c.in-Some.key in
     let h = c.in_ok-item.ensures in
     let least = sym c.least_key.ensures ∙ c.in-Some.is in
-    let p = same_pass key mids news item i.looks.cells_stay h.passes in
-    let there = value_there item c.in-Some-item.item c.in-Value.value c.in-Value.stamp c.in-Some-item.is c.in-Value.is in
-    let old = cursor_at c.args.lines.now end in
-    let new = cursor_at news end in
+    let p = same_pass c.args.falls key mids news item i.looks.cells_stay h.passes in
+    let there = value_there c.args.falls item c.in-Some-item.item c.in-Value.value c.in-Value.stamp c.in-Some-item.is c.in-Value.is in
+    let old = cursor_at c.args.lines.now end c.args.falls in
+    let new = cursor_at news end c.args.falls in
     record {
-      gives = went w c.args.work.now c.pass_all.new.work old new c.args.steps.now c.pass_all.new.steps (reading_then i.reading h.reading)
-          (Some (key, c.in-Value.value, c.in-Value.stamp)) (looks_then i.looks h.looks) c.requires.stands (let q = i.left in let r = h.left in omega (arith, q, r)) refl
-          (answer_going i.quiet key least news item p) (key_below i.quiet key least)
-          (value_later held key c.in-Value.value c.in-Value.stamp c.args.lines.now mids news None none_hidden i.quiet.going.passed (value_passes held key c.in-Value.value c.in-Value.stamp mids news item there p))
-          (takes_pair old new i.quiet key least item c.in-Value.value c.in-Value.stamp refl p there);
+      gives = went c.args.falls w c.args.work.now c.pass_all.new.work old new c.args.steps.now c.pass_all.new.steps (reading_then i.reading h.reading)
+          (Some (key, c.in-Value.value, c.in-Value.stamp)) (looks_then i.looks h.looks) c.requires.stands (let q = i.left in let r = h.left in omega (arith, q, r)) refl refl refl
+          (answer_going c.args.falls i.quiet key least news item p) (key_below c.args.falls i.quiet key least)
+          (value_later c.args.falls held key c.in-Value.value c.in-Value.stamp c.args.lines.now mids news None none_hidden i.quiet.going.passed (value_passes c.args.falls held key c.in-Value.value c.in-Value.stamp mids news item there p))
+          (takes_pair c.args.falls old new i.quiet key least item c.in-Value.value c.in-Value.stamp refl p there);
       saves = saves_then i.saves h.saves;
     }
 
@@ -126,10 +126,10 @@ returns g c =
     let i = c.loop-key.invariant in
     let end = c.args.end.now in
     let least = sym c.least_key.ensures ∙ c.in_default.is in
-    let old = cursor_at c.args.lines.now end in
-    let new = cursor_at c.loop-key.lines end in
+    let old = cursor_at c.args.lines.now end c.args.falls in
+    let new = cursor_at c.loop-key.lines end c.args.falls in
     record {
-      gives = went g.W.CellSource c.args.work.now c.loop-key.work old new c.args.steps.now c.loop-key.steps i.reading None (looks_as i.looks) c.requires.stands i.left refl i.quiet.going
-          (all_end end c.loop-key.lines i.quiet.going.ready (least_none end None c.loop-key.lines least).1) tt (takes_none old new i.quiet refl least);
+      gives = went c.args.falls g.W.CellSource c.args.work.now c.loop-key.work old new c.args.steps.now c.loop-key.steps i.reading None (looks_as i.looks) c.requires.stands i.left refl refl refl i.quiet.going
+          (all_end c.args.falls end c.loop-key.lines i.quiet.going.ready (least_none c.args.falls end None c.loop-key.lines least).1) tt (takes_none c.args.falls old new i.quiet refl least);
       saves = i.saves;
     }

@@ -11,7 +11,7 @@ invariant-loop-key g l = record {
   reading : Reading (g.W.CellSource.state l.fn.work) (g.W.CellSource.state l.work) l.fn.steps l.steps;
   left : l.steps + all_left l.lines ≤ l.fn.steps + all_left l.fn.lines;
   saves : Saves l.fn.lines l.lines [] l.saved.items;
-  quiet : Quiet (g.W.CellSource.state l.fn.work).held l.end l.fn.lines l.lines;
+  quiet : Quiet l.falls (g.W.CellSource.state l.fn.work).held l.end l.fn.lines l.lines;
 }
 
 abbrev pub decreases-loop-key : goal.decreases-loop-key

@@ -13,13 +13,13 @@ loop-i-preserved-then-not-has_key g c =
     let i = c.loop-i.invariant in
     let d = c.index-lines-i.result in
     let l = c.loop-i-test.true in
-    let fits = line_has i.turned l d LineFits i.looks.cells_stay c.requires.fit in
-    let ready = line_has i.turned l d (λ held. IsReady) i.looks.cells_stay c.requires.ready in
+    let fits = line_has c.args.falls i.turned l d (LineFits c.args.falls) i.looks.cells_stay c.requires.fit in
+    let ready = line_has c.args.falls i.turned l d (λ held. IsReady) i.looks.cells_stay c.requires.ready in
     record {
       looks = i.looks;
       reading = i.reading;
-      turned = turned_stays i.turned l d;
-      passed = passed_stays i.turned l d c.args.key.now c.loop-i.item i.looks.cells_stay i.passed fits ready (sym c.has_key.ensures ∙ c.if-not-has_key.true);
+      turned = turned_stays c.args.falls i.turned l d;
+      passed = passed_stays c.args.falls i.turned l d c.args.key.now c.loop-i.item i.looks.cells_stay i.passed fits ready (sym c.has_key.ensures ∙ c.if-not-has_key.true);
     }
 
 pub loop-i-preserved : goal.loop-i-preserved
@@ -31,8 +31,8 @@ loop-i-preserved g c =
     record {
       looks = looks_then i.looks c.in_ok-passed.ensures.looks;
       reading = reading_then i.reading c.in_ok-passed.ensures.reading;
-      turned = turned_next i.turned l d new refl (saves_set c.loop-i.i new c.save.ensures.saves c.save.ensures.saved) c.in_ok-passed.ensures.left;
-      passed = passed_next i.turned l d new refl c.args.key.now c.loop-i.item c.in_ok-passed.passed c.or-item.result i.looks.cells_stay c.or-item.ensures i.passed c.in_ok-passed.ensures.passes;
+      turned = turned_next c.args.falls i.turned l d new refl (saves_set c.loop-i.i new c.save.ensures.saves c.save.ensures.saved) c.in_ok-passed.ensures.left;
+      passed = passed_next c.args.falls i.turned l d new refl c.args.key.now c.loop-i.item c.in_ok-passed.passed c.or-item.result i.looks.cells_stay c.or-item.ensures i.passed c.in_ok-passed.ensures.passes;
     }
 
 pub returns-in_err-passed-clause-saves : goal.returns-in_err-passed-clause-saves
@@ -45,6 +45,6 @@ returns-in_err-passed-clause-cause g c =
     let fault = c.in_err-passed.field-0.0 in
     let faults = (w.state c.args.work.now).spent.faults in
     let after = (w.state c.pass.new.work).spent.faults in
-    refused c.from_residual.result fault (LinesCause (w.state c.args.work.now).held c.args.lines.now faults after) c.from_residual.ensures.1
-    (line_cause i.turned c.loop-i-test.true c.index-lines-i-in-loop-i.result (w.state c.loop-i.work).held (w.state c.args.work.now).held faults (w.state c.loop-i.work).spent.faults after fault
+    refused c.args.falls c.from_residual.result fault (LinesCause c.args.falls (w.state c.args.work.now).held c.args.lines.now faults after) c.from_residual.ensures.1
+    (line_cause c.args.falls i.turned c.loop-i-test.true c.index-lines-i-in-loop-i.result (w.state c.loop-i.work).held (w.state c.args.work.now).held faults (w.state c.loop-i.work).spent.faults after fault
     i.looks.cells_stay i.looks.calm c.in_err-passed.ensures.cause)

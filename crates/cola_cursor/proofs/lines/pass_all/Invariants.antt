@@ -9,6 +9,6 @@ abbrev pub invariant-loop-i : goal.invariant-loop-i
 invariant-loop-i g l = record {
   looks : Looked g.W.CellSource l.fn.work l.work;
   reading : Reading (g.W.CellSource.state l.fn.work) (g.W.CellSource.state l.work) l.fn.steps l.steps;
-  turned : Turned l.i l.fn.lines l.lines l.fn.saved.items l.saved.items l.fn.steps l.steps;
-  passed : PassAll (g.W.CellSource.state l.fn.work).held l.key (take l.i l.fn.lines) (take l.i l.lines) l.item;
+  turned : Turned l.falls l.i l.fn.lines l.lines l.fn.saved.items l.saved.items l.fn.steps l.steps;
+  passed : PassAll l.falls (g.W.CellSource.state l.fn.work).held l.key (take l.i l.fn.lines) (take l.i l.lines) l.item;
 }

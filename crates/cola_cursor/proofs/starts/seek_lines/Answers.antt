@@ -1,4 +1,4 @@
-use Rattle.std.proofs.Common.{List, ◌∷◌, [], ◌++◌, map, get_or, None, Ok, refl, sym, ap, subst, ◌∙◌, arith}
+use Rattle.std.proofs.Common.{false, List, ◌∷◌, [], ◌++◌, map, get_or, None, Ok, refl, sym, ap, subst, ◌∙◌, arith}
 use Rattle.std.specs.List.{AllByRecursion}
 use Rattle.cola_cell.specs.declared.cell.Run.{Run}
 use Rattle.cola_cell.specs.Held.{Held, LawCell}
@@ -7,6 +7,8 @@ use Rattle.cola_cell.specs.Order.{key_cmp}
 use Rattle.cola_look.specs.Outcome.{Found, Answers}
 use Rattle.cola_look.specs.Runs.{HasRun}
 use Rattle.cola_look.specs.Seek.{as_seat}
+use Rattle.cola_look.specs.declared.seeking.Seat.{Seat}
+use Rattle.cola_cursor.specs.Turning.{sought}
 use Rattle.cola_runs.specs.Search as laws
 use Rattle.cola_look.proofs.Looking.{err_is, looks_as, looks_then, looks_refused}
 use Rattle.cola_cursor.specs.declared.line.Line.{Line}
@@ -25,34 +27,37 @@ loop-i-preserved g c =
     let runs = c.args.runs.now in
     let n = c.loop-i.i in
     let d : Run = record { level = 0; slot = 0; len = 0 } in
-    let line : Line = record { run = get_or runs n d; place = c.in_ok-seat.seat.pos; head = None } in
-    let ens = c.in_ok-seat.ensures.seeks in
-    let T : Held → Type 0 = λ h. (cells : List LawCell) → IsRun h (get_or runs n d) cells → Answers (Found (laws.seek key_cmp c.args.key.now c.loop-i.start cells c.length_at.result)) as_seat (Ok c.in_ok-seat.seat) in
+    let line : Line = record { run = get_or runs n d; place = c.in_ok-stop.stop.place; head = None } in
+    let seat : Seat = record { pos = c.in_ok-stop.stop.place; hit = c.in_ok-stop.ensures.stops.hit; link = c.in_ok-stop.stop.link } in
+    let key = sought c.args.over c.args.key.now in
+    let ens = c.in_ok-stop.ensures.stops.seeks in
+    let T : Held → Type 0 = λ h. (cells : List LawCell) → IsRun h (get_or runs n d) cells → Answers (Found (laws.seek key_cmp key c.loop-i.start cells c.length_at-next_len.result)) as_seat (Ok seat) in
     let told : T held = subst T i.looks.cells_stay ens.told in
-    let A : List Line → Type 0 = λ x. AllByRecursion (LineFits held) x in
+    let A : List Line → Type 0 = λ x. AllByRecursion (LineFits false held) x in
     record {
-      looks = looks_then i.looks c.in_ok-seat.ensures.looks;
-      reading = reading_then i.reading (reading_of ens);
-      left = left_more runs n d c.loop-i.lines.items c.push.new.self.items line c.args.steps.now c.loop-i.steps c.seek.new.steps c.loop-i-test.true c.push.ensures.items refl ens.costs.steps_rise i.left;
-      count = length_push c.loop-i.lines.items c.push.new.self.items line n c.push.ensures.items i.count;
-      begins = ap runs_of c.push.ensures.items ∙ map_append (λ (x : Line). x.run) c.loop-i.lines.items line ∙ ap (λ z. z ++ get_or runs n d ∷ []) i.begins ∙ sym (taken_more runs n d c.loop-i-test.true);
-      fit = subst A (sym c.push.ensures.items) (all_append (LineFits held) c.loop-i.lines.items line i.fit (line_fits held line (all_at (HasRun held) runs n d c.loop-i-test.true c.requires.runs) ens.within refl));
-      places = λ lists r. places_next held runs lists n d c.args.key.now c.loop-i.start c.in_ok-seat.seat c.length_at.result (map (λ x. x.place) c.loop-i.lines.items) (map (λ x. x.place) c.push.new.self.items) _ r c.loop-i-test.true c.length_at.ensures told
-          (ap (map (λ (x : Line). x.place)) c.push.ensures.items ∙ map_append (λ (x : Line). x.place) c.loop-i.lines.items line) (i.places lists r);
+      looks = looks_then i.looks c.in_ok-stop.ensures.looks;
+      reading = reading_then i.reading (reading_of false ens);
+      left = left_more false runs n d c.loop-i.lines.items c.push.new.self.items line c.args.steps.now c.loop-i.steps c.stop_in.new.steps c.loop-i-test.true c.push.ensures.items refl ens.costs.steps_rise i.left;
+      few_ticks = (let a = i.few_ticks in let b = ens.costs.steps_rise in omega arith);
+      count = length_push false c.loop-i.lines.items c.push.new.self.items line n c.push.ensures.items i.count;
+      begins = ap runs_of c.push.ensures.items ∙ map_append false (λ (x : Line). x.run) c.loop-i.lines.items line ∙ ap (λ z. z ++ get_or runs n d ∷ []) i.begins ∙ sym (taken_more false runs n d c.loop-i-test.true);
+      fit = subst A (sym c.push.ensures.items) (all_append false (LineFits false held) c.loop-i.lines.items line i.fit (line_fits false held line (all_at false (HasRun held) runs n d c.loop-i-test.true c.requires.runs) ens.within refl));
+      places = λ lists r. places_next false held runs lists n d key c.loop-i.start seat c.length_at-next_len.result (map (λ x. x.place) c.loop-i.lines.items) (map (λ x. x.place) c.push.new.self.items) _ r c.loop-i-test.true c.length_at-next_len.ensures told
+          (ap (map (λ (x : Line). x.place)) c.push.ensures.items ∙ map_append false (λ (x : Line). x.place) c.loop-i.lines.items line) (i.places lists r);
     }
 
-pub returns-in_err-seat-clause-cause : goal.returns-in_err-seat-clause-cause
-returns-in_err-seat-clause-cause g c =
-    refused c.from_residual.result c.in_err-seat.field-0.0 (RunsCause (g.W.CellSource.state c.args.work.now).held c.args.runs.now (g.W.CellSource.state c.args.work.now).spent.faults (g.W.CellSource.state c.seek.new.work).spent.faults) c.from_residual.ensures.1
-    (bad_run (g.W.CellSource.state c.loop-i.work).held (g.W.CellSource.state c.args.work.now).held c.args.runs.now c.loop-i.i (record { level = 0; slot = 0; len = 0 }) c.loop-i.start (g.W.CellSource.state c.args.work.now).spent.faults (g.W.CellSource.state c.loop-i.work).spent.faults (g.W.CellSource.state c.seek.new.work).spent.faults c.in_err-seat.field-0.0
-    c.loop-i.invariant.looks.cells_stay c.loop-i.invariant.looks.calm c.loop-i-test.true c.in_err-seat.ensures.seeks.cause)
+pub returns-in_err-stop-clause-cause : goal.returns-in_err-stop-clause-cause
+returns-in_err-stop-clause-cause g c =
+    refused false c.from_residual.result c.in_err-stop.field-0.0 (RunsCause (g.W.CellSource.state c.args.work.now).held c.args.runs.now (g.W.CellSource.state c.args.work.now).spent.faults (g.W.CellSource.state c.stop_in.new.work).spent.faults) c.from_residual.ensures.1
+    (bad_run false (g.W.CellSource.state c.loop-i.work).held (g.W.CellSource.state c.args.work.now).held c.args.runs.now c.loop-i.i (record { level = 0; slot = 0; len = 0 }) c.loop-i.start (g.W.CellSource.state c.args.work.now).spent.faults (g.W.CellSource.state c.loop-i.work).spent.faults (g.W.CellSource.state c.stop_in.new.work).spent.faults c.in_err-stop.field-0.0
+    c.loop-i.invariant.looks.cells_stay c.loop-i.invariant.looks.calm c.loop-i-test.true c.in_err-stop.ensures.stops.seeks.cause)
 
 pub returns-clause-places : goal.returns-clause-places
-returns-clause-places g c = λ lists r. places_whole (g.W.CellSource.state c.args.work.now).held c.args.runs.now lists c.loop-i.i c.args.key.now c.loop-i.start (map (λ x. x.place) c.loop-i.lines.items) _ r (omega arith) (c.loop-i.invariant.places lists r)
+returns-clause-places g c = λ lists r. places_whole false (g.W.CellSource.state c.args.work.now).held c.args.runs.now lists c.loop-i.i (sought c.args.over c.args.key.now) c.loop-i.start (map (λ x. x.place) c.loop-i.lines.items) _ r (omega arith) (c.loop-i.invariant.places lists r)
 
-pub returns-in_err-seat-clause-looks : goal.returns-in_err-seat-clause-looks
-returns-in_err-seat-clause-looks g c =
-    looks_refused c.in_err-seat.field-0.0 c.from_residual.result c.loop-i.invariant.looks c.in_err-seat.ensures.looks (err_is c.from_residual.result c.in_err-seat.field-0.0 c.from_residual.ensures.1)
+pub returns-in_err-stop-clause-looks : goal.returns-in_err-stop-clause-looks
+returns-in_err-stop-clause-looks g c =
+    looks_refused c.in_err-stop.field-0.0 c.from_residual.result c.loop-i.invariant.looks c.in_err-stop.ensures.looks (err_is c.from_residual.result c.in_err-stop.field-0.0 c.from_residual.ensures.1)
 
 pub returns-clause-looks : goal.returns-clause-looks
 returns-clause-looks g c = looks_as c.loop-i.invariant.looks

@@ -1,6 +1,6 @@
-use Rattle.std.proofs.Common.{◌≡◌, ℕ, ◌-◌, ◌<◌, List, ◌++◌, length, take, drop, ◌∙◌, arith, rules}
+use Rattle.std.proofs.Common.{◌≡◌, ◌++◌, length, take, ◌∙◌, arith, rules}
 use Rattle.cola_filedev.specs.Work.{beyond}
-use Rattle.cola_filedev.proofs.Pieces.{length-left, Continues, after-piece, after-again, after-refused, after-ended, after-all, put-rest, length-joined}
+use Rattle.cola_filedev.proofs.Pieces.{length-left, after-piece, after-again, after-refused, after-ended, after-all, put-rest, length-joined}
 use Rattle.cola_filedev.proofs.handle.read.Goals as goal
 
 pub returns-then-into-at : goal.returns-then-into-at

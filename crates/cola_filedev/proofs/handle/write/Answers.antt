@@ -1,41 +1,34 @@
-use Rattle.std.proofs.Common.{◌≡◌, ℕ, ◌+◌, ◌-◌, ◌<◌, List, ◌++◌, length, take, drop, Result, Ok, Err, sym, subst, arith, rules}
-use Rattle.std.proofs.lemmas.List.{take-append-drop}
-use Rattle.cola_filedev.specs.Work.{InPieces, Taking, beyond}
-use Rattle.cola_filedev.proofs.Pieces.{Continues, left-is, length-left, after-piece, after-again, after-refused, after-ended, after-all}
+use Rattle.std.proofs.Common.{◌≡◌, ℕ, List, length, take, drop, min, Ok, Err, subst, arith}
+use Rattle.std.proofs.lemmas.Result.{err_from_is_err_and}
+use Rattle.cola_filedev.specs.Work.{Put, Written, elsewhere, header_last, not_synced, not_behind}
+use Rattle.cola_filedev.proofs.Pieces.{header-part, behind-part}
 use Rattle.cola_filedev.proofs.handle.write.Goals as goal
 
-pub returns-then-from-at : goal.returns-then-from-at
-returns-then-from-at g c = beyond (omega (arith, c.if-from-at.true, c.ranges.at.fits))
+pub returns-then-at-gt0 : goal.returns-then-at-gt0
+returns-then-at-gt0 g c = elsewhere (omega (arith, c.if-at-gt0.true)) c.put.ensures
 
-pub returns-in-Ok-eq0 : goal.returns-in-Ok-eq0
-returns-in-Ok-eq0 g c =
-    let from : List ℕ = c.args.from.now in
-    subst (λ (xs : List ℕ). InPieces (Taking g.F.OpenedFile.took) c.args.file.now c.args.at from (Err c.from-in-Ok-eq0.result) xs c.write_at.new.self) (take-append-drop c.loop-done.done from)
-    (after-ended (Taking g.F.OpenedFile.took) c.args.file.now c.args.at from c.loop-done.file c.write_at.new.self c.loop-done.done c.in-Ok-eq0.field-0 from (drop c.loop-done.done from) c.from-in-Ok-eq0.result c.in-Ok-eq0.field-0-test c.loop-done-test.true (c.in-Ok-eq0.ensures.took, sym (left-is from c.loop-done.done)) c.loop-done.invariant.2)
+pub returns-in_err-put : goal.returns-in_err-put
+returns-in_err-put g c =
+    let p = err_from_is_err_and c.from_residual.result c.from_residual.ensures.1 in
+    let first : 0 ≡ c.args.at = omega (arith, c.if-at-gt0.false) in
+    let behind : c.split_at.result.1.now ≡ drop 512 c.args.from.now = behind-part c.args.from.now c.min.result (omega (arith, c.min.ensures)) c.split_at.result.1.now c.split_at.ensures.back in
+    rw (p.1, p.2) (subst (λ (at : ℕ). Written g.F.OpenedFile.took g.F.OpenedFile.synced c.args.file.now at c.args.from.now (Err c.in_err-put.field-0.0) c.put-2.new.file) first
+    (not_behind (subst (λ (xs : List ℕ). Put g.F.OpenedFile.took c.args.file.now 512 xs (Err c.in_err-put.field-0.0) c.put-2.new.file) behind c.in_err-put.ensures)))
 
-pub loop-done-preserved-in-Ok : goal.loop-done-preserved-in-Ok
-loop-done-preserved-in-Ok g c =
-    let from : List ℕ = c.args.from.now in (
-      omega (arith, length-left from c.loop-done.done, c.loop-done.invariant.0, c.in-Ok.ensures.count),
-      c.loop-done.invariant.1,
-      subst (λ (xs : List ℕ). Continues (Taking g.F.OpenedFile.took) c.args.file.now c.args.at from c.write_at.new.self (c.loop-done.done + c.in-Ok.count) xs) (take-append-drop c.loop-done.done from)
-          (after-piece (Taking g.F.OpenedFile.took) c.args.file.now c.args.at from c.loop-done.file c.write_at.new.self c.loop-done.done c.in-Ok.count from (drop c.loop-done.done from) c.loop-done.invariant.0 (omega (arith, c.in-Ok.count-test.1)) (c.in-Ok.ensures.took, sym (left-is from c.loop-done.done)) c.loop-done.invariant.2),
-    )
-
-pub returns-then-tries-eq0 : goal.returns-then-tries-eq0
-returns-then-tries-eq0 g c =
-    let from : List ℕ = c.args.from.now in
-    subst (λ (xs : List ℕ). InPieces (Taking g.F.OpenedFile.took) c.args.file.now c.args.at from (Err c.in-Err.error) xs c.write_at.new.self) (take-append-drop c.loop-done.done from)
-    (after-refused (Taking g.F.OpenedFile.took) c.args.file.now c.args.at from c.loop-done.file c.write_at.new.self c.loop-done.done from (drop c.loop-done.done from) c.in-Err.error (c.in-Err.ensures.took, sym (left-is from c.loop-done.done)) c.loop-done.invariant.2)
-
-pub loop-done-preserved : goal.loop-done-preserved
-loop-done-preserved g c =
-    let from : List ℕ = c.args.from.now in (
-      c.loop-done.invariant.0,
-      c.loop-done.invariant.1,
-      subst (λ (xs : List ℕ). Continues (Taking g.F.OpenedFile.took) c.args.file.now c.args.at from c.write_at.new.self c.loop-done.done xs) (take-append-drop c.loop-done.done from)
-          (after-again (Taking g.F.OpenedFile.took) c.args.file.now c.args.at from c.loop-done.file c.write_at.new.self c.loop-done.done from (drop c.loop-done.done from) c.in-Err.error c.loop-done.invariant.0 (c.in-Err.ensures.took, sym (left-is from c.loop-done.done)) (search (rules, c.is_interrupted.ensures, c.if-not-is_interrupted.false)) c.loop-done.invariant.2),
-    )
+pub returns-in_err-sync : goal.returns-in_err-sync
+returns-in_err-sync g c =
+    let p = err_from_is_err_and c.from_residual-in_err-sync.result c.from_residual-in_err-sync.ensures.1 in
+    let first : 0 ≡ c.args.at = omega (arith, c.if-at-gt0.false) in
+    let behind : c.split_at.result.1.now ≡ drop 512 c.args.from.now = behind-part c.args.from.now c.min.result (omega (arith, c.min.ensures)) c.split_at.result.1.now c.split_at.ensures.back in
+    rw (p.1, p.2) (subst (λ (at : ℕ). Written g.F.OpenedFile.took g.F.OpenedFile.synced c.args.file.now at c.args.from.now (Err c.in_err-sync.field-0.0) c.sync.new.self) first
+    (not_synced (subst (λ (xs : List ℕ). Put g.F.OpenedFile.took c.args.file.now 512 xs (Ok tt) c.put-2.new.file) behind c.in_ok-put.ensures) c.in_err-sync.ensures))
 
 pub returns : goal.returns
-returns g c = after-all (Taking g.F.OpenedFile.took) c.args.file.now c.args.at c.args.from.now c.loop-done.file c.loop-done.done c.args.from.now (omega (arith, c.loop-done.invariant.0, c.loop-done-test.false)) c.loop-done.invariant.2
+returns g c =
+    let first : 0 ≡ c.args.at = omega (arith, c.if-at-gt0.false) in
+    let is : c.min.result ≡ min (length c.args.from.now) 512 = omega (arith, c.min.ensures) in
+    let behind : c.split_at.result.1.now ≡ drop 512 c.args.from.now = behind-part c.args.from.now c.min.result is c.split_at.result.1.now c.split_at.ensures.back in
+    let header : c.split_at.result.0.now ≡ take 512 c.args.from.now = header-part c.args.from.now c.min.result is c.split_at.result.0.now c.split_at.ensures.front in
+    subst (λ (at : ℕ). Written g.F.OpenedFile.took g.F.OpenedFile.synced c.args.file.now at c.args.from.now c.put-3.result c.put-3.new.file) first
+    (header_last (subst (λ (xs : List ℕ). Put g.F.OpenedFile.took c.args.file.now 512 xs (Ok tt) c.put-2.new.file) behind c.in_ok-put.ensures) c.in_ok-sync.ensures
+    (subst (λ (xs : List ℕ). Put g.F.OpenedFile.took c.sync.new.self 0 xs c.put-3.result c.put-3.new.file) header c.put-3.ensures))

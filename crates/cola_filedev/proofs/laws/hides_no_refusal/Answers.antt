@@ -1,5 +1,5 @@
-use Rattle.std.proofs.Common.{ℕ, List}
-use Rattle.cola_filedev.specs.Work.{InPieces, Taking, Laid}
+use Rattle.std.proofs.Common.{ℕ}
+use Rattle.cola_filedev.specs.Work.{InPieces, Written, Laid}
 use Rattle.cola_filedev.proofs.LawsLemmas.{hides-none}
 use Rattle.cola_filedev.proofs.laws.hides_no_refusal.Goals as goal
 
@@ -13,7 +13,7 @@ pub returns-clause-read : goal.returns-clause-read
 returns-clause-read g c = λ at before after. hides-none (λ old answer new. InPieces g.O.File.OpenedFile.gave old at before answer after new) g.O.Opener.opened
 
 pub returns-clause-write : goal.returns-clause-write
-returns-clause-write g c = λ at from. hides-none (λ old answer new. InPieces (Taking g.O.File.OpenedFile.took) old at from answer from new) g.O.Opener.opened
+returns-clause-write g c = λ at from. hides-none (λ old answer new. Written g.O.File.OpenedFile.took g.O.File.OpenedFile.synced old at from answer new) g.O.Opener.opened
 
 pub returns-clause-settle : goal.returns-clause-settle
 returns-clause-settle g c = hides-none g.O.File.OpenedFile.synced g.O.Opener.opened

@@ -11,7 +11,7 @@ use Rattle.cola_filling.proofs.LoadedWhole.{begun-fresh, file-loaded, stopped, e
 use Rattle.cola_filling.proofs.loading.load_into.Goals as goal
 
 pub returns-in-Err-clause-ends : goal.returns-in-Err-clause-ends
-returns-in-Err-clause-ends g c = ends.NotBegun c.in-Err.fault c.refusal.ensures (record { why = c.in-Err.ensures.begins; source_stays = refl; sink_stays = refl })
+returns-in-Err-clause-ends g c = ends.NotBegun c.in-Err.fault c.refusal.ensures (record { why = c.in-Err.ensures.begins; spends = c.begin.ensures.spends; source_stays = refl; sink_stays = refl })
 
 pub load_lines-requires-clause-fresh : goal.load_lines-requires-clause-fresh
 load_lines-requires-clause-fresh g c = begun-fresh g.D.Device c.args.geometry c.args.device.now c.begin.new.device c.in-Ok.loader c.in-Ok.ensures.begins

@@ -6,7 +6,7 @@ use Rattle.cola_layout.specs.declared.geometry.Geometry.{Geometry}
 use Rattle.cola_report.specs.Line.{LineEnds}
 use Rattle.cola_session.specs.Reading.{line_read}
 use Rattle.cola_session.proofs.ReadingOn.{ReadSoFar, read_none, read_line, ends_whole, ends_by_source, ends_spent, holds_line, line_no_fault, line_faults, fewer_left}
-use Rattle.cola_cell.specs.Shapes.{shape_of}
+use Rattle.cola_shapes.specs.Shapes.{shape_of}
 use Rattle.cola_load.proofs.Blocks.{blocks-rise}
 use Rattle.cola_opening.proofs.Spending.{spends-more}
 use Rattle.cola_load.specs.Rows.{word_of}

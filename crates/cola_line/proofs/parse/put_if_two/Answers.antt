@@ -1,6 +1,6 @@
 use Rattle.std.proofs.Common.{refl}
 use Rattle.cola_cell.specs.declared.format.Format.TheVariants.{Two}
-use Rattle.cola_cell.specs.Shapes.{shape_of}
+use Rattle.cola_shapes.specs.Shapes.{shape_of}
 use Rattle.cola_line.proofs.Choices.{put_if_taken}
 use Rattle.cola_line.proofs.parse.put_if_two.Goals as goal
 

@@ -1,6 +1,6 @@
 use Rattle.std.proofs.Common.{refl}
 use Rattle.cola_cell.specs.declared.format.Format.TheVariants.{Two}
-use Rattle.cola_cell.specs.Shapes.{shape_of}
+use Rattle.cola_shapes.specs.Shapes.{shape_of}
 use Rattle.cola_line.proofs.Choices.{stamp_taken}
 use Rattle.cola_line.proofs.parse.stamp_two.Goals as goal
 

@@ -12,7 +12,7 @@ returns-in-Ok-None-clause-copies g c = λ begun rows copied.
     let held = (g.W.CellSource.state c.args.work.now).held in
     let takes = subst (λ (o : Option (List ℕ × List ℕ × ℕ)). (pairs : List (List ℕ × Stamped)) → Ahead held c.args.cursor.now pairs → TakesNext (Ahead (g.W.CellSource.state c.next_stamped.new.work).held c.next_stamped.new.self) pairs (Ok o)) c.in-Ok-None.field-0-is in
     next-none held (g.W.CellSource.state c.next_stamped.new.work).held c.next_stamped.ensures.looks.cells_stay begun c.args.cursor.now c.next_stamped.new.self
-    (same-runs held (answered_key c.in-Ok-None.field-0) none_hidden c.args.cursor.now.lines.items c.next_stamped.new.self.lines.items c.in-Ok-None.ensures.passes)
+    (same-runs c.args.cursor.now.falls held (answered_key c.in-Ok-None.field-0) none_hidden c.args.cursor.now.lines.items c.next_stamped.new.self.lines.items c.in-Ok-None.ensures.passes)
     c.args.loader.now (g.E.Device.bytes c.args.to.now) rows copied (takes c.in-Ok-None.ensures.takes)
 
 pub returns-in-Err-clause-copies : goal.returns-in-Err-clause-copies
@@ -26,11 +26,11 @@ returns-then-not-admits-clause-copies g c = λ begun rows copied.
     let pair = c.in-Ok-Some.pair in
     let row : Row = record { key = pair.0; value = pair.1; stamp = pair.2 } in
     let takes = subst (λ (o : Option (List ℕ × List ℕ × ℕ)). (pairs : List (List ℕ × Stamped)) → Ahead held c.args.cursor.now pairs → TakesNext (Ahead (g.W.CellSource.state c.next_stamped.new.work).held c.next_stamped.new.self) pairs (Ok o)) c.in-Ok-Some.field-0-is in
-    let value = λ (found : IsPassed held c.args.cursor.now.lines.items c.next_stamped.new.self.lines.items c.in-Ok-Some.field-0).
-    passed-value held (g.W.CellSource.state c.next_stamped.new.work).held (answered_key c.in-Ok-Some.field-0) none_hidden row c.args.cursor.now.lines.items c.next_stamped.new.self.lines.items c.in-Ok-Some.ensures.passes c.next_stamped.ensures.stands.fit
-    (subst (IsPassed held c.args.cursor.now.lines.items c.next_stamped.new.self.lines.items) c.in-Ok-Some.field-0-is found) in
+    let value = λ (found : IsPassed c.args.cursor.now.falls held c.args.cursor.now.lines.items c.next_stamped.new.self.lines.items c.in-Ok-Some.field-0).
+    passed-value c.args.cursor.now.falls c.next_stamped.new.self.falls held (g.W.CellSource.state c.next_stamped.new.work).held (answered_key c.in-Ok-Some.field-0) none_hidden row c.args.cursor.now.lines.items c.next_stamped.new.self.lines.items c.in-Ok-Some.ensures.passes c.next_stamped.ensures.stands.fit
+    (subst (IsPassed c.args.cursor.now.falls held c.args.cursor.now.lines.items c.next_stamped.new.self.lines.items) c.in-Ok-Some.field-0-is found) in
     next-stops held (g.W.CellSource.state c.next_stamped.new.work).held c.next_stamped.ensures.looks.cells_stay begun c.args.cursor.now c.next_stamped.new.self
-    (same-runs held (answered_key c.in-Ok-Some.field-0) none_hidden c.args.cursor.now.lines.items c.next_stamped.new.self.lines.items c.in-Ok-Some.ensures.passes)
+    (same-runs c.args.cursor.now.falls held (answered_key c.in-Ok-Some.field-0) none_hidden c.args.cursor.now.lines.items c.next_stamped.new.self.lines.items c.in-Ok-Some.ensures.passes)
     c.args.loader.now (g.E.Device.bytes c.args.to.now) rows copied row (value c.in-Ok-Some.ensures.pair) (takes c.in-Ok-Some.ensures.takes) c.args.filling.now c.requires.filling (c.admits.ensures.no c.if-not-admits.true)
 
 pub returns-in-Ok-clause-copies : goal.returns-in-Ok-clause-copies
@@ -39,9 +39,9 @@ returns-in-Ok-clause-copies g c = λ begun rows copied.
     let pair = c.in-Ok-Some.pair in
     let row : Row = record { key = pair.0; value = pair.1; stamp = pair.2 } in
     let takes = subst (λ (o : Option (List ℕ × List ℕ × ℕ)). (pairs : List (List ℕ × Stamped)) → Ahead held c.args.cursor.now pairs → TakesNext (Ahead (g.W.CellSource.state c.next_stamped.new.work).held c.next_stamped.new.self) pairs (Ok o)) c.in-Ok-Some.field-0-is in
-    let value = λ (found : IsPassed held c.args.cursor.now.lines.items c.next_stamped.new.self.lines.items c.in-Ok-Some.field-0).
-    passed-value held (g.W.CellSource.state c.next_stamped.new.work).held (answered_key c.in-Ok-Some.field-0) none_hidden row c.args.cursor.now.lines.items c.next_stamped.new.self.lines.items c.in-Ok-Some.ensures.passes c.next_stamped.ensures.stands.fit
-    (subst (IsPassed held c.args.cursor.now.lines.items c.next_stamped.new.self.lines.items) c.in-Ok-Some.field-0-is found) in
+    let value = λ (found : IsPassed c.args.cursor.now.falls held c.args.cursor.now.lines.items c.next_stamped.new.self.lines.items c.in-Ok-Some.field-0).
+    passed-value c.args.cursor.now.falls c.next_stamped.new.self.falls held (g.W.CellSource.state c.next_stamped.new.work).held (answered_key c.in-Ok-Some.field-0) none_hidden row c.args.cursor.now.lines.items c.next_stamped.new.self.lines.items c.in-Ok-Some.ensures.passes c.next_stamped.ensures.stands.fit
+    (subst (IsPassed c.args.cursor.now.falls held c.args.cursor.now.lines.items c.next_stamped.new.self.lines.items) c.in-Ok-Some.field-0-is found) in
     let push = c.in-Ok.ensures in (
       record {
         geometry_is = push.geometry ∙ c.requires.filling.geometry_is ∙ sym c.with.ensures.geometry;
@@ -52,7 +52,7 @@ returns-in-Ok-clause-copies g c = λ begun rows copied.
       (
         row,
         next-copied held (g.W.CellSource.state c.next_stamped.new.work).held c.next_stamped.ensures.looks.cells_stay begun c.args.cursor.now c.next_stamped.new.self
-            (same-runs held (answered_key c.in-Ok-Some.field-0) none_hidden c.args.cursor.now.lines.items c.next_stamped.new.self.lines.items c.in-Ok-Some.ensures.passes)
+            (same-runs c.args.cursor.now.falls held (answered_key c.in-Ok-Some.field-0) none_hidden c.args.cursor.now.lines.items c.next_stamped.new.self.lines.items c.in-Ok-Some.ensures.passes)
             c.args.loader.now (g.E.Device.bytes c.args.to.now) rows copied row (value c.in-Ok-Some.ensures.pair) (takes c.in-Ok-Some.ensures.takes) DeviceFault c.in-Ok.field-0 c.push.new.self (g.E.Device.bytes c.push.new.device) push.pushes push.rows push.key,
       ),
     )

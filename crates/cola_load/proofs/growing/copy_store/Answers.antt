@@ -22,4 +22,4 @@ returns-in-Ok-begin-clause-copies g c =
 
 pub returns-in-Err-begin-clause-copies : goal.returns-in-Err-begin-clause-copies
 returns-in-Err-begin-clause-copies g c =
-    begin-refused g.E.Device c.args.header.now c.args.geometry (g.D.Device.bytes c.args.runs.now.buffers.cache.device) c.args.to.now c.begin.new.device c.in-Err-begin.fault c.unbegun.result c.unbegun.ensures c.in-Err-begin.ensures.begins
+    begin-refused g.E.Device c.args.header.now c.args.geometry (g.D.Device.bytes c.args.runs.now.buffers.cache.device) c.args.to.now c.begin.new.device c.in-Err-begin.fault c.unbegun.result c.unbegun.ensures c.in-Err-begin.ensures.begins c.begin.ensures.spends

@@ -1,9 +1,34 @@
 -- What filling a file with the pairs of runs answers.
-use Rattle.std.proofs.Common.{ℕ, subst}
+use Rattle.std.proofs.Common.{◌≡◌, ◌∙◌, ◌≤◌, ◌+◌, ℕ, subst, inr, Result, Ok, Err, ap, arith}
 use Rattle.cola_outside.specs.Faults.{Rose}
 use Rattle.cola_device.specs.declared.device.DeviceFault.{DeviceFault}
 use Rattle.cola_load.proofs.Walking.{seek-refused, fill-refused, fill-walked, fill-unfinished}
+use Rattle.cola_opening.specs.Counted.{Spends}
+use Rattle.cola_opening.proofs.Spending.{spends-then, spends-more}
+use Rattle.cola_device.specs.declared.counts.Counts.{Counts}
+use Rattle.cola_device.specs.Counts.{Called}
+use Rattle.cola_layout.specs.declared.geometry.Geometry.{Geometry}
+use Rattle.cola_run.specs.Cells.{device_levels}
+use Rattle.cola_cursor.proofs.Readings.{reading_then}
+use Rattle.cola_load.specs.declared.fault.GrowFault.{GrowFault}
+use Rattle.cola_load.specs.Growing.{WritesRows, BothCalm}
 use Rattle.cola_load.proofs.growing.fill.Goals as goal
+
+-- ticks of two calls, one behind the other
+within : (s t u left most : ℕ) → u ≤ t + left → t + left ≤ s + most → u ≤ s + most
+within s t u left most h k = omega (arith, h, k)
+
+-- what a call of a device spends
+called-spends : {T E : Type 0} {a b : Counts} {r w o : ℕ} {result : Result T E} → Called a b r w o result → Spends a b r w o
+called-spends c = record { faults_stay = c.faults_stay; reads_stay = c.reads_stay; reads_rise = c.reads_rise; writes_stay = c.writes_stay; writes_rise = c.writes_rise; others_stay = c.others_stay; others_rise = c.others_rise }
+
+-- the writes of a refused copy, and of a copy with a call behind it
+refused-writes : {geometry : Geometry} {a b : Counts} {more others : ℕ} {fault : GrowFault} → WritesRows geometry a b 0 0 (Err fault) → WritesRows geometry a b more others (Err fault)
+refused-writes h = record { rows = h.rows; few = h.few; rows_are = tt; spends = spends-more h.spends (omega arith) (omega arith) (omega arith) }
+
+-- and of one with a refused call behind it
+then-writes : {geometry : Geometry} {a b c : Counts} {more v others x : ℕ} {T E : Type 0} {r : Result T E} {fault : GrowFault} → v ≡ more → WritesRows geometry a b 0 0 (Ok x) → Called b c 0 v others r → WritesRows geometry a c more others (Err fault)
+then-writes e h k = record { rows = h.rows; few = h.few; rows_are = tt; spends = spends-then h.spends (called-spends k) (omega arith) (omega (arith, e)) (omega arith) }
 
 pub returns-in-Err-copy_all-clause-walks : goal.returns-in-Err-copy_all-clause-walks
 returns-in-Err-copy_all-clause-walks g c =
@@ -27,3 +52,56 @@ returns-in-Err-finish-clause-walks g c =
     c.args.begun.now.geometry c.args.begun.now.last ℕ c.in-Err-finish.field-0 c.copy_all.new.cursor c.copy_all.new.loader (g.E.Device.bytes c.copy_all.new.to) (g.E.Device.bytes c.finish.new.device) c.in-Ok-copy_all.field-0
     (g.E.Device.counts c.args.to.now).faults (g.E.Device.counts c.finish.new.device).faults c.in-Ok-copy_all.ensures.copies c.in-Ok-copy_all.ensures.geometry c.in-Ok-copy_all.ensures.last
     (subst (λ (n : ℕ). Rose n (g.E.Device.counts c.finish.new.device).faults) c.in-Ok-copy_all.ensures.faults.1 c.in-Err-finish.ensures.counts.cause) c.in-Err-finish.ensures.finishes
+
+pub returns-in-Err-copy_all-clause-reading : goal.returns-in-Err-copy_all-clause-reading
+returns-in-Err-copy_all-clause-reading g c = reading_then c.in-Ok.ensures.seeks.reading c.copy_all.ensures.reading
+
+pub returns-in-Err-copy_all-clause-at_most : goal.returns-in-Err-copy_all-clause-at_most
+returns-in-Err-copy_all-clause-at_most g c = within _ _ _ _ _ c.copy_all.ensures.at_most c.in-Ok.ensures.seeks.left
+
+pub returns-in-Err-copy_all-clause-kept : goal.returns-in-Err-copy_all-clause-kept
+returns-in-Err-copy_all-clause-kept g c = c.copy_all.ensures.kept ∙ c.seek.ensures.looks.kept
+
+pub returns-in-Ok-finish-clause-reading : goal.returns-in-Ok-finish-clause-reading
+returns-in-Ok-finish-clause-reading g c = reading_then c.in-Ok.ensures.seeks.reading c.copy_all.ensures.reading
+
+pub returns-in-Ok-finish-clause-at_most : goal.returns-in-Ok-finish-clause-at_most
+returns-in-Ok-finish-clause-at_most g c = within _ _ _ _ _ c.copy_all.ensures.at_most c.in-Ok.ensures.seeks.left
+
+pub returns-in-Ok-finish-clause-kept : goal.returns-in-Ok-finish-clause-kept
+returns-in-Ok-finish-clause-kept g c = c.copy_all.ensures.kept ∙ c.seek.ensures.looks.kept
+
+pub returns-in-Err-finish-clause-reading : goal.returns-in-Err-finish-clause-reading
+returns-in-Err-finish-clause-reading g c = reading_then c.in-Ok.ensures.seeks.reading c.copy_all.ensures.reading
+
+pub returns-in-Err-finish-clause-at_most : goal.returns-in-Err-finish-clause-at_most
+returns-in-Err-finish-clause-at_most g c = within _ _ _ _ _ c.copy_all.ensures.at_most c.in-Ok.ensures.seeks.left
+
+pub returns-in-Err-finish-clause-kept : goal.returns-in-Err-finish-clause-kept
+returns-in-Err-finish-clause-kept g c = c.copy_all.ensures.kept ∙ c.seek.ensures.looks.kept
+
+pub returns-in-Err-copy_all-clause-faults : goal.returns-in-Err-copy_all-clause-faults
+returns-in-Err-copy_all-clause-faults g c =
+    subst (λ (n : ℕ). BothCalm {T = ℕ} n (g.W.CellSource.state c.copy_all.new.work).spent.faults (g.E.Device.counts c.args.to.now).faults (g.E.Device.counts c.copy_all.new.to).faults (Err c.in-Err-copy_all.fault))
+    c.in-Ok.ensures.looks.calm c.in-Err-copy_all.ensures.faults
+
+pub returns-in-Ok-finish-clause-faults : goal.returns-in-Ok-finish-clause-faults
+returns-in-Ok-finish-clause-faults g c = (c.in-Ok-copy_all.ensures.faults.0 ∙ c.in-Ok.ensures.looks.calm, c.in-Ok-finish.ensures.counts.none_hidden ∙ c.in-Ok-copy_all.ensures.faults.1)
+
+pub returns-in-Err-copy_all-clause-writes : goal.returns-in-Err-copy_all-clause-writes
+returns-in-Err-copy_all-clause-writes g c = refused-writes c.in-Err-copy_all.ensures.writes
+
+pub returns-in-Err-finish-clause-writes : goal.returns-in-Err-finish-clause-writes
+returns-in-Err-finish-clause-writes g c = then-writes (ap (λ (x : Geometry). device_levels x + 2) c.in-Ok-copy_all.ensures.geometry) c.in-Ok-copy_all.ensures.writes c.in-Err-finish.ensures.counts
+
+pub returns-in-Err-finish-clause-faults : goal.returns-in-Err-finish-clause-faults
+returns-in-Err-finish-clause-faults g c = inr (subst (λ (n : ℕ). Rose n (g.E.Device.counts c.finish.new.device).faults) c.in-Ok-copy_all.ensures.faults.1 c.in-Err-finish.ensures.counts.cause)
+
+pub returns-in-Err-finish-clause-other_kept : goal.returns-in-Err-finish-clause-other_kept
+returns-in-Err-finish-clause-other_kept g c = c.in-Err-finish.ensures.kept ∙ c.copy_all.ensures.other_kept
+
+pub returns-in-Ok-finish-clause-other_kept : goal.returns-in-Ok-finish-clause-other_kept
+returns-in-Ok-finish-clause-other_kept g c = c.in-Ok-finish.ensures.kept ∙ c.copy_all.ensures.other_kept
+
+pub returns-in-Ok-finish-clause-settled : goal.returns-in-Ok-finish-clause-settled
+returns-in-Ok-finish-clause-settled g c = c.in-Ok-finish.ensures.settled

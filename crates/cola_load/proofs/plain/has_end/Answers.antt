@@ -1,5 +1,5 @@
 use Rattle.std.proofs.Common.{◌≡◌, Bool, true, false, ◌||◌, take, refl, ap, ◌∙◌, sym, option_copied}
-use Rattle.cola_cell.specs.Shapes.{shape_of}
+use Rattle.cola_shapes.specs.Shapes.{shape_of}
 use Rattle.cola_load.specs.PlainLines.{lines_of}
 use Rattle.cola_load.specs.Said.{as_line, said}
 use Rattle.cola_load.specs.Rows.{has_end, is_end}

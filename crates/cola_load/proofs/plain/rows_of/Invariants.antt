@@ -1,5 +1,5 @@
 use Rattle.std.proofs.Common.{◌≡◌, [], ◌++◌, take, drop}
-use Rattle.cola_cell.specs.Shapes.{shape_of}
+use Rattle.cola_shapes.specs.Shapes.{shape_of}
 use Rattle.cola_load.specs.PlainLines.{lines_of}
 use Rattle.cola_load.specs.Rows.{first_word, lines_before_word, word_of}
 use Rattle.cola_load.proofs.plain.rows_of.Given as goal

@@ -1,6 +1,6 @@
 use Rattle.std.proofs.Common.{◌≡◌, ℕ, List, [], ◌∷◌, ◌++◌, take, refl, ap, ◌∙◌, sym, take_all}
 use Rattle.std.proofs.lemmas.List.{append-nil}
-use Rattle.cola_cell.specs.Shapes.{shape_of}
+use Rattle.cola_shapes.specs.Shapes.{shape_of}
 use Rattle.cola_load.specs.declared.said.Said.{Said}
 use Rattle.cola_load.specs.declared.said.Said.TheVariants as saying
 use Rattle.cola_load.specs.PlainLines.{lines_of}

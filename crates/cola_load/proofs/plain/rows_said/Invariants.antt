@@ -1,5 +1,5 @@
 use Rattle.std.proofs.Common.{◌≡◌, ℕ, take}
-use Rattle.cola_cell.specs.Shapes.{shape_of}
+use Rattle.cola_shapes.specs.Shapes.{shape_of}
 use Rattle.cola_load.specs.PlainLines.{lines_of}
 use Rattle.cola_load.specs.Rows.{rows_said}
 use Rattle.cola_load.proofs.plain.rows_said.Given as goal

@@ -1,4 +1,4 @@
-use Rattle.cola_cell.specs.Shapes.{shape_of}
+use Rattle.cola_shapes.specs.Shapes.{shape_of}
 use Rattle.cola_load.proofs.Saying.{a_pair, no_key, no_value}
 use Rattle.cola_load.proofs.said.pair.Goals as goal
 

@@ -1,7 +1,7 @@
 use Rattle.std.proofs.Common.{ap, sym, ◌∙◌}
 use Rattle.std.specs.Option.{option_copied}
 use Rattle.cola_line.specs.Words.{words_left}
-use Rattle.cola_cell.specs.Shapes.{shape_of}
+use Rattle.cola_shapes.specs.Shapes.{shape_of}
 use Rattle.cola_load.proofs.Saying.{pair_in, row_taken}
 use Rattle.cola_load.proofs.said.row.Goals as goal
 

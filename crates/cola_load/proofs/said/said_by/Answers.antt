@@ -1,6 +1,6 @@
 use Rattle.cola_load.proofs.said.said_by.Goals as goal
 use Rattle.std.proofs.Common.{◌∙◌, sym}
-use Rattle.cola_cell.specs.Shapes.{shape_of}
+use Rattle.cola_shapes.specs.Shapes.{shape_of}
 use Rattle.cola_load.proofs.Saying.{some_said}
 
 pub returns-clause-means : goal.returns-clause-means

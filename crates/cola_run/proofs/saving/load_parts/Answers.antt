@@ -4,7 +4,7 @@ use Rattle.cola_layout.specs.declared.geometry.Geometry.{Geometry}
 use Rattle.cola_layout.proofs.Powers.{power-le}
 use Rattle.cola_run.specs.Cells.{file_blocks}
 use Rattle.cola_run.specs.Saving.{AreFrontRunsSpelled, IsLowestBad}
-use Rattle.cola_image.specs.Cells.{file_spots}
+use Rattle.cola_layout.specs.Cells.{file_spots}
 use Rattle.cola_front.specs.Front.{IsLoaded as IsFrontLoaded}
 use Rattle.cola_run.proofs.Fronts.{runs-spelled, lowest-bad, runs-fit}
 use Rattle.cola_run.proofs.saving.load_parts.Goals as goal

@@ -10,7 +10,7 @@ use Rattle.cola_spec.specs.Command as spec
 use Rattle.cola_spec.specs.Reply as reply
 use Rattle.cola_spec.specs.Reply.{reply_text}
 use Rattle.cola_spec.specs.Machine.{Turn}
-use Rattle.cola_cell.specs.Shapes.{shape_of}
+use Rattle.cola_shapes.specs.Shapes.{shape_of}
 use Rattle.cola_session.specs.Reading.{line_read}
 use Rattle.cola_session.proofs.Leading.{leads-turn, leads-none, bad-turned, asks-text, empty-text}
 use Rattle.cola_session.proofs.session.carry_out.Goals as goal

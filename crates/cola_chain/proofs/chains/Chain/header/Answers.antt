@@ -5,7 +5,7 @@ use Rattle.cola_spec.specs.Map.{Map}
 use Rattle.cola_cell.specs.Held.{Held}
 use Rattle.cola_layout.specs.declared.geometry.Geometry.{Geometry}
 use Rattle.cola_layout.specs.Marks.{all_numbers}
-use Rattle.cola_image.specs.Cells.{file_spots}
+use Rattle.cola_layout.specs.Cells.{file_spots}
 use Rattle.cola_image.specs.Standing.{LevelsStandFor, found_in}
 use Rattle.cola_image.proofs.StandingLemmas.{stand-alike}
 use Rattle.cola_level.specs.declared.level.Level.{Level}

@@ -1,4 +1,4 @@
-use Rattle.std.proofs.Common.{◌≡◌, ℕ, List, Option, map, sym, subst, ◌+◌, ◌*◌, ◌≤◌, ◌∙◌, length}
+use Rattle.std.proofs.Common.{refl, false, ◌≡◌, ℕ, List, Option, map, sym, subst, ◌+◌, ◌*◌, ◌≤◌, ◌∙◌, length}
 use Rattle.cola_cell.specs.declared.cell.Run.{Run}
 use Rattle.cola_cell.specs.Held.{Held, LawCell}
 use Rattle.cola_cell.specs.Order.{key_cmp}
@@ -8,7 +8,7 @@ use Rattle.cola_pairs.specs.Live.{live, between}
 use Rattle.cola_cursor.specs.declared.cursor.Cursor.{Cursor}
 use Rattle.cola_cursor.specs.declared.line.Line.{Line}
 use Rattle.cola_cursor.specs.Lines.{all_left}
-use Rattle.cola_cursor.specs.Standing.{AreSearched, Stands, Ahead}
+use Rattle.cola_cursor.specs.Standing.{AreSearched, StandsAlong, AheadAlong}
 use Rattle.cola_cursor.specs.Seeking.{places_from, cells_of, RunsCause}
 use Rattle.cola_cursor.proofs.Places.{begun_stands, begun_ahead, within_range, all_by_recursion, seek_refused}
 use Rattle.cola_cursor.proofs.cursor.Cursor.seek.Goals as goal
@@ -18,19 +18,19 @@ returns g c =
     let held : Held = (g.W.CellSource.state c.args.work.now).held in
     let lines = c.in_ok-lines.ensures in
     let same = c.as_slice.ensures.value in
-    let new : Cursor = record { lines = c.in_ok-lines.lines; end = c.copied-end.result } in
+    let new : Cursor = record { lines = c.in_ok-lines.lines; end = c.copied-end.result; falls = false } in
     let P : Option (List ℕ) → Type 0 = λ x. (lists : List (List LawCell)) → AreRuns held c.args.runs.now.items lists → AreSearched c.args.lo.now lists →
-    Ahead held new (live key_cmp (between key_cmp c.args.lo.now x) lists) in
+    AheadAlong false held new (live key_cmp (between key_cmp c.args.lo.now x) lists) in
     let R : List Run → Type 0 = λ x. (lists : List (List LawCell)) → AreRuns held x lists → map (λ (line : Line). line.place) c.in_ok-lines.lines.items ≡ places_from c.args.lo.now 0 lists in
     let L : List Run → Type 0 = λ x. c.seek_lines.new.steps + all_left c.in_ok-lines.lines.items ≤ c.args.steps.now + 8 * length x + cells_of x in
-    let S : Held → Type 0 = λ h. Stands h new in
+    let S : Held → Type 0 = λ h. StandsAlong false h new in
     let places = subst R same lines.places in
     record {
       looks = looks_as lines.looks;
       seeks = record {
         ahead = subst P c.copied-end.ensures (λ lists r a. begun_ahead held c.args.lo.now c.args.runs.now.items new (lines.begins ∙ same) lists r a (places lists r));
         places = places;
-        begins = (lines.begins ∙ same, c.copied-end.ensures);
+        begins = (lines.begins ∙ same, c.copied-end.ensures, refl);
         stands = subst S (sym lines.looks.cells_stay) (begun_stands held c.args.lo.now c.as_slice.result.now new lines.fit lines.begins lines.places);
         left = within_range held c.args.runs.now.items (all_left c.in_ok-lines.lines.items) c.args.steps.now c.seek_lines.new.steps
             (all_by_recursion (HasRun held) c.args.runs.now.items c.requires.runs) c.requires.levels (subst L same lines.left);

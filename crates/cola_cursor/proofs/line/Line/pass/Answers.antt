@@ -14,19 +14,19 @@ pub loop-self-preserved : goal.loop-self-preserved
 loop-self-preserved g c =
     let i = c.loop-self.invariant in
     let has = sym c.has_key.ensures ∙ c.loop-self-test.true in
-    let F : Held → Type 0 = λ h. Fetches h c.go_behind.new.self c.read_head.new.self in
-    let P : Option Item → Type 0 = λ x. Passing (g.W.CellSource.state c.args.work.now).held c.args.key.now c.args.self.now c.read_head.new.self x in
+    let F : Held → Type 0 = λ h. Fetches c.args.falls h c.go_behind.new.self c.read_head.new.self in
+    let P : Option Item → Type 0 = λ x. Passing c.args.falls (g.W.CellSource.state c.args.work.now).held c.args.key.now c.args.self.now c.read_head.new.self x in
     let behind : left_of c.go_behind.new.self ≤ left_of c.loop-self.self = left_behind c.loop-self.self c.go_behind.new.self c.go_behind.ensures.run c.go_behind.ensures.place c.go_behind.ensures.head in
     let left = c.in_ok-read_head.ensures.left in
     record {
       looks = looks_then i.looks c.in_ok-read_head.ensures.looks;
       reading = reading_then i.reading c.in_ok-read_head.ensures.reading;
       left = let l = i.left in omega arith;
-      passing = subst P (sym (c.or-item.ensures ∙ ap (option_or c.loop-self.item) c.item.ensures)) (passing_goes_on i.passing has c.go_behind.ensures.run c.go_behind.ensures.place (subst F i.looks.cells_stay c.in_ok-read_head.ensures.fetches));
+      passing = subst P (sym (c.or-item.ensures ∙ ap (option_or c.loop-self.item) c.item.ensures)) (passing_goes_on c.args.falls i.passing has c.go_behind.ensures.run c.go_behind.ensures.place (subst F i.looks.cells_stay c.in_ok-read_head.ensures.fetches));
     }
 
 pub returns-clause-passes : goal.returns-clause-passes
-returns-clause-passes g c = passing_ends c.loop-self.invariant.passing (sym c.has_key.ensures ∙ c.loop-self-test.false)
+returns-clause-passes g c = passing_ends c.args.falls c.loop-self.invariant.passing (sym c.has_key.ensures ∙ c.loop-self-test.false)
 
 pub returns-in_err-read_head-clause-looks : goal.returns-in_err-read_head-clause-looks
 returns-in_err-read_head-clause-looks g c =

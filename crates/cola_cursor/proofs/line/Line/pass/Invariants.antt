@@ -9,7 +9,7 @@ invariant-loop-self g l = record {
   looks : Looked g.W.CellSource l.fn.work l.work;
   reading : Reading (g.W.CellSource.state l.fn.work) (g.W.CellSource.state l.work) l.fn.steps l.steps;
   left : l.steps + left_of l.self ≤ l.fn.steps + left_of l.fn.self;
-  passing : Passing (g.W.CellSource.state l.fn.work).held l.key l.fn.self l.self l.item;
+  passing : Passing l.falls (g.W.CellSource.state l.fn.work).held l.key l.fn.self l.self l.item;
 }
 
 abbrev pub decreases-loop-self : goal.decreases-loop-self

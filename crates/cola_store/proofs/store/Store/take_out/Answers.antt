@@ -12,11 +12,11 @@ returns-in-Ok-clause-answer g c = λ m h is. (
   sym is,
   c.in-Ok.ensures.right m (after_delete m c.args.key.now) h (after_delete_is_map (shape (terms_of c.args.self.now)) m c.args.key.now h.is_map) (found-delete m c.args.key.now)
       (c.saturating_sub-after.ensures ∙ ap (λ (n : ℕ). n - 1) (c.keys_now.ensures.value ∙ h.counted) ∙ sym (fewer-keys m c.args.key.now c.args.value.now is))
-      (c.last-last.ensures.value ∙ h.numbered),
+      (c.last_number-last.ensures.value ∙ h.numbered),
 )
 
 pub returns-in-Err-clause-answer : goal.returns-in-Err-clause-answer
 returns-in-Err-clause-answer g c = λ m h is.
     c.in-Err.ensures.right m (after_delete m c.args.key.now) h (after_delete_is_map (shape (terms_of c.args.self.now)) m c.args.key.now h.is_map) (found-delete m c.args.key.now)
     (c.saturating_sub-after.ensures ∙ ap (λ (n : ℕ). n - 1) (c.keys_now.ensures.value ∙ h.counted) ∙ sym (fewer-keys m c.args.key.now c.args.value.now is))
-    (c.last-last.ensures.value ∙ h.numbered)
+    (c.last_number-last.ensures.value ∙ h.numbered)

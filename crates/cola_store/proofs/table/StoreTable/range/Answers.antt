@@ -1,4 +1,4 @@
-use Rattle.std.proofs.Common.{◌≡◌, ◌+◌, ◌∙◌, List, length, refl, ap, sym, subst, option_copied, arith}
+use Rattle.std.proofs.Common.{false, ◌≡◌, ◌+◌, ◌∙◌, List, length, refl, ap, sym, subst, option_copied, arith}
 use Rattle.cola_cell.specs.declared.cell.Run.{Run}
 use Rattle.cola_spec.specs.Map.{Map}
 use Rattle.cola_table.specs.Answers.{RangeAnswers}
@@ -42,4 +42,4 @@ returns-clause-most g c =
     let q = c.self.inside.chain.store.geometry in
     let few = q.shallow in
     let n : length c.visible-runs.result.items ≡ q.bottom + 1 = ap (λ (rs : List Run). length rs) c.visible-runs.ensures.runs ∙ length-visible c.self.inside.chain.clock 0 c.self.inside.chain.levels ∙ c.self.invariant.many in
-    few-ahead (option_copied c.args.high) c.visible-runs.result.items (q.bottom + 1) _ _ c.seek.result (omega (arith, n, few)) (omega (arith, few)) c.seek.ensures.seeks.begins c.seek.ensures.seeks.reading.costs.steps_stay c.seek.ensures.seeks.left
+    few-ahead (option_copied c.args.high) false c.visible-runs.result.items (q.bottom + 1) _ _ c.seek.result (omega (arith, n, few)) (omega (arith, few)) c.seek.ensures.seeks.begins c.seek.ensures.seeks.reading.costs.steps_stay c.seek.ensures.seeks.left

@@ -1,8 +1,0 @@
-use Rattle.std.proofs.Common.{◌≡◌, ◌++◌, drop}
-use Rattle.cola_pairs.specs.Live.{values}
-use Rattle.cola_pairs.specs.Plain.{as_entries}
-use Rattle.cola_pairs.proofs.plain.pairs_of.Given as goal
-
--- the pairs so far, and those of the rest
-abbrev pub invariant-loop-entry : goal.invariant-loop-entry
-invariant-loop-entry g l = l.pairs.items ++ values (drop l.entry-index (as_entries l.entries)) ≡ values (as_entries l.entries)

@@ -1,0 +1,9 @@
+pub mod Spelled
+pub mod Runs
+pub mod Seen
+pub mod Levels
+pub mod Live
+pub mod Tests
+pub mod File
+pub mod Loading
+pub mod Flaws

@@ -1,0 +1,4 @@
+pub mod Levels
+pub mod File
+pub mod Tests
+pub mod Verdict

@@ -1,0 +1,6 @@
+pub mod Onward
+pub mod Turned
+pub mod Falls
+mod Worked
+pub mod Over
+mod Back

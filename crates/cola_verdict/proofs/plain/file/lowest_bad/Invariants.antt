@@ -1,7 +1,0 @@
-use Rattle.std.proofs.Common.{ℕ, ◌<◌}
-use Rattle.cola_verdict.specs.PlainFile.{file_of, IsLevelTold}
-use Rattle.cola_verdict.proofs.plain.file.lowest_bad.Given as goal
-
--- the levels so far are told
-abbrev pub invariant-loop-level : goal.invariant-loop-level
-invariant-loop-level l = (j : ℕ) → j < l.level → IsLevelTold (file_of l.header l.bytes) j

@@ -1,7 +1,0 @@
-use Rattle.std.proofs.Common.{ap, ◌==◌}
-use Rattle.cola_clock.specs.Clock.{is_odd, visible_slot}
-use Rattle.cola_verdict.proofs.plain.levels.is_odd.Goals as goal
-
-pub returns : goal.returns
-unfolding is_odd visible_slot
-returns c = ap (λ n. n == 1) c.visible_slot.ensures.value

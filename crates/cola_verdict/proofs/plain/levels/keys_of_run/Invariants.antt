@@ -1,8 +1,0 @@
-use Rattle.std.proofs.Common.{drop}
-use Rattle.cola_runs.specs.Plain.{as_run}
-use Rattle.cola_verdict.specs.Plain.{HaveKeys}
-use Rattle.cola_verdict.proofs.plain.levels.keys_of_run.Given as goal
-
--- the rest decides
-abbrev pub invariant-loop-cell : goal.invariant-loop-cell
-invariant-loop-cell l = HaveKeys (drop l.cell-index (as_run l.run)) → HaveKeys (as_run l.run)

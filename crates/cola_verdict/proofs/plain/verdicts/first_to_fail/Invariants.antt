@@ -1,8 +1,0 @@
-use Rattle.std.proofs.Common.{ℕ, ◌<◌}
-use Rattle.cola_verdict.specs.Plain.{as_levels}
-use Rattle.cola_verdict.specs.PlainTests.{PassesAt}
-use Rattle.cola_verdict.proofs.plain.verdicts.first_to_fail.Given as goal
-
--- the levels so far pass
-abbrev pub invariant-loop-number : goal.invariant-loop-number
-invariant-loop-number l = (i : ℕ) → i < l.number → PassesAt l.test l.most l.clock (as_levels l.levels) i

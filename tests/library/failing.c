@@ -1,0 +1,448 @@
+/* Each call of the system that cola_file.h makes on a file, in a creation, an opening, a checkpoint and a closing, fails in
+ * turn; and the process is killed in front of each, behind each, and within each write. What is left has to be whole or
+ * refused, never another map; a refused call leaves nothing behind, and its errno is that of the call that failed; all else
+ * in the folder stays as it was.
+ *
+ *     failing FOLDER
+ *
+ * Link with -Wl,--wrap=CALL for each CALL that is named below. The last line counts the cases. */
+#include <dirent.h>
+#include <errno.h>
+#include <fcntl.h>
+#include <signal.h>
+#include <stdarg.h>
+#include <stdio.h>
+#include <stdlib.h>
+#include <sys/mman.h>
+#include <sys/stat.h>
+#include <sys/wait.h>
+#include <unistd.h>
+
+#include "cola_file.h"
+#include "plain.h"
+
+#define HOLDS(is) ((is) ? (void)0 : fails(#is, __LINE__))
+
+/* What becomes of a call. */
+enum kind {
+    MADE,           /* it is made as it is */
+    REFUSED,        /* it is not made, and says so */
+    DISK_FAILS,     /* each write and sync from here on is refused */
+    KILLED_BEFORE,  /* the process ends in front of it */
+    KILLED_BEHIND,  /* or behind it */
+    KILLED_WITHIN,  /* or when half of the bytes are written */
+    HALF,           /* half of the bytes are moved */
+    NOTHING,        /* no byte is moved, without a reason */
+    INTERRUPTED,    /* a signal came first */
+    KINDS
+};
+static const char *const kinds[KINDS] = {"made", "refused", "as the disk fails", "killed before", "killed behind", "killed within", "half", "nothing", "interrupted"};
+
+enum operation { CREATE, CREATE_EMPTY, OPEN, CHECKPOINT, CLOSE, OPERATIONS };
+static const char *const operations[OPERATIONS] = {"create", "create in an empty file", "open", "checkpoint", "close"};
+
+enum { KEYS = 300, HEADER = 512 };
+
+static enum kind kind;
+static long at, made;      /* the call that is not made as it is, and how many were made so far */
+static bool armed;         /* calls are counted */
+static bool disk_fails;    /* each write and sync is refused */
+static int refused_with;   /* the error of the call that was refused */
+static const char *hit;    /* the call's name */
+static enum operation operation;
+
+static void fails(const char *what, int line) {
+    fprintf(stderr, "failing: %s, call %ld (%s) %s: line %d: not so: %s\n", operations[operation], at, hit == NULL ? "?" : hit, kinds[kind], line, what);
+    exit(1);
+}
+
+/* Counts a call, and says what becomes of it. */
+static enum kind begins(const char *call, bool moves, bool is_disk) {
+    if (!armed) return MADE;
+    made++;
+    if (disk_fails && is_disk) return REFUSED;
+    if (made != at) return MADE;
+    hit = call;
+    if (kind == KILLED_BEFORE) raise(SIGKILL);
+    if (kind >= KILLED_WITHIN && !moves) return MADE;
+    if (kind == DISK_FAILS) return disk_fails = true, is_disk ? REFUSED : MADE;
+    return kind;
+}
+
+static int refuses(int error) {
+    if (refused_with == 0) refused_with = error;
+    errno = error;
+    return -1;
+}
+
+static void ends(enum kind it) {
+    if (it == KILLED_BEHIND) raise(SIGKILL);
+}
+
+#define CALL(name, error, parameters, arguments)          \
+    int __real_##name parameters;                          \
+    int __wrap_##name parameters;                          \
+    int __wrap_##name parameters {                         \
+        enum kind it = begins(#name, false, error == EIO); \
+        if (it == REFUSED) return refuses(error);          \
+        int answer = __real_##name arguments;              \
+        ends(it);                                          \
+        return answer;                                     \
+    }
+CALL(fstat, EOVERFLOW, (int descriptor, struct stat *about), (descriptor, about))
+CALL(stat, ELOOP, (const char *path, struct stat *about), (path, about))
+CALL(flock, ENOLCK, (int descriptor, int how), (descriptor, how))
+CALL(fsync, EIO, (int descriptor), (descriptor))
+CALL(msync, EIO, (void *bytes, size_t length, int how), (bytes, length, how))
+CALL(munmap, EINVAL, (void *bytes, size_t length), (bytes, length))
+CALL(rename, EXDEV, (const char *from, const char *to), (from, to))
+CALL(unlink, EROFS, (const char *path), (path))
+CALL(ftruncate, EFBIG, (int descriptor, off_t length), (descriptor, length))
+CALL(fchmod, EPERM, (int descriptor, mode_t mode), (descriptor, mode))
+CALL(mkostemp, EMFILE, (char *path, int how), (path, how))
+
+int __real_open(const char *path, int how, ...);
+int __wrap_open(const char *path, int how, ...);
+int __wrap_open(const char *path, int how, ...) {
+    va_list more;
+    va_start(more, how);
+    mode_t mode = (how & O_CREAT) != 0 ? va_arg(more, mode_t) : 0;
+    va_end(more);
+    enum kind it = begins("open", false, false);
+    if (it == REFUSED) return refuses(EMFILE);
+    int answer = __real_open(path, how, mode);
+    ends(it);
+    return answer;
+}
+
+int __real_close(int descriptor);
+int __wrap_close(int descriptor);
+int __wrap_close(int descriptor) { /* (one that is refused is closed all the same, as the system does it) */
+    enum kind it = begins("close", false, false);
+    int answer = __real_close(descriptor);
+    ends(it);
+    return it == REFUSED ? errno = EIO, -1 : answer;
+}
+
+int __real_posix_fallocate(int descriptor, off_t place, off_t length);
+int __wrap_posix_fallocate(int descriptor, off_t place, off_t length);
+int __wrap_posix_fallocate(int descriptor, off_t place, off_t length) {
+    enum kind it = begins("posix_fallocate", false, false);
+    if (it == REFUSED) return refuses(ENOSPC), ENOSPC;
+    int answer = __real_posix_fallocate(descriptor, place, length);
+    ends(it);
+    return answer;
+}
+
+void *__real_mmap(void *where, size_t length, int may, int how, int descriptor, off_t place);
+void *__wrap_mmap(void *where, size_t length, int may, int how, int descriptor, off_t place);
+void *__wrap_mmap(void *where, size_t length, int may, int how, int descriptor, off_t place) {
+    enum kind it = begins("mmap", false, false);
+    if (it == REFUSED) return refuses(ENOMEM), MAP_FAILED;
+    void *answer = __real_mmap(where, length, may, how, descriptor, place);
+    ends(it);
+    return answer;
+}
+
+ssize_t __real_pread(int descriptor, void *bytes, size_t length, off_t place);
+ssize_t __wrap_pread(int descriptor, void *bytes, size_t length, off_t place);
+ssize_t __wrap_pread(int descriptor, void *bytes, size_t length, off_t place) {
+    enum kind it = begins("pread", true, false);
+    if (it == REFUSED) return refuses(EIO);
+    if (it == INTERRUPTED) return errno = EINTR, -1;
+    ssize_t answer = __real_pread(descriptor, bytes, it == HALF ? length / 2 : length, place);
+    ends(it);
+    return answer;
+}
+
+ssize_t __real_pwrite(int descriptor, const void *bytes, size_t length, off_t place);
+ssize_t __wrap_pwrite(int descriptor, const void *bytes, size_t length, off_t place);
+ssize_t __wrap_pwrite(int descriptor, const void *bytes, size_t length, off_t place) {
+    enum kind it = begins("pwrite", true, true);
+    if (it == REFUSED) return refuses(EIO);
+    if (it == NOTHING) return refuses(EIO), errno = 0, 0;
+    if (it == INTERRUPTED) return errno = EINTR, -1;
+    bool is_half = (it == HALF || it == KILLED_WITHIN) && length > HEADER; /* (a header is written as a whole) */
+    ssize_t answer = __real_pwrite(descriptor, bytes, is_half ? length / 2 : length, place);
+    ends(it == KILLED_WITHIN ? KILLED_BEHIND : it);
+    return answer;
+}
+
+static char folder[3000];
+
+/* The path of a name in the folder. One call's result stands until the fourth one behind it. */
+static const char *path_of(const char *name) {
+    static char paths[4][4096];
+    static int next;
+    char *path = paths[next++ % 4];
+    snprintf(path, sizeof paths[0], "%s/%s", folder, name);
+    return path;
+}
+
+/* A file's bytes, and its name. */
+typedef struct image {
+    const char *name;
+    size_t length;
+    uint8_t bytes[1 << 18];
+} image;
+
+static void load(image *it, const char *name) {
+    FILE *file = fopen(path_of(name), "rb");
+    HOLDS(file != NULL);
+    it->name = name;
+    it->length = fread(it->bytes, 1, sizeof it->bytes, file);
+    HOLDS(it->length < sizeof it->bytes);
+    fclose(file);
+}
+
+static void write_file(const char *name, const void *bytes, size_t length) {
+    FILE *file = fopen(path_of(name), "wb");
+    HOLDS(file != NULL && fwrite(bytes, 1, length, file) == length && fclose(file) == 0);
+}
+
+static bool is_image(const image *it) {
+    static image now;
+    load(&now, it->name);
+    return now.length == it->length && memcmp(now.bytes, it->bytes, it->length) == 0;
+}
+
+/* Whether there is such a file. */
+static bool is_there(const char *name) { return access(path_of(name), F_OK) == 0; }
+
+/* The names in the folder that are none of these; at most one, in *other. */
+static int others(const char *const known[], char other[256]) {
+    int count = 0;
+    DIR *names = opendir(folder);
+    HOLDS(names != NULL);
+    for (struct dirent *entry; (entry = readdir(names)) != NULL;) {
+        bool is_known = entry->d_name[0] == '.';
+        for (int name = 0; known[name] != NULL; name++) is_known = is_known || strcmp(entry->d_name, known[name]) == 0;
+        if (!is_known) count++, snprintf(other, 256, "%s", entry->d_name);
+    }
+    closedir(names);
+    return count;
+}
+
+static int descriptors(void) {
+    int count = 0;
+    DIR *names = opendir("/proc/self/fd");
+    if (names == NULL) return 0;
+    while (readdir(names) != NULL) count++;
+    closedir(names);
+    return count;
+}
+
+/* The maps: after so many steps of one session, each of which puts or deletes. */
+enum map { EMPTY = 0, OLD = 40, FIRST = 150, SECOND = 330, THIRD = 360, LAST = 400 };
+
+static void step(int number, char key[16], char value[16], bool *puts) {
+    snprintf(key, 16, "k%05d", number * 7919 % 251);
+    snprintf(value, 16, "%09d", number);
+    *puts = number % 5 != 4;
+}
+
+static void go(cola *store, int from, int to) {
+    char key[16], value[16];
+    bool puts;
+    for (int number = from; number < to; number++) {
+        step(number, key, value, &puts);
+        int32_t answer = puts ? cola_put(store, key, 6, value, 9, NULL) : cola_delete(store, key, 6);
+        HOLDS(answer == COLA_OK || (!puts && answer == COLA_NONE));
+    }
+}
+
+static plain maps[LAST + 1];
+
+static const plain *map_of(int steps) {
+    char key[16], value[16];
+    bool puts, was;
+    if (maps[steps].pairs != NULL) return &maps[steps];
+    maps[steps] = plain_new(KEYS, 1);
+    for (int number = 0; number < steps; number++) {
+        step(number, key, value, &puts);
+        if (puts) plain_put(&maps[steps], key, 6, value, 9, &was);
+        else plain_delete(&maps[steps], key, 6);
+    }
+    return &maps[steps];
+}
+
+/* Opens the store, which has to have this map where it is not refused, and leaves its bytes as they were. */
+static int32_t opens(const char *name, int steps) {
+    static image before;
+    static cola_row rows[KEYS + 1];
+    const plain *map = map_of(steps);
+    cola_file file = COLA_FILE_INIT;
+    cola_cursor cursor;
+    size_t given = 0;
+    load(&before, name);
+    int32_t answer = cola_file_open(&file, path_of(name));
+    if (answer != COLA_OK) {
+        HOLDS(is_image(&before));
+        return answer;
+    }
+    HOLDS(cola_seek(&cursor, NULL, 0, NULL, 0) == COLA_OK);
+    cola_next(&file.store, &cursor, rows, KEYS + 1, &given);
+    bool same = given == map->count;
+    for (size_t row = 0; same && row < given; row++) {
+        const cola_row *mine = &map->pairs[row].row;
+        same = plain_order(mine->key, mine->key_len, rows[row].key, rows[row].key_len) == 0 &&
+               plain_order(mine->value, mine->value_len, rows[row].value, rows[row].value_len) == 0;
+    }
+    HOLDS(cola_file_close(&file) == COLA_OK);
+    write_file(name, before.bytes, before.length);
+    return same ? COLA_OK : -1;
+}
+
+/* The files of a case: a closed store, an older copy, and two that only have names near theirs. */
+static image store, copy, beside = {"copy.new", 8, "is other"}, other = {"store.new", 5, "other"};
+
+static void make(const char *name, int steps, image *it) {
+    cola_file file = COLA_FILE_INIT;
+    HOLDS(cola_file_create(path_of(name), KEYS, 3, 1) == COLA_OK);
+    HOLDS(cola_file_open(&file, path_of(name)) == COLA_OK);
+    go(&file.store, 0, steps);
+    HOLDS(cola_file_close(&file) == COLA_OK);
+    load(it, name);
+}
+
+static void set_up(void) {
+    const char *const none[] = {NULL};
+    char name[256];
+    while (others(none, name) > 0) HOLDS(unlink(path_of(name)) == 0);
+    write_file("store", store.bytes, store.length);
+    write_file("copy", copy.bytes, copy.length);
+    write_file("copy.new", beside.bytes, beside.length);
+    write_file("store.new", other.bytes, other.length);
+    HOLDS(chmod(path_of("store"), 0640) == 0);
+    if (operation == CREATE_EMPTY) write_file("made", "", 0);
+}
+
+#define ARMED(call) (armed = true, errno = 0, answer = (call), error = errno, armed = disk_fails = false)
+
+/* The case, in a process of its own. It ends with how many calls of the system were counted. */
+static void session(void) {
+    cola_file file = COLA_FILE_INIT;
+    int32_t answer;
+    int error, before = descriptors();
+    if (operation == CREATE || operation == CREATE_EMPTY) {
+        ARMED(cola_file_create(path_of("made"), KEYS, 3, 1));
+    } else if (operation == OPEN) {
+        ARMED(cola_file_open(&file, path_of("store")));
+        if (answer == COLA_OK) HOLDS(cola_file_close(&file) == COLA_OK);
+    } else {
+        HOLDS(cola_file_open(&file, path_of("store")) == COLA_OK);
+        go(&file.store, FIRST, SECOND);
+        if (operation == CHECKPOINT) {
+            ARMED(cola_file_checkpoint(&file, path_of("copy")));
+            go(&file.store, SECOND, THIRD);
+            HOLDS(cola_file_close(&file) == COLA_OK);
+        } else {
+            ARMED(cola_file_close(&file));
+        }
+    }
+    HOLDS(file.bytes == NULL && file.descriptor == -1 && descriptors() == before);
+    if (answer != COLA_OK) {
+        HOLDS(answer == COLA_SYSTEM && error == refused_with && error != 0);
+        if (operation == OPEN && kind != DISK_FAILS) HOLDS(is_image(&store));
+    } else {
+        if (operation == CREATE || operation == CREATE_EMPTY) HOLDS(opens("made", EMPTY) == COLA_OK);
+        if (operation == CHECKPOINT) HOLDS(opens("copy", SECOND) == COLA_OK);
+        if (operation == CLOSE) HOLDS(opens("store", SECOND) == COLA_OK);
+    }
+    FILE *told = fopen(path_of(".told"), "w");
+    HOLDS(told != NULL);
+    fprintf(told, "%ld %s %d\n", made, hit == NULL ? "-" : hit, answer);
+    HOLDS(fclose(told) == 0);
+    exit(0);
+}
+
+/* What is left when the process has ended. */
+static void look(bool was_killed) {
+    char name[256];
+    struct stat about;
+    int32_t answer;
+    const char *const known[] = {"store", "copy", "copy.new", "store.new", "made", NULL};
+    int unknown = others(known, name);
+    HOLDS(is_image(&beside) && is_image(&other));
+    switch (operation) {
+    case CREATE:
+    case CREATE_EMPTY:
+        HOLDS(unknown == 0 && is_image(&store) && is_image(&copy));
+        if (is_there("made")) {
+            answer = opens("made", EMPTY);
+            HOLDS(answer == COLA_OK || (was_killed && (answer == COLA_SMALL || answer == COLA_NOT_STORE)) ||
+                  (operation == CREATE_EMPTY && answer == COLA_SMALL && stat(path_of("made"), &about) == 0 && about.st_size == 0));
+        } else {
+            HOLDS(operation == CREATE);
+        }
+        break;
+    case OPEN:
+        HOLDS(unknown == 0 && !is_there("made") && is_image(&copy));
+        answer = opens("store", FIRST);
+        HOLDS(answer == COLA_OK || (answer == COLA_NOT_CLOSED && (was_killed || kind == DISK_FAILS)));
+        break;
+    case CHECKPOINT:
+        HOLDS(!is_there("made") && unknown <= (was_killed ? 1 : 0));
+        if (unknown > 0) {
+            HOLDS(strncmp(name, "copy.new-", 9) == 0 && strlen(name) == 15);
+            answer = opens(name, SECOND);
+            HOLDS(answer == COLA_OK || answer == COLA_SMALL || answer == COLA_NOT_STORE);
+        }
+        HOLDS(is_image(&copy) || opens("copy", SECOND) == COLA_OK);
+        if (!is_image(&copy)) HOLDS(stat(path_of("copy"), &about) == 0 && (about.st_mode & 0777) == 0640);
+        HOLDS(opens("store", THIRD) == (was_killed ? COLA_NOT_CLOSED : COLA_OK));
+        break;
+    default:
+        HOLDS(unknown == 0 && !is_there("made") && is_image(&copy));
+        answer = opens("store", SECOND);
+        HOLDS(answer == COLA_OK || answer == COLA_NOT_CLOSED);
+    }
+}
+
+/* One case: how many calls of the system were counted, 0 where the process was killed. */
+static long one(char call[32], int32_t *answer) {
+    int status;
+    long count = 0;
+    set_up();
+    fflush(NULL);
+    pid_t child = fork();
+    if (child == 0) session();
+    waitpid(child, &status, 0);
+    bool was_killed = WIFSIGNALED(status) && WTERMSIG(status) == SIGKILL;
+    HOLDS(was_killed || (WIFEXITED(status) && WEXITSTATUS(status) == 0));
+    if (!was_killed) {
+        FILE *told = fopen(path_of(".told"), "r");
+        HOLDS(told != NULL && fscanf(told, "%ld %31s %d", &count, call, answer) == 3);
+        fclose(told);
+        unlink(path_of(".told"));
+    }
+    look(was_killed);
+    return count;
+}
+
+int main(int count, char **words) {
+    char call[32];
+    int32_t answer;
+    long cases = 0;
+    if (count < 2) return fprintf(stderr, "failing FOLDER\n"), 2;
+    snprintf(folder, sizeof folder, "%.2900s/failing.files", words[1]);
+    mkdir(folder, 0777);
+    make("store", FIRST, &store);
+    make("copy", OLD, &copy);
+    for (operation = CREATE; operation < OPERATIONS; operation++) {
+        kind = MADE, at = 0;
+        long calls = one(call, &answer);
+        HOLDS(calls > 5 && answer == COLA_OK);
+        for (at = 1; at <= calls; at++) {
+            bool moves = false;
+            for (kind = REFUSED; kind < KINDS && (kind < KILLED_WITHIN || moves); kind++, cases++) {
+                long counted = one(call, &answer);
+                if (kind == REFUSED) moves = strcmp(call, "pwrite") == 0 || strcmp(call, "pread") == 0;
+                if (counted == 0) HOLDS(kind >= KILLED_BEFORE && kind <= KILLED_WITHIN);
+                else if (kind == HALF || kind == INTERRUPTED) HOLDS(answer == COLA_OK);
+            }
+        }
+    }
+    printf("%ld cases\n", cases);
+    return 0;
+}

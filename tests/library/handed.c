@@ -1,0 +1,157 @@
+/* What cola.c hands on to the proved calls, in whose place stand-ins are here: no pointer is NULL, no length is far above its
+ * limit, each bool is one, also where the caller's byte is none or was never written, and the caller's places are written
+ * where the answer says so, and nowhere else.
+ *
+ *     handed
+ *
+ * Link with cola.c alone. Under valgrind it tells bytes that were never written. */
+#include <stdio.h>
+#include <stdlib.h>
+#include <string.h>
+
+#include "cola.h"
+
+#define HOLDS(is) ((is) ? (void)0 : (fprintf(stderr, "handed: line %d: not so: %s\n", __LINE__, #is), exit(1)))
+
+typedef struct cola_region {
+    void *at;
+    size_t len;
+} cola_region;
+
+static int32_t answer;     /* what the stand-ins answer */
+static int calls;          /* how many were made */
+static cola_cursor handed; /* the cursor of the last one */
+
+static bool is_bool(const bool *it) {
+    unsigned char byte;
+    memcpy(&byte, it, 1);
+    return byte == 0 || byte == 1;
+}
+
+static void takes(const void *key, size_t key_len, const void *value, size_t value_len) {
+    calls++;
+    HOLDS(key != NULL && key_len <= COLA_KEY_MAX + 1 && value != NULL && value_len <= COLA_VALUE_MAX + 1);
+}
+
+int32_t cola_core_size(uint64_t keys, uint8_t block, uint8_t version, uint64_t *bytes) {
+    return (void)keys, (void)block, (void)version, *bytes = 77, calls++, answer;
+}
+int32_t cola_core_stored_size(const void *head, size_t head_len, uint64_t length, uint64_t *bytes) {
+    HOLDS(head != NULL);
+    return (void)head_len, (void)length, *bytes = 77, calls++, answer;
+}
+int32_t cola_core_create(void *bytes, size_t len, uint64_t keys, uint8_t block, uint8_t version) {
+    return (void)bytes, (void)len, (void)keys, (void)block, (void)version, calls++, answer;
+}
+int32_t cola_core_open(cola *store, cola_region *region) { return HOLDS(is_bool(&store->is_open) && region->at != NULL), calls++, answer; }
+int32_t cola_core_put(cola *store, const void *key, size_t key_len, const void *value, size_t value_len, bool *was) {
+    takes(key, key_len, value, value_len);
+    HOLDS(store != NULL && is_bool(was));
+    if (answer == COLA_OK) *was = true;
+    return answer;
+}
+int32_t cola_core_put_if(cola *store, const void *key, size_t key_len, uint64_t seen, const void *value, size_t value_len, uint64_t *stamp) {
+    takes(key, key_len, value, value_len);
+    HOLDS(store != NULL && seen == 5);
+    if (answer == COLA_OTHER) *stamp = 9;
+    return answer;
+}
+int32_t cola_core_get(cola *store, const void *key, size_t key_len, void *value, size_t room, size_t *value_len) {
+    takes(key, key_len, value, room);
+    HOLDS(store != NULL && value_len != NULL && room == COLA_VALUE_MAX);
+    return answer;
+}
+int32_t cola_core_stamp(cola *store, const void *key, size_t key_len, uint64_t *stamp) {
+    takes(key, key_len, "", 0);
+    HOLDS(store != NULL && stamp != NULL);
+    return answer;
+}
+int32_t cola_core_delete(cola *store, const void *key, size_t key_len) {
+    takes(key, key_len, "", 0);
+    HOLDS(store != NULL);
+    return answer;
+}
+int32_t cola_core_count(cola *store, uint64_t *count) { return HOLDS(store != NULL && count != NULL), calls++, answer; }
+int32_t cola_core_seek(cola_cursor *cursor, const void *low, size_t low_len, const void *high, size_t high_len, bool bounded) {
+    takes(low, low_len, high, high_len);
+    HOLDS(is_bool(&cursor->behind) && is_bool(&cursor->bounded));
+    if (answer == COLA_OK) *cursor = (cola_cursor){.from_len = 3, .bounded = bounded};
+    return answer;
+}
+int32_t cola_core_next(cola *store, cola_cursor *cursor, cola_row *rows, size_t most, size_t *given) {
+    calls++;
+    HOLDS(store != NULL && rows != NULL && is_bool(&cursor->behind) && is_bool(&cursor->bounded));
+    handed = *cursor;
+    if (answer != COLA_OK) return answer;
+    *given = most;
+    *cursor = (cola_cursor){.from_len = 4, .behind = true};
+    return answer;
+}
+int32_t cola_core_checkpoint(cola *store, cola_region *region) { return HOLDS(store != NULL && region->at == NULL), calls++, answer; }
+int32_t cola_core_close(cola *store, cola_region *region) { return HOLDS(store != NULL && region->at == NULL), calls++, answer; }
+
+/* Fills a place with bytes that make no bool. */
+#define SPOIL(place) memset(&(place), 0xAB, sizeof(place))
+
+static bool is_spoiled(const void *place, size_t length) {
+    for (size_t at = 0; at < length; at++)
+        if (((const unsigned char *)place)[at] != 0xAB) return false;
+    return true;
+}
+
+static void of_bools(cola *store) {
+    bool was, unwritten;
+    uint64_t stamp = 1;
+    SPOIL(was);
+    answer = COLA_FULL;
+    HOLDS(cola_put(store, "k", 1, "v", 1, &was) == COLA_FULL && is_spoiled(&was, 1));
+    HOLDS(cola_put(store, "k", 1, "v", 1, NULL) == COLA_FULL);
+    HOLDS(cola_put_if(store, "k", 1, 5, "v", 1, &stamp) == COLA_FULL && stamp == 1);
+    answer = COLA_OTHER;
+    HOLDS(cola_put_if(store, "k", 1, 5, "v", 1, &stamp) == COLA_OTHER && stamp == 9);
+    HOLDS(cola_put_if(store, "k", 1, 5, "v", 1, NULL) == COLA_OTHER);
+    answer = COLA_OK;
+    HOLDS(cola_put(store, "k", (size_t)-1, "v", (size_t)-1, &was) == COLA_OK && was);
+    HOLDS(cola_put(store, NULL, 0, NULL, 0, &unwritten) == COLA_OK && unwritten);
+    HOLDS(cola_put(store, "k", 1, "v", 1, NULL) == COLA_OK);
+}
+
+static void of_cursors(cola *store) {
+    cola_cursor cursor, unwritten;
+    cola_row row;
+    size_t given = 7;
+    SPOIL(cursor);
+    answer = COLA_LENGTH;
+    HOLDS(cola_seek(&cursor, "k", (size_t)-1, NULL, 0) == COLA_LENGTH && is_spoiled(&cursor, sizeof cursor));
+    HOLDS(cola_next(store, &cursor, &row, 1, &given) == COLA_LENGTH && is_spoiled(&cursor, sizeof cursor) && given == 7);
+    HOLDS(handed.behind && handed.bounded && handed.from_len == 0xAB);
+    answer = COLA_OK;
+    HOLDS(cola_seek(&unwritten, "", 0, NULL, 0) == COLA_OK && unwritten.from_len == 3 && !unwritten.bounded);
+    HOLDS(cola_seek(&unwritten, "", 0, "z", 1) == COLA_OK && unwritten.bounded && !unwritten.behind);
+    HOLDS(cola_next(store, &unwritten, &row, 1, &given) == COLA_OK && given == 1 && unwritten.from_len == 4 && unwritten.behind);
+    HOLDS(handed.from_len == 3 && handed.bounded && !handed.behind);
+    HOLDS(cola_next(store, &unwritten, NULL, 0, &given) == COLA_OK && given == 0);
+}
+
+int main(void) {
+    cola store = COLA_INIT;
+    uint64_t number = 0;
+    size_t length = 0;
+    char value[COLA_VALUE_MAX];
+    of_bools(&store);
+    of_cursors(&store);
+    answer = COLA_OK;
+    HOLDS(cola_size(1, 5, 1, &number) == COLA_OK && number == 77);
+    HOLDS(cola_stored_size(NULL, 0, 0, &number) == COLA_OK);
+    HOLDS(cola_create(value, sizeof value, 1, 5, 1) == COLA_OK && cola_open(&store, value, sizeof value) == COLA_OK);
+    HOLDS(cola_get(&store, NULL, 0, value, &length) == COLA_OK && cola_stamp(&store, "k", 1, &number) == COLA_OK);
+    HOLDS(cola_delete(&store, "k", 1) == COLA_OK && cola_count(&store, &number) == COLA_OK);
+    HOLDS(cola_checkpoint(&store) == COLA_OK && cola_close(&store) == COLA_OK);
+    /* A pointer that is NULL where there has to be one goes no further. */
+    calls = 0;
+    HOLDS(cola_put(NULL, "k", 1, "v", 1, NULL) == COLA_NULL && cola_put(&store, NULL, 1, "v", 1, NULL) == COLA_NULL);
+    HOLDS(cola_seek(NULL, "", 0, NULL, 0) == COLA_NULL && cola_next(&store, NULL, NULL, 0, &length) == COLA_NULL);
+    HOLDS(cola_stored_size(NULL, 1, 1, &number) == COLA_NULL && cola_stored_size("", 0, 0, NULL) == COLA_NULL);
+    HOLDS(calls == 0);
+    return 0;
+}
