@@ -14,11 +14,12 @@
  * a value may be empty. Keys are ordered byte by byte, a key before those that it begins.
  *
  * Where a call has nothing to say of a place, as the length of a value that is not there, or is refused, the place stays as it
- * was; only the rows of a refused cola_next may be others.
+ * was; only the rows of a refused cola_next may be others, and *done of cola_get_many and cola_put_many is always told.
  *
  * What a call takes is bounded, by the levels of the store, of which there is one more for twice the keys, or by the keys:
- *   - the same for every store: cola_size, cola_stored_size, cola_count, cola_seek;
+ *   - the same for every store: cola_size, cola_stored_size, cola_count, cola_seek, cola_seek_prefix;
  *   - by the levels: cola_put, cola_put_if and cola_delete make at most 40 cell accesses for each, cola_get and cola_stamp 8;
+ *     cola_put_many and cola_get_many take as much as so many calls of cola_put and cola_get;
  *     cola_open reads and cola_close writes at most a block for each and three more; cola_checkpoint does both;
  *   - by the keys: cola_create looks at each byte; cola_next passes over deleted keys that still have a cell, and before one
  *     row there may be nearly as many of them as the store has cells; where there are few, a row takes some cell accesses;
@@ -58,7 +59,7 @@ enum {
     COLA_IN_USE = 6,        /* the handle is open already */
     COLA_LENGTH = 7,        /* a key is empty, or a key or a value is longer than the store's version allows */
     COLA_NULL = 8,          /* a pointer is NULL where there has to be one */
-    COLA_OPTIONS = 9,       /* keys, block or version is none that a store can have */
+    COLA_OPTIONS = 9,       /* keys, block or version is none that a store can have; cola_file_open_as: a flag is none */
     COLA_NOT_EMPTY = 10,    /* cola_create: the bytes are not all zero */
     COLA_NOT_STORE = 11,    /* the bytes have no store's header */
     COLA_SMALL = 12,        /* there are fewer bytes than the store has */
@@ -66,15 +67,16 @@ enum {
     COLA_BAD_CELL = 14,     /* a cell is damaged */
     COLA_OVERFULL = 15,     /* the levels are damaged: a run has no room */
     COLA_MEMORY = 16,       /* there was no memory; no key and no value changed */
-    COLA_SYSTEM = 17        /* cola_file: a call of the system failed; errno says which way */
+    COLA_SYSTEM = 17,       /* cola_file: a call of the system failed; errno says which way */
+    COLA_READ_ONLY_STORE = 18 /* the store is open to be read alone (cola_file_open_as); nothing changed */
 };
 
 /* A handle. What is in it is the library's. */
 typedef struct cola {
-    bool is_open;
+    bool is_open, is_read_only;
     void *at;
 } cola;
-#define COLA_INIT {false, NULL}
+#define COLA_INIT {false, false, NULL}
 
 /* A key with its value. */
 typedef struct cola_row {
@@ -124,12 +126,24 @@ int32_t cola_stamp(cola *store, const void *key, size_t key_len, uint64_t *stamp
 /* Takes the key out. COLA_NONE where it is absent: nothing changed. */
 int32_t cola_delete(cola *store, const void *key, size_t key_len);
 
+/* Puts so many rows, one by one in their order, up to the first that is refused: the answer is that one's, and *done is how
+ * many were put before it. was[n], where was is not NULL, says of each that was put whether its key was there before. */
+int32_t cola_put_many(cola *store, const cola_row *rows, size_t count, bool *was, size_t *done);
+
+/* The values of the keys of so many rows, into these rows, up to the first that is refused: the answer is that one's, and
+ * *done is how many were looked up before it. there[n] says of each of these whether its key is there; where it is not, the
+ * row's value stays as it was. COLA_OK where none is refused, also where keys are absent. */
+int32_t cola_get_many(cola *store, cola_row *rows, size_t count, bool *there, size_t *done);
+
 /* The number of keys. */
 int32_t cola_count(cola *store, uint64_t *count);
 
 /* Sets a cursor before the first key from low on, or before all, where low is empty; it gives keys below high, or all, where
  * high is NULL. Both have at most COLA_KEY_MAX bytes, in either version. */
 int32_t cola_seek(cola_cursor *cursor, const void *low, size_t low_len, const void *high, size_t high_len);
+
+/* Sets a cursor before the first of the keys that begin so; it gives these alone, or all keys, where the prefix is empty. */
+int32_t cola_seek_prefix(cola_cursor *cursor, const void *prefix, size_t prefix_len);
 
 /* The next rows of the cursor, at most so many, by rising keys, and how many they are. COLA_NONE where none was left.
  * A larger number of rows is cheaper for each: every call seeks once. Where most is 0 none is given, and the answer is COLA_OK.

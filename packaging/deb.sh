@@ -23,7 +23,11 @@ take libcola1 "$libraries/libcola.so.1" "$libraries/libcola.so.1"
 take libcola-dev "$libraries" "$libraries"
 take libcola-dev usr/include usr/include
 take libcola-dev usr/share/man/man3 usr/share/man/man3
-take python3-cola usr/share/cola/cola.py usr/lib/python3/dist-packages/cola.py
+take python3-cola usr/share/cola/cola usr/lib/python3/dist-packages/cola
+take python3-cola usr/share/cola/cola_cluster.py usr/lib/python3/dist-packages/cola_cluster.py
+take python3-cola usr/bin/cola-shell usr/bin/cola-shell
+take python3-cola usr/share/man/man1/cola-shell.1 usr/share/man/man1/cola-shell.1
+sed -i '1s|.*|#!/usr/bin/python3|' "$room/python3-cola/usr/bin/cola-shell"
 take cola usr usr
 strip --strip-unneeded "$room/cola/usr/libexec/cola/cola" "$room/libcola1/$libraries/libcola.so.1"
 strip -D --strip-debug "$room/libcola-dev/$libraries/libcola.a"
@@ -123,5 +127,6 @@ if [ -z "$DPKG_ROOT" ] && command -v py3clean >/dev/null; then py3clean -p pytho
 chmod 755 "$room/python3-cola/DEBIAN/postinst" "$room/python3-cola/DEBIAN/prerm"
 finish python3-cola all python "python3:any (>= 3.9), libcola1 (>= $version)" 'ordered key-value store in one file (Python 3)' <<.
 A mapping of bytes to bytes in one file, by the calls of libcola1. Its keys
-come in their order, and each call is bounded.
+come in their order, and each call is bounded. cola-shell takes commands on a
+store at a terminal, or in a pipe.
 .

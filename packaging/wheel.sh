@@ -8,7 +8,9 @@ export COLA_LIBRARY
 room=$(mktemp -d)
 trap 'rm -rf "$room"' EXIT
 umask 022
-cp LICENSE bindings/python/cola.py bindings/python/setup.py bindings/python/pyproject.toml "$room"
+mkdir "$room/cola"
+cp bindings/python/cola/*.py "$room/cola"
+cp LICENSE bindings/python/cola_cluster.py bindings/python/setup.py bindings/python/pyproject.toml "$room"
 mkdir -p "$folder"
 "$python" -m pip --disable-pip-version-check -q wheel --no-cache-dir --no-index --no-deps --no-build-isolation -w "$folder" "$room"
 ls "$folder"/cola-*.whl

@@ -1,8 +1,9 @@
 #!/usr/bin/env bash
 # The library as users of C, Rust and Python meet it: it is built, installed and linked, the header is compiled alone, each of
 # its answers is met, random calls are compared with a sorted array, and copies of the file are opened by the program. Each call
-# of the system fails, and processes are killed in front of each, behind each, and in mid-session. The examples and the first programs of the documents are run, under valgrind and with the
-# compiler's sanitizers too. What needs a tool that is not there is skipped, and that is said.
+# of the system fails, and processes are killed in front of each, behind each, and in mid-session. The shell is driven at a
+# terminal. The examples and the first programs of the documents are run, under valgrind and with the compiler's sanitizers too.
+# What needs a tool that is not there is skipped, and that is said.
 #
 #     tests/library.sh [FOLDER]    (FOLDER has the libcola.a and libcola.so to be tested; else they are made of what make library or the gate built here)
 #
@@ -61,9 +62,9 @@ if is_there c++ 'the header as C++'; then
     check 'the headers are C++' c++ -x c++ -std=c++11 -pedantic -Wall -Wextra -Werror $folders -fsyntax-only "$room/alone.c"
 fi
 
-# The answers of the header are those of the crate, Answer::Done and Answer::Absent as COLA_OK and COLA_NONE; the C files give two more.
+# The answers of the header are those of the crate, Answer::Done and Answer::Absent as COLA_OK and COLA_NONE; the C files give three more.
 has_answers() {
-    sed -n 's/^ *COLA_\([A-Z_]*\) = \([0-9]*\)[^0-9]*.*/\2 \1/p' include/cola.h | grep -vE ' (NULL|SYSTEM)$' >"$room/header"
+    sed -n 's/^ *COLA_\([A-Z_]*\) = \([0-9]*\)[^0-9]*.*/\2 \1/p' include/cola.h | grep -vE ' (NULL|SYSTEM|READ_ONLY_STORE)$' >"$room/header"
     sed -n 's/^ *Answer::\([A-Za-z]*\) => \([0-9]*\),$/\2 \1/p' crates/cola_handle/src/answer.rt |
         sed 's/Done/Ok/; s/Absent/None/; s/\([a-z]\)\([A-Z]\)/\1_\2/g' | tr 'a-z' 'A-Z' >"$room/answers"
     [ "$(wc -l <"$room/header")" -eq 16 ] && diff "$room/header" "$room/answers"
@@ -73,7 +74,7 @@ check 'the answers of the header are those of the crate' has_answers
 has_calls() {
     cat include/cola.h bindings/c/cola_file.h | sed -n 's/^[a-z].*[ *]\(cola_[a-z_]*\)(.*/\1/p' | sort >"$room/header"
     nm -D --defined-only "$library/libcola.so" | awk '$2 != "A" { if (!sub(/@@COLA_[0-9.]*$/, "", $3)) $3 = $3 " has no version"; print $3 }' | sort >"$room/calls"
-    [ "$(wc -l <"$room/header")" -ge 18 ] && diff "$room/header" "$room/calls"
+    [ "$(wc -l <"$room/header")" -eq 23 ] && diff "$room/header" "$room/calls"
 }
 check 'libcola.so has the calls of the headers, each with its version, and nothing else' has_calls
 
@@ -89,11 +90,13 @@ check 'the test of failing calls knows each call of the system' has_wraps
 check 'what is handed to the proved calls compiles' cc -O1 -g $strict $folders tests/library/handed.c bindings/c/cola.c -o "$room/handed"
 check 'what is handed to the proved calls' quietly "$room/handed"
 check 'the test of answers compiles' compiles errors "-O2 -g $fails" tests/library/errors.c
+check 'the test of many rows compiles' compiles many '-O2 -g' tests/library/many.c
 check 'the test of random calls compiles' compiles random '-O2 -g' tests/library/random.c
 check 'the test of killed processes compiles' compiles killed '-O2 -g' tests/library/killed.c
 check 'the test of failing calls compiles' compiles failing "-O2 -g $wraps" tests/library/failing.c
 check 'the example in C compiles' compiles words '-O2 -g' examples/words.c
 check 'each answer is met' quietly "$room/errors" "$room"
+check 'many rows at once, and the keys that begin so' quietly "$room/many"
 # (a hundred thousand of these calls are on small stores)
 check 'random calls, and a copy for the program after each hundred' quietly "$room/random" "$room" 125000 100 "$program"
 check 'killed processes leave a file that is refused, and their last copy' quietly "$room/killed" "$room" 20
@@ -106,6 +109,7 @@ if is_there valgrind 'the calls under valgrind'; then
     valgrind="valgrind -q --error-exitcode=99 --leak-check=full --show-leak-kinds=all"
     check 'what is handed to the proved calls, under valgrind' quietly $valgrind "$room/handed"
     check 'each answer, under valgrind' quietly $valgrind "$room/errors" "$room"
+    check 'many rows, under valgrind' quietly $valgrind "$room/many"
     check 'random calls, under valgrind' quietly $valgrind "$room/random" "$room" 3000 500
     check 'an index of words in C, under valgrind' is_index $valgrind "$room/words"
 fi
@@ -115,9 +119,11 @@ if cc $sanitizers "$room/empty.c" -o "$room/empty" 2>/dev/null && "$room/empty";
     check 'what is handed on compiles with sanitizers' cc $sanitizers $strict $folders tests/library/handed.c bindings/c/cola.c -o "$room/handed_sane"
     check 'what is handed on, with sanitizers' quietly "$room/handed_sane"
     check 'the tests compile with sanitizers' compiles errors_sane "$sanitizers $fails" tests/library/errors.c bindings/c/*.c
+    check 'many rows compile with sanitizers' compiles many_sane "$sanitizers" tests/library/many.c bindings/c/*.c
     check 'random calls compile with sanitizers' compiles random_sane "$sanitizers" tests/library/random.c bindings/c/*.c
     check 'the example compiles with sanitizers' compiles words_sane "$sanitizers" examples/words.c bindings/c/*.c
     check 'each answer, with sanitizers' quietly "$room/errors_sane" "$room"
+    check 'many rows, with sanitizers' quietly "$room/many_sane"
     check 'random calls, with sanitizers' quietly "$room/random_sane" "$room" 10000 500
     check 'an index of words in C, with sanitizers' is_index "$room/words_sane"
 else
@@ -129,7 +135,8 @@ prefix="$room/prefix"
 with_make() { quietly make -s -f bindings/c/library.mk "$1-library" LIBRARY="$library" PREFIX="$prefix" DESTDIR=; }
 check 'it is installed' with_make install
 check 'nothing else is written' [ "$(cd "$prefix" && find . -type f | LC_ALL=C sort | tr '\n' ' ')" = \
-    './include/cola.h ./include/cola_file.h ./lib/libcola.a ./lib/libcola.so.1 ./lib/pkgconfig/cola.pc ./share/cola/cola.py ./share/man/man3/cola.3 ' ]
+    "./bin/cola-shell ./include/cola.h ./include/cola_file.h ./lib/libcola.a ./lib/libcola.so.1 ./lib/pkgconfig/cola.pc $(
+        LC_ALL=C; cd bindings/python && printf './share/cola/%s ' cola/*.py cola_cluster.py)./share/man/man1/cola-shell.1 ./share/man/man3/cola.3 " ]
 check 'a program that is linked without a number finds it' [ "$(readlink "$prefix/lib/libcola.so")" = libcola.so.1 ]
 # first PAGE WORD: the first block of a page that has the word.
 first() {
@@ -165,11 +172,16 @@ if is_there python3 'the module for Python'; then
         if $it --version >/dev/null 2>&1; then pytest=$it && break; fi
     done
     if [ -n "$pytest" ]; then
-        check 'the tests of the module for Python, by pytest' in_python $pytest -q -p no:cacheprovider test_cola.py
+        check 'the tests of the module for Python, by pytest' in_python $pytest -q -rP -p no:cacheprovider test_cola.py test_mapping.py test_shell.py
     else
         echo 'skipped: pytest (there is none); the same tests are run by unittest'
-        check 'the tests of the module for Python' in_python python3 -m unittest test_cola
+        check 'the tests of the module for Python' in_python python3 -m unittest test_cola test_mapping test_shell
     fi
+    grep -o '1,000 at once.*' "$room/out" # (how long many rows at once take from Python)
+    python3 -c 'import test.mapping_tests' 2>/dev/null || echo "skipped: Python's own tests of a mapping (this python3 has no test.mapping_tests)"
+    python3 -c 'import readline' 2>/dev/null || echo 'skipped: the shell at a terminal (this python3 has no readline)'
+    check 'the shell that was installed' [ "$(cd "$room/first" && printf 'put a 1\nget a\n' |
+        env -u COLA_LIBRARY -u PYTHONPATH python3 "$prefix/bin/cola-shell" shell --create 1000)" = 1 ]
     check 'an index of words in Python' is_index python3 examples/words.py
     first docs/PYTHON.md 'import cola' >"$room/first/notes.py"
     rm -f "$room/first/notes"
@@ -179,6 +191,6 @@ check 'the program and the library at one file, at once' tests/crash/beside.sh "
 check 'it is taken off' with_make uninstall
 check 'no file of it is left' [ -z "$(find "$prefix" -type f)" ]
 for page in docs/C.md docs/RUST.md docs/PYTHON.md; do
-    check "$page has at most 300 words" [ "$(wc -w <"$page")" -le 300 ]
+    check "$page has at most 400 words" [ "$(wc -w <"$page")" -le 400 ]
 done
 finish

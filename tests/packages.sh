@@ -48,14 +48,15 @@ check 'VERSION is one' grep -Eqx '[0-9]+\.[0-9]+(\.[0-9]+)?' VERSION
 check 'the launcher has it' [ "$(./cola --version | sed 's/,.*//')" = "cola $version" ]
 check 'the manual page has it' grep -q "^\.TH COLA 1 .*\"cola $version\"" docs/cola.1
 check 'the changes begin with it' [ "$(sed -n 's/^## \(.*\), [0-9-]*$/\1/p' CHANGELOG.md | head -n 1)" = "$version" ]
-check 'the module for Python has it' grep -qx "__version__ = \"$version\"" bindings/python/cola.py
+check 'the module for Python has it' grep -qx "__version__ = \"$version\"" bindings/python/cola/__init__.py
+check 'and the page of its shell' grep -q "^\.TH COLA-SHELL 1 .*\"cola $version\"" docs/cola-shell.1
 three=$version
 case $version in *.*.*) ;; *) three=$version.0 ;; esac
 check 'the crate for Rust has it' [ "$(sed -n 's/^version = "\(.*\)"/\1/p' bindings/rust/Cargo.toml)" = "$three" ]
 check 'and its lock' [ "$(sed -n '/^name = "cola"/,$s/^version = "\(.*\)"/\1/p' bindings/rust/Cargo.lock)" = "$three" ]
 check 'the number of the library is its first' grep -qx "shared = libcola.so.${version%%.*}" bindings/c/library.mk
 check 'no call has a later one' [ "$(printf '%s\n' "$version" $(sed -n 's/^COLA_\(.*\) {$/\1/p' bindings/c/cola.map) | sort -V | tail -n 1)" = "$version" ]
-for it in bindings/rust/Cargo.toml bindings/python/{cola.py,setup.py,pyproject.toml} include/cola.h bindings/c/cola_file.h bindings/c/cola.pc.in; do
+for it in bindings/rust/Cargo.toml bindings/python/{cola_cluster.py,cola/__init__.py,cola/__main__.py,cola/files.py,cola/shell.py,cola/words.py,cola-shell,setup.py,pyproject.toml} include/cola.h bindings/c/cola_file.h bindings/c/cola.pc.in; do
     check "$it says its licence" grep -q 'SPDX-License-Identifier: MIT' "$it"
 done
 
@@ -128,7 +129,8 @@ check 'a first run is installed with nothing built' in_clone make -s install PRE
 check 'and it is said that the library is not' grep -q '^cola: .*make library' "$room/err"
 check 'what is installed answers' [ "$(printf 'put a 1\nget a\n' | PATH=$tools "$room/first/bin/cola" mem 4)" = $'new\nval 1' ]
 check 'a built library is installed with nothing built' in_clone make -s install PREFIX="$room/second" LIBRARY="$library"
-check 'it has the program, the library and their pages' [ "$(install_lists second | grep -cE '^./(bin/cola|libexec/cola/cola|lib/libcola.(a|so.1)|share/man/man[13]/cola.[13])$')" -eq 6 ]
+check 'it has the program, the library, the shell and their pages' \
+    [ "$(install_lists second | grep -cE '^./(bin/cola(-shell)?|libexec/cola/cola|lib/libcola.(a|so.1)|share/man/man[13]/cola(-shell)?.[13])$')" -eq 8 ]
 check 'it is taken off' in_clone make -s uninstall PREFIX="$room/second"
 check 'and leaves no file' [ -z "$(find "$room/second" ! -type d)" ]
 awk -v version="$version" -f docs/header.awk include/cola.h bindings/c/cola_file.h >"$room/cola.3"
@@ -217,6 +219,11 @@ serves() {
 }
 first docs/C.md '#include' >"$room/notes.c"
 first docs/PYTHON.md 'import cola' >"$target/work/notes.py"
+# answers COLA-SHELL: whether the shell serves lines of a pipe.
+answers() {
+    rm -f "$target/work/notes"
+    printf '%s\n' 'put user:1001 Ada' 'get user:1001' | within "$@" notes --create 1000 >"$room/out" && printf 'Ada\n' | cmp "$room/out" -
+}
 writes_ada() { rm -f "$target/work/notes" && within "$@" >"$room/out" && printf 'Ada\n' | cmp "$room/out" -; }
 # compiles OUT WORDS..: the first program in C, by pkg-config with these words.
 compiles() {
@@ -234,7 +241,7 @@ if [ -n "$has_deb" ] && has dpkg 'the packages in a root'; then
     cp "$room"/made/*.deb "$target/packages"
     check 'the packages are installed' in_dpkg -i $(cd "$target/packages" && printf "$at/packages/%s " *.deb)
     check 'a first session is served' serves "$at/usr/bin/cola"
-    for it in man1/cola.1 man3/cola.3; do check "there is the page $it" gzip -t "$target/usr/share/man/$it.gz"; done
+    for it in man1/cola.1 man1/cola-shell.1 man3/cola.3; do check "there is the page $it" gzip -t "$target/usr/share/man/$it.gz"; done
     check 'there is the completion' cmp docs/cola.bash "$target/usr/share/bash-completion/completions/cola"
     if [ -n "$has_c" ]; then
         export PKG_CONFIG_LIBDIR=$target/usr/lib/$triplet/pkgconfig PKG_CONFIG_SYSROOT_DIR=$target
@@ -247,6 +254,7 @@ if [ -n "$has_deb" ] && has dpkg 'the packages in a root'; then
         check 'both run' eval 'writes_ada ./notes.shared && writes_ada ./notes.static'
     fi
     check 'a program in Python runs' writes_ada python3 notes.py
+    check 'the shell serves' answers cola-shell
     check 'the packages are taken off' in_dpkg --purge python3-cola libcola-dev libcola1 cola
     listed >"$room/after"
     check 'and leave nothing' diff "$room/before" "$room/after"
@@ -277,6 +285,7 @@ fi
 modules=$unpacked/share/cola loaded=$unpacked/lib/libcola.so.1
 check 'a program in Python runs' writes_ada python3 -B notes.py
 unset modules loaded
+check 'the shell of the tar finds its module and its library' answers python3 -B "$unpacked/bin/cola-shell"
 rm -r "$target/opt/cola"
 rmdir --ignore-fail-on-non-empty "$target/opt"
 listed >"$room/after"
@@ -289,6 +298,8 @@ if [ -n "$has_wheel" ]; then
     modules=$(find "$target/opt/user" -type d -name site-packages)
     modules=$at${modules#"$target"}
     check 'a program in Python runs' writes_ada python3 -B notes.py
+    check 'its shell serves' answers python3 -B -m cola
+    check 'with a command of its own' [ -x "$target/opt/user/bin/cola-shell" ]
     check 'it has the version' test -d "$target${modules#"$at"}/cola-$version.dist-info"
     unset modules
     check 'it is taken off' quietly $python -m pip uninstall -y cola

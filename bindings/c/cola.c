@@ -2,7 +2,10 @@
  *
  * A length above every limit goes on as one above the limit, so that no more bytes are looked at than a key or a value has.
  * Of a place that is to be written any bytes make a number, but not any byte is a bool: so what is handed on is a bool, or a
- * cursor, of this file's own, and the caller's is written behind the call. */
+ * cursor, of this file's own, and the caller's is written behind the call.
+ *
+ * A handle too is handed on as one of this file's own: the proved calls know that it is open and where, and write it whole. That
+ * a store is read alone is known here, and nothing that would write to it goes on. */
 #include "cola.h"
 
 #include <string.h>
@@ -40,6 +43,23 @@ static size_t at_most(size_t len, size_t limit) { return len > limit ? limit + 1
 static size_t of_key(size_t len) { return at_most(len, COLA_KEY_MAX); }
 static size_t of_value(size_t len) { return at_most(len, COLA_VALUE_MAX); }
 
+/* Whether a bool of the caller's is true, which any byte but 0 makes it. */
+static bool is_true(const bool *it) {
+    unsigned char byte;
+    memcpy(&byte, it, 1);
+    return byte != 0;
+}
+
+/* Whether the store is open, to be read alone. */
+static bool is_read_only(const cola *store) { return is_true(&store->is_open) && is_true(&store->is_read_only); }
+
+/* Takes back the handle that a call had, and gives its answer. */
+static int32_t back(cola *store, const cola *own, int32_t answer) {
+    store->is_open = own->is_open;
+    store->at = own->at;
+    return answer;
+}
+
 int32_t cola_size(uint64_t keys, uint8_t block, uint8_t version, uint64_t *bytes) {
     if (bytes == NULL) return COLA_NULL;
     return cola_core_size(keys, block, version, bytes);
@@ -58,13 +78,18 @@ int32_t cola_create(void *bytes, size_t len, uint64_t keys, uint8_t block, uint8
 int32_t cola_open(cola *store, void *bytes, size_t len) {
     if (store == NULL || bytes == NULL) return COLA_NULL;
     cola_region region = {bytes, len};
-    return cola_core_open(store, &region);
+    cola own = *store;
+    int32_t answer = back(store, &own, cola_core_open(&own, &region));
+    if (answer == COLA_OK) store->is_read_only = false;
+    return answer;
 }
 
 int32_t cola_put(cola *store, const void *key, size_t key_len, const void *value, size_t value_len, bool *was) {
     bool told = false;
     if (store == NULL || is_null(key, key_len) || is_null(value, value_len)) return COLA_NULL;
-    int32_t answer = cola_core_put(store, some(key), of_key(key_len), some(value), of_value(value_len), &told);
+    if (is_read_only(store)) return COLA_READ_ONLY_STORE;
+    cola own = *store;
+    int32_t answer = back(store, &own, cola_core_put(&own, some(key), of_key(key_len), some(value), of_value(value_len), &told));
     if (answer == COLA_OK && was != NULL) *was = told;
     return answer;
 }
@@ -72,27 +97,70 @@ int32_t cola_put(cola *store, const void *key, size_t key_len, const void *value
 int32_t cola_put_if(cola *store, const void *key, size_t key_len, uint64_t seen, const void *value, size_t value_len, uint64_t *stamp) {
     uint64_t unasked = 0;
     if (store == NULL || is_null(key, key_len) || is_null(value, value_len)) return COLA_NULL;
-    return cola_core_put_if(store, some(key), of_key(key_len), seen, some(value), of_value(value_len), stamp == NULL ? &unasked : stamp);
+    if (is_read_only(store)) return COLA_READ_ONLY_STORE;
+    cola own = *store;
+    return back(store, &own, cola_core_put_if(&own, some(key), of_key(key_len), seen, some(value), of_value(value_len),
+                                              stamp == NULL ? &unasked : stamp));
 }
 
 int32_t cola_get(cola *store, const void *key, size_t key_len, void *value, size_t *value_len) {
     if (store == NULL || is_null(key, key_len) || value == NULL || value_len == NULL) return COLA_NULL;
-    return cola_core_get(store, some(key), of_key(key_len), value, COLA_VALUE_MAX, value_len);
+    cola own = *store;
+    return back(store, &own, cola_core_get(&own, some(key), of_key(key_len), value, COLA_VALUE_MAX, value_len));
 }
 
 int32_t cola_stamp(cola *store, const void *key, size_t key_len, uint64_t *stamp) {
     if (store == NULL || is_null(key, key_len) || stamp == NULL) return COLA_NULL;
-    return cola_core_stamp(store, some(key), of_key(key_len), stamp);
+    cola own = *store;
+    return back(store, &own, cola_core_stamp(&own, some(key), of_key(key_len), stamp));
 }
 
 int32_t cola_delete(cola *store, const void *key, size_t key_len) {
     if (store == NULL || is_null(key, key_len)) return COLA_NULL;
-    return cola_core_delete(store, some(key), of_key(key_len));
+    if (is_read_only(store)) return COLA_READ_ONLY_STORE;
+    cola own = *store;
+    return back(store, &own, cola_core_delete(&own, some(key), of_key(key_len)));
+}
+
+/* Bytes for a key, or a value, of a row that is said to have more than a row has room for: their length alone is looked at. */
+static const uint8_t too_long[COLA_VALUE_MAX + 1];
+static const void *key_of(const cola_row *row) { return row->key_len > COLA_KEY_MAX ? too_long : row->key; }
+static const void *value_of(const cola_row *row) { return row->value_len > COLA_VALUE_MAX ? too_long : row->value; }
+
+int32_t cola_put_many(cola *store, const cola_row *rows, size_t count, bool *was, size_t *done) {
+    if (store == NULL || (rows == NULL && count > 0) || done == NULL) return COLA_NULL;
+    int32_t answer = !is_true(&store->is_open) ? COLA_CLOSED : is_read_only(store) ? COLA_READ_ONLY_STORE : COLA_OK;
+    size_t at = 0;
+    while (at < count && answer == COLA_OK) {
+        const cola_row *row = &rows[at];
+        answer = cola_put(store, key_of(row), row->key_len, value_of(row), row->value_len, was == NULL ? NULL : &was[at]);
+        at += answer == COLA_OK;
+    }
+    *done = at;
+    return answer;
+}
+
+int32_t cola_get_many(cola *store, cola_row *rows, size_t count, bool *there, size_t *done) {
+    if (store == NULL || ((rows == NULL || there == NULL) && count > 0) || done == NULL) return COLA_NULL;
+    int32_t answer = is_true(&store->is_open) ? COLA_OK : COLA_CLOSED;
+    size_t at = 0, length = 0;
+    while (at < count && answer == COLA_OK) {
+        cola_row *row = &rows[at];
+        answer = cola_get(store, key_of(row), row->key_len, row->value, &length);
+        if (answer != COLA_OK && answer != COLA_NONE) break;
+        there[at] = answer == COLA_OK;
+        if (there[at]) row->value_len = (uint8_t)length;
+        answer = COLA_OK;
+        at++;
+    }
+    *done = at;
+    return answer;
 }
 
 int32_t cola_count(cola *store, uint64_t *count) {
     if (store == NULL || count == NULL) return COLA_NULL;
-    return cola_core_count(store, count);
+    cola own = *store;
+    return back(store, &own, cola_core_count(&own, count));
 }
 
 int32_t cola_seek(cola_cursor *cursor, const void *low, size_t low_len, const void *high, size_t high_len) {
@@ -103,21 +171,28 @@ int32_t cola_seek(cola_cursor *cursor, const void *low, size_t low_len, const vo
     return answer;
 }
 
-/* Whether a bool of the caller's is true, which any byte but 0 makes it. */
-static bool is_true(const bool *it) {
-    unsigned char byte;
-    memcpy(&byte, it, 1);
-    return byte != 0;
+/* The keys that begin so lie below the prefix with its last byte one higher; bytes of 255 at its end, which can be no higher,
+ * are left out first. Where no byte is left there is no such end: all keys from the prefix on begin so. */
+int32_t cola_seek_prefix(cola_cursor *cursor, const void *prefix, size_t prefix_len) {
+    uint8_t end[COLA_KEY_MAX];
+    size_t len = prefix_len;
+    if (cursor == NULL || is_null(prefix, prefix_len)) return COLA_NULL;
+    if (prefix_len > COLA_KEY_MAX) return COLA_LENGTH;
+    memcpy(end, some(prefix), prefix_len);
+    while (len > 0 && end[len - 1] == UINT8_MAX) len--;
+    if (len > 0) end[len - 1]++;
+    return cola_seek(cursor, prefix, prefix_len, len > 0 ? end : NULL, len);
 }
 
 int32_t cola_next(cola *store, cola_cursor *cursor, cola_row *rows, size_t most, size_t *given) {
     cola_row none = {0};
     cola_cursor place;
     if (store == NULL || cursor == NULL || (rows == NULL && most > 0) || given == NULL) return COLA_NULL;
+    cola own = *store;
     memcpy(&place, cursor, sizeof place);
     place.behind = is_true(&cursor->behind);
     place.bounded = is_true(&cursor->bounded);
-    int32_t answer = cola_core_next(store, &place, rows == NULL ? &none : rows, most, given);
+    int32_t answer = back(store, &own, cola_core_next(&own, &place, rows == NULL ? &none : rows, most, given));
     if (answer == COLA_OK) *cursor = place;
     return answer;
 }
@@ -125,11 +200,14 @@ int32_t cola_next(cola *store, cola_cursor *cursor, cola_row *rows, size_t most,
 int32_t cola_checkpoint(cola *store) {
     cola_region region = {NULL, 0};
     if (store == NULL) return COLA_NULL;
-    return cola_core_checkpoint(store, &region);
+    if (is_read_only(store)) return COLA_READ_ONLY_STORE;
+    cola own = *store;
+    return back(store, &own, cola_core_checkpoint(&own, &region));
 }
 
 int32_t cola_close(cola *store) {
     cola_region region = {NULL, 0};
     if (store == NULL) return COLA_NULL;
-    return cola_core_close(store, &region);
+    cola own = *store;
+    return back(store, &own, cola_core_close(&own, &region));
 }

@@ -118,6 +118,34 @@ int32_t cola_file_create(const char *path, uint64_t keys, uint8_t block, uint8_t
     return answer;
 }
 
+/* What an open file has. */
+static int32_t keep(cola_file *file, char *bytes, size_t length, int descriptor) {
+    file->bytes = bytes;
+    file->length = length;
+    file->descriptor = descriptor;
+    file->owner = (long)getpid();
+    return COLA_OK;
+}
+
+/* Gives a mapping up, and the answer for which that is done. */
+static int32_t unmap(char *bytes, size_t length, int32_t answer) {
+    int error = errno;
+    munmap(bytes, length);
+    errno = error;
+    return answer;
+}
+
+/* Maps the file's store and opens it to be read alone. The bytes are this process's: what opening and closing write in them
+ * stays in memory, and those that are only read take none. */
+static int32_t map_and_read(cola_file *file, int descriptor, size_t length) {
+    char *bytes = mmap(NULL, length, PROT_READ | PROT_WRITE, MAP_PRIVATE | MAP_NORESERVE, descriptor, 0);
+    if (bytes == MAP_FAILED) return COLA_SYSTEM;
+    int32_t answer = cola_open(&file->store, bytes, length);
+    if (answer != COLA_OK) return unmap(bytes, length, answer);
+    file->store.is_read_only = true;
+    return keep(file, bytes, length, descriptor);
+}
+
 /* Maps the file's store, of which room is taken and whose header is this, and opens it. */
 static int32_t map_and_open(cola_file *file, int descriptor, size_t length, const char *head) {
     char *bytes = mmap(NULL, length, PROT_READ | PROT_WRITE, MAP_SHARED, descriptor, 0);
@@ -133,21 +161,12 @@ static int32_t map_and_open(cola_file *file, int descriptor, size_t length, cons
             answer = COLA_SYSTEM;
         }
     }
-    if (answer != COLA_OK) {
-        int error = errno;
-        munmap(bytes, length);
-        errno = error;
-        return answer;
-    }
-    file->bytes = bytes;
-    file->length = length;
-    file->descriptor = descriptor;
-    file->owner = (long)getpid();
-    return COLA_OK;
+    return answer == COLA_OK ? keep(file, bytes, length, descriptor) : unmap(bytes, length, answer);
 }
 
-/* Opens the store in a locked file. The file's first bytes are judged before room is taken, and that for the store alone. */
-static int32_t judge_and_open(cola_file *file, int descriptor) {
+/* Opens the store in a locked file. The file's first bytes are judged before room is taken, and that for the store alone, and
+ * not where it is only read. */
+static int32_t judge_and_open(cola_file *file, int descriptor, bool reads) {
     char head[HEADER];
     uint64_t length;
     struct stat about;
@@ -156,19 +175,49 @@ static int32_t judge_and_open(cola_file *file, int descriptor) {
     if (had < 0) return COLA_SYSTEM;
     int32_t answer = cola_stored_size(head, (size_t)had, (uint64_t)about.st_size, &length);
     if (answer != COLA_OK) return answer;
+    if (reads) return map_and_read(file, descriptor, (size_t)length);
     if (!take_room(descriptor, (size_t)length)) return COLA_SYSTEM;
     return map_and_open(file, descriptor, (size_t)length, head);
 }
 
-int32_t cola_file_open(cola_file *file, const char *path) {
+/* Whether the path names the locked file, and not another one, or none, by now. False too where that could not be told: then
+ * *told is. */
+static bool is_named(int descriptor, const char *path, bool *told) {
+    struct stat own, named;
+    *told = fstat(descriptor, &own) == 0;
+    if (!*told) return false;
+    if (stat(path, &named) == 0) return own.st_dev == named.st_dev && own.st_ino == named.st_ino;
+    *told = errno == ENOENT;
+    return false;
+}
+
+/* Opens the file and locks it, alone or as one of those that read it; -1 on failure. Where the path got another file meanwhile,
+ * as by a copy that took the old one's place, that one is opened. */
+static int open_locked(const char *path, bool reads) {
+    bool told = true;
+    while (told) {
+        int descriptor = open(path, (reads ? O_RDONLY : O_RDWR) | O_CLOEXEC);
+        if (descriptor < 0) return -1;
+        told = flock(descriptor, (reads ? LOCK_SH : LOCK_EX) | LOCK_NB) == 0;
+        if (told && is_named(descriptor, path, &told)) return descriptor;
+        let_go(descriptor);
+    }
+    return -1;
+}
+
+int32_t cola_file_open_as(cola_file *file, const char *path, uint32_t flags) {
+    bool reads = (flags & COLA_READ_ONLY) != 0;
     if (file == NULL || path == NULL) return COLA_NULL;
+    if ((flags & ~(uint32_t)COLA_READ_ONLY) != 0) return COLA_OPTIONS;
     if (file->bytes != NULL) return COLA_IN_USE;
-    int descriptor = open(path, O_RDWR | O_CLOEXEC);
+    int descriptor = open_locked(path, reads);
     if (descriptor < 0) return COLA_SYSTEM;
-    int32_t answer = flock(descriptor, LOCK_EX | LOCK_NB) == 0 ? judge_and_open(file, descriptor) : COLA_SYSTEM;
+    int32_t answer = judge_and_open(file, descriptor, reads);
     if (answer != COLA_OK) let_go(descriptor);
     return answer;
 }
+
+int32_t cola_file_open(cola_file *file, const char *path) { return cola_file_open_as(file, path, 0); }
 
 /* Whether the name is that of the file: then a copy of that name would take the file's place. Or that could not be told. */
 static bool is_same(const struct stat *own, const char *copy) {
@@ -202,6 +251,7 @@ static bool write_copy(const cola_file *file, const char *copy) {
 int32_t cola_file_checkpoint(cola_file *file, const char *copy) {
     if (file == NULL || copy == NULL) return COLA_NULL;
     if (file->bytes == NULL || file->owner != (long)getpid()) return COLA_CLOSED;
+    if (file->store.is_read_only) return COLA_READ_ONLY_STORE;
     int32_t answer = cola_close(&file->store);
     if (answer != COLA_OK) return answer;
     bool is_copied = write_copy(file, copy);
@@ -222,9 +272,10 @@ int32_t cola_file_close(cola_file *file) {
         answer = cola_close(&file->store);
         if (answer == COLA_CLOSED) answer = COLA_OK; /* (a checkpoint had no memory to open it again) */
         /* All that lies behind the header, and then the header, which says that the store is closed. */
-        bool written = answer == COLA_OK && msync(bytes, file->length, MS_SYNC) == 0 &&
-                       write_all(file->descriptor, bytes + HEADER, first - HEADER, HEADER) &&
-                       write_all(file->descriptor, bytes, HEADER, 0);
+        bool written = file->store.is_read_only ||
+                       (answer == COLA_OK && msync(bytes, file->length, MS_SYNC) == 0 &&
+                        write_all(file->descriptor, bytes + HEADER, first - HEADER, HEADER) &&
+                        write_all(file->descriptor, bytes, HEADER, 0));
         if (answer == COLA_OK && !written) answer = COLA_SYSTEM;
     }
     int error = errno;

@@ -12,7 +12,7 @@ const char *cola_strerror(int32_t answer) {
     case COLA_IN_USE: return "the handle is open already";
     case COLA_LENGTH: return "a key or a value has a length that the store does not take";
     case COLA_NULL: return "a pointer is NULL where there has to be one";
-    case COLA_OPTIONS: return "no store has these keys, this block or this version";
+    case COLA_OPTIONS: return "no store has these keys, this block or this version, or there is no such flag";
     case COLA_NOT_EMPTY: return "the file, or the memory, is not empty";
     case COLA_NOT_STORE: return "there is no store";
     case COLA_SMALL: return "there are fewer bytes than the store has";
@@ -21,6 +21,7 @@ const char *cola_strerror(int32_t answer) {
     case COLA_OVERFULL: return "the levels of the store are damaged";
     case COLA_MEMORY: return "there was no memory";
     case COLA_SYSTEM: return "a call of the system failed";
+    case COLA_READ_ONLY_STORE: return "the store is open to be read alone";
     default: return "no answer of this library";
     }
 }

@@ -2,7 +2,8 @@
 # bindings/c in one archive; libcola.so.1 is the same, for programs and languages that load it.
 #
 #     make library                     builds both in $(LIBRARY)
-#     make install-library             installs what was built, the headers with their manual page, cola.pc and cola.py
+#     make install-library             installs what was built, the headers with their manual page, cola.pc, the module for
+#                                      Python with its shell, and that for clusters
 #     make uninstall-library           removes what was installed
 #     make check-library               builds, and runs tests/library.sh on what was built
 #
@@ -25,6 +26,9 @@ libraries = $(DESTDIR)$(LIBDIR)
 included = $(DESTDIR)$(PREFIX)/include
 pages = $(DESTDIR)$(PREFIX)/share/man/man3
 modules = $(DESTDIR)$(PREFIX)/share/cola
+commands = $(DESTDIR)$(PREFIX)/bin
+command_pages = $(DESTDIR)$(PREFIX)/share/man/man1
+module_files = $(notdir $(wildcard bindings/python/cola/*.py))
 
 .PHONY: library install-library uninstall-library check-library always
 
@@ -62,7 +66,7 @@ $(LIBRARY)/libcola.so: $(LIBRARY)/$(shared)
 
 install-library:
 	@test -f '$(LIBRARY)/$(shared)' || { echo 'cola: make library builds the library first' >&2; exit 1; }
-	$(INSTALL) -d '$(libraries)/pkgconfig' '$(included)' '$(pages)' '$(modules)'
+	$(INSTALL) -d '$(libraries)/pkgconfig' '$(included)' '$(pages)' '$(modules)/cola' '$(commands)' '$(command_pages)'
 	$(INSTALL) -m 644 '$(LIBRARY)/libcola.a' '$(libraries)/libcola.a'
 	$(INSTALL) -m 644 '$(LIBRARY)/$(shared)' '$(libraries)/$(shared)'
 	ln -sf $(shared) '$(libraries)/libcola.so'
@@ -70,12 +74,17 @@ install-library:
 	sed 's|@PREFIX@|$(PREFIX)|; s|@LIBDIR@|$(LIBDIR:$(PREFIX)/%=$${prefix}/%)|; s|@VERSION@|$(version)|' bindings/c/cola.pc.in >'$(libraries)/pkgconfig/cola.pc'
 	awk -v version='$(version)' -f docs/header.awk $(headers) >'$(pages)/cola.3'
 	chmod 644 '$(libraries)/pkgconfig/cola.pc' '$(pages)/cola.3'
-	$(INSTALL) -m 644 bindings/python/cola.py '$(modules)/cola.py'
+	$(INSTALL) -m 644 $(module_files:%=bindings/python/cola/%) '$(modules)/cola'
+	$(INSTALL) -m 644 bindings/python/cola_cluster.py '$(modules)/cola_cluster.py'
+	$(INSTALL) -m 755 bindings/python/cola-shell '$(commands)/cola-shell'
+	$(INSTALL) -m 644 docs/cola-shell.1 '$(command_pages)/cola-shell.1'
 
 uninstall-library:
 	rm -f '$(libraries)/libcola.a' '$(libraries)/libcola.so' '$(libraries)/$(shared)' '$(libraries)/pkgconfig/cola.pc'
-	rm -f '$(included)/cola.h' '$(included)/cola_file.h' '$(pages)/cola.3' '$(modules)/cola.py'
-	-rmdir '$(modules)' 2>/dev/null
+	rm -f '$(included)/cola.h' '$(included)/cola_file.h' '$(pages)/cola.3'
+	rm -f $(module_files:%='$(modules)/cola/%') '$(modules)/cola_cluster.py' '$(commands)/cola-shell' '$(command_pages)/cola-shell.1'
+	-rm -rf '$(modules)/cola/__pycache__'
+	-rmdir '$(modules)/cola' '$(modules)' 2>/dev/null
 
 check-library: library
 	tests/library.sh '$(LIBRARY)'

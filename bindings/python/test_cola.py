@@ -1,5 +1,8 @@
-"""The tests of cola.py, for pytest; without it, python3 -m unittest test_cola."""
+# SPDX-License-Identifier: MIT
+"""The tests of the module, for pytest; without it, python3 -m unittest test_cola."""
 
+import ctypes
+import math
 import os
 import random
 import shutil
@@ -90,6 +93,173 @@ class Stores(unittest.TestCase):
         self.assertEqual([key for key, _ in store[b"a" * 41:]], [b"b"])
         self.assertEqual([key for key, _ in store[:b"a" * 41]], [b"a" * 40])
         self.assertEqual([key for key, _ in store[b"a" * 40:b"a" * 41]], [b"a" * 40])
+
+    def test_a_prefix_has_the_keys_that_begin_so(self):
+        store, dice = self.store(version=2), random.Random(20261129)
+        keys = sorted({dice.choice([b"", b"\xff", b"\xff\xff", b"\xfe\xff", b"\0"]) + dice.randbytes(1 + dice.randrange(3)) for _ in range(500)} | {b"a" * 40})
+        store.update((key, key[:9]) for key in keys)
+        prefixes = [b"", b"\0", b"\xff", b"\xff" * 2, b"\xff" * 3, b"\xff" * 40, b"\xfe\xff", b"a" * 40, b"a" * 41, b"a" * 1000, *keys[::7]]
+        for prefix in prefixes + [key[:1 + at % 2] for at, key in enumerate(keys)]:
+            self.assertEqual(list(store.prefix(prefix)), [(key, key[:9]) for key in keys if key.startswith(prefix)])
+        self.assertEqual(list(store.prefix(bytearray(b"a"))), list(store.prefix(b"a")))
+        for no_key in "a", 7, None:
+            with self.assertRaises(TypeError):
+                store.prefix(no_key)
+        store.close()
+        with self.assertRaises(cola.Closed):
+            store.prefix(b"a")
+
+    def test_many_pairs_are_put_at_once(self):
+        store = self.store(keys=3000)
+        pairs = [(b"k%05d" % (at * 7919 % 2500), b"v%d" % at) for at in range(2500)]
+        class OnlyKeys:  # (as dict takes it)
+            def keys(self):
+                return [b"x", b"y"]
+
+            def __getitem__(self, key):
+                return key * 2
+        for given in pairs, dict(pairs), iter(pairs), (pair for pair in pairs), [list(pair) for pair in pairs]:
+            store.update(given)
+            self.assertEqual(dict(store), dict(pairs))
+            store.clear()
+        store.update(OnlyKeys())
+        store.update()
+        store.update([])
+        store.update([(bytearray(b"z"), memoryview(b"zz")), (b"x", b"1"), (b"x", b"2")])
+        self.assertEqual(dict(store), {b"x": b"2", b"y": b"yy", b"z": b"zz"})
+        for wrong in 42, None, [("a", b"1")], [(b"a", "1")], [(b"a", None)], [(7, b"1")]:
+            with self.assertRaises(TypeError):
+                store.update(wrong)
+        with self.assertRaises(TypeError):
+            store.update(word=b"1")
+        for wrong in [(b"a",)], [(b"a", b"b", b"c")]:
+            with self.assertRaises(ValueError):
+                store.update(wrong)
+        self.assertEqual(len(store), 3)
+
+    def test_an_update_says_how_far_it_came(self):
+        store = self.store(keys=1500)
+        with self.assertRaises(cola.Full) as raised:
+            store.update((b"%05d" % at, b"") for at in range(5000))
+        self.assertEqual((raised.exception.done, len(store)), (1500, 1500))
+        store.clear()
+        for length in 25, 40, 41, 255, 256, 1000:
+            with self.assertRaises(cola.Length) as raised:
+                store.update([(b"a", b"1"), (b"b", b"2"), (b"k" * length, b"3"), (b"c", b"4")])
+            self.assertEqual((raised.exception.done, dict(store)), (2, {b"a": b"1", b"b": b"2"}))
+            if length > 32:
+                with self.assertRaises(cola.Length) as raised:
+                    store.update([(b"a", b"1"), (b"b", b"v" * length)])
+                self.assertEqual(raised.exception.done, 1)
+        with self.assertRaises(cola.Length):
+            store.update({b"": b"1"})
+        with cola.open(self.copy, keys=10, version=2, create=True) as wide:
+            for length in 41, 255, 256, 1000:
+                for pair in (b"k" * length, b""), (b"k", b"v" * (32 + length)):
+                    with self.assertRaises(cola.Length):
+                        wide.update([pair])
+                with self.assertRaises(cola.Length):
+                    wide.get_many([b"k" * length])
+            wide.update([(b"k" * 40, b"v" * 72)])
+            self.assertEqual(wide.get_many([b"k" * 40]), [b"v" * 72])
+            self.assertEqual(len(wide), 1)
+
+    def test_many_values_are_had_at_once(self):
+        store = self.store(keys=3000)
+        plain = {b"k%05d" % at: b"v" * (at % 33) for at in range(2500)}
+        store.update(plain)
+        keys = [b"k%05d" % (at * 3 % 3000) for at in range(3000)]
+        self.assertTrue(store.get_many(keys) == [plain.get(key) for key in keys])
+        self.assertTrue(store.get_many(iter(keys), b"-") == [plain.get(key, b"-") for key in keys])
+        self.assertEqual(store.get_many([]), [])
+        self.assertEqual(store.get_many([bytearray(b"k00001"), memoryview(b"none")], default=0), [b"v", 0])
+        for wrong in "text", 7, [b"a", "b"], [None]:
+            with self.assertRaises(TypeError):
+                store.get_many(wrong)
+        for length in 0, 25, 41, 255, 256, 1000:
+            with self.assertRaises(cola.Length):
+                store.get_many([b"a", b"k" * length])
+        store.close()
+        with self.assertRaises(cola.Closed):
+            store.get_many([b"a"])
+
+    def test_many_at_once_cross_once(self):
+        store = self.store(version=2)
+        pairs = [(b"user:%06d" % at, b"value %d" % at) for at in range(1000)]
+        keys, rows, done = [key for key, _ in pairs], cola._packed(pairs), ctypes.c_size_t()
+        room, there = ctypes.create_string_buffer(rows, len(rows)), ctypes.create_string_buffer(1000)
+
+        def put_each():
+            for key, value in pairs:
+                store[key] = value
+        calls = [put_each, lambda: store.update(pairs), lambda: cola._library.cola_put_many(store._at, rows, 1000, None, done),
+                 lambda: [store[key] for key in keys], lambda: store.get_many(keys),
+                 lambda: cola._library.cola_get_many(store._at, room, 1000, there, done)]
+        least = [math.inf] * len(calls)
+        for _ in range(40):
+            for at, call in enumerate(calls):
+                begun = time.process_time()
+                call()
+                least[at] = min(least[at], time.process_time() - begun)
+        for name, (each, many, alone) in ("update", least[:3]), ("get_many", least[3:]):
+            crossing = (many - alone) / (each - alone)
+            print(f"1,000 at once, beside one by one: {name} {many / each:.2f} of the time, and {crossing:.2f} without that of the library itself "
+                  f"({each * 1000:.2f}, {many * 1000:.2f} and {alone * 1000:.2f} us a row)")
+            self.assertLess(many, each)
+            self.assertLess(crossing, 0.5)  # (0.2 is aimed at)
+
+    def test_a_store_is_made_where_there_is_none(self):
+        for wrong in {"create": True}, {"keys": 5}, {"block": 3}, {"version": 2, "read_only": True}:
+            with self.assertRaises(TypeError):
+                cola.open(self.path, **wrong)
+        with self.assertRaises(TypeError):
+            cola.open(self.path, 1000)
+        self.assertFalse(os.path.exists(self.path))
+        with self.assertRaises(cola.Options):
+            cola.open(self.path, keys=0, create=True)
+        with cola.open(self.path, keys=100, block=3, version=2, create=True) as store:
+            store[b"a"] = b"1"
+            self.assertEqual(store.limits, {"keys": 100, "block": 3, "version": 2})
+            self.assertEqual(repr(store), f"<cola.Store {self.path!r}, keys=100, block=3, version=2>")
+        self.assertEqual(repr(store), f"<cola.Store {self.path!r}, keys=100, block=3, version=2, closed>")
+        with cola.open(self.path, keys=7, create=True, read_only=True) as store:
+            self.assertEqual(dict(store), {b"a": b"1"})
+            self.assertEqual(repr(store), f"<cola.Store {self.path!r}, keys=100, block=3, version=2, read_only=True>")
+        with open(self.copy, "wb"):
+            pass
+        with cola.open(self.copy, keys=7, create=True) as store:  # (an empty file)
+            self.assertEqual((len(store), store.limits["keys"]), (0, 7))
+        with open(self.copy, "wb") as file:
+            file.write(b"x")
+        with self.assertRaises(cola.Small):
+            cola.open(self.copy, keys=7, create=True)
+
+    def test_a_store_that_is_read_alone(self):
+        with self.store(version=2) as store:
+            store.update({b"a": b"1", b"b": b"2"})
+            with self.assertRaises(BlockingIOError):
+                cola.open(self.path, read_only=True)
+        with open(self.path, "rb") as file:
+            before = file.read()
+        with cola.open(self.path, read_only=True) as one, cola.open(self.path, read_only=True) as two:
+            self.assertTrue(one.read_only)
+            self.assertEqual((dict(one), len(two), two.stamp(b"b"), list(two.prefix(b"b"))), ({b"a": b"1", b"b": b"2"}, 2, 2, [(b"b", b"2")]))
+            for call in (lambda: one.__setitem__(b"a", b"2"), lambda: one.pop(b"a"), lambda: one.update({b"a": b"2"}), lambda: one.put_if(b"a", 1, b"2"),
+                         lambda: one.checkpoint(self.copy), lambda: one.__delitem__(b"c")):
+                with self.assertRaises(cola.ReadOnly):
+                    call()
+            with self.assertRaises(BlockingIOError):
+                cola.open(self.path)
+            child = os.fork()
+            if child == 0:
+                cola.open(self.path, read_only=True)
+                os.kill(os.getpid(), signal.SIGKILL)
+            os.waitpid(child, 0)
+        with open(self.path, "rb") as file:
+            self.assertEqual(file.read(), before)
+        with cola.open(self.path) as store:
+            self.assertFalse(store.read_only)
+            store[b"a"] = b"3"
 
     def test_a_full_store_is_full(self):
         store = self.store(keys=1)

@@ -18,7 +18,7 @@
 #include "cola_file.h"
 #include "plain.h"
 
-static int failed, met[COLA_SYSTEM + 1];
+static int failed, met[COLA_READ_ONLY_STORE + 1];
 
 #define ANSWERS(wanted, call) answers(wanted, call, #call, __LINE__)
 static void answers(int32_t wanted, int32_t is, const char *call, int line) {
@@ -500,6 +500,129 @@ static void of_longer_files(void) {
     close(descriptor);
 }
 
+/* A process that opens the file, to be read alone or not, says what that was answered, and waits until it is killed. */
+static pid_t opened_by_another(uint32_t flags, int32_t wanted) {
+    int ready[2];
+    char it = 77;
+    if (pipe(ready) != 0) perror("pipe"), exit(1);
+    pid_t child = fork();
+    if (child == 0) {
+        cola_file file = COLA_FILE_INIT;
+        it = (char)cola_file_open_as(&file, path, flags);
+        if (write(ready[1], &it, 1) == 1) pause();
+        _exit(9);
+    }
+    HOLDS(read(ready[0], &it, 1) == 1 && it == wanted);
+    close(ready[0]), close(ready[1]);
+    return child;
+}
+
+static void kill_one(pid_t child) {
+    int status = 0;
+    kill(child, SIGKILL);
+    waitpid(child, &status, 0);
+    HOLDS(WIFSIGNALED(status));
+}
+
+/* The file as it is, to be compared with what it was. */
+static void read_file(const char *where, void *bytes, size_t length) {
+    FILE *it = fopen(where, "rb");
+    if (it == NULL || fread(bytes, 1, length, it) != length || fclose(it) != 0) perror(where), exit(1);
+}
+
+/* What a store answers that is open to be read alone. */
+static void of_a_reader(cola_file *file) {
+    cola_row row = {.key_len = 1, .value_len = 1, .key = "a", .value = "3"}, rows[4];
+    cola_cursor cursor;
+    char value[COLA_VALUE_MAX];
+    uint64_t number = 7;
+    size_t length = 7;
+    bool was = true;
+    ANSWERS(COLA_READ_ONLY_STORE, cola_put(&file->store, "a", 1, "3", 1, &was));
+    ANSWERS(COLA_READ_ONLY_STORE, cola_put(&file->store, "", 0, "3", 1, NULL)); /* (whatever its lengths are) */
+    ANSWERS(COLA_READ_ONLY_STORE, cola_put_if(&file->store, "a", 1, 0, "3", 1, &number));
+    ANSWERS(COLA_READ_ONLY_STORE, cola_put_many(&file->store, &row, 1, &was, &length));
+    HOLDS(was && number == 7 && length == 0);
+    ANSWERS(COLA_READ_ONLY_STORE, cola_put_many(&file->store, NULL, 0, NULL, &length));
+    ANSWERS(COLA_READ_ONLY_STORE, cola_delete(&file->store, "a", 1));
+    ANSWERS(COLA_READ_ONLY_STORE, cola_delete(&file->store, "absent", 6));
+    ANSWERS(COLA_READ_ONLY_STORE, cola_checkpoint(&file->store));
+    ANSWERS(COLA_READ_ONLY_STORE, cola_file_checkpoint(file, other_path));
+    ANSWERS(COLA_NULL, cola_put(&file->store, NULL, 1, "3", 1, NULL));
+    ANSWERS(COLA_NULL, cola_delete(&file->store, NULL, 1));
+    ANSWERS(COLA_IN_USE, cola_file_open_as(file, path, COLA_READ_ONLY));
+    ANSWERS(COLA_OK, cola_get(&file->store, "a", 1, value, &length));
+    HOLDS(length == 1 && value[0] == '1');
+    ANSWERS(COLA_NONE, cola_get(&file->store, "absent", 6, value, &length));
+    ANSWERS(COLA_OK, cola_stamp(&file->store, "a", 1, &number));
+    ANSWERS(COLA_OK, cola_get_many(&file->store, &row, 1, &was, &length));
+    HOLDS(was && row.value[0] == '1' && length == 1);
+    ANSWERS(COLA_OK, cola_count(&file->store, &number));
+    ANSWERS(COLA_OK, cola_seek(&cursor, NULL, 0, NULL, 0));
+    ANSWERS(COLA_OK, cola_next(&file->store, &cursor, rows, 4, &length));
+    HOLDS(length == number && length < 4 && rows[0].key[0] == 'a');
+}
+
+/* Files that are read alone: many at once, beside no writer; one that dies leaves nothing, and no byte is ever written. */
+static void of_readers(void) {
+    static uint8_t before[8192], now[8192];
+    cola_file file = COLA_FILE_INIT, beside = COLA_FILE_INIT;
+    struct stat about, after;
+    read_file(path, before, sizeof before);
+    HOLDS(chmod(path, 0444) == 0 && stat(path, &about) == 0);
+    ANSWERS(COLA_NULL, cola_file_open_as(NULL, path, COLA_READ_ONLY));
+    ANSWERS(COLA_NULL, cola_file_open_as(&file, NULL, COLA_READ_ONLY));
+    ANSWERS(COLA_OPTIONS, cola_file_open_as(&file, path, COLA_READ_ONLY | 2));
+    ANSWERS(COLA_OPTIONS, cola_file_open_as(&file, path, 1u << 31));
+    ANSWERS(COLA_SYSTEM, cola_file_open_as(&file, "/no such folder/store", COLA_READ_ONLY));
+    HOLDS(errno == ENOENT);
+    pid_t one = opened_by_another(COLA_READ_ONLY, COLA_OK), two = opened_by_another(COLA_READ_ONLY, COLA_OK);
+    ANSWERS(COLA_OK, cola_file_open_as(&file, path, COLA_READ_ONLY));
+    ANSWERS(COLA_OK, cola_file_open_as(&beside, path, COLA_READ_ONLY));
+    of_a_reader(&file);
+    of_a_reader(&beside);
+    ANSWERS(COLA_OK, cola_file_close(&beside));
+    kill_one(opened_by_another(0, COLA_SYSTEM)); /* a writer beside readers */
+    ANSWERS(COLA_SYSTEM, cola_file_open(&beside, path));
+    HOLDS(errno == EWOULDBLOCK);
+    pid_t child = fork(); /* a child closes what its parent reads, and the parent reads on */
+    if (child == 0) {
+        if (cola_file_checkpoint(&file, other_path) == COLA_CLOSED && cola_file_close(&file) == COLA_OK) execlp("true", "true", (char *)NULL);
+        _exit(9);
+    }
+    int status = -1;
+    waitpid(child, &status, 0);
+    HOLDS(status == 0);
+    of_a_reader(&file);
+    ANSWERS(COLA_OK, cola_file_close(&file));
+    ANSWERS(COLA_CLOSED, cola_file_close(&file));
+    ANSWERS(COLA_CLOSED, cola_put(&file.store, "a", 1, "3", 1, NULL));
+    kill_one(one);
+    ANSWERS(COLA_SYSTEM, cola_file_open(&beside, path)); /* (there is one yet) */
+    kill_one(two);
+    read_file(path, now, sizeof now);
+    HOLDS(memcmp(before, now, sizeof now) == 0 && stat(path, &after) == 0 && about.st_mtime == after.st_mtime && about.st_ctime == after.st_ctime);
+    HOLDS(chmod(path, 0644) == 0);
+    pid_t writer = opened_by_another(0, COLA_OK); /* a reader beside a writer */
+    ANSWERS(COLA_SYSTEM, cola_file_open_as(&file, path, COLA_READ_ONLY));
+    HOLDS(errno == EWOULDBLOCK);
+    kill_one(writer);
+    ANSWERS(COLA_NOT_CLOSED, cola_file_open_as(&file, path, COLA_READ_ONLY));
+    write_file(path, before, sizeof before);
+    ANSWERS(COLA_OK, cola_file_open_as(&file, path, COLA_READ_ONLY));
+    HOLDS(rename(path, near_path) == 0); /* a file that lost its name is read on */
+    of_a_reader(&file);
+    HOLDS(rename(near_path, path) == 0);
+    ANSWERS(COLA_OK, cola_file_close(&file));
+    ANSWERS(COLA_OK, cola_file_open(&file, path)); /* and the same handle writes, once it is opened for that */
+    ANSWERS(COLA_OK, cola_put(&file.store, "a", 1, "1", 1, NULL));
+    ANSWERS(COLA_OK, cola_file_checkpoint(&file, other_path));
+    ANSWERS(COLA_OK, cola_file_close(&file));
+    write_file(other_path, before, 600);
+    ANSWERS(COLA_SMALL, cola_file_open_as(&file, other_path, COLA_READ_ONLY));
+    HOLDS(length_of(other_path) == 600);
+}
+
 static void of_files(void) {
     cola_file file = COLA_FILE_INIT;
     ANSWERS(COLA_NULL, cola_file_create(NULL, 30, 3, 1));
@@ -570,6 +693,7 @@ static void of_files(void) {
     ANSWERS(COLA_OK, cola_file_close(&file));
     HOLDS(rename(near_path, path) == 0);
     of_longer_files();
+    of_readers();
 
     /* A checkpoint that has no memory to open the store again leaves it closed, with its map. */
     ANSWERS(COLA_OK, cola_file_open(&file, path));
@@ -615,13 +739,13 @@ int main(int count, char **words) {
     of_calls(1);
     of_calls(2);
     of_files();
-    for (int answer = 0; answer <= COLA_SYSTEM; answer++) {
+    for (int answer = 0; answer <= COLA_READ_ONLY_STORE; answer++) {
         HOLDS(cola_strerror(answer) != NULL);
         for (int other = 0; other < answer; other++) HOLDS(strcmp(cola_strerror(answer), cola_strerror(other)) != 0);
     }
-    HOLDS(strcmp(cola_strerror(-1), cola_strerror(COLA_SYSTEM + 1)) == 0);
+    HOLDS(strcmp(cola_strerror(-1), cola_strerror(COLA_READ_ONLY_STORE + 1)) == 0);
     printf("met");
-    for (int answer = 0; answer <= COLA_SYSTEM; answer++) {
+    for (int answer = 0; answer <= COLA_READ_ONLY_STORE; answer++) {
         if (met[answer]) printf(" %d", answer);
         else failed = 1;
     }

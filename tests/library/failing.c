@@ -1,4 +1,4 @@
-/* Each call of the system that cola_file.h makes on a file, in a creation, an opening, a checkpoint and a closing, fails in
+/* Each call of the system that cola_file.h makes on a file, in a creation, the openings, a checkpoint and a closing, fails in
  * turn; and the process is killed in front of each, behind each, and within each write. What is left has to be whole or
  * refused, never another map; a refused call leaves nothing behind, and its errno is that of the call that failed; all else
  * in the folder stays as it was.
@@ -36,10 +36,11 @@ enum kind {
     INTERRUPTED,    /* a signal came first */
     KINDS
 };
-static const char *const kinds[KINDS] = {"made", "refused", "as the disk fails", "killed before", "killed behind", "killed within", "half", "nothing", "interrupted"};
+static const char *const kinds[KINDS] = {"made", "refused", "as the disk fails", "killed before", "killed behind", "killed within", "half",
+                                         "nothing", "interrupted"};
 
-enum operation { CREATE, CREATE_EMPTY, OPEN, CHECKPOINT, CLOSE, OPERATIONS };
-static const char *const operations[OPERATIONS] = {"create", "create in an empty file", "open", "checkpoint", "close"};
+enum operation { CREATE, CREATE_EMPTY, OPEN, READ, CHECKPOINT, CLOSE, OPERATIONS };
+static const char *const operations[OPERATIONS] = {"create", "create in an empty file", "open", "open to read", "checkpoint", "close"};
 
 enum { KEYS = 300, HEADER = 512 };
 
@@ -91,7 +92,6 @@ static void ends(enum kind it) {
     }
 CALL(fstat, EOVERFLOW, (int descriptor, struct stat *about), (descriptor, about))
 CALL(stat, ELOOP, (const char *path, struct stat *about), (path, about))
-CALL(flock, ENOLCK, (int descriptor, int how), (descriptor, how))
 CALL(fsync, EIO, (int descriptor), (descriptor))
 CALL(msync, EIO, (void *bytes, size_t length, int how), (bytes, length, how))
 CALL(munmap, EINVAL, (void *bytes, size_t length), (bytes, length))
@@ -100,6 +100,22 @@ CALL(unlink, EROFS, (const char *path), (path))
 CALL(ftruncate, EFBIG, (int descriptor, off_t length), (descriptor, length))
 CALL(fchmod, EPERM, (int descriptor, mode_t mode), (descriptor, mode))
 CALL(mkostemp, EMFILE, (char *path, int how), (path, how))
+
+static const char *replaced, *replacing; /* the file that is replaced in front of the next lock, and by which one; NULL: by none */
+
+int __real_flock(int descriptor, int how);
+int __wrap_flock(int descriptor, int how);
+int __wrap_flock(int descriptor, int how) {
+    enum kind it = begins("flock", false, false);
+    if (it == REFUSED) return refuses(ENOLCK);
+    if (replaced != NULL) {
+        if (replacing == NULL ? __real_unlink(replaced) != 0 : __real_rename(replacing, replaced) != 0) abort();
+        replaced = NULL;
+    }
+    int answer = __real_flock(descriptor, how);
+    ends(it);
+    return answer;
+}
 
 int __real_open(const char *path, int how, ...);
 int __wrap_open(const char *path, int how, ...);
@@ -329,6 +345,10 @@ static void session(void) {
     } else if (operation == OPEN) {
         ARMED(cola_file_open(&file, path_of("store")));
         if (answer == COLA_OK) HOLDS(cola_file_close(&file) == COLA_OK);
+    } else if (operation == READ) {
+        ARMED(cola_file_open_as(&file, path_of("store"), COLA_READ_ONLY));
+        if (answer == COLA_OK) HOLDS(cola_put(&file.store, "k", 1, "v", 1, NULL) == COLA_READ_ONLY_STORE && cola_file_close(&file) == COLA_OK);
+        HOLDS(is_image(&store));
     } else {
         HOLDS(cola_file_open(&file, path_of("store")) == COLA_OK);
         go(&file.store, FIRST, SECOND);
@@ -381,6 +401,9 @@ static void look(bool was_killed) {
         answer = opens("store", FIRST);
         HOLDS(answer == COLA_OK || (answer == COLA_NOT_CLOSED && (was_killed || kind == DISK_FAILS)));
         break;
+    case READ:
+        HOLDS(unknown == 0 && !is_there("made") && is_image(&copy) && is_image(&store) && opens("store", FIRST) == COLA_OK);
+        break;
     case CHECKPOINT:
         HOLDS(!is_there("made") && unknown <= (was_killed ? 1 : 0));
         if (unknown > 0) {
@@ -420,6 +443,26 @@ static long one(char call[32], int32_t *answer) {
     return count;
 }
 
+/* A path that gets another file, or none, while its old file is opened: what is opened is the file that it names. */
+static void of_replaced_files(uint32_t flags) {
+    cola_file file = COLA_FILE_INIT;
+    uint64_t keys = 0;
+    operation = OPEN;
+    set_up();
+    int before = descriptors();
+    char at_store[4096], at_copy[4096];
+    snprintf(at_store, sizeof at_store, "%s", path_of("store"));
+    snprintf(at_copy, sizeof at_copy, "%s", path_of("copy"));
+    replaced = at_store, replacing = at_copy;
+    HOLDS(cola_file_open_as(&file, at_store, flags) == COLA_OK && replaced == NULL && !is_there("copy"));
+    HOLDS(cola_count(&file.store, &keys) == COLA_OK && keys == map_of(OLD)->count && keys != map_of(FIRST)->count);
+    HOLDS(cola_file_close(&file) == COLA_OK && descriptors() == before);
+    replaced = at_store, replacing = NULL;
+    errno = 0;
+    HOLDS(cola_file_open_as(&file, at_store, flags) == COLA_SYSTEM && errno == ENOENT && descriptors() == before);
+    HOLDS(!is_there("store") && file.bytes == NULL);
+}
+
 int main(int count, char **words) {
     char call[32];
     int32_t answer;
@@ -429,6 +472,8 @@ int main(int count, char **words) {
     mkdir(folder, 0777);
     make("store", FIRST, &store);
     make("copy", OLD, &copy);
+    of_replaced_files(0);
+    of_replaced_files(COLA_READ_ONLY);
     for (operation = CREATE; operation < OPERATIONS; operation++) {
         kind = MADE, at = 0;
         long calls = one(call, &answer);

@@ -1,6 +1,6 @@
 /* What cola.c hands on to the proved calls, in whose place stand-ins are here: no pointer is NULL, no length is far above its
  * limit, each bool is one, also where the caller's byte is none or was never written, and the caller's places are written
- * where the answer says so, and nowhere else.
+ * where the answer says so, and nowhere else. What a proved call leaves between the bytes of a handle changes nothing.
  *
  *     handed
  *
@@ -18,6 +18,12 @@ typedef struct cola_region {
     size_t len;
 } cola_region;
 
+/* The handle as a proved call writes it, as a whole: of what stands between its bytes nothing is said. */
+static void writes(cola *store, bool is_open) {
+    memset(store, 0xAB, sizeof *store);
+    store->is_open = is_open, store->at = NULL;
+}
+
 static int32_t answer;     /* what the stand-ins answer */
 static int calls;          /* how many were made */
 static cola_cursor handed; /* the cursor of the last one */
@@ -28,8 +34,16 @@ static bool is_bool(const bool *it) {
     return byte == 0 || byte == 1;
 }
 
+static bool reads;         /* each byte that is handed on is read, for tools that tell bytes that are none */
+static volatile unsigned char read_last;
+
+static void read_all(const void *bytes, size_t len) {
+    for (size_t at = 0; at < len; at++) read_last = ((const unsigned char *)bytes)[at];
+}
+
 static void takes(const void *key, size_t key_len, const void *value, size_t value_len) {
     calls++;
+    if (reads) read_all(key, key_len), read_all(value, value_len);
     HOLDS(key != NULL && key_len <= COLA_KEY_MAX + 1 && value != NULL && value_len <= COLA_VALUE_MAX + 1);
 }
 
@@ -43,10 +57,14 @@ int32_t cola_core_stored_size(const void *head, size_t head_len, uint64_t length
 int32_t cola_core_create(void *bytes, size_t len, uint64_t keys, uint8_t block, uint8_t version) {
     return (void)bytes, (void)len, (void)keys, (void)block, (void)version, calls++, answer;
 }
-int32_t cola_core_open(cola *store, cola_region *region) { return HOLDS(is_bool(&store->is_open) && region->at != NULL), calls++, answer; }
+int32_t cola_core_open(cola *store, cola_region *region) {
+    HOLDS(is_bool(&store->is_open) && region->at != NULL);
+    return writes(store, answer == COLA_OK), calls++, answer;
+}
 int32_t cola_core_put(cola *store, const void *key, size_t key_len, const void *value, size_t value_len, bool *was) {
     takes(key, key_len, value, value_len);
     HOLDS(store != NULL && is_bool(was));
+    if (store->is_open) writes(store, true);
     if (answer == COLA_OK) *was = true;
     return answer;
 }
@@ -88,7 +106,10 @@ int32_t cola_core_next(cola *store, cola_cursor *cursor, cola_row *rows, size_t 
     return answer;
 }
 int32_t cola_core_checkpoint(cola *store, cola_region *region) { return HOLDS(store != NULL && region->at == NULL), calls++, answer; }
-int32_t cola_core_close(cola *store, cola_region *region) { return HOLDS(store != NULL && region->at == NULL), calls++, answer; }
+int32_t cola_core_close(cola *store, cola_region *region) {
+    HOLDS(store != NULL && region->at == NULL);
+    return writes(store, false), calls++, answer;
+}
 
 /* Fills a place with bytes that make no bool. */
 #define SPOIL(place) memset(&(place), 0xAB, sizeof(place))
@@ -133,6 +154,43 @@ static void of_cursors(cola *store) {
     HOLDS(cola_next(store, &unwritten, NULL, 0, &given) == COLA_OK && given == 0);
 }
 
+/* A store is read alone where this file's own mark says so, and no other byte of a handle is one. */
+static void of_handles(void) {
+    char value[COLA_VALUE_MAX];
+    size_t length = 7;
+    cola store;
+    SPOIL(store);
+    store.is_open = false, store.at = NULL;
+    answer = COLA_OK;
+    HOLDS(cola_put(&store, "k", 1, "v", 1, NULL) == COLA_OK && cola_delete(&store, "k", 1) == COLA_OK);
+    HOLDS(cola_open(&store, value, sizeof value) == COLA_OK && store.is_open && !store.is_read_only);
+    HOLDS(cola_put(&store, "k", 1, "v", 1, NULL) == COLA_OK && store.is_open && !store.is_read_only);
+    HOLDS(cola_put(&store, "k", 1, "v", 1, NULL) == COLA_OK);
+    store.is_read_only = true, calls = 0;
+    HOLDS(cola_put(&store, "k", 1, "v", 1, NULL) == COLA_READ_ONLY_STORE && cola_delete(&store, "k", 1) == COLA_READ_ONLY_STORE);
+    HOLDS(cola_put_if(&store, "k", 1, 5, "v", 1, NULL) == COLA_READ_ONLY_STORE && cola_checkpoint(&store) == COLA_READ_ONLY_STORE);
+    HOLDS(calls == 0 && cola_get(&store, "k", 1, value, &length) == COLA_OK && calls == 1);
+    HOLDS(cola_close(&store) == COLA_OK && !store.is_open && cola_put(&store, "k", 1, "v", 1, NULL) == COLA_OK);
+}
+
+/* Rows that are said to be longer than they are: nothing behind them is read, also behind the last one. */
+static void of_rows(void) {
+    cola store = {true, false, NULL};
+    cola_row *rows = calloc(2, sizeof *rows);
+    bool there[2];
+    size_t done = 7;
+    HOLDS(rows != NULL);
+    rows[0].key_len = COLA_KEY_MAX, rows[0].value_len = COLA_VALUE_MAX, rows[1].key_len = rows[1].value_len = 255;
+    answer = COLA_OK, calls = 0, reads = true;
+    HOLDS(cola_put_many(&store, rows, 2, there, &done) == COLA_OK && done == 2 && calls == 2 && there[0] && there[1]);
+    HOLDS(cola_get_many(&store, rows, 1, there, &done) == COLA_OK && done == 1 && calls == 3);
+    answer = COLA_LENGTH;
+    HOLDS(cola_put_many(&store, rows, 2, there, &done) == COLA_LENGTH && done == 0 && calls == 4);
+    HOLDS(cola_get_many(&store, rows, 2, there, &done) == COLA_LENGTH && done == 0 && calls == 5);
+    answer = COLA_OK, reads = false;
+    free(rows);
+}
+
 int main(void) {
     cola store = COLA_INIT;
     uint64_t number = 0;
@@ -140,6 +198,8 @@ int main(void) {
     char value[COLA_VALUE_MAX];
     of_bools(&store);
     of_cursors(&store);
+    of_handles();
+    of_rows();
     answer = COLA_OK;
     HOLDS(cola_size(1, 5, 1, &number) == COLA_OK && number == 77);
     HOLDS(cola_stored_size(NULL, 0, 0, &number) == COLA_OK);

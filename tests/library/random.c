@@ -88,6 +88,65 @@ static void gets(plain *it, cola *store) {
     SAME("a stamp", answer != COLA_OK || stamp == pair->stamp);
 }
 
+/* Rows put at once, some of which may be refused: those before the first that is are put. */
+static void puts_many(plain *it, cola *store) {
+    uint8_t key[128], value[256];
+    cola_row rows[MOST] = {{0}};
+    bool was[MOST], plain_was = false;
+    size_t count = next(MOST), done = 999, wanted = 0;
+    int32_t plain_answer = COLA_OK;
+    for (size_t at = 0; at < count; at++) {
+        rows[at].key_len = (uint8_t)some_key(it, key), rows[at].value_len = (uint8_t)some_value(it, value);
+        memcpy(rows[at].key, key, COLA_KEY_MAX), memcpy(rows[at].value, value, COLA_VALUE_MAX);
+    }
+    int32_t answer = cola_put_many(store, rows, count, was, &done);
+    for (; wanted < count && plain_answer == COLA_OK; wanted += plain_answer == COLA_OK) {
+        plain_answer = plain_put(it, rows[wanted].key, rows[wanted].key_len, rows[wanted].value, rows[wanted].value_len, &plain_was);
+        SAME("whether one of many puts found the key", plain_answer != COLA_OK || was[wanted] == plain_was);
+    }
+    SAME("the answer of many puts", answer == plain_answer);
+    SAME("how many were put", done == wanted);
+}
+
+/* The values of many keys, up to the first that is refused. */
+static void gets_many(plain *it, cola *store) {
+    uint8_t key[128];
+    cola_row rows[MOST] = {{0}};
+    bool there[MOST];
+    const plain_pair *pair = NULL;
+    size_t count = next(MOST), done = 999, wanted = 0;
+    int32_t plain_answer = COLA_OK;
+    for (size_t at = 0; at < count; at++) rows[at].key_len = (uint8_t)some_key(it, key), memcpy(rows[at].key, key, COLA_KEY_MAX);
+    int32_t answer = cola_get_many(store, rows, count, there, &done);
+    for (; wanted < count; wanted++) {
+        plain_answer = plain_get(it, rows[wanted].key, rows[wanted].key_len, &pair);
+        if (plain_answer == COLA_LENGTH) break;
+        SAME("whether one of many keys is there", there[wanted] == (plain_answer == COLA_OK));
+        SAME("one of many values", !there[wanted] || plain_order(rows[wanted].value, rows[wanted].value_len, pair->row.value, pair->row.value_len) == 0);
+    }
+    SAME("the answer of many gets", answer == (wanted < count ? COLA_LENGTH : COLA_OK));
+    SAME("how many were looked up", done == wanted);
+}
+
+/* The keys that begin as one of them does, or as its bytes and one more. */
+static void prefixes(plain *it, cola *store) {
+    uint8_t prefix[128];
+    size_t length = some_key(it, prefix) % COLA_KEY_MAX, given;
+    bool there;
+    cola_cursor cursor;
+    cola_row rows[MOST];
+    if (next(3) == 0) prefix[length++] = next(2) == 0 ? UINT8_MAX : (uint8_t)next(256);
+    SAME("the answer of a seek of a prefix", cola_seek_prefix(&cursor, prefix, length) == COLA_OK);
+    for (size_t at = plain_below(it, prefix, length, &there); cola_next(store, &cursor, rows, MOST, &given) == COLA_OK;)
+        for (size_t row = 0; row < given; row++, at++) {
+            const cola_row *mine = &it->pairs[at].row;
+            SAME("a row too many of a prefix", at < it->count && mine->key_len >= length && memcmp(mine->key, prefix, length) == 0);
+            SAME("a key of a prefix", plain_order(mine->key, mine->key_len, rows[row].key, rows[row].key_len) == 0);
+            bool is_last = at + 1 == it->count || it->pairs[at + 1].row.key_len < length || memcmp(it->pairs[at + 1].row.key, prefix, length) != 0;
+            SAME("the last row of a prefix", !is_last || row + 1 == given);
+        }
+}
+
 /* A range, with bounds of any lengths that a cursor takes, a few rows at a time, and now and then a put in between. */
 static void ranges(plain *it, cola *store) {
     uint8_t low[128], high[128];
@@ -195,7 +254,10 @@ static void calls_on(int version, uint8_t block, long calls, long every) {
         else if (which < 50) puts_if(&it, &file.store);
         else if (which < 70) gets(&it, &file.store);
         else if (which < 78) counts(&it, &file.store);
-        else if (which < 82) ranges(&it, &file.store);
+        else if (which < 81) ranges(&it, &file.store);
+        else if (which < 82) prefixes(&it, &file.store);
+        else if (which < 83) puts_many(&it, &file.store);
+        else if (which < 84) gets_many(&it, &file.store);
         else {
             uint8_t key[128];
             size_t length = some_key(&it, key);

@@ -49,6 +49,8 @@ pub const KEYS_MAX: u64 = 1 << 24;
 
 /// How many rows an iterator asks for at once.
 const ROWS: usize = 32;
+/// How many rows are put, or looked up, at once.
+const MANY: usize = 512;
 
 /// What include/cola.h and bindings/c/cola_file.h declare.
 mod c {
@@ -57,6 +59,7 @@ mod c {
     #[repr(C)]
     pub struct Cola {
         is_open: bool,
+        is_read_only: bool,
         at: *mut c_void,
     }
 
@@ -70,8 +73,14 @@ mod c {
     }
 
     /// COLA_FILE_INIT.
-    pub const CLOSED: File =
-        File { store: Cola { is_open: false, at: ptr::null_mut() }, bytes: ptr::null_mut(), length: 0, descriptor: -1, owner: 0 };
+    pub const CLOSED: File = File {
+        store: Cola { is_open: false, is_read_only: false, at: ptr::null_mut() },
+        bytes: ptr::null_mut(),
+        length: 0,
+        descriptor: -1,
+        owner: 0,
+    };
+    pub const READ_ONLY: u32 = 1;
 
     #[repr(C)]
     #[derive(Clone, Copy)]
@@ -108,10 +117,13 @@ mod c {
         pub fn cola_delete(store: *mut Cola, key: *const u8, key_len: usize) -> i32;
         pub fn cola_count(store: *mut Cola, count: *mut u64) -> i32;
         pub fn cola_seek(cursor: *mut Cursor, low: *const u8, low_len: usize, high: *const u8, high_len: usize) -> i32;
+        pub fn cola_seek_prefix(cursor: *mut Cursor, prefix: *const u8, prefix_len: usize) -> i32;
+        pub fn cola_put_many(store: *mut Cola, rows: *const Row, count: usize, was: *mut bool, done: *mut usize) -> i32;
+        pub fn cola_get_many(store: *mut Cola, rows: *mut Row, count: usize, there: *mut bool, done: *mut usize) -> i32;
         pub fn cola_next(store: *mut Cola, cursor: *mut Cursor, rows: *mut Row, most: usize, given: *mut usize) -> i32;
         pub fn cola_strerror(answer: i32) -> *const c_char;
         pub fn cola_file_create(path: *const c_char, keys: u64, block: u8, version: u8) -> i32;
-        pub fn cola_file_open(file: *mut File, path: *const c_char) -> i32;
+        pub fn cola_file_open_as(file: *mut File, path: *const c_char, flags: u32) -> i32;
         pub fn cola_file_checkpoint(file: *mut File, copy: *const c_char) -> i32;
         pub fn cola_file_close(file: *mut File) -> i32;
     }
@@ -150,6 +162,8 @@ pub enum Error {
     Memory,
     /// A call of the system failed. A path with a zero byte is one too.
     System(io::Error),
+    /// The store is open to be read alone ([`Store::open_read_only`]).
+    ReadOnly,
     /// An answer that this crate doesn't know.
     Unknown(i32),
 }
@@ -174,6 +188,7 @@ impl Error {
             15 => Error::Overfull,
             16 => Error::Memory,
             17 => Error::System(io::Error::last_os_error()),
+            18 => Error::ReadOnly,
             _ => Error::Unknown(answer),
         }
     }
@@ -194,6 +209,7 @@ impl Error {
             Error::Overfull => 15,
             Error::Memory => 16,
             Error::System(_) => 17,
+            Error::ReadOnly => 18,
             Error::Unknown(answer) => *answer,
         }
     }
@@ -225,6 +241,33 @@ impl From<io::Error> for Error {
     }
 }
 
+/// Why [`Store::update`] ended before its last pair. It is an [`Error`] where one is wanted, as behind `?`.
+#[derive(Debug)]
+pub struct Stopped {
+    /// How many pairs were put before the one that was refused.
+    pub done: usize,
+    /// Why that one was.
+    pub error: Error,
+}
+
+impl fmt::Display for Stopped {
+    fn fmt(&self, out: &mut fmt::Formatter) -> fmt::Result {
+        write!(out, "{} (behind {} pairs that were put)", self.error, self.done)
+    }
+}
+
+impl std::error::Error for Stopped {
+    fn source(&self) -> Option<&(dyn std::error::Error + 'static)> {
+        Some(&self.error)
+    }
+}
+
+impl From<Stopped> for Error {
+    fn from(stopped: Stopped) -> Error {
+        stopped.error
+    }
+}
+
 /// `Ok` at the answer 0.
 fn done(answer: i32) -> Result<()> {
     if answer == 0 { Ok(()) } else { Err(Error::of(answer)) }
@@ -237,6 +280,17 @@ fn done_or(answer: i32, other: i32) -> Result<bool> {
 
 fn text(path: &Path) -> Result<CString> {
     CString::new(path.as_os_str().as_bytes()).map_err(|_| Error::System(io::ErrorKind::InvalidInput.into()))
+}
+
+/// The row of a pair. A length above the limit stays above it, and no more bytes are taken than a row has room for.
+fn row(key: &[u8], value: &[u8]) -> c::Row {
+    let mut row = c::ROW;
+    let (key_room, value_room) = (key.len().min(KEY_MAX), value.len().min(VALUE_MAX));
+    row.key_len = key.len().min(u8::MAX.into()) as u8;
+    row.value_len = value.len().min(u8::MAX.into()) as u8;
+    row.key[..key_room].copy_from_slice(&key[..key_room]);
+    row.value[..value_room].copy_from_slice(&value[..value_room]);
+    row
 }
 
 /// What a new store is: for how many keys, with blocks of 2^`block` cells, and of which version.
@@ -293,10 +347,20 @@ impl Store {
 
     /// Opens the store in a file, for this process alone.
     pub fn open(path: impl AsRef<Path>) -> Result<Store> {
-        let path = text(path.as_ref())?;
+        Store::open_as(path.as_ref(), 0)
+    }
+
+    /// Opens the store in a file to be read alone, beside others that read it: no byte of the file is written, and what would
+    /// change the store is [`Error::ReadOnly`]. The file may be one that this process may not write.
+    pub fn open_read_only(path: impl AsRef<Path>) -> Result<Store> {
+        Store::open_as(path.as_ref(), c::READ_ONLY)
+    }
+
+    fn open_as(path: &Path, flags: u32) -> Result<Store> {
+        let path = text(path)?;
         let store = Store { file: Box::new(UnsafeCell::new(c::CLOSED)) };
         // SAFETY: the handle is a closed one, and stays where it is, in its box.
-        done(unsafe { c::cola_file_open(store.file.get(), path.as_ptr()) })?;
+        done(unsafe { c::cola_file_open_as(store.file.get(), path.as_ptr(), flags) })?;
         Ok(store)
     }
 
@@ -347,6 +411,54 @@ impl Store {
         done_or(unsafe { c::cola_delete(self.handle(), key.as_ptr(), key.len()) }, NONE)
     }
 
+    /// Puts the pairs, one by one in their order, up to the first that is refused, and says how many they were. They are taken
+    /// some at a time: where one is refused, or the iterator panics, others may have been taken and not put.
+    ///
+    /// ```no_run
+    /// # fn main() -> cola::Result<()> {
+    /// # let mut store = cola::Store::open("notes")?;
+    /// store.update([("user:1001", "Ada"), ("user:1002", "Grace")])?;
+    /// # Ok(())
+    /// # }
+    /// ```
+    pub fn update<K, V, I>(&mut self, pairs: I) -> std::result::Result<usize, Stopped>
+    where
+        K: AsRef<[u8]>,
+        V: AsRef<[u8]>,
+        I: IntoIterator<Item = (K, V)>,
+    {
+        let (mut pairs, mut rows, mut all) = (pairs.into_iter(), Vec::with_capacity(MANY), 0);
+        loop {
+            rows.clear();
+            rows.extend(pairs.by_ref().take(MANY).map(|(key, value)| row(key.as_ref(), value.as_ref())));
+            let mut put = 0;
+            // SAFETY: a pointer with the number of its rows.
+            let answer = unsafe { c::cola_put_many(self.handle(), rows.as_ptr(), rows.len(), ptr::null_mut(), &mut put) };
+            all += put;
+            done(answer).map_err(|error| Stopped { done: all, error })?;
+            if rows.len() < MANY {
+                return Ok(all);
+            }
+        }
+    }
+
+    /// The values of the keys, in their order; `None` where a key is absent.
+    pub fn get_many<K: AsRef<[u8]>>(&self, keys: impl IntoIterator<Item = K>) -> Result<Vec<Option<Vec<u8>>>> {
+        let (mut keys, mut rows, mut values) = (keys.into_iter(), Vec::with_capacity(MANY), Vec::new());
+        loop {
+            rows.clear();
+            rows.extend(keys.by_ref().take(MANY).map(|key| row(key.as_ref(), &[])));
+            let (mut there, mut asked) = ([false; MANY], 0);
+            // SAFETY: pointers to as many rows and bools, or more.
+            done(unsafe { c::cola_get_many(self.handle(), rows.as_mut_ptr(), rows.len(), there.as_mut_ptr(), &mut asked) })?;
+            let rows_there = rows.iter().zip(there);
+            values.extend(rows_there.map(|(row, is_there)| is_there.then(|| row.value[..usize::from(row.value_len)].to_vec())));
+            if rows.len() < MANY {
+                return Ok(values);
+            }
+        }
+    }
+
     /// The number of keys.
     pub fn count(&self) -> Result<u64> {
         let mut count = 0;
@@ -393,6 +505,15 @@ impl Store {
         unsafe { c::cola_seek(&mut cursor, from.as_ptr(), from.len(), at, length) };
         cursor.behind = is_behind || low.len() > KEY_MAX;
         Range { store: self, cursor, end, rows: Vec::new().into_iter(), is_over: false }
+    }
+
+    /// The rows whose keys begin with these bytes, by rising keys; all rows, where there is none.
+    pub fn prefix(&self, prefix: impl AsRef<[u8]>) -> Range<'_> {
+        let prefix = prefix.as_ref();
+        let mut cursor = c::CURSOR;
+        // SAFETY: a pointer with the length of its slice. One that is longer than any key is refused, and no key begins so.
+        let is_refused = unsafe { c::cola_seek_prefix(&mut cursor, prefix.as_ptr(), prefix.len()) } != 0;
+        Range { store: self, cursor, end: Bound::Unbounded, rows: Vec::new().into_iter(), is_over: is_refused }
     }
 
     /// Makes a copy of the store as it is now, a closed store, in a file that is replaced as a whole, and waits until it is on

@@ -124,6 +124,94 @@ fn bounds_may_be_longer_than_keys() {
 }
 
 #[test]
+fn a_prefix_has_the_keys_that_begin_so() {
+    let folder = Folder::new("prefix");
+    let mut store = folder.store(&Options { keys: 1000, version: 2, ..Options::default() });
+    let mut map: BTreeMap<Vec<u8>, Vec<u8>> = BTreeMap::new();
+    let mut random = Random(20261129);
+    for step in 0..900u32 {
+        let mut key = random.key();
+        if step % 3 == 0 {
+            key.splice(0..0, [[255, 255, 255], [255, 255, 0], [254, 255, 255]][random.below(3) as usize]);
+        }
+        store.put(&key, step.to_be_bytes()).unwrap();
+        map.insert(key, step.to_be_bytes().to_vec());
+    }
+    let mut prefixes: Vec<Vec<u8>> = map.keys().step_by(7).map(|key| key[..key.len() / 2].to_vec()).collect();
+    prefixes.extend([vec![], vec![0], vec![255], vec![255; 2], vec![255; 3], vec![255; 4], vec![254, 255], vec![7; 40], vec![7; 41]]);
+    prefixes.extend(map.keys().step_by(11).cloned());
+    for prefix in prefixes {
+        let wanted: Rows = map.iter().filter(|(key, _)| key.starts_with(&prefix)).map(|(k, v)| (k.clone(), v.clone())).collect();
+        assert_eq!(rows(store.prefix(&prefix)), wanted, "{prefix:?}");
+    }
+    store.put([9; 40], "longest").unwrap();
+    assert_eq!(rows(store.prefix([9; 40])).len(), 1);
+    assert_eq!(rows(store.prefix([9; 41])).len(), 0);
+    assert_eq!(rows(store.prefix([9; 1000])).len(), 0);
+}
+
+#[test]
+fn many_rows_go_at_once() {
+    let folder = Folder::new("many");
+    let mut store = folder.store(&Options { keys: 1500, ..Options::default() });
+    let pairs: Vec<(String, String)> = (0..1300).map(|at| (format!("k{:05}", at * 7919 % 1300), format!("v{at}"))).collect();
+    assert_eq!(store.update(pairs.iter().map(|(key, value)| (key, value))).unwrap(), 1300);
+    assert_eq!(store.update(Vec::<(&str, &str)>::new()).unwrap(), 0);
+    assert_eq!(store.update([("k00000", "again"), ("k00000", "and again")]).unwrap(), 2);
+    assert_eq!(store.count().unwrap(), 1300);
+    let keys: Vec<String> = (0..1536).map(|at| format!("k{at:05}")).collect();
+    let values = store.get_many(&keys).unwrap();
+    assert_eq!(values.len(), 1536);
+    for (key, value) in keys.iter().zip(&values) {
+        assert_eq!(value, &store.get(key).unwrap());
+    }
+    assert_eq!(values[0].as_deref(), Some(&b"and again"[..]));
+    assert_eq!(values[1300], None);
+    assert_eq!(store.get_many(Vec::<&str>::new()).unwrap(), Vec::new());
+    assert!(matches!(store.get_many(["k00001", ""]), Err(Error::Length)));
+    assert!(matches!(store.get_many([[7; 25]]), Err(Error::Length)));
+    let stopped = store.update([("a", &b"1"[..]), ("b", &[0; 33][..]), ("c", &b"3"[..])]).unwrap_err();
+    assert_eq!(stopped.done, 1);
+    assert!(matches!(Error::from(stopped), Error::Length));
+    assert_eq!(store.get_many(["a", "b", "c"]).unwrap(), [Some(b"1".to_vec()), None, None]);
+    for length in [255, 256, 1000] {
+        assert!(matches!(store.update([(vec![7; length], "")]), Err(stopped) if stopped.done == 0 && stopped.error.answer() == 7));
+    }
+    let stopped = store.update((0..1000).map(|at| (format!("n{at}"), ""))).unwrap_err();
+    assert_eq!((stopped.done, stopped.error.answer()), (199, 3));
+    assert!(stopped.to_string().contains("199 pairs"));
+    assert_eq!(store.count().unwrap(), 1500);
+}
+
+#[test]
+fn a_store_that_is_read_alone_is_read_by_many() {
+    let folder = Folder::new("readers");
+    let mut store = folder.store(&Options { keys: 100, version: 2, ..Options::default() });
+    let path = folder.path("store");
+    store.update([("a", "1"), ("b", "2")]).unwrap();
+    let is_in_use = |error: &Error| matches!(error, Error::System(cause) if cause.kind() == std::io::ErrorKind::WouldBlock);
+    assert!(is_in_use(&Store::open_read_only(&path).unwrap_err()));
+    store.close().unwrap();
+    let bytes = fs::read(&path).unwrap();
+    let (mut one, two) = (Store::open_read_only(&path).unwrap(), Store::open_read_only(&path).unwrap());
+    assert!(is_in_use(&Store::open(&path).unwrap_err()));
+    assert!(matches!(one.put("a", "2"), Err(Error::ReadOnly)));
+    assert!(matches!(one.put_if("a", 1, "2"), Err(Error::ReadOnly)));
+    assert!(matches!(one.delete("a"), Err(Error::ReadOnly)));
+    assert!(matches!(one.update([("a", "2")]), Err(stopped) if matches!(stopped.error, Error::ReadOnly)));
+    assert!(matches!(one.checkpoint(folder.path("copy")), Err(Error::ReadOnly)));
+    assert_eq!(one.put("a", "2").unwrap_err().to_string(), "the store is open to be read alone");
+    assert_eq!(rows(one.iter()), rows(two.range("a"..)));
+    assert_eq!(one.get_many(["b", "c"]).unwrap(), [Some(b"2".to_vec()), None]);
+    assert_eq!(two.stamp("b").unwrap(), Some(2));
+    one.close().unwrap();
+    assert_eq!(two.count().unwrap(), 2);
+    drop(two);
+    assert_eq!(fs::read(&path).unwrap(), bytes);
+    Store::open(&path).unwrap().put("a", "3").unwrap();
+}
+
+#[test]
 fn stamps_make_puts_conditional() {
     let folder = Folder::new("stamps");
     let mut store = folder.store(&Options { keys: 10, version: 2, ..Options::default() });

@@ -9,7 +9,8 @@ use Rattle.cola_cell.specs.ToldCells.{run_cells}
 use Rattle.cola_merge.specs.declared.aims.Feed.TheVariants as feed
 use Rattle.cola_merge.specs.declared.aims.Aim.{Aim}
 
--- the bottom's next run in a slot: all items of its own run and of the incoming one, all old, with neither tombstones nor lookahead cells
+-- the bottom's next run in a slot: all items of its own run and of the incoming one, all old,
+-- with neither tombstones nor lookahead cells
 abbrev pub bottom_of : Run → Run → ℕ → Aim
 bottom_of own incoming slot = record {
   level = own.level;

@@ -1,3 +1,4 @@
 pub mod Inside
 pub mod Ended
 mod Unwritten
+pub mod Telling

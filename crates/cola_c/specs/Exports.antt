@@ -1,31 +1,28 @@
 -- What a call by C says of the session behind its handle.
-use Rattle.std.specs.Prelude.{◌≡◌, ◌<◌, ◌≤◌, ◌↔◌, ℕ, ℤ, pos, true, Bool, Option, Some, List, [], length, Result, Ok, Err, IfOk, IfErr, OnOk, OnErr, None, IsSome}
+use Rattle.std.specs.Prelude.{◌≡◌, ◌<◌, ◌↔◌, ℕ, ℤ, pos, true, Bool, Option, Some, List, [], length, Result, Ok, Err, IfOk, IfErr, OnErr, None, IsSome}
 use Rattle.std.specs.Result.{result_unwrap_or}
-use Rattle.cola_spec.specs.Bounds.{put_bound, get_bound, range_bound}
-use Rattle.cola_spec.specs.Command as command
-use Rattle.cola_spec.specs.Map.{Map, is_key}
-use Rattle.cola_spec.specs.Reply.{Got, Stamped, Deleted}
+use Rattle.cola_spec.specs.Bounds.{range_bound}
+use Rattle.cola_spec.specs.Map.{Map}
 use Rattle.cola_image.specs.Standing.{FileStandsFor, with_state}
-use Rattle.cola_store.specs.Calls.{TransfersWithin}
 use Rattle.cola_store.specs.Store.{terms_of}
 use Rattle.cola_table.specs.declared.Put.{Put}
 use Rattle.cola_table.specs.declared.PutIf.{PutIf}
 use Rattle.cola_mapped.specs.declared.region.Region.{Region}
-use Rattle.cola_mapped.specs.Mapped.{counts_of}
+use Rattle.cola_mapped.specs.Mapped.{unused}
 use Rattle.cola_mapped.specs.Region.{bytes_in}
 use Rattle.cola_handle.specs.declared.answer.Answer.{Answer}
 use Rattle.cola_handle.specs.declared.answer.Answer.TheVariants.{Done, Absent, Closed, Options, Memory}
-use Rattle.cola_handle.specs.declared.answer.Refusal.{Refusal}
 use Rattle.cola_handle.specs.declared.cursor.Cursor.{Cursor}
 use Rattle.cola_handle.specs.declared.cursor.Row.{Row}
 use Rattle.cola_handle.specs.declared.handle.Cola.{Cola}
 use Rattle.cola_handle.specs.declared.session.Session.{Session}
-use Rattle.cola_handle.specs.Calls.{both_fit, ByLength, StoreSays, put_said, put_if_said, GetSays, StampSays, DeleteSays, PutSays, PutIfSays}
-use Rattle.cola_handle.specs.Cursors.{NextSays, Writes, GaveSome, Moves, is_good, ahead, gave}
+use Rattle.cola_kv.specs.declared.error.Error.{Error}
+use Rattle.cola_kv.specs.Calls as kv
+use Rattle.cola_kv.specs.Opened as opened
+use Rattle.cola_handle.specs.Cursors.{NextSays, ByLength, Writes, GaveSome, Moves, is_good, ahead, gave}
 use Rattle.cola_handle.specs.Numbers.{number, was_told, other_told, value_told, length_told, stamp_told}
-use Rattle.cola_handle.specs.Open.{bytes_of, HoldsMap, shape_of, levels_of, Stays, place_of, device_of}
-use Rattle.cola_handle.specs.Reading.{Reads, ReadsFew}
-use Rattle.cola_handle.specs.Walking.{RangeSays}
+use Rattle.cola_handle.specs.Open.{lent_device, HoldsMap, levels_of, Stays, place_of, device_of}
+use Rattle.cola_handle.specs.Walking.{RangeSays, Reads}
 use Rattle.cola_handle.specs.Created.{HasSize}
 use Rattle.cola_handle.specs.Stored.{StoredSays}
 use Rattle.cola_handle.specs.Lent.{StandsFor, HasTerms, OpenCause, AreLeft}
@@ -43,78 +40,37 @@ abbrev pub AnswersClosed : (after : Cola) → ℤ → Type 0
 AnswersClosed after code = (code ≡ pos (number Closed)) × (after.owned.session ≡ None)
 
 -- the handle is still open; the call was answered so, with the number of that answer, and says this of the session afterwards
-pub record Answered {A : Type 0} (after : Cola) (code : ℤ) (answer_of : Result A Refusal → Answer) (Says : Session → Result A Refusal → Type 0) : Type 0 where
+pub record Answered {A : Type 0} (after : Cola) (code : ℤ) (answer_of : Result A Error → Answer) (Says : Session → Result A Error → Type 0) : Type 0 where
   pub new : Session
-  pub answer : Result A Refusal
+  pub answer : Result A Error
   pub is_open : after.owned.session ≡ Some new
   pub number_is : code ≡ pos (number (answer_of answer))
   pub says : Says new answer
 
 module _ (old : Session) (key : List ℕ) where
-  -- a get
-  pub record Gets (new : Session) (result : Result (Option (List ℕ)) Refusal) : Type 0 where
-    pub answer : (m : Map) → HoldsMap old m → GetSays m key (HoldsMap new) result
-    pub given : StoreSays (command.Get key) Got old new result
-    pub length : ByLength (is_key (shape_of old) key) (new ≡ old) result
-    pub ticks : OnOk result (new.ticks ≤ get_bound (levels_of old))
-    pub reads : ReadsFew old new
-    pub stays : Stays old new
+  -- a get of the store behind the handle; the value is told in front of what stood in its place, and its length
+  abbrev pub TellsValue : (into into' : List ℕ) → (len len' : ℕ) → Session → Result (Option (List ℕ)) Error → Type 0
+  TellsValue into into' len len' new got = kv.Gets lent_device old.kv new.kv key got × (into' ≡ value_told got into) × (len' ≡ length_told got len)
 
-  -- the value is told in front of what stood in its place, and its length
-  abbrev pub TellsValue : (into into' : List ℕ) → (len len' : ℕ) → Session → Result (Option (List ℕ)) Refusal → Type 0
-  TellsValue into into' len len' new got = Gets new got × (into' ≡ value_told got into) × (len' ≡ length_told got len)
-
-  -- a stamp
-  pub record Stamps (new : Session) (result : Result (Option ℕ) Refusal) : Type 0 where
-    pub answer : (m : Map) → HoldsMap old m → StampSays m key (HoldsMap new) result
-    pub given : StoreSays (command.Stamp key) Stamped old new result
-    pub length : ByLength (is_key (shape_of old) key) (new ≡ old) result
-    pub ticks : OnOk result (new.ticks ≤ get_bound (levels_of old))
-    pub reads : ReadsFew old new
-    pub stays : Stays old new
-
-  -- the stamp is told in its place
-  abbrev pub TellsStamp : (place place' : ℕ) → Session → Result (Option ℕ) Refusal → Type 0
-  TellsStamp place place' new got = Stamps new got × (place' ≡ stamp_told got place)
+  -- a stamp, which is told in its place
+  abbrev pub TellsStamp : (place place' : ℕ) → Session → Result (Option ℕ) Error → Type 0
+  TellsStamp place place' new got = kv.Stamps lent_device old.kv new.kv key got × (place' ≡ stamp_told got place)
 
   -- a delete
-  pub record Deletes (new : Session) (result : Result (Option (List ℕ)) Refusal) : Type 0 where
-    pub answer : (m : Map) → HoldsMap old m → DeleteSays m key (HoldsMap new) result
-    pub given : StoreSays (command.Del key) Deleted old new result
-    pub length : ByLength (is_key (shape_of old) key) (new ≡ old) result
-    pub ticks : OnOk result (new.ticks ≤ put_bound (levels_of old))
-    pub transfers : TransfersWithin bytes_of counts_of old.store new.store
-    pub stays : Stays old new
+  abbrev pub Deletes : Session → Result (Option (List ℕ)) Error → Type 0
+  Deletes new had = kv.Deletes lent_device old.kv new.kv key had
 
-  -- a put
-  pub record Puts (value : List ℕ) (new : Session) (result : Result Put Refusal) : Type 0 where
-    pub answer : (m : Map) → HoldsMap old m → PutSays (shape_of old) m key value (HoldsMap new) result
-    pub given : StoreSays (command.Put key value) put_said old new result
-    pub length : ByLength (both_fit (shape_of old) key value) (new ≡ old) result
-    pub ticks : OnOk result (new.ticks ≤ put_bound (levels_of old))
-    pub transfers : TransfersWithin bytes_of counts_of old.store new.store
-    pub stays : Stays old new
+  -- a put; whether it replaced a value is told
+  abbrev pub TellsPut : (value : List ℕ) → (was was' : Bool) → Session → Result Put Error → Type 0
+  TellsPut value was was' new put = kv.Puts lent_device old.kv new.kv key value put × (was' ≡ was_told put was)
 
-  -- whether it replaced a value is told
-  abbrev pub TellsPut : (value : List ℕ) → (was was' : Bool) → Session → Result Put Refusal → Type 0
-  TellsPut value was was' new put = Puts value new put × (was' ≡ was_told put was)
-
-  -- a put that depends on the stamp seen
-  pub record PutsIf (seen : ℕ) (value : List ℕ) (new : Session) (result : Result PutIf Refusal) : Type 0 where
-    pub answer : (m : Map) → HoldsMap old m → PutIfSays (shape_of old) m key seen value (HoldsMap new) result
-    pub given : StoreSays (command.PutIf key seen value) put_if_said old new result
-    pub length : ByLength (both_fit (shape_of old) key value) (new ≡ old) result
-    pub ticks : OnOk result (new.ticks ≤ put_bound (levels_of old))
-    pub transfers : TransfersWithin bytes_of counts_of old.store new.store
-    pub stays : Stays old new
-
-  -- the other stamp is told that the key has, where it is refused for that
-  abbrev pub TellsPutIf : (seen : ℕ) → (value : List ℕ) → (place place' : ℕ) → Session → Result PutIf Refusal → Type 0
-  TellsPutIf seen value place place' new put = PutsIf seen value new put × (place' ≡ other_told put place)
+  -- a put that depends on the stamp seen; the other stamp is told that the key has, where it is refused for that
+  abbrev pub TellsPutIf : (seen : ℕ) → (value : List ℕ) → (place place' : ℕ) → Session → Result PutIf Error → Type 0
+  TellsPutIf seen value place place' new put = kv.PutsIf lent_device old.kv new.kv key seen value put × (place' ≡ other_told put place)
 
 module _ (old : Session) (before : Cursor) (rows : List Row) where
   -- the next rows of a cursor
-  pub record Nexts (new : Session) (after : Cursor) (filled : List Row) (result : Result ℕ Refusal) : Type 0 where
+  pub record Nexts (new : Session) (after : Cursor) (filled : List Row) (result : Result ℕ Error) : Type 0 where
     pub answer : (m : Map) → HoldsMap old m → NextSays m before after filled (HoldsMap new) result
     pub given : RangeSays old new before filled result
     pub length : ByLength (is_good before) (new ≡ old) result
@@ -154,9 +110,10 @@ SizesStored file before now Done = StoredSays file (Ok now)
 SizesStored file before now why = StoredSays file (Err why) × (now ≡ before)
 
 module _ (before : Region) where
-  -- an opening: the session has the bytes of the region, with the mark that the store is in use
+  -- an opening: the session has the bytes of the region, with the mark that the store is in use, and its geometry and cells are those of the bytes, also where these stand for no map
   pub record Opens (new : Session) : Type 0 where
-    pub terms : HasTerms (terms_of new.store) (bytes_in before.bytes)
+    pub given : opened.IsOpen lent_device (unused before.at before.len (bytes_in before.bytes)) 0 new.kv
+    pub terms : HasTerms (terms_of new.kv.store) (bytes_in before.bytes)
     pub marked : (device_of new).bytes ≡ with_state 1 (bytes_in before.bytes)
     pub place : place_of new ≡ (before.at, before.len)
     pub holds : (m : Map) → StandsFor before.bytes m → HoldsMap new m
@@ -174,7 +131,7 @@ module _ (before : Region) where
 module _ (old : Session) where
   -- a closing: the region has the bytes of a closed store
   pub record Closes (region : Region) : Type 0 where
-    pub terms : HasTerms (terms_of old.store) (bytes_in region.bytes)
+    pub terms : HasTerms (terms_of old.kv.store) (bytes_in region.bytes)
     pub stands : (m : Map) → HoldsMap old m → StandsFor region.bytes m
     pub lent : IsSome region.bytes
     pub place : (region.at, region.len) ≡ place_of old
@@ -185,6 +142,7 @@ module _ (old : Session) where
     pub closed : List ℕ
     pub stood : (m : Map) → HoldsMap old m → FileStandsFor closed m
     pub marked : (device_of new).bytes ≡ with_state 1 closed
+    pub again : opened.IsOpen lent_device (unused (place_of old).0 (place_of old).1 closed) 0 new.kv
     pub holds : (m : Map) → HoldsMap old m → HoldsMap new m
     pub stays : Stays old new
 
@@ -195,7 +153,7 @@ module _ (old : Session) where
     pub cause : OpenCause closed why
     pub only : (m : Map) → HoldsMap old m → why ≡ Memory
     pub left : AreLeft closed (bytes_in region.bytes) why
-    pub terms : HasTerms (terms_of old.store) (bytes_in region.bytes)
+    pub terms : HasTerms (terms_of old.kv.store) (bytes_in region.bytes)
     pub stands : (m : Map) → HoldsMap old m → StandsFor region.bytes m
     pub lent : IsSome region.bytes
     pub place : (region.at, region.len) ≡ place_of old

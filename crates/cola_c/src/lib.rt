@@ -13,12 +13,15 @@ ghost use Rattle.cola_c.specs.Exports.{IfClosed, IfOpen, AnswersClosed, Answered
 ghost use Rattle.cola_handle.specs.Created.{Creates};
 ghost use Rattle.cola_handle.specs.Stored.{Begins};
 
+mod laws;
+
 use cola_handle::{
-    Answer, Cola, Cursor, Refusal, Row, Session, tell_delete, tell_put, tell_put_if, tell_stamp,
-    tell_value,
+    Answer, Cola, Cursor, Row, Session, tell_delete, tell_put, tell_put_if, tell_stamp, tell_value,
 };
+use cola_kv::Error;
 use cola_mapped::Region;
 use cola_outside::Steps;
+pub use laws::{deletes_are_told, gets_are_told, puts_are_told, stamps_are_told};
 use std::alloc::Global;
 use std::marker::Brand;
 use std::sync::ledger::{Blank, Ledger};
@@ -75,7 +78,7 @@ pub extern "C" fn cola_core_open(alloc: Global, cola: &mut Cola, region: &mut Re
         return Answer::InUse.code();
     }
     let bytes = std::mem::replace(region, Region::none());
-    match cola_handle::open::<Brand>(Blank::new(1), alloc, bytes) {
+    match cola_handle::open(alloc, bytes) {
         Ok(session) => {
             cola.put(alloc, session);
             Answer::Done.code()
@@ -103,7 +106,7 @@ pub extern "C" fn cola_core_put(
     let Some(mut session) = cola.take(alloc) else {
         return Answer::Closed.code();
     };
-    let answer = cola_handle::put::<Brand>(Blank::new(1), &mut session, key, value);
+    let answer = session.kv.put(key, value);
     cola.put(alloc, session);
     tell_put(answer, was)
 }
@@ -125,7 +128,7 @@ pub extern "C" fn cola_core_put_if(
     let Some(mut session) = cola.take(alloc) else {
         return Answer::Closed.code();
     };
-    let answer = cola_handle::put_if::<Brand>(Blank::new(1), &mut session, key, seen, value);
+    let answer = session.kv.put_if(key, seen, value);
     cola.put(alloc, session);
     tell_put_if(answer, stamp)
 }
@@ -148,7 +151,7 @@ pub extern "C" fn cola_core_get(
     let Some(mut session) = cola.take(alloc) else {
         return Answer::Closed.code();
     };
-    let answer = cola_handle::get::<Brand>(Blank::new(1), &mut session, key);
+    let answer = session.kv.get(key);
     cola.put(alloc, session);
     tell_value(answer, into, len)
 }
@@ -168,7 +171,7 @@ pub extern "C" fn cola_core_stamp(
     let Some(mut session) = cola.take(alloc) else {
         return Answer::Closed.code();
     };
-    let answer = cola_handle::stamp::<Brand>(Blank::new(1), &mut session, key);
+    let answer = session.kv.stamp(key);
     cola.put(alloc, session);
     tell_stamp(answer, stamp)
 }
@@ -182,7 +185,7 @@ pub extern "C" fn cola_core_delete(alloc: Global, cola: &mut Cola, key: &[u8]) -
     let Some(mut session) = cola.take(alloc) else {
         return Answer::Closed.code();
     };
-    let answer = cola_handle::delete::<Brand>(Blank::new(1), &mut session, key);
+    let answer = session.kv.delete(key);
     cola.put(alloc, session);
     tell_delete(answer)
 }
@@ -193,13 +196,13 @@ pub extern "C" fn cola_core_count(alloc: Global, cola: &mut Cola, keys: &mut u64
     ensures closed { IfClosed cola.old (AnswersClosed cola.new result × (keys.new ≡ keys.old)) }
     ensures stays { cola.new.owned.session ≡ cola.old.owned.session }
     ensures done { IfOpen cola.old (λ _. result ≡ pos (number answer.Done)) }
-    ensures stored { IfOpen cola.old (λ session. keys.new ≡ session.store.count) }
+    ensures stored { IfOpen cola.old (λ session. keys.new ≡ session.kv.store.count) }
     ensures answered { IfOpen cola.old (λ session. (m : Map) → HoldsMap session m → keys.new ≡ count m) }
 {
     let Some(session) = cola.take(alloc) else {
         return Answer::Closed.code();
     };
-    *keys = cola_handle::count(&session);
+    *keys = session.kv.count();
     cola.put(alloc, session);
     Answer::Done.code()
 }
@@ -219,7 +222,7 @@ pub extern "C" fn cola_core_seek(cursor: &mut Cursor, low: &[u8], high: &[u8], b
             *cursor = place;
             Answer::Done.code()
         }
-        Err(refusal) => refusal.answer().code(),
+        Err(error) => Answer::of(error).code(),
     }
 }
 
@@ -229,7 +232,7 @@ fn next_on<L: Ledger>(
     session: &mut Session,
     cursor: &mut Cursor,
     rows: &mut [Row],
-) -> Result<usize, Refusal>
+) -> Result<usize, Error>
     requires name { blank.name ≡ L.name }
     requires parts { blank.parts ≡ L.parts }
     requires some { 0 < L.parts }
@@ -240,7 +243,7 @@ fn next_on<L: Ledger>(
 }
 
 /// Of the next rows: how many they are.
-fn tell_next(next: Result<usize, Refusal>, wanted: usize, given: &mut usize) -> i32
+fn tell_next(next: Result<usize, Error>, wanted: usize, given: &mut usize) -> i32
     ensures number { result ≡ pos (number (gave wanted next)) }
     ensures given { given.new ≡ result_unwrap_or next given.old }
 {
@@ -252,7 +255,7 @@ fn tell_next(next: Result<usize, Refusal>, wanted: usize, given: &mut usize) -> 
             }
             Answer::Done.code()
         }
-        Err(refusal) => refusal.answer().code(),
+        Err(error) => Answer::of(error).code(),
     }
 }
 
@@ -291,7 +294,7 @@ pub extern "C" fn cola_core_checkpoint(alloc: Global, cola: &mut Cola, region: &
         return Answer::Closed.code();
     };
     let bytes = cola_handle::close(Box::into_inner(session));
-    match cola_handle::open::<Brand>(Blank::new(1), alloc, bytes) {
+    match cola_handle::open(alloc, bytes) {
         Ok(session) => {
             cola.put(alloc, session);
             Answer::Done.code()

@@ -18,4 +18,5 @@ pub mod Reads
 pub mod ToldCells
 pub mod Looks
 pub mod ObjectLaws
+pub mod Windows
 pub mod Laws

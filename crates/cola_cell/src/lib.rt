@@ -20,6 +20,7 @@ mod source;
 mod spelling;
 pub mod told_laws;
 mod value;
+mod windows;
 
 pub use cell::{Cell, Item, MOST_LEVELS, Reader, Run};
 pub use fault::{PushFault, ReadFault, StepFault};
@@ -27,8 +28,11 @@ pub use flat_cells::FlatCells;
 pub use format::Format;
 pub use key::Key;
 pub use law::{cell_is_one, decoding_gives_back, decoding_is_a_function, spelling_is_one};
-pub use packed::{Packed, Pass};
+pub use packed::{
+    Packed, Pass, cmp_keys_in, is_cell, is_look_in, is_tombstone_in, is_young_in, look_in, renew_in,
+};
 pub use sink::{CellSink, Shadow};
 pub use source::CellSource;
 pub use spelling::{LAST_STAMP, decode, decode_wide, encode, encode_wide};
 pub use value::Value;
+pub use windows::{Passed, Reach, Window, WindowMerge, tick_all};

@@ -415,7 +415,7 @@ impl Packed {
 
 /// Whether the bytes spell a cell in the format.
 #[inline(always)]
-pub(crate) fn is_cell(format: Format, bytes: &[u8]) -> bool
+pub fn is_cell(format: Format, bytes: &[u8]) -> bool
     requires { length bytes.now ≡ width format }
     ensures { MatchBool result (IsSpelling format (standing format bytes.now) bytes.now)
         (IsNoSpelling format bytes.now) }
@@ -452,7 +452,7 @@ fn key_cmp_in(format: Format, bytes: &[u8], key: &Key) -> Ordering
 
 /// The order of the keys of two cells in one format.
 #[inline(always)]
-fn cmp_keys_in(format: Format, left: &[u8], right: &[u8]) -> Ordering
+pub fn cmp_keys_in(format: Format, left: &[u8], right: &[u8]) -> Ordering
     requires left { IsSpelling format (standing format left.now) left.now }
     requires right { IsSpelling format (standing format right.now) right.now }
     ensures { result ≡ key_cmp (key_of (standing format left.now))
@@ -477,7 +477,7 @@ fn key_in(format: Format, bytes: &[u8]) -> Key
 
 /// The link of the cell.
 #[inline(always)]
-fn link_in(format: Format, bytes: &[u8]) -> u32
+pub fn link_in(format: Format, bytes: &[u8]) -> u32
     requires { IsSpelling format (standing format bytes.now) bytes.now }
     ensures { result ≡ link_of (standing format bytes.now) }
 {
@@ -524,7 +524,7 @@ fn item_in(format: Format, bytes: &[u8]) -> Option<Item>
 
 /// Whether the cell is a lookahead cell.
 #[inline(always)]
-fn is_look_in(format: Format, bytes: &[u8]) -> bool
+pub fn is_look_in(format: Format, bytes: &[u8]) -> bool
     requires { IsSpelling format (standing format bytes.now) bytes.now }
     ensures { result ≡ is_look (standing format bytes.now) }
 {
@@ -533,7 +533,7 @@ fn is_look_in(format: Format, bytes: &[u8]) -> bool
 
 /// Whether the cell is a tombstone.
 #[inline(always)]
-fn is_tombstone_in(format: Format, bytes: &[u8]) -> bool
+pub fn is_tombstone_in(format: Format, bytes: &[u8]) -> bool
     requires { IsSpelling format (standing format bytes.now) bytes.now }
     ensures { result ≡ is_tombstone (standing format bytes.now) }
 {
@@ -542,7 +542,7 @@ fn is_tombstone_in(format: Format, bytes: &[u8]) -> bool
 
 /// Whether the cell is a young item.
 #[inline(always)]
-fn is_young_in(format: Format, bytes: &[u8]) -> bool
+pub fn is_young_in(format: Format, bytes: &[u8]) -> bool
     requires { IsSpelling format (standing format bytes.now) bytes.now }
     ensures { result ≡ is_young (standing format bytes.now) }
 {
@@ -567,7 +567,7 @@ fn know_in(own: Format, bytes: &[u8], format: Format)
 
 /// Writes the lookahead cell of the key of a cell.
 #[inline(always)]
-fn look_in(format: Format, from: &[u8], link: u32, into: &mut [u8])
+pub fn look_in(format: Format, from: &[u8], link: u32, into: &mut [u8])
     requires spelled { IsSpelling format (standing format from.now) from.now }
     requires size { length into.old ≡ width format }
     ensures { IsSpelling format (Cell.Look (key_of (standing format from.now)) link) into.new }
@@ -583,6 +583,18 @@ fn look_in(format: Format, from: &[u8], link: u32, into: &mut [u8])
         &from[format.key_at()..format.value_at()],
     );
     put(into, format.value_at(), zeros(format.value_limit()));
+}
+
+/// Writes the item of a cell with this youth and link.
+#[inline(always)]
+pub fn renew_in(format: Format, from: &[u8], young: bool, link: u32, into: &mut [u8])
+    requires spelled { IsSpelling format (standing format from.now) from.now }
+    requires item { is_look (standing format from.now) ≡ false }
+    requires size { length into.old ≡ width format }
+    ensures { IsSpelling format (renewed young link (standing format from.now)) into.new }
+{
+    copy_in(format, from, into);
+    put_start(youth(young), link, into);
 }
 
 /// Writes the youth and the link of a cell.

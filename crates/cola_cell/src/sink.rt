@@ -4,11 +4,13 @@ ghost use Rattle.cola_cell.specs.Format.{CellFits};
 ghost use Rattle.cola_cell.specs.Packed.{passed, MayPass};
 ghost use Rattle.cola_cell.specs.Places.{slot_size};
 ghost use Rattle.cola_cell.specs.Shadows.{Restarts, Pushes, PushSpends, push_ticks, Finishes, FinishSpends};
+ghost use Rattle.cola_cell.specs.Windows.{IsReach, Weaves};
 
 use crate::cell::Cell;
 use crate::fault::PushFault;
 use crate::packed::{Packed, Pass};
 use crate::source::CellSource;
+use crate::windows::{Reach, WindowMerge};
 use cola_outside::Steps;
 use std::sync::ledger::Ledger;
 
@@ -85,4 +87,29 @@ pub trait CellSink: CellSource {
         ensures value { result ≡ ((Self.state self.now).held.shadows level).len }
         ensures within { result ≤ slot_size level }
         ensures slot { ((Self.state self.now).held.shadows level).slot < 2 };
+
+    /// Lets a merge run over the bytes of its sources, where the object has them at hand, into the end of the level's
+    /// shadow, and says how many source cells that consumed: none where it lets it run over nothing, as an object does
+    /// that lends no bytes. It asks no device for anything, fills no block, and ticks as single steps would.
+    fn weave<M: WindowMerge, L: Ledger>(
+        &mut self,
+        level: u8,
+        own: Reach,
+        incoming: Reach,
+        sample: Reach,
+        merge: &mut M,
+        job: &M::Job,
+        steps: &mut Steps<L>,
+    ) -> u32
+        requires level_in { level < (Self.state self.old).held.fixed.levels }
+        requires can { M.can merge.old job.now }
+        requires own { IsReach (Self.state self.old).held level own }
+        requires incoming { IsReach (Self.state self.old).held level incoming }
+        requires sample { IsReach (Self.state self.old).held level sample }
+        ensures kept { Self.kept self.new ≡ Self.kept self.old }
+        ensures weaves { Weaves M.wove (Self.state self.old) (Self.state self.new)
+            level own incoming sample merge.old merge.new job.now steps.old steps.new result }
+    {
+        0
+    }
 }

@@ -12,7 +12,8 @@ use Rattle.cola_level.specs.declared.level.Level.{Level}
 use Rattle.cola_run.specs.Store as run
 use Rattle.cola_run.specs.Store.{Store}
 
--- the store of its cells; its levels and its clock; how many steps it accepted; the reads and the writes of the device in these; and whether they are counted still, as they are until a step is refused or a reader's block is moved from outside
+-- the store of its cells; its levels and its clock; how many steps it accepted; the reads and the writes of the device in
+-- these; and whether they are counted still, as they are until a step is refused or a reader's block is moved from outside
 pub record Contents (D : Type 0) : Type 0 where
   pub store : Store D
   pub levels : List Level
@@ -39,7 +40,8 @@ abbrev pub ReadsCell : {D : Type 0} → device.Ghosts D → (old new : Contents 
 ReadsCell d old new buffer level slot index result =
     Reads (state_of d.bytes d.counts old) (state_of d.bytes d.counts new) buffer level slot index result
 
--- what a chain has beside its cells and counts: what its store has, its levels, its clock, and the numbers of its accepted steps and of the reads and writes in these
+-- what a chain has beside its cells and counts: what its store has, its levels, its clock, and
+-- the numbers of its accepted steps and of the reads and writes in these
 pub record Kept (K : Type 0) : Type 0 where
   pub store : run.Kept K
   pub levels : List Level

@@ -6,7 +6,8 @@ use Rattle.cola_chain.specs.Account.{IsPaid}
 use Rattle.cola_chain.specs.Contents.{Contents, held_of, spent_of, kept_of}
 
 module _ {D : Type 0} (d : device.Ghosts D) where
-  -- what reads by way of the block of searches leave as it was: the cells, what a chain keeps, and the block that each other reader holds
+  -- what reads by way of the block of searches leave as it was: the cells, what a chain keeps,
+  -- and the block that each other reader holds
   pub record OnlySearched (old new : Contents D) : Type 0 where
     pub held_is : held_of d.bytes new ≡ held_of d.bytes old
     pub kept_is : kept_of d.bytes d.counts d.kept new ≡ kept_of d.bytes d.counts d.kept old

@@ -22,14 +22,16 @@ visible_runs t j (l ∷ ls) = visible_run t j l.visible ∷ visible_runs t (suc 
 abbrev pub visible_lists : Held → ℕ → List Level → List (List LawCell)
 visible_lists held t levels = visibles (all_stood held t 0 (all_marks_of levels))
 
--- runs as a search wants them: they are told to be these lists, each is well formed and its lookahead cells are the sample of the next, and the first is short enough; and for each key they have what a map has
+-- runs as a search wants them: they are told to be these lists, each is well formed and its lookahead cells
+-- are the sample of the next, and the first is short enough; and for each key they have what a map has
 pub record AreSearched (held : Held) (runs : List Run) (lists : List (List LawCell)) (m : List ℕ → Option Stamped) : Type 0 where
   pub told : AreRuns held runs lists
   pub sampled : AreSampled key_cmp lists
   pub near : (key : List ℕ) → BeginsNear key lists
   pub values : (key : List ℕ) → value_at key_cmp lists key ≡ m key
 
--- where the levels of a chain stand for a map, these runs are as a search wants them, with the cells of its visible runs and what the map has
+-- where the levels of a chain stand for a map, these runs are as a search wants them, with the
+-- cells of its visible runs and what the map has
 abbrev pub AreSearchedRuns : {D : Type 0} → (D → Option (List ℕ)) → Contents D → List Run → Type 0
 AreSearchedRuns bytes chain runs = (most : ℕ) (m : List ℕ → Option Stamped) →
     StandsFor (held_of bytes chain) most chain.clock chain.levels m →

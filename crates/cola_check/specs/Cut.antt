@@ -115,7 +115,8 @@ abbrev pub FollowsBlocks : State → State → Aim → Run → Merger → Merger
 FollowsBlocks old new aim run m n =
     new.spent.turned + merge_blocks new aim n ≤ old.spent.turned + merge_blocks old aim m + run_blocks old.held run
 
--- two merges went on side by side, the second by the other readers: they turned to no more blocks than both had still to turn to
+-- two merges went on side by side, the second by the other readers: they turned to no more
+-- blocks than both had still to turn to
 abbrev pub ComparesBlocks : State → State → Aim → Merger → Merger → Type 0
 ComparesBlocks old new aim first second =
     new.spent.turned ≤ old.spent.turned + merge_blocks old aim first + merge_blocks (by_others old) aim second

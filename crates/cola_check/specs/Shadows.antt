@@ -15,7 +15,8 @@ use Rattle.cola_verdict.specs.Tests.{FileLevel, Tested, levels_in, level_at, bel
 use Rattle.cola_check.specs.declared.cut.Cursors.{Cursors}
 use Rattle.cola_check.specs.Found.{visible_of, shadow_of}
 
--- the run that will lie below the next run of a level: of the level below it the shadow in an odd period, the visible run in an even one
+-- the run that will lie below the next run of a level: of the level below it the shadow in an
+-- odd period, the visible run in an even one
 abbrev pub next_of : Header → ℕ → Run
 next_of header level = cond (is_odd (period header.clock level)) (shadow_of header (suc level)) (visible_of header (suc level))
 
@@ -61,7 +62,8 @@ abbrev pub cursors_of : Marks → Cursors
 cursors_of m = record { own = m.own; incoming = m.incoming; sample = m.sampled }
 
 module _ (file : Tested) where
-  -- what the test of the shadow of a level goes by: the cells of the file are told, its visible runs are well formed, and each level below passes
+  -- what the test of the shadow of a level goes by: the cells of the file are told, its visible
+  -- runs are well formed, and each level below passes
   pub record IsReached (level : ℕ) : Type 0 where
     pub told : AreCellsTold file
     pub ordered : EachLevel file (OrderAt file)

@@ -15,7 +15,8 @@ use crate::visible::RunTests;
 use cola_layout::Header;
 use cola_verdict::{Flaw, Verdict};
 
-/// Of the levels from 0 down to some level, the first whose visible run fails each of the tests, and the index at which it does:
+/// Of the levels from 0 down to some level, the first whose visible run fails each of the
+/// tests, and the index at which it does:
 /// that of the cell with which its order ends, else that of its first cell.
 #[derive(Clone, Copy, Drop)]
 pub(crate) struct FirstFlaws {

@@ -41,5 +41,6 @@ pub fn marks_go_on()
 /// two clocks that no level can tell apart.
 pub fn marks_stay()
     ensures fewer { (ahead less t j above : ℕ) (levels : List Marks) → less ≤ ahead → AreAllMarks ahead t j above levels → AreAllMarks less t j above levels }
-    ensures same_schedule { (t u : ℕ) (levels : List Marks) → ((j : ℕ) → j < length levels → SameSchedule t u j) → AreChainMarks t levels → AreChainMarks u levels }
+    ensures same_schedule { (t u : ℕ) (levels : List Marks) → ((j : ℕ) → j < length levels → SameSchedule t u j) →
+        AreChainMarks t levels → AreChainMarks u levels }
 {}

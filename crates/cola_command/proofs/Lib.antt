@@ -18,3 +18,4 @@ pub mod Mirroring
 pub mod Looks
 pub mod Known
 pub mod ModesSaid
+pub mod Occupied

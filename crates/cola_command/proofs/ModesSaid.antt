@@ -49,11 +49,11 @@ module _ {K D : Type 0} (h : sink.Ghosts K) (d : device.Ghosts D) (device device
   judged (Broken why level cell) checks (WroteFront is n wrote counted) = tested.SinkStops is (inr (why, (flaw_word why, (level, (cell, (called why, (checks, ((n, wrote), counted))))))))
 
   unjudged : (fault : CheckFault) → status ≡ check_status fault → Checks d device device' steps steps' (Err fault) → sink' ≡ sink → Answers
-  unjudged check.NotStore is checks stays = tested.NoStore is (inl checks) stays
-  unjudged check.NotClosed is checks stays = tested.InUse is checks stays
-  unjudged check.Small is checks stays = tested.NoStore is (inr checks) stays
-  unjudged check.Device is checks stays = tested.DeviceStops is checks stays
-  unjudged check.OutOfMemory is checks stays = tested.NoMemory is checks stays
+  unjudged check.NotStore is checks stays = tested.NoStore is (inl (checks, stays))
+  unjudged check.NotClosed is checks stays = tested.InUse is (checks, stays)
+  unjudged check.Small is checks stays = tested.NoStore is (inr (checks, stays))
+  unjudged check.Device is checks stays = tested.DeviceStops is (checks, stays)
+  unjudged check.OutOfMemory is checks stays = tested.NoMemory is (checks, stays)
 
   pub checked : CheckEnds h d device device' sink sink' steps steps' status → Answers
   checked (Judged verdict checks wrote) = judged verdict checks wrote

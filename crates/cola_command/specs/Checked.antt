@@ -47,6 +47,9 @@ Tells h (Ok verdict) sink sink' status = LineEnds h (verdict_line verdict) (verd
 Tells h (Err fault) sink sink' status = (status ≡ check_status fault) × (sink' ≡ sink)
 
 -- how the test of a file ends: with the line of its verdict, or with none, and then nothing is written
-pub data CheckEnds {K D : Type 0} (h : sink.Ghosts K) (d : device.Ghosts D) (device device' : D) (sink sink' : K) (steps steps' status : ℕ) : Type 0 where
-  Judged : (verdict : Verdict) → Checks d device device' steps steps' (Ok verdict) → LineEnds h (verdict_line verdict) (verdict_status verdict) sink sink' status → CheckEnds h d device device' sink sink' steps steps' status
-  NotJudged : (fault : CheckFault) → status ≡ check_status fault → Checks d device device' steps steps' (Err fault) → sink' ≡ sink → CheckEnds h d device device' sink sink' steps steps' status
+pub data CheckEnds {K D : Type 0} (h : sink.Ghosts K) (d : device.Ghosts D) (device device' : D) (sink sink' : K)
+    (steps steps' status : ℕ) : Type 0 where
+  Judged : (verdict : Verdict) → Checks d device device' steps steps' (Ok verdict)
+      → LineEnds h (verdict_line verdict) (verdict_status verdict) sink sink' status → CheckEnds h d device device' sink sink' steps steps' status
+  NotJudged : (fault : CheckFault) → status ≡ check_status fault → Checks d device device' steps steps' (Err fault)
+      → sink' ≡ sink → CheckEnds h d device device' sink sink' steps steps' status

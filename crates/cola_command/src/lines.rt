@@ -132,7 +132,7 @@ impl<D: Device> Home for Session<D> {
 
     ghost home = { file_home D.Device };
 
-    /// That of the store while it is open, else the last one.
+    /// The format of the store while it is open; while it is not, the format that it had when it was open last.
     fn format(&self) -> Format {
         format_of(&self.place, self.format)
     }

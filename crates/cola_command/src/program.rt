@@ -161,74 +161,16 @@ fn serve_mode<S: Source, K: Sink, D: Device, L: Ledger>(
     }
 }
 
-/// Runs the program: reads its words, serves the mode that they name, and gives the exit status.
-/// The words are those after the program's name. The device is the file that the second word names.
+/// Runs the program: reads its words, serves the mode that they name, and gives the exit status with both devices.
 ///
-/// `mem N` is a session over a table in memory for N keys, which calls no device. It ends with 0 where
-/// the end of the source was met before 2^40 bytes were taken, with 1 where there is no memory for the
-/// table, with 3 or 4 where the source or the sink failed, and with 9 where 2^40 bytes were taken.
+/// The words are those behind the program's name. `device` is the file that the first name among them names, `second` the
+/// file of the second name; no mode but `upgrade`, `grow`, `rebuild` and `run` with `--mirror` touches `second`. What a mode
+/// reads and writes, and when each status comes, stands in `docs/COMMANDS.md` for users, and in `specs/Serves.antt` as it is
+/// proved.
 ///
-/// `create FILE --keys N` makes the file of a new store on the device, and touches neither the source
-/// nor the sink. It ends with 0 where the file is made, with 8 where the device has bytes already, and
-/// with 5 where the device refused a call. It takes no memory.
-///
-/// `run FILE` is a session over the store in the file of the device, which it opens, and closes at the end.
-/// It ends with 0 where the end of the source was met before 2^40 bytes were taken, with 3 or 4 where the
-/// source or the sink failed, and with 9 where 2^40 bytes were taken; with 1 where there is no memory for the
-/// store, with 6 where the device has no store or not all of one, with 7 where its store is in use, and with
-/// 10 where a cell that the opening reads is no spelling. It ends with 5 where the device refused a call of
-/// the opening, and, in place of 0, where it refused one of the close at the end, or one of a line that was
-/// to open the file again, and no later line opened it.
-/// `gen FILE --keys N` makes the file of a new store in format One on the device, carries out the stated
-/// workload of `cola_gen` on it, and writes one line of what it did: `new A gone B left C wrong D over E`.
-/// It reads no source. The first call that is refused ends it, a store that is not closed then is closed in
-/// one attempt, and nothing is written. It ends with 0, with 4 where the sink failed, with 1 where there is
-/// no memory to open the file, with 5 where the device refused a call, with 6 and 7 where an opening found
-/// no store and one in use, with 8 where the device has bytes at the start, with 10 where a cell is no
-/// spelling, and with 11 where there was no room for a put or a delete.
-///
-/// `upgrade FILE TO` copies the closed file of version 1 on the device into a new file of version 2 on the
-/// second device, and touches neither the source nor the sink. It ends with 0 where that is done, with 1
-/// where there is no memory for two blocks, with 5 where a device refused a call, with 6 where the device
-/// has no store or not all of one, with 7 where its store is in use, with 8 where the second device has
-/// bytes, with 10 where a cell is no spelling, and with 12 where the file is of version 2 already.
-///
-/// `run FILE --mirror OTHER` is a session over two files with the same bytes, which goes on while one of them works. They are
-/// compared first: 5 where a device failed, and 16 where they differ; then the session is that of `run` over both. In place
-/// of 0 alone it ends with 17 where the first file is lost at the end, and with 18 where the second is.
-///
-/// `rebuild FILE TO` makes the file of the second device equal to the closed file of the first, and touches neither the source
-/// nor the sink. It ends with 0 where that is done, with 5 where a device refused a call, with 6 where the first has no store
-/// or not all of one, with 7 where its store is in use, and with 8 where the second has another number of bytes.
-///
-/// `check FILE` tests the closed file of the device and writes one line: `sound N` where it stands for a map of N keys, or
-/// `broken FLAW J C` with the first test that it fails, the level and the cell. It reads no source and writes nothing to the
-/// device. It ends with 0 where the file is sound and 13 where it is not, with 4 where the sink failed, and, with nothing
-/// written, with 1 where there is no memory, with 5 where the device refused a call, with 6 where the device has no store or
-/// not all of one, and with 7 where its store is in use.
-///
-/// `load FILE --keys N` makes the file of a new store on the device and fills it with the rows of the source, which are lines
-/// `row K V` by rising keys, as `range` and `scan` print them, and at the end perhaps `end M`. It writes `loaded N` with the
-/// number of rows. It ends with 0 where that is done, with 14 at the first line that is no row, is out of order or has no
-/// room, behind its line `bad L`, `order L` or `full L`, with 3 and 4 where the source or the sink failed, with 9 where 2^40
-/// bytes were taken, with 1 where there is no memory, with 5 where the device refused a call, and with 8 where it has bytes. A
-/// file that is not finished has no header.
-///
-/// `grow FILE TO --keys N` copies the map of the closed file of the device into a new file of the second device, for N keys and
-/// in the same format, with its stamps and its last number, and writes `loaded N` with the number of rows. It reads no source.
-/// It ends with 0 where that is done, with 4 where the sink failed, with 1 where there is no memory, with 5 where a device
-/// refused a call, with 6 where the device has no store or not all of one, with 7 where its store is in use, with 8 where the
-/// second device has bytes, with 10 where a cell is no spelling or keys do not rise, and with 15 where the file has more than N
-/// keys.
-///
-/// All other words end with 2, and nothing is touched. No mode but `upgrade`, `grow`, `rebuild` and `run` with `--mirror`
-/// touches the second device.
-///
-/// In a session the source is read only while every line that has ended is answered, for 512 bytes or
-/// for those that the limit still allows, and not again behind a refused read, its end, or a refused
-/// write. Over a table in memory a range or a scan makes at most 4 steps, and no other line makes one.
-/// After the table is made, or the store is opened, no memory is taken but by a line that opens the store
-/// again.
+/// In a session the source is read only while every line that has ended is answered, for 512 bytes or for those that the
+/// limit of 2^40 still allows, and not again behind a refused read, its end, or a refused write. Memory is taken before the
+/// first line is read, and after that only by a line that opens the store again. Nothing is flushed.
 pub fn serve<S: Source, K: Sink, D: Device, L: Ledger>(
     alloc: Global,
     words: &[String],

@@ -8,6 +8,7 @@ pub mod Stepping
 pub mod Behind
 pub mod Going
 pub mod Beginning
+pub mod Searched
 pub mod Places
 pub mod Staying
 pub mod Saving

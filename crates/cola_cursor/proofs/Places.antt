@@ -10,9 +10,11 @@ use Rattle.cola_runs.specs.Search.{place, link_at, first_len}
 use Rattle.std.proofs.lemmas.List.Elements.{All-head, All-tail}
 use Rattle.cola_cell.specs.declared.cell.Run.{Run}
 use Rattle.cola_cell.specs.declared.fault.ReadFault.{ReadFault}
+use Rattle.cola_cell.specs.Costs.{Costs}
 use Rattle.cola_cell.specs.Held.{Held, LawCell}
 use Rattle.cola_cell.specs.Order.{key_cmp}
 use Rattle.cola_cell.specs.State.{State}
+use Rattle.cola_look.specs.Outcome.{Answers}
 use Rattle.cola_look.specs.Runs.{HasRun, AreRuns}
 use Rattle.cola_look.specs.Stops.{StopsAtPlaces}
 use Rattle.cola_look.proofs.RunLists.{stops_at_places, sampled_rise}
@@ -23,8 +25,9 @@ use Rattle.cola_cursor.specs.declared.cursor.Cursor.{Cursor}
 use Rattle.cola_cursor.specs.Giving.{SeekGives}
 use Rattle.cola_cursor.specs.Lines.{LineFits, Reading}
 use Rattle.cola_cursor.specs.Standing.{runs_of, rests, befores, AreSearched, AreApart, StandsAlong, AheadAlong}
-use Rattle.cola_cursor.specs.Seeking.{LevelsRise, places_from, range_ticks, cells_of, RunsCause}
+use Rattle.cola_cursor.specs.Seeking.{LevelsRise, places_from, places_of, places_told, range_ticks, cells_of, RunsCause}
 use Rattle.cola_cursor.proofs.Least.{by_bool}
+use Rattle.cola_cursor.proofs.Searched.{refusal_seen}
 
 -- the search stops at the places of the key
 places_are : (key : List ℕ) (start : ℕ) (lists : List (List LawCell)) → StopsAtPlaces key_cmp key start lists → places_from key start lists ≡ map (place key_cmp key) lists
@@ -173,7 +176,9 @@ all_by_recursion P (x ∷ xs) h = (All-head P x xs h, all_by_recursion P xs (All
 -- what a refused beginning gives
 pub seek_refused : {runs : List Run} {low : List ℕ} {high : Option (List ℕ)} {old new : State} {before after : ℕ} (result : Result Cursor ReadFault) (fault : ReadFault) → result ≡ Err fault →
     Reading old new before after → RunsCause old.held runs old.spent.faults new.spent.faults fault → after + 0 ≤ before + range_ticks old.held.fixed.levels →
+    Answers (places_told old.held low 0 runs) places_of (Err fault) → Costs old.spent new.spent before after (8 * length runs) (2 * length runs) →
     SeekGives runs low high old new before after result
-seek_refused {runs} {low} {high} {old} {new} {before} {after} result fault is reading cause left =
+seek_refused {runs} {low} {high} {old} {new} {before} {after} result fault is reading cause left exact costs =
+    let seen : Answers (places_told old.held low 0 runs) (λ (cursor : Cursor). places_of cursor.lines) (Err fault) = refusal_seen (places_told old.held low 0 runs) places_of (λ (cursor : Cursor). places_of cursor.lines) fault exact in
     let E : Result Cursor ReadFault → Type 0 = λ x. SeekGives runs low high old new before after x in
-    subst E (sym is) (record { ahead = λ lists r a. tt; places = λ lists r. tt; begins = tt; stands = tt; left = left; reading = reading; cause = cause })
+    subst E (sym is) (record { ahead = λ lists r a. tt; places = λ lists r. tt; exact = seen; begins = tt; stands = tt; costs = costs; left = left; reading = reading; cause = cause })

@@ -6,8 +6,11 @@ use Rattle.std.specs.Cmp.Lexicographic.{nat_list_cmp_total}
 use Rattle.cola_runs.specs.Cells as laws
 use Rattle.cola_runs.specs.Search.{place}
 use Rattle.cola_cell.specs.declared.cell.Run.{Run}
+use Rattle.cola_cell.specs.Costs.{Costs}
 use Rattle.cola_cell.specs.Held.{Held, LawCell}
+use Rattle.cola_cell.proofs.CostsLemmas.{costs_none, costs_within}
 use Rattle.cola_cell.specs.Order.{key_cmp}
+use Rattle.cola_look.specs.Outcome.{Answers}
 use Rattle.cola_look.specs.Runs.{HasRun, AreRuns}
 use Rattle.cola_look.proofs.RunLists.{sampled_rise}
 use Rattle.cola_pairs.specs.Live.{live, below_end}
@@ -20,13 +23,14 @@ use Rattle.std.specs.declared.ops.Bound.TheVariants.{Included, Excluded, Unbound
 use Rattle.cola_cursor.specs.declared.line.Line.{Line}
 use Rattle.cola_cursor.specs.declared.cursor.Cursor.{Cursor}
 use Rattle.cola_cursor.specs.Lines.{LineFits, all_left, ahead_of, Reading}
-use Rattle.cola_cursor.specs.Seeking.{LevelsRise, places_from, range_ticks, cells_of, RunsCause}
+use Rattle.cola_cursor.specs.Seeking.{LevelsRise, places_from, places_of, places_told, aheads_of, range_ticks, cells_of, RunsCause}
 use Rattle.cola_cursor.specs.Standing.{runs_of, rests, befores, AreSearched, AreApart, StandsAlong, AheadAlong, Ahead}
 use Rattle.cola_cursor.specs.Turning.{turned_line, end_line, over_key, TurnedGives, SeekBackGives, EndGives}
 use Rattle.cola_cell.specs.State.{State}
 use Rattle.cola_cell.specs.declared.fault.ReadFault.{ReadFault}
 use Rattle.cola_cursor.proofs.Keys.{keys_alike}
 use Rattle.cola_cursor.proofs.Readings.{reading_none}
+use Rattle.cola_cursor.proofs.Searched.{refusal_seen}
 use Rattle.cola_cursor.proofs.Places.{at_places, begun_apart, same_runs, few_runs, few_cells}
 
 -- ---- lists from an index, from the other end
@@ -221,10 +225,12 @@ places_in held (line ∷ lines) h = (h.0.place_in, places_in held lines h.1)
 -- what a refused beginning gives
 pub back_refused : {runs : List Run} {low : Option (List ℕ)} {key : List ℕ} {old new : State} {before after : ℕ} (result : Result Cursor ReadFault) (fault : ReadFault) → result ≡ Err fault →
     Reading old new before after → RunsCause old.held runs old.spent.faults new.spent.faults fault → after + 0 ≤ before + range_ticks old.held.fixed.levels →
+    Answers (places_told old.held key 0 runs) places_of (Err fault) → Costs old.spent new.spent before after (8 * length runs) (2 * length runs) →
     TurnedGives runs low key old new before after result
-back_refused {runs} {low} {key} {old} {new} {before} {after} result fault is reading cause left =
+back_refused {runs} {low} {key} {old} {new} {before} {after} result fault is reading cause left exact costs =
+    let seen : Answers (places_told old.held key 0 runs) (λ (cursor : Cursor). aheads_of cursor.lines) (Err fault) = refusal_seen (places_told old.held key 0 runs) places_of (λ (cursor : Cursor). aheads_of cursor.lines) fault exact in
     let E : Result Cursor ReadFault → Type 0 = λ x. TurnedGives runs low key old new before after x in
-    subst E (sym is) (record { ahead = λ lists r a. tt; places = λ lists r. tt; begins = tt; stands = tt; left = left; reading = reading; cause = cause })
+    subst E (sym is) (record { ahead = λ lists r a. tt; places = λ lists r. tt; exact = seen; begins = tt; stands = tt; costs = costs; left = left; reading = reading; cause = cause })
 
 -- ---- where it begins at the end
 
@@ -263,6 +269,12 @@ ahead_end held (run ∷ runs) (cells ∷ lists) r =
     let e : run.len - 0 ≡ length cells = (let n = r.0.length_is in omega arith) in
     ap (λ n. n ∷ map ahead_of (map end_line runs)) e ∙ ap (λ ns. length cells ∷ ns) (ahead_end held runs lists r.1)
 
+lengths_end : (runs : List Run) → map ahead_of (map end_line runs) ≡ map (λ (run : Run). run.len) runs
+lengths_end [] = refl
+lengths_end (run ∷ runs) =
+    let e : run.len - 0 ≡ run.len = omega arith in
+    ap (λ n. n ∷ map ahead_of (map end_line runs)) e ∙ ap (λ ns. run.len ∷ ns) (lengths_end runs)
+
 and_all : (b : Bool) → (b && true) ≡ b
 and_all true = refl
 and_all false = refl
@@ -282,6 +294,7 @@ end_gives held runs low cursor h l t n f = record {
         ∙ ap (λ x. live (λ c d. key_cmp d c) (Rattle.cola_cursor.specs.Way.within_end true x) (rests true cursor.lines.items lists)) (sym n);
   });
   places = λ lists r. ap (map ahead_of) t ∙ ahead_end held runs lists r;
+  exact = ap (map ahead_of) t ∙ lengths_end runs;
   begins = (ap runs_of t ∙ runs_end runs, n, f);
   stands = subst (λ (b : Bool). StandsAlong b held cursor) (sym f) (record {
     fit = subst (AllByRecursion (LineFits true held)) (sym t) (fit_end held runs h);
@@ -307,8 +320,10 @@ module _ {runs : List Run} {low : Option (List ℕ)} {high : List ℕ} {old new 
   back_over result h = record {
     ahead = λ lists r a. seen result lists (h.ahead lists r a);
     places = h.places;
+    exact = h.exact;
     begins = h.begins;
     stands = h.stands;
+    costs = h.costs;
     left = h.left;
     unread = λ e. cc;
     reading = h.reading;
@@ -325,8 +340,10 @@ module _ {runs : List Run} {low : Option (List ℕ)} {high : List ℕ} {old new 
   back_below result h = record {
     ahead = h.ahead;
     places = h.places;
+    exact = h.exact;
     begins = h.begins;
     stands = h.stands;
+    costs = h.costs;
     left = h.left;
     unread = λ e. cc;
     reading = h.reading;
@@ -337,8 +354,10 @@ pub back_at_end : {runs : List Run} {low : Option (List ℕ)} (state : State) (s
 back_at_end state steps cursor h = record {
   ahead = h.ahead;
   places = h.places;
+  exact = h.exact;
   begins = h.begins;
   stands = h.stands;
+  costs = costs_within (costs_none state.spent steps) (omega arith) (omega arith);
   left = (let l = h.left in omega arith);
   unread = λ e. (refl, refl, refl);
   reading = reading_none state steps;

@@ -1,12 +1,14 @@
 -- What the calls of a cursor give: its beginning, and a step, by its answer, and where the cursor and the object stand then.
-use Rattle.std.specs.Prelude.{◌≡◌, ℕ, ◌+◌, ◌≤◌, List, map, Option, Result, IfOk, IfErr, OnOk, OnErr, Bool, false}
+use Rattle.std.specs.Prelude.{◌≡◌, ℕ, ◌+◌, ◌*◌, ◌≤◌, List, map, length, Option, Result, IfOk, IfErr, OnOk, OnErr, Bool, false}
 use Rattle.cola_cell.specs.declared.cell.Run.{Run}
 use Rattle.cola_cell.specs.declared.fault.ReadFault.{ReadFault}
 use Rattle.cola_cell.specs.declared.source.CellSource as source
+use Rattle.cola_cell.specs.Costs.{Costs}
 use Rattle.cola_cell.specs.Held.{LawCell, Stamped}
 use Rattle.cola_cell.specs.Looks.{OnlyLooks}
 use Rattle.cola_cell.specs.Order.{key_cmp}
 use Rattle.cola_cell.specs.State.{State}
+use Rattle.cola_look.specs.Outcome.{Answers}
 use Rattle.cola_look.specs.Runs.{AreRuns}
 use Rattle.cola_pairs.specs.Live.{live, between}
 use Rattle.cola_cursor.specs.declared.cursor.Cursor.{Cursor}
@@ -15,7 +17,7 @@ use Rattle.cola_cursor.specs.declared.saved.Saved.{Saved}
 use Rattle.cola_cursor.specs.Lines.{all_left, Reading}
 use Rattle.cola_cursor.specs.Results.{LinesCause}
 use Rattle.cola_cursor.specs.Saving.{cursor_at, lines_left}
-use Rattle.cola_cursor.specs.Seeking.{places_from, range_ticks, left_sought, RunsCause}
+use Rattle.cola_cursor.specs.Seeking.{places_from, places_of, places_told, range_ticks, left_sought, RunsCause}
 use Rattle.cola_cursor.specs.Standing.{runs_of, AreSearched, Stands, AheadAlong, Ahead, TakesNext, AnswerCause, LinesPassed, IsPassed, none_hidden, answered_key, with_stamp}
 
 -- what the beginning of a cursor gives, over runs and for an interval: where it stands, the cause of a refusal, and what it spent
@@ -26,8 +28,11 @@ pub record SeekGives (runs : List Run) (low : List ℕ) (high : Option (List ℕ
   -- on all told runs, in order or not, each place is where the search of its run stops
   pub places : (lists : List (List LawCell)) → AreRuns old.held runs lists →
       IfOk result (λ cursor. map (λ line. line.place) cursor.lines.items ≡ places_from low 0 lists)
+  -- on all objects the same as far as the cells are told: a bad cell that a search needs is answered
+  pub exact : Answers (places_told old.held low 0 runs) (λ (cursor : Cursor). places_of cursor.lines) result
   pub begins : IfOk result (λ cursor. (runs_of cursor.lines.items ≡ runs) × (cursor.end ≡ high) × (cursor.falls ≡ false))
   pub stands : IfOk result (Stands new.held)
+  pub costs : Costs old.spent new.spent ticks ticks_now (8 * length runs) (2 * length runs)
   pub left : ticks_now + left_sought result ≤ ticks + range_ticks old.held.fixed.levels
   pub reading : Reading old new ticks ticks_now
   pub cause : IfErr result (RunsCause old.held runs old.spent.faults new.spent.faults)

@@ -1,11 +1,20 @@
 //! The lines of a cursor where it begins.
 ghost use Rattle.std.specs.Prelude.{◌≡◌, ◌+◌, ◌*◌, ◌≤◌, drop, length, map, IfOk, false};
 ghost use Rattle.std.specs.List.{AllByRecursion};
+ghost use Rattle.cola_cell.specs.Costs.{Costs};
 ghost use Rattle.cola_cell.specs.Looks.{OnlyLooks};
+ghost use Rattle.cola_look.specs.Outcome.{Answers};
 ghost use Rattle.cola_look.specs.Runs.{HasRun};
 ghost use Rattle.cola_cursor.specs.Causes.{HasRunsCause};
 ghost use Rattle.cola_cursor.specs.Lines.{LineFits, Reading};
-ghost use Rattle.cola_cursor.specs.Seeking.{ArePlaced, cells_of, left_lines, length_of_first};
+ghost use Rattle.cola_cursor.specs.Seeking.{
+  ArePlaced,
+  cells_of,
+  left_lines,
+  length_of_first,
+  places_of,
+  places_told,
+};
 ghost use Rattle.cola_cursor.specs.Standing.{runs_of};
 ghost use Rattle.cola_cursor.specs.Turning.{turned_line, end_line, sought};
 
@@ -42,7 +51,10 @@ pub(crate) fn seek_lines<W: CellSource, L: Ledger>(
         AllByRecursion (LineFits false (W.state work.old).held) lines.items) }
     ensures left { steps.new + left_lines result
         ≤ steps.old + 8 * length runs.now + cells_of runs.now }
-    ensures few_ticks { steps.new ≤ steps.old + 8 * length runs.now }
+    ensures exact { Answers (places_told (W.state work.old).held (sought over key.now) 0 runs.now)
+        places_of result }
+    ensures costs { Costs (W.state work.old).spent (W.state work.new).spent steps.old steps.new
+        (8 * length runs.now) (2 * length runs.now) }
     ensures reading { Reading (W.state work.old) (W.state work.new) steps.old steps.new }
     ensures cause { HasRunsCause false W.CellSource work.old work.new runs.now result }
     ensures looks { OnlyLooks W.CellSource work.old work.new result }

@@ -57,7 +57,8 @@ LaysOutTheSize Cut =
 
 abbrev pub RefusedLayoutIsSmall : {F : Type 0} → Cuts F → Type 0
 RefusedLayoutIsSmall Cut =
-    (size_of : _ → ℕ) → Sets Cut size_of → (old new : _) (size : ℕ) (error : Error) → size_of old ≤ size → Laid Cut size old (Err error) new → size_of new ≤ size
+    (size_of : _ → ℕ) → Sets Cut size_of → (old new : _) (size : ℕ) (error : Error) → size_of old ≤ size →
+    Laid Cut size old (Err error) new → size_of new ≤ size
 
 -- the reads of a file that has bytes: they give some of those at their place, and leave all
 pub record GivesItsOwn {F : Type 0} (Gave : CallAt F) (bytes_of : F → List ℕ) : Type 0 where

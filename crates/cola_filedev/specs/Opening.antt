@@ -76,7 +76,8 @@ WorkedOn Work Refused result Refused = IsErr result
 WorkedOn Work asked result now = ⊥
 
 -- a call: the file is asked for, and then the work is done with it
-pub record Asked {O F T E : Type 0} (Opened : Openings O F) (wanted : Option Wanted) (Work : Works F T) (before : Handle O F) (result : Result T E) (now : Handle O F) : Type 0 where
+pub record Asked {O F T E : Type 0} (Opened : Openings O F) (wanted : Option Wanted) (Work : Works F T) (before : Handle O F)
+    (result : Result T E) (now : Handle O F) : Type 0 where
   pub asked : Handle O F
   pub opening : AskedFor Opened wanted before asked
   pub work : WorkedOn Work asked result now

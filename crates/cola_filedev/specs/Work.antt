@@ -43,7 +43,8 @@ abbrev pub Syncs : Type 0 → Type 1
 Syncs F = F → Result (Unit {0}) Error → F → Type 0
 
 -- A write, by its parts in their order. One that has byte 0 has a header in its first 512 bytes, and writes that last: first
--- what stands behind it, then a sync of all that was written so far, then the header. The first part that is refused is the last
+-- what stands behind it, then a sync of all that was written so far, then the header. The first
+-- part that is refused is the last
 pub data Written {F : Type 0} (Took : Takes F) (Synced : Syncs F) : F → ℕ → List ℕ → Result (Unit {0}) Error → F → Type 0 where
   elsewhere : {old new : F} {at : ℕ} {from : List ℕ} {answer : Result (Unit {0}) Error} →
       0 < at → Put Took old at from answer new → Written Took Synced old at from answer new

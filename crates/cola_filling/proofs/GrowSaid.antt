@@ -15,15 +15,15 @@ module _ {K D : Type 0} (h : sink.Ghosts K) (d : device.Ghosts D) (keys block_ex
   Answers = GrowAnswers h d keys block_exp device device' second second' sink sink' steps steps' status
 
   refused : (fault : GrowFault) → status ≡ grow_status fault → Grows d d device device' second second' steps steps' keys block_exp (Err fault) → sink' ≡ sink → Answers
-  refused grow.Small is grows stays = laws.NoStore is (inr grows) stays
-  refused grow.NotStore is grows stays = laws.NoStore is (inl grows) stays
-  refused grow.NotClosed is grows stays = laws.InUse is grows stays
-  refused (grow.Fewer count) is grows stays = laws.TooFewKeys is count grows stays
-  refused grow.OutOfMemory is grows stays = laws.NoMemory is grows stays
-  refused (grow.BadCell number) is grows stays = laws.Damaged is number (inl grows) stays
-  refused grow.NotEmpty is grows stays = laws.NotEmpty is grows stays
-  refused (grow.Disorder number) is grows stays = laws.Damaged is number (inr grows) stays
-  refused grow.Device is grows stays = laws.DeviceStops is grows stays
+  refused grow.Small is grows stays = laws.NoStore is (inr (grows, stays))
+  refused grow.NotStore is grows stays = laws.NoStore is (inl (grows, stays))
+  refused grow.NotClosed is grows stays = laws.InUse is (grows, stays)
+  refused (grow.Fewer count) is grows stays = laws.TooFewKeys is count (grows, stays)
+  refused grow.OutOfMemory is grows stays = laws.NoMemory is (grows, stays)
+  refused (grow.BadCell number) is grows stays = laws.Damaged is number (inl (grows, stays))
+  refused grow.NotEmpty is grows stays = laws.NotEmpty is (grows, stays)
+  refused (grow.Disorder number) is grows stays = laws.Damaged is number (inr (grows, stays))
+  refused grow.Device is grows stays = laws.DeviceStops is (grows, stays)
 
   pub answers : GrowEnds h d keys block_exp device device' second second' sink sink' steps steps' status → Answers
   answers (Grown rows grows (WroteLine is wrote counted)) = laws.Grown is rows grows (wrote, counted)

@@ -27,8 +27,8 @@ module _ {S K D : Type 0} (g : source.Ghosts S) (h : sink.Ghosts K) (d : device.
   Answers = LoadAnswers g h d geometry source source' sink sink' device device' status
 
   not-begun : (fault : LoadFault) → status ≡ load_status fault → HasNotBegun g h d geometry source source' sink sink' device device' fault → Answers
-  not-begun load.NotEmpty is n = laws.NotEmpty is (n.source_stays, (n.sink_stays, n.spends)) n.why.why_is n.why.bytes_stay n.why.no_fault
-  not-begun load.OutOfMemory is n = laws.NoMemory is (n.source_stays, (n.sink_stays, n.spends)) n.why.why_is n.why.bytes_stay n.why.no_fault
+  not-begun load.NotEmpty is n = laws.NotEmpty is (n.source_stays, (n.sink_stays, n.why.spends)) n.why.why_is n.why.bytes_stay n.why.no_fault
+  not-begun load.OutOfMemory is n = laws.NoMemory is (n.source_stays, (n.sink_stays, n.why.spends)) n.why.why_is n.why.bytes_stay n.why.no_fault
   not-begun load.Device is n = laws.NotLaidOut is (n.source_stays, (n.sink_stays, n.spends)) n.why.cause (elim n.why.left [
     | inl stay ↦ inl stay
     | inr partly ↦ inr (partly.was_empty, partly.at_most)
@@ -52,15 +52,15 @@ module _ {S K D : Type 0} (g : source.Ghosts S) (h : sink.Ghosts K) (d : device.
         (at.reads, (at.before, (at.last, (word.0, (at.first, (at.read, (at.unrefused, (at.source_faults, (at.no_word, word.1)))))))))
 
     by-line : (at : StoppedAtLine g h d (shape_of geometry.format geometry.keys) source source' sink sink' s.between device' status) → LineEnds h (word_line at.word) 14 sink sink' status → Answers
-    by-line at (WroteLine is wrote counted) = laws.HasWord is (at-word (WroteWhole h sink sink') at (wrote, counted)) s.was_empty (calm at.no_fault) at.no_header
-    by-line at (WroteFront is n wrote counted) = laws.SinkStopsAtWord is (at-word (WroteSome h sink sink') at ((n, wrote), counted)) s.was_empty (calm at.no_fault) at.no_header
+    by-line at (WroteLine is wrote counted) = laws.AtWord is (at-word (WroteWhole h sink sink') at (wrote, counted)) s.was_empty (calm at.no_fault) (at.no_header, s.spends.others_rise)
+    by-line at (WroteFront is n wrote counted) = laws.SinkStopsAtWord is (at-word (WroteSome h sink sink') at ((n, wrote), counted)) s.was_empty (calm at.no_fault) (at.no_header, s.spends.others_rise)
 
     stopped : StopsBefore g h d (shape_of geometry.format geometry.keys) source source' sink sink' s.between device' status → Answers
-    stopped (ends.Status3 is why at) = laws.SourceStops is why at.sink_stays s.was_empty (calm at.no_fault) at.no_header
+    stopped (ends.Status3 is why at) = laws.SourceStops is why at.sink_stays s.was_empty (calm at.no_fault) (at.no_header, s.spends.others_rise)
     stopped (ends.Status5 is at) =
         laws.DeviceStops is (at.reads, (at.lines, (at.first, (at.read, (at.unrefused, (at.source_faults, at.no_word)))))) at.sink_stays s.was_empty
-        (subst (λ (n : ℕ). Rose n (d.counts device').faults) s.begun at.cause) at.no_header
-    stopped (ends.Status9 is why at) = laws.InputSpent is why at.sink_stays s.was_empty (calm at.no_fault) at.no_header
+        (subst (λ (n : ℕ). Rose n (d.counts device').faults) s.begun at.cause) (at.no_header, s.spends.others_rise)
+    stopped (ends.Status9 is why at) = laws.InputSpent is why at.sink_stays s.was_empty (calm at.no_fault) (at.no_header, s.spends.others_rise)
     stopped (ends.AtWord at) = by-line at at.wrote
 
   module _ (was : WasLoaded g h d geometry source source' sink sink' device device' status) where

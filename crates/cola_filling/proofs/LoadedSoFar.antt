@@ -1,5 +1,5 @@
 -- Lines that are loaded one after another: what there is behind each.
-use Rattle.std.proofs.Common.{◌≡◌, inl, inr, ℕ, zero, suc, ◌+◌, ◌-◌, ◌*◌, ◌^◌, ◌≤◌, ◌<◌, List, [], ◌∷◌, ◌++◌, length, Option, Some, None, Result, Ok, IfSome, refl, sym, ap, ◌∙◌, subst, append-nil, arith, false, true, Bool, IsTrue, nat_le, if◌then◌else◌, length-append}
+use Rattle.std.proofs.Common.{◌≡◌, inl, inr, ℕ, ◌+◌, ◌-◌, ◌≤◌, ◌<◌, List, [], ◌∷◌, ◌++◌, length, Option, Some, None, Result, Ok, IfSome, refl, sym, ap, ◌∙◌, subst, append-nil, arith, false, true, Bool, IsTrue, nat_le, if◌then◌else◌, length-append}
 use Rattle.std.specs.declared.cmp.Ordering.{Ordering}
 use Rattle.std.specs.declared.cmp.Ordering.TheVariants.{Less, Equal, Greater}
 use Rattle.std.specs.Ordering.{is_le, is_lt}

@@ -6,6 +6,7 @@ use Rattle.cola_device.specs.Bytes.{HasRange}
 use Rattle.cola_io.specs.declared.source.Source as source
 use Rattle.cola_io.specs.declared.sink.Sink as sink
 use Rattle.cola_layout.specs.declared.geometry.Geometry.{Geometry}
+use Rattle.cola_opening.specs.Counted.{Spends}
 use Rattle.cola_report.specs.Line.{LineEnds}
 use Rattle.cola_run.specs.Cells.{file_bytes, device_levels}
 use Rattle.cola_session.specs.Ends.{ReadToEnd}
@@ -29,13 +30,15 @@ file-loaded g h d old new source source' sink sink' device device' loaded =
 module _ {S K D : Type 0} (g : source.Ghosts S) (h : sink.Ghosts K) (d : device.Ghosts D) (geometry : Geometry) (old new : Loading) (source source' : S) (sink sink1 sink' : K) (before begun-at mid now : D) (status : ℕ) (begun : HasBegun d geometry 0 before begun-at old)
     (spent : (d.counts begun-at).writes ≤ (d.counts before).writes + 0) where
   -- lines that stopped
-  pub stopped : StopsBefore g h d (shape_of old.geometry.format old.geometry.keys) source source' sink sink1 begun-at mid status → LoadEndsBy g h d geometry source source' sink sink1 before mid status
-  stopped stops =
+  pub stopped : Spends (d.counts before) (d.counts mid) 0 (full_blocks geometry geometry.keys) 2
+      → StopsBefore g h d (shape_of old.geometry.format old.geometry.keys) source source' sink sink1 begun-at mid status → LoadEndsBy g h d geometry source source' sink sink1 before mid status
+  stopped spends stops =
       ends.Stopped (record {
         was_empty = begun.was_empty;
         between = begun-at;
         begun = begun.no_fault;
         stops = subst (λ (G : Geometry). StopsBefore g h d (shape_of G.format G.keys) source source' sink sink1 begun-at mid status) begun.geometry_is stops;
+        spends = spends;
       })
 
   -- all lines

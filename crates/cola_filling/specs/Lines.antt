@@ -24,7 +24,8 @@ module _ {S K D : Type 0} (g : source.Ghosts S) (h : sink.Ghosts K) (d : device.
   -- all lines were read, none has a word, and their rows were pushed
   pub record AreLoaded : Type 0 where
     pub rows : List Row
-    pub read : ReadToEnd g h source source' sink sink (λ lines. HaveNoWord (shape_of old.geometry.format old.geometry.keys) lines × (rows ≡ loaded_rows (shape_of old.geometry.format old.geometry.keys) lines))
+    pub read : ReadToEnd g h source source' sink sink (λ lines. HaveNoWord (shape_of old.geometry.format old.geometry.keys) lines
+        × (rows ≡ loaded_rows (shape_of old.geometry.format old.geometry.keys) lines))
     pub holds : IfSome (d.bytes device') (λ bytes. HoldsRows new bytes rows)
     pub many : new.rows ≡ length rows
     pub geometry_stays : new.geometry ≡ old.geometry

@@ -8,6 +8,7 @@ use Rattle.cola_io.specs.Reads.{Read, was_refused}
 use Rattle.cola_io.specs.declared.sink.Sink as sink
 use Rattle.cola_io.specs.declared.source.Source as source
 use Rattle.cola_layout.specs.declared.geometry.Geometry.{Geometry}
+use Rattle.cola_load.specs.declared.answer.Word.{Word}
 use Rattle.cola_load.specs.declared.answer.Word.TheVariants.{Bad, Order, Full}
 use Rattle.cola_load.specs.Filled.{Row, AreRows, IsFilled}
 use Rattle.cola_load.specs.Loading.{IsFilledBehind}
@@ -22,7 +23,8 @@ use Rattle.cola_spec.specs.Reply.{line}
 use Rattle.cola_filling.specs.Loads.{unstamped}
 
 module _ {D : Type 0} (d : device.Ghosts D) (device device' : D) where
-  -- the device was empty, where it tells its bytes; it met no fault; it met one; its first 512 bytes are zero
+  -- the device was empty, where it tells its bytes; it met no fault; it met one; its first 512 bytes are zero, and beside
+  -- blocks it was called twice at most
   abbrev pub WasEmpty : Type 0
   WasEmpty = IfSome (d.bytes device) (λ bytes. length bytes ≡ 0)
 
@@ -34,6 +36,7 @@ module _ {D : Type 0} (d : device.Ghosts D) (device device' : D) where
 
   abbrev pub IsNoStore : Type 0
   IsNoStore = IfSome (d.bytes device') (λ bytes. take 512 bytes ≡ replicate 512 0)
+      × ((d.counts device').others ≤ (d.counts device).others + 2)
 
 module _ {S K D : Type 0} (g : source.Ghosts S) (h : sink.Ghosts K) (d : device.Ghosts D) (geometry : Geometry) (source source' : S) (sink sink' : K) (device device' : D) where
   -- no line has a word; the source was read to its end, no line has a word, and these are the rows
@@ -52,12 +55,16 @@ module _ {S K D : Type 0} (g : source.Ghosts S) (h : sink.Ghosts K) (d : device.
       × (((d.counts device').writes ≤ (d.counts device).writes + (8 * length rows / (7 * block_cells geometry) + (geometry.bottom + 1) + 3))
       × MetNoFault d device device')))
 
+  -- this is the word of the first of these lines that has one
+  abbrev pub HasWord : List Line → Word → Type 0
+  HasWord lines word = word_of (shape_of geometry.format geometry.keys) lines ≡ Some word
+
   -- the last of these lines has the first word, with this number, and this was written of it
   abbrev pub WroteWord : (List ℕ → Type 0) → List Line → ℕ → Type 0
   WroteWord Wrote lines number =
-      ((word_of (shape_of geometry.format geometry.keys) lines ≡ Some (Bad number)) × Wrote (line (codes "bad " ++ decimal number)))
-      ⊎ (((word_of (shape_of geometry.format geometry.keys) lines ≡ Some (Order number)) × Wrote (line (codes "order " ++ decimal number)))
-      ⊎ ((word_of (shape_of geometry.format geometry.keys) lines ≡ Some (Full number)) × Wrote (line (codes "full " ++ decimal number))))
+      (HasWord lines (Bad number) × Wrote (line (codes "bad " ++ decimal number)))
+      ⊎ ((HasWord lines (Order number) × Wrote (line (codes "order " ++ decimal number)))
+      ⊎ (HasWord lines (Full number) × Wrote (line (codes "full " ++ decimal number))))
 
   -- a line has a word, which no line before it has; nothing was read behind it
   abbrev pub StopsAtWord : (List ℕ → Type 0) → Type 0
@@ -71,30 +78,35 @@ module _ {S K D : Type 0} (g : source.Ghosts S) (h : sink.Ghosts K) (d : device.
       × (AreFirstLines lines reads × (ReadFor g lines source reads source' × ((was_refused reads ≡ false)
       × ((g.faults source' ≡ g.faults source) × NoWord lines)))))
 
-  -- nothing was read of the source or written to the sink, and the device was called twice at most, and neither read nor written
-  abbrev pub DidNotBegin : Type 0
-  DidNotBegin = (source' ≡ source) × ((sink' ≡ sink) × Spends (d.counts device) (d.counts device') 0 0 2)
+  -- nothing was read of the source or written to the sink; the device was called so often at most, and neither read nor written
+  abbrev pub DidNotBegin : ℕ → Type 0
+  DidNotBegin calls = (source' ≡ source) × ((sink' ≡ sink) × Spends (d.counts device) (d.counts device') 0 0 calls)
+
+  -- the size was not told, and the bytes stay; or the layout was refused, which left some of its bytes
+  abbrev pub IsNotLaidOut : Type 0
+  IsNotLaidOut = (d.bytes device' ≡ d.bytes device)
+      ⊎ (WasEmpty d device device' × IfSome (d.bytes device') (λ bytes. length bytes ≤ file_bytes geometry))
 
   -- by the status
   pub data LoadAnswers (status : ℕ) : Type 0 where
     Loaded : status ≡ 0 → (rows : List Row) → ReadAll rows → HasRows rows
         → WroteWhole h sink sink' (line (codes "loaded " ++ decimal (length rows))) → LoadAnswers status
-    NoMemory : status ≡ 1 → DidNotBegin → WasEmpty d device device' → d.bytes device' ≡ d.bytes device → MetNoFault d device device' → LoadAnswers status
+    NoMemory : status ≡ 1 → DidNotBegin 1 → WasEmpty d device device' → d.bytes device' ≡ d.bytes device
+        → MetNoFault d device device' → LoadAnswers status
     SourceStops : status ≡ 3 → SourceFailed g h source source' sink sink' NoWord → sink' ≡ sink
         → WasEmpty d device device' → MetNoFault d device device' → IsNoStore d device device' → LoadAnswers status
     SinkStops : status ≡ 4 → (rows : List Row) → ReadAll rows → HasRows rows
         → WroteSome h sink sink' (line (codes "loaded " ++ decimal (length rows))) → LoadAnswers status
     SinkStopsAtWord : status ≡ 4 → StopsAtWord (WroteSome h sink sink')
         → WasEmpty d device device' → MetNoFault d device device' → IsNoStore d device device' → LoadAnswers status
-    NotLaidOut : status ≡ 5 → DidNotBegin → MetFault d device device' →
-        (d.bytes device' ≡ d.bytes device) ⊎ (WasEmpty d device device' × IfSome (d.bytes device') (λ bytes. length bytes ≤ file_bytes geometry)) → LoadAnswers status
+    NotLaidOut : status ≡ 5 → DidNotBegin 2 → MetFault d device device' → IsNotLaidOut → LoadAnswers status
     DeviceStops : status ≡ 5 → StopsAtBlock → sink' ≡ sink
         → WasEmpty d device device' → MetFault d device device' → IsNoStore d device device' → LoadAnswers status
     NotFinished : status ≡ 5 → (rows : List Row) → ReadAll rows → sink' ≡ sink → WasEmpty d device device' → MetFault d device device'
         → IfSome (d.bytes device') (λ bytes. (take 512 bytes ≡ replicate 512 0) ⊎ IsFilledBehind geometry 0 rows bytes) → LoadAnswers status
-    NotEmpty : status ≡ 8 → DidNotBegin → IfSome (d.bytes device) (λ bytes. 0 < length bytes) → d.bytes device' ≡ d.bytes device
+    NotEmpty : status ≡ 8 → DidNotBegin 1 → IfSome (d.bytes device) (λ bytes. 0 < length bytes) → d.bytes device' ≡ d.bytes device
         → MetNoFault d device device' → LoadAnswers status
     InputSpent : status ≡ 9 → Spent g h source source' sink sink' NoWord → sink' ≡ sink
         → WasEmpty d device device' → MetNoFault d device device' → IsNoStore d device device' → LoadAnswers status
-    HasWord : status ≡ 14 → StopsAtWord (WroteWhole h sink sink')
+    AtWord : status ≡ 14 → StopsAtWord (WroteWhole h sink sink')
         → WasEmpty d device device' → MetNoFault d device device' → IsNoStore d device device' → LoadAnswers status

@@ -16,7 +16,7 @@ use Rattle.cola_load.specs.declared.fault.LoadFault.{LoadFault}
 use Rattle.cola_load.specs.declared.fault.LoadFault.TheVariants.{NotEmpty, OutOfMemory, Device}
 use Rattle.cola_load.specs.Filled.{Row, AreRows, IsFilled, filled_header, map_of}
 use Rattle.cola_load.specs.Grow.{IsFor}
-use Rattle.cola_load.specs.Loading.{Begins, IsHeadless, IsUnfinished}
+use Rattle.cola_load.specs.Loading.{Begins, IsHeadless, IsUnfinished, full_blocks}
 use Rattle.cola_load.specs.Rows.{word_of, rows_of}
 use Rattle.cola_opening.specs.Counted.{Spends}
 use Rattle.cola_report.specs.Line.{LineEnds}
@@ -113,11 +113,16 @@ module _ {S K D : Type 0} (g : source.Ghosts S) (h : sink.Ghosts K) (d : device.
     AtWord : StoppedAtLine status → StopsBefore status
 
 module _ {S K D : Type 0} (g : source.Ghosts S) (h : sink.Ghosts K) (d : device.Ghosts D) (geometry : Geometry) (source source' : S) (sink sink' : K) (device device' : D) where
+  -- the source was read to its end, none of its lines has a word, and these are their rows
+  abbrev pub ReadRows : List Row → Type 0
+  ReadRows rows = ReadToEnd g h source source' sink sink (λ lines. HaveNoWord (shape_of geometry.format geometry.keys) lines
+      × (rows ≡ loaded_rows (shape_of geometry.format geometry.keys) lines))
+
   -- all lines were read, none has a word, the file is filled with their rows, and their number was written
   pub record WasLoaded (status : ℕ) : Type 0 where
     pub was_empty : IsEmpty (d.bytes device)
     pub rows : List Row
-    pub read : ReadToEnd g h source source' sink sink (λ lines. HaveNoWord (shape_of geometry.format geometry.keys) lines × (rows ≡ loaded_rows (shape_of geometry.format geometry.keys) lines))
+    pub read : ReadRows rows
     pub filled : IfSome (d.bytes device') (IsFilledWith geometry 0 rows)
     pub settled : IsSettled d device'
     pub few_writes : (d.counts device').writes ≤ (d.counts device).writes + most_writes geometry (length rows)
@@ -129,8 +134,7 @@ module _ {S K D : Type 0} (g : source.Ghosts S) (h : sink.Ghosts K) (d : device.
   pub record FailedAtEnd : Type 0 where
     pub was_empty : IsEmpty (d.bytes device)
     pub rows : List Row
-    pub read : ReadToEnd g h source source' sink sink
-        (λ lines. HaveNoWord (shape_of geometry.format geometry.keys) lines × (rows ≡ loaded_rows (shape_of geometry.format geometry.keys) lines))
+    pub read : ReadRows rows
     pub left : IfSome (d.bytes device') (IsUnfinished geometry 0 rows)
     pub sink_stays : sink' ≡ sink
     pub cause : Rose (d.counts device).faults (d.counts device').faults
@@ -142,12 +146,14 @@ module _ {S K D : Type 0} (g : source.Ghosts S) (h : sink.Ghosts K) (d : device.
     pub source_stays : source' ≡ source
     pub sink_stays : sink' ≡ sink
 
-  -- it began over an empty device, which met no fault until it was the one in between, and stopped at its lines
+  -- it began over an empty device, which met no fault until it was the one in between, and stopped at its lines: beside blocks
+  -- of rows the device was called for its size and its layout alone, and not to settle
   pub record HasStopped (status : ℕ) : Type 0 where
     pub was_empty : IsEmpty (d.bytes device)
     pub between : D
     pub begun : (d.counts between).faults ≡ (d.counts device).faults
     pub stops : StopsBefore g h d (shape_of geometry.format geometry.keys) source source' sink sink' between device' status
+    pub spends : Spends (d.counts device) (d.counts device') 0 (full_blocks geometry geometry.keys) 2
 
   -- how a load ends, by the status
   pub data LoadEndsBy (status : ℕ) : Type 0 where

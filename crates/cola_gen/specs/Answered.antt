@@ -32,7 +32,8 @@ at table tally steps = record { table = table; tally = tally; steps = steps }
 -- each turn's reply is that of the map that the turns before it left; the newest turn stands first
 abbrev pub AsMap : Shape → Map → (ℕ → Command) → List Turn → Type 0
 AsMap shape m command [] = Unit {0}
-AsMap shape m command (turn ∷ turns) = (turn.answer ≡ open_reply shape (after_first shape m command (length turns)) (command (length turns))) × AsMap shape m command turns
+AsMap shape m command (turn ∷ turns) = (turn.answer ≡ open_reply shape (after_first shape m command (length turns)) (command (length turns)))
+    × AsMap shape m command turns
 
 module _ {T W : Type 0} (t : table.Ghosts T W) where
   -- what a call keeps of a table: its terms and what it has beside its map
@@ -50,9 +51,11 @@ module _ {T W : Type 0} (t : table.Ghosts T W) where
   abbrev pub Gave : (ℕ → Command) → T → List Turn → T → Type 0
   Gave command old [] new = new ≡ old
   Gave command old (turn ∷ turns) new =
-      (before : T) × (Gave command old turns before × t.answers before turn new × (turn.request ≡ Some (command (length turns))) × (accepts turn.answer (command (length turns)) ≡ true))
+      (before : T) × (Gave command old turns before × t.answers before turn new × (turn.request ≡ Some (command (length turns)))
+      × (accepts turn.answer (command (length turns)) ≡ true))
 
-  -- so many commands were answered by these turns: what they made is tallied, their cell accesses were counted and those of each are within the bound, no fault came, and a table that held a map answered as the map does
+  -- so many commands were answered by these turns: what they made is tallied, their cell accesses were counted
+  -- and those of each are within the bound, no fault came, and a table that held a map answered as the map does
   pub record Answered (command : ℕ → Command) (bound levels count : ℕ) (old new : State T) (turns : List Turn) : Type 0 where
     pub number : length turns ≡ count
     pub gave : Gave command old.table turns new.table
@@ -61,9 +64,11 @@ module _ {T W : Type 0} (t : table.Ghosts T W) where
     pub within : All (λ turn. turn.ticks ≤ bound) turns
     pub faults : t.faults new.table ≡ t.faults old.table
     pub keeps : Keeps old.table new.table
-    pub as_map : (m : Map) → t.holds old.table m → AsMap (shape (t.terms old.table)) m command turns × t.holds new.table (after_first (shape (t.terms old.table)) m command count)
+    pub as_map : (m : Map) → t.holds old.table m → AsMap (shape (t.terms old.table)) m command turns
+        × t.holds new.table (after_first (shape (t.terms old.table)) m command count)
 
-  -- a command was answered by this turn: what it made is tallied, its cell accesses were counted and are within the bound, no fault came, and a table that held a map answered as the map does
+  -- a command was answered by this turn: what it made is tallied, its cell accesses were counted
+  -- and are within the bound, no fault came, and a table that held a map answered as the map does
   pub record Accepted (command : Command) (bound levels place : ℕ) (old new : State T) : Type 0 where
     pub turn : Turn
     pub asked : turn.request ≡ Some command
@@ -74,9 +79,11 @@ module _ {T W : Type 0} (t : table.Ghosts T W) where
     pub within : turn.ticks ≤ bound
     pub faults : t.faults new.table ≡ t.faults old.table
     pub keeps : Keeps old.table new.table
-    pub as_map : (m : Map) → t.holds old.table m → (turn.answer ≡ open_reply (shape (t.terms old.table)) m command) × t.holds new.table (map_after (shape (t.terms old.table)) m command)
+    pub as_map : (m : Map) → t.holds old.table m → (turn.answer ≡ open_reply (shape (t.terms old.table)) m command)
+        × t.holds new.table (map_after (shape (t.terms old.table)) m command)
 
-  -- a command was refused by this reply: a table that held a map refused as the map does or by a fault of its device, and holds the map still
+  -- a command was refused by this reply: a table that held a map refused as the map does or by
+  -- a fault of its device, and holds the map still
   pub record Refused (command : Command) (answer : Reply) (old new : State T) : Type 0 where
     pub refuses : refuses answer command ≡ true
     pub given : t.answers old.table (turn_of command answer (new.steps - old.steps)) new.table
@@ -114,9 +121,11 @@ module _ {T W : Type 0} (t : table.Ghosts T W) where
   -- how the puts and deletes ended
   abbrev pub Generated : ℕ → ℕ → ℕ → Result (Unit {0}) PutFault → State T → State T → Type 0
   Generated bound levels number (Ok _) old new = Second bound levels number (Ok tt) old new
-  Generated bound levels number (Err fault) old new = Stopped puts bound levels number (put_refused fault) old new ⊎ Second bound levels number (Err fault) old new
+  Generated bound levels number (Err fault) old new = Stopped puts bound levels number (put_refused fault) old new
+      ⊎ Second bound levels number (Err fault) old new
 
-  -- the table holds the keys of the odd places below the number, each with its value, and no other; each put made a key, and each delete found its own
+  -- the table holds the keys of the odd places below the number, each with its value, and no
+  -- other; each put made a key, and each delete found its own
   pub record MadeOdd (number : ℕ) (old new : State T) : Type 0 where
     pub map : Map
     pub holds : t.holds new.table map

@@ -53,7 +53,8 @@ refuses _ _ = false
 abbrev pub one : Bool → ℕ
 one holds = if holds then 1 else 0
 
--- how many turns pass a test that is told the turn's place; the newest turn stands first, and has as its place the number of those before it
+-- how many turns pass a test that is told the turn's place; the newest turn stands first, and
+-- has as its place the number of those before it
 abbrev pub counted : (ℕ → Turn → Bool) → List Turn → ℕ
 counted test [] = 0
 counted test (turn ∷ turns) = one (test (length turns) turn) + counted test turns

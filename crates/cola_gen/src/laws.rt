@@ -147,7 +147,8 @@ pub fn workloads_end<T: Table>()
     ensures refused { (bound levels number : ℕ) (fault : PutFault) (old new : State T) →
         Generated T.Table bound levels number (Err fault) old new →
         Stopped T.Table puts bound levels number (put_refused fault) old new
-        ⊎ ((between : State T) × (AllAnswered T.Table puts bound levels number old between × Stopped T.Table deletes bound levels (evens number) (put_refused fault) between new)) }
+        ⊎ ((between : State T) × (AllAnswered T.Table puts bound levels number old between
+        × Stopped T.Table deletes bound levels (evens number) (put_refused fault) between new)) }
     ensures got { (bound levels number : ℕ) (old new : State T) →
         Ran T.Table gets read_refused bound levels number (Ok tt) old new →
         AllAnswered T.Table gets bound levels number old new }
@@ -157,13 +158,16 @@ pub fn workloads_end<T: Table>()
     ensures answered { (command : ℕ → Command) (bound levels count : ℕ) (old new : State T) →
         AllAnswered T.Table command bound levels count old new →
         (turns : List Turn) × (Answered T.Table command bound levels count old new turns × (length turns ≡ count)) }
-    ensures stopped { (command : ℕ → Command) (bound levels count : ℕ) (answer : Reply) (old new : State T) → Stopped T.Table command bound levels count answer old new →
-        (place : ℕ) × ((place < count) × ((before : State T) × ((turns : List Turn) × (Answered T.Table command bound levels place old before turns × Refused T.Table (command place) answer before new)))) }
+    ensures stopped { (command : ℕ → Command) (bound levels count : ℕ) (answer : Reply) (old new : State T) →
+        Stopped T.Table command bound levels count answer old new →
+        (place : ℕ) × ((place < count) × ((before : State T)
+        × ((turns : List Turn) × (Answered T.Table command bound levels place old before turns × Refused T.Table (command place) answer before new)))) }
     ensures reads { (cell : ℕ) →
         (read_refused read.Device ≡ Failed Fault)
         × (read_refused (read.BadCell cell) ≡ Failed (Damaged cell)) }
     ensures left { (number : ℕ) (old new : State T) → MadeOdd T.Table number old new →
-        (map : Map) × (T.holds new.table map × (HasOdd number map × ((new.tally.fresh ≡ old.tally.fresh + number) × (new.tally.gone ≡ old.tally.gone + evens number)))) }
+        (map : Map) × (T.holds new.table map × (HasOdd number map
+        × ((new.tally.fresh ≡ old.tally.fresh + number) × (new.tally.gone ≡ old.tally.gone + evens number)))) }
     ensures spent { (most : ℕ) (old new : State T) → Spent T.Table most old new →
         (T.kept new.table ≡ T.kept old.table) × ((T.terms new.table ≡ T.terms old.table) × ((old.steps ≤ new.steps) × (new.steps ≤ old.steps + most))) }
 {}
@@ -171,17 +175,23 @@ pub fn workloads_end<T: Table>()
 /// Two commands that a table answered, the first and then the second: what each was asked, that it was accepted within the
 /// bound, and that a table which held a map answered as the map does, and holds the map after both.
 pub fn two_commands_are_answered<T: Table>()
-    ensures given { (command : ℕ → Command) (bound levels count : ℕ) (old new : State T) (first second : Turn) → Answered T.Table command bound levels count old new (second ∷ first ∷ []) →
+    ensures given { (command : ℕ → Command) (bound levels count : ℕ) (old new : State T) (first second : Turn) →
+        Answered T.Table command bound levels count old new (second ∷ first ∷ []) →
         (count ≡ 2) × ((between : T) × (T.answers old.table first between × T.answers between second new.table)) }
-    ensures first { (command : ℕ → Command) (bound levels count : ℕ) (old new : State T) (first second : Turn) → Answered T.Table command bound levels count old new (second ∷ first ∷ []) →
+    ensures first { (command : ℕ → Command) (bound levels count : ℕ) (old new : State T) (first second : Turn) →
+        Answered T.Table command bound levels count old new (second ∷ first ∷ []) →
         (first.request ≡ Some (command 0)) × ((accepts first.answer (command 0) ≡ true) × (first.ticks ≤ bound)) }
-    ensures second { (command : ℕ → Command) (bound levels count : ℕ) (old new : State T) (first second : Turn) → Answered T.Table command bound levels count old new (second ∷ first ∷ []) →
+    ensures second { (command : ℕ → Command) (bound levels count : ℕ) (old new : State T) (first second : Turn) →
+        Answered T.Table command bound levels count old new (second ∷ first ∷ []) →
         (second.request ≡ Some (command 1)) × ((accepts second.answer (command 1) ≡ true) × (second.ticks ≤ bound)) }
-    ensures counted { (command : ℕ → Command) (bound levels count : ℕ) (old new : State T) (first second : Turn) → Answered T.Table command bound levels count old new (second ∷ first ∷ []) →
+    ensures counted { (command : ℕ → Command) (bound levels count : ℕ) (old new : State T) (first second : Turn) →
+        Answered T.Table command bound levels count old new (second ∷ first ∷ []) →
         Tallied levels (second ∷ first ∷ []) old.tally new.tally × (new.steps ≡ old.steps + first.ticks + second.ticks) }
-    ensures calm { (command : ℕ → Command) (bound levels count : ℕ) (old new : State T) (first second : Turn) → Answered T.Table command bound levels count old new (second ∷ first ∷ []) →
+    ensures calm { (command : ℕ → Command) (bound levels count : ℕ) (old new : State T) (first second : Turn) →
+        Answered T.Table command bound levels count old new (second ∷ first ∷ []) →
         (T.faults new.table ≡ T.faults old.table) × ((T.kept new.table ≡ T.kept old.table) × (T.terms new.table ≡ T.terms old.table)) }
-    ensures as_map { (command : ℕ → Command) (bound levels count : ℕ) (old new : State T) (first second : Turn) (m : Map) → Answered T.Table command bound levels count old new (second ∷ first ∷ []) → T.holds old.table m →
+    ensures as_map { (command : ℕ → Command) (bound levels count : ℕ) (old new : State T) (first second : Turn) (m : Map) →
+        Answered T.Table command bound levels count old new (second ∷ first ∷ []) → T.holds old.table m →
         (first.answer ≡ open_reply (shape (T.terms old.table)) m (command 0))
         × ((second.answer ≡ open_reply (shape (T.terms old.table)) (map_after (shape (T.terms old.table)) m (command 0)) (command 1))
         × T.holds new.table (map_after (shape (T.terms old.table)) (map_after (shape (T.terms old.table)) m (command 0)) (command 1))) }

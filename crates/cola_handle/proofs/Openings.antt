@@ -1,5 +1,5 @@
 -- Why an opening on a device that does not fail was refused, and what it left.
-use Rattle.std.proofs.Common.{◌≡◌, ◌∙◌, ◌⊎◌, inl, inr, ℕ, ◌+◌, List, take, Some, Err, arith, ap, sym, subst}
+use Rattle.std.proofs.Common.{◌≡◌, ◌∙◌, inl, inr, ℕ, ◌+◌, List, take, Some, arith, ap, sym, subst}
 use Rattle.cola_layout.specs.declared.geometry.Geometry.{Geometry}
 use Rattle.cola_layout.specs.Fields.{fields_of}
 use Rattle.cola_layout.specs.Header.{Fields}
@@ -7,45 +7,58 @@ use Rattle.cola_layout.proofs.Refusing.{spelling-one}
 use Rattle.cola_mapped.specs.Mapped.{Mapped}
 use Rattle.cola_mapped.specs.contracts.device.MappedDeviceDevice.TheImpl.{ghosts}
 use Rattle.cola_outside.specs.Faults.{Rose}
-use Rattle.cola_spec.specs.Map.{Map}
 use Rattle.cola_image.specs.Standing.{FileStandsFor}
-use Rattle.cola_store.specs.declared.fault.OpenFault.{OpenFault}
-use Rattle.cola_store.specs.declared.fault.OpenFault.TheVariants as fault
-use Rattle.cola_store.specs.Open.{Opens}
-use Rattle.cola_store.specs.Sessions.{MetFault, IsStoreOpened, IsStoreClosed}
+use Rattle.cola_store.specs.Sessions.{IsStoreOpened, IsStoreClosed}
 use Rattle.cola_store.specs.Store.{Stored, terms_of}
-use Rattle.cola_store.proofs.OpenLaws.{opens-to}
+use Rattle.cola_kv.specs.declared.error.Error.{Error}
+use Rattle.cola_kv.specs.declared.error.Error.TheVariants as error
+use Rattle.cola_kv.specs.Opened as kv
 use Rattle.cola_table.specs.Terms.{Terms}
 use Rattle.cola_handle.specs.declared.answer.Answer.{Answer}
 use Rattle.cola_handle.specs.declared.answer.Answer.TheVariants.{Memory}
-use Rattle.cola_handle.specs.Lent.{HasTerms, OpenCause, AreLeft, open_answer}
+use Rattle.cola_handle.specs.Lent.{HasTerms, OpenCause, AreLeft}
+use Rattle.cola_handle.specs.Numbers.{refused}
+use Rattle.cola_handle.specs.Open.{lent_device}
 
 no-rise : Rose 0 0 → ⊥
 no-rise rose = omega (arith, rose)
 
-pub refusal-cause : (before now : Mapped) (cache : ℕ) (f : OpenFault) → Opens ghosts before cache (Err (now, f)) → OpenCause before.bytes (open_answer f)
-refusal-cause before now cache fault.NotStore seen = seen.why_is
-refusal-cause before now cache fault.NotClosed seen = seen.why_is
-refusal-cause before now cache fault.Small seen = seen.why_is
-refusal-cause before now cache fault.Device failed = absurd (no-rise failed.cause)
-refusal-cause before now cache fault.OutOfMemory seen = seen.why_is
-refusal-cause before now cache (fault.BadCell number) seen = (seen.0, (number, seen.1.why_is))
+pub refusal-cause : (before now : Mapped) (e : Error) → kv.OpenCause lent_device before now e → OpenCause before.bytes (refused e)
+refusal-cause before now error.NotStore seen = seen.why_is
+refusal-cause before now error.NotClosed seen = seen.why_is
+refusal-cause before now error.Small seen = seen.why_is
+refusal-cause before now error.Device failed = absurd (no-rise failed.cause)
+refusal-cause before now error.OutOfMemory seen = seen.why_is
+refusal-cause before now (error.BadCell number) seen = (seen.0, (number, seen.1.why_is))
+refusal-cause before now error.KeyLength is = absurd is
+refusal-cause before now error.ValueLength is = absurd is
+refusal-cause before now error.Keys is = absurd is
+refusal-cause before now error.Block is = absurd is
+refusal-cause before now error.NotEmpty is = absurd is
+refusal-cause before now error.Full is = absurd is
+refusal-cause before now error.Worn is = absurd is
+refusal-cause before now (error.Overfull level) is = absurd is
 
-pub refusal-stays : (before now : Mapped) (cache : ℕ) (f : OpenFault) → Opens ghosts before cache (Err (now, f)) → Some now.bytes ≡ Some before.bytes
-refusal-stays before now cache fault.NotStore seen = seen.bytes_stay
-refusal-stays before now cache fault.NotClosed seen = seen.bytes_stay
-refusal-stays before now cache fault.Small seen = seen.bytes_stay
-refusal-stays before now cache fault.Device failed = absurd (no-rise failed.cause)
-refusal-stays before now cache fault.OutOfMemory seen = seen.bytes_stay
-refusal-stays before now cache (fault.BadCell number) seen = seen.1.bytes_stay
+pub refusal-stays : (before now : Mapped) (e : Error) → kv.OpenCause lent_device before now e → Some now.bytes ≡ Some before.bytes
+refusal-stays before now error.NotStore seen = seen.bytes_stay
+refusal-stays before now error.NotClosed seen = seen.bytes_stay
+refusal-stays before now error.Small seen = seen.bytes_stay
+refusal-stays before now error.Device failed = absurd (no-rise failed.cause)
+refusal-stays before now error.OutOfMemory seen = seen.bytes_stay
+refusal-stays before now (error.BadCell number) seen = seen.1.bytes_stay
+refusal-stays before now error.KeyLength is = absurd is
+refusal-stays before now error.ValueLength is = absurd is
+refusal-stays before now error.Keys is = absurd is
+refusal-stays before now error.Block is = absurd is
+refusal-stays before now error.NotEmpty is = absurd is
+refusal-stays before now error.Full is = absurd is
+refusal-stays before now error.Worn is = absurd is
+refusal-stays before now (error.Overfull level) is = absurd is
 
 -- bytes that stand for a map are refused for want of memory alone
-pub refusal-only : (before now : Mapped) (cache : ℕ) (f : OpenFault) (m : Map) → FileStandsFor before.bytes m → Opens ghosts before cache (Err (now, f)) → open_answer f ≡ Memory
-refusal-only before now cache f m file seen = by-law (opens-to ghosts cache before m (Err (now, f)) file seen)
-  where
-    by-law : (f ≡ fault.OutOfMemory) ⊎ MetFault ghosts before (now, f) → open_answer f ≡ Memory
-    by-law (inl memory) = ap open_answer memory
-    by-law (inr met) = absurd (no-rise met.1)
+pub refusal-only : (before now : Mapped) (e : Error) → kv.IsOpenRefusal lent_device before now e → refused e ≡ Memory
+refusal-only before now e (inl memory) = ap refused memory
+refusal-only before now e (inr met) = absurd (no-rise met.1)
 
 pub left-same : (before now : List ℕ) (why : Answer) → now ≡ before → AreLeft before now why
 left-same before now Memory same = record {

@@ -6,9 +6,8 @@ use Rattle.cola_handle.specs.declared.cursor.Cursor.{Cursor}
 use Rattle.cola_handle.specs.declared.cursor.Row.{Row}
 use Rattle.cola_handle.specs.declared.answer.Answer.{Answer}
 use Rattle.cola_handle.specs.declared.answer.Answer.TheVariants.{Done, Absent}
-use Rattle.cola_handle.specs.declared.answer.Refusal.{Refusal}
-use Rattle.cola_handle.specs.declared.answer.Refusal.TheVariants.{Length}
-use Rattle.cola_handle.specs.Calls.{Refused}
+use Rattle.cola_kv.specs.declared.error.Error.{Error}
+use Rattle.cola_kv.specs.declared.error.Error.TheVariants.{KeyLength}
 use Rattle.cola_handle.specs.Numbers.{refused}
 
 -- a key with its value
@@ -67,9 +66,9 @@ pub record IsSet (low high : List ℕ) (bounded : Bool) (cursor : Cursor) : Type
   pub not_behind : cursor.behind ≡ false
 
 -- a cursor is set, or is refused exactly where an end is too long
-abbrev pub SeekSays : (low high : List ℕ) → Bool → Result Cursor Refusal → Type 0
+abbrev pub SeekSays : (low high : List ℕ) → Bool → Result Cursor Error → Type 0
 SeekSays low high bounded (Ok cursor) = (are_short low high ≡ true) × IsSet low high bounded cursor
-SeekSays low high bounded (Err why) = (why ≡ Length) × (are_short low high ≡ false)
+SeekSays low high bounded (Err why) = (why ≡ KeyLength) × (are_short low high ≡ false)
 
 -- The next rows
 
@@ -85,8 +84,8 @@ pub record Writes (old new : List Row) (given : ℕ) : Type 0 where
   pub others : drop given new ≡ drop given old
 
 -- what a refused call leaves of the rows: all of them where a length is the reason, else those behind the ones that it gave
-abbrev pub GaveSome : (old new : List Row) → Refusal → Type 0
-GaveSome old new Length = new ≡ old
+abbrev pub GaveSome : (old new : List Row) → Error → Type 0
+GaveSome old new KeyLength = new ≡ old
 GaveSome old new _ = (given : ℕ) × Writes old new given
 
 -- a cursor stands behind the key of a row, with the upper end that it had
@@ -100,13 +99,24 @@ pub record Moves (old new : Cursor) (rows : List Row) (given : ℕ) : Type 0 whe
   pub none : given ≡ 0 → new ≡ old
   pub last : 0 < given → HoldsAt (IsBehind old new) rows (given - 1)
 
+-- lengths of the cursor are the reason of a refusal exactly where they are more than its lists have, and then nothing changed
+abbrev pub ByLength : {A : Type 0} → Bool → Type 0 → Result A Error → Type 0
+ByLength good same (Ok answer) = good ≡ true
+ByLength good same (Err KeyLength) = (good ≡ false) × same
+ByLength good same (Err _) = good ≡ true
+
+-- on a store that holds a map a call is refused for its cursor's lengths alone, and the map stays
+abbrev pub Refused : Map → (Map → Type 0) → Error → Type 0
+Refused m Holds KeyLength = Holds m
+Refused m Holds _ = ⊥
+
 -- on a store that holds a map the rows have the first of the pairs that are ahead, the rest of them is ahead then, and the map stays
-abbrev pub NextSays : Map → (old new : Cursor) → List Row → (Map → Type 0) → Result ℕ Refusal → Type 0
+abbrev pub NextSays : Map → (old new : Cursor) → List Row → (Map → Type 0) → Result ℕ Error → Type 0
 NextSays m old new rows Holds (Ok given) = HaveFirst (ahead m old) rows given × (ahead m new ≡ drop given (ahead m old)) × Holds m
 NextSays m old new rows Holds (Err refusal) = Refused m Holds refusal
 
 -- the answer of a call for so many rows: absent where some were wanted and none was given
-abbrev pub gave : ℕ → Result ℕ Refusal → Answer
+abbrev pub gave : ℕ → Result ℕ Error → Answer
 gave wanted (Ok given) = if nat_lt 0 wanted && nat_eq given 0 then Absent else Done
 gave wanted (Err why) = refused why
 

@@ -5,8 +5,6 @@ use Rattle.cola_opening.specs.Judged.{IsSmall, IsNoStore, IsInUse}
 use Rattle.cola_spec.specs.Map.{Map}
 use Rattle.cola_image.specs.Standing.{FileStandsFor}
 use Rattle.cola_mapped.specs.Region.{bytes_in}
-use Rattle.cola_store.specs.declared.fault.OpenFault.{OpenFault}
-use Rattle.cola_store.specs.declared.fault.OpenFault.TheVariants as fault
 use Rattle.cola_store.specs.Open.{WasClosed, HasBadCell}
 use Rattle.cola_table.specs.Terms.{Terms}
 use Rattle.cola_handle.specs.declared.answer.Answer.{Answer}
@@ -44,12 +42,3 @@ pub record IsSameStore (before now : List ℕ) : Type 0 where
 abbrev pub AreLeft : (before now : List ℕ) → Answer → Type 0
 AreLeft before now Memory = IsSameStore before now
 AreLeft before now _ = now ≡ before
-
--- the answer of each refusal of an opening, on a device that does not fail
-abbrev pub open_answer : OpenFault → Answer
-open_answer fault.NotStore = NotStore
-open_answer fault.NotClosed = NotClosed
-open_answer fault.Small = Small
-open_answer fault.Device = Small
-open_answer fault.OutOfMemory = Memory
-open_answer (fault.BadCell cell) = BadCell

@@ -5,11 +5,13 @@ use Rattle.cola_cell.specs.declared.fault.ReadFault.TheVariants as fault
 use Rattle.cola_mapped.specs.Mapped.{counts_of}
 use Rattle.cola_spec.specs.Bounds.{range_bound}
 use Rattle.cola_spec.specs.Map.{Map, pairs_between}
+use Rattle.cola_store.specs.Calls.{ReadsWithin}
+use Rattle.cola_store.specs.Store.{spent_of}
 use Rattle.cola_store.specs.Walks.{Begins, Goes}
 use Rattle.cola_table.specs.Answers.{OnlyDeviceRead}
 use Rattle.cola_table.specs.Terms.{Terms, Call}
-use Rattle.cola_handle.specs.declared.answer.Refusal.{Refusal}
-use Rattle.cola_handle.specs.declared.answer.Refusal.TheVariants.{Length, BadCell}
+use Rattle.cola_kv.specs.declared.error.Error.{Error}
+use Rattle.cola_kv.specs.declared.error.Error.TheVariants.{KeyLength, BadCell}
 use Rattle.cola_handle.specs.declared.cursor.Cursor.{Cursor}
 use Rattle.cola_handle.specs.declared.cursor.Row.{Row}
 use Rattle.cola_handle.specs.declared.session.Session.{Session}
@@ -66,11 +68,15 @@ module _ {T W : Type 0} (begins : T → List ℕ → Option (List ℕ) → Resul
     Fills (Ok given) new = FillsRows given new
     Fills (Err fault) new = Breaks fault new
 
+-- at most so many blocks are read, and none is written
+abbrev pub Reads : (old new : Session) → ℕ → Type 0
+Reads old new blocks = ReadsWithin (spent_of counts_of old.kv.store) (spent_of counts_of new.kv.store) blocks
+
 module _ (old new : Session) (cursor : Cursor) (rows : List Row) where
   -- the rows were filled by one range of the store, from the cursor's key on and below its upper end
   abbrev pub FillsFrom : Result ℕ ReadFault → Type 0
   FillsFrom result =
-      Fills (Begins bytes_of counts_of) (Goes bytes_of counts_of) cursor (first_key (from_of cursor)) (end_of cursor) old.store rows result new.store
+      Fills (Begins bytes_of counts_of) (Goes bytes_of counts_of) cursor (first_key (from_of cursor)) (end_of cursor) old.kv.store rows result new.kv.store
 
   -- no row was wanted, or no key is below the upper end: none is given, and nothing changed
   pub record GivesNone (given : ℕ) : Type 0 where
@@ -79,8 +85,8 @@ module _ (old new : Session) (cursor : Cursor) (rows : List Row) where
     pub same : new ≡ old
 
   -- on every store: the rows have what a range of the store gave, and a refusal is the range's, by a cell that is bad; by lengths none is begun
-  abbrev pub RangeSays : Result ℕ Refusal → Type 0
+  abbrev pub RangeSays : Result ℕ Error → Type 0
   RangeSays (Ok given) = GivesNone given ⊎ FillsFrom (Ok given)
-  RangeSays (Err Length) = new ≡ old
-  RangeSays (Err BadCell) = (cell : ℕ) × FillsFrom (Err (fault.BadCell cell))
+  RangeSays (Err KeyLength) = new ≡ old
+  RangeSays (Err (BadCell cell)) = FillsFrom (Err (fault.BadCell cell))
   RangeSays (Err _) = ⊥

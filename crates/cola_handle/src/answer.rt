@@ -1,4 +1,5 @@
 //! What a call from C answers.
+use cola_kv::Error;
 
 /// What a call answers. Its number is [`Answer::code`]; `include/cola.h` has the same numbers.
 #[derive(Clone, Copy, Debug, PartialEq, Eq, Drop)]
@@ -39,7 +40,7 @@ pub enum Answer {
 
 impl Answer {
     ghost use Rattle.std.specs.Prelude.{◌≡◌, pos};
-    ghost use Rattle.cola_handle.specs.Numbers.{number};
+    ghost use Rattle.cola_handle.specs.Numbers.{number, refused};
 
     /// Its number in C. The numbers 8 and 17 are those of answers that the C side gives by itself.
     pub fn code(self) -> i32
@@ -64,37 +65,23 @@ impl Answer {
             Answer::Memory => 16,
         }
     }
-}
 
-/// Why a call of an open store was refused.
-#[derive(Clone, Copy, Debug, PartialEq, Eq, Drop)]
-pub enum Refusal {
-    /// A key has no bytes, or a key or a value has more than the version allows.
-    Length,
-    /// The key is new, and the store has as many keys as it is for.
-    Full,
-    /// No stamp is left to give.
-    Worn,
-    /// A cell is damaged.
-    BadCell,
-    /// The levels are damaged: a run has no room.
-    Overfull,
-}
-
-impl Refusal {
-    ghost use Rattle.std.specs.Prelude.{◌≡◌};
-    ghost use Rattle.cola_handle.specs.Numbers.{refused};
-
-    /// The answer that says so.
-    pub fn answer(self) -> Answer
-        ensures { result ≡ refused self }
+    /// The answer that tells an error. `Device` has none of its own: a device over lent bytes does not fail.
+    pub fn of(error: Error) -> Answer
+        ensures { result ≡ refused error }
     {
-        match self {
-            Refusal::Length => Answer::Length,
-            Refusal::Full => Answer::Full,
-            Refusal::Worn => Answer::Worn,
-            Refusal::BadCell => Answer::BadCell,
-            Refusal::Overfull => Answer::Overfull,
+        match error {
+            Error::KeyLength | Error::ValueLength => Answer::Length,
+            Error::Keys | Error::Block => Answer::Options,
+            Error::NotEmpty => Answer::NotEmpty,
+            Error::NotStore => Answer::NotStore,
+            Error::Small | Error::Device => Answer::Small,
+            Error::NotClosed => Answer::NotClosed,
+            Error::BadCell(_) => Answer::BadCell,
+            Error::OutOfMemory => Answer::Memory,
+            Error::Full => Answer::Full,
+            Error::Worn => Answer::Worn,
+            Error::Overfull(_) => Answer::Overfull,
         }
     }
 }

@@ -3,8 +3,7 @@ ghost use Rattle.std.specs.Prelude.{◌≡◌, ◌≤◌, true, false, IfOk, len
 ghost use Rattle.cola_spec.specs.Map.{Map, pairs_between};
 ghost use Rattle.cola_handle.specs.Cursors.{row_pair, IsGoodRow, from_of, end_at, end_of, is_good, is_void, was_given, first_key, ahead, SeekSays, IsBehind};
 
-use crate::answer::Refusal;
-use cola_cell::{Key, Value};
+use cola_kv::{Error, Key, Value};
 
 /// A key with its value, as C has it: the first bytes of each list, as many as its length says.
 #[repr(C)]
@@ -54,16 +53,16 @@ pub struct Cursor {
 }
 
 impl Cursor {
-    /// The place before the first key from `low` on, with the upper end `high`, if `bounded`. `Length` where an end has more
-    /// than 40 bytes.
-    pub fn seek(low: &[u8], high: &[u8], bounded: bool) -> Result<Cursor, Refusal>
+    /// The place before the first key from `low` on, with the upper end `high`, if `bounded`. `KeyLength` where an end has
+    /// more than 40 bytes.
+    pub fn seek(low: &[u8], high: &[u8], bounded: bool) -> Result<Cursor, Error>
         ensures says { SeekSays low.now high.now bounded result }
         ensures ahead { (m : Map) →
             IfOk result (λ cursor. ahead m cursor ≡ pairs_between m low.now
             (end_at bounded high.now)) }
     {
         if low.len() > 40 || high.len() > 40 {
-            return Err(Refusal::Length);
+            return Err(Error::KeyLength);
         }
         Ok(Cursor {
             from_len: low.len() as u8,

@@ -2,7 +2,6 @@
 #![tactic(auto)]
 
 mod answer;
-mod asking;
 mod creating;
 mod cursor;
 mod handle;
@@ -13,8 +12,7 @@ mod stored;
 mod telling;
 mod walking;
 
-pub use answer::{Answer, Refusal};
-pub use asking::{count, delete, get, put, put_if, stamp};
+pub use answer::Answer;
 pub use creating::{create, size};
 pub use cursor::{Cursor, Row};
 pub use handle::Cola;

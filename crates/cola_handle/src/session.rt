@@ -1,10 +1,9 @@
 //! What lies behind an open handle.
+use cola_kv::Kv;
 use cola_mapped::MappedDevice;
-use cola_store::Store;
 
-/// An open store, and how many ticks the last call on it made.
+/// An open store in lent bytes.
 #[derive(Drop)]
 pub struct Session {
-    pub store: Store<MappedDevice>,
-    pub ticks: u32,
+    pub kv: Kv<MappedDevice>,
 }

@@ -4,16 +4,14 @@ ghost use Rattle.cola_spec.specs.Bounds.{range_bound};
 ghost use Rattle.cola_spec.specs.Map.{Map};
 ghost use Rattle.cola_store.specs.Store.{terms_of};
 ghost use Rattle.cola_table.specs.Answers.{ReadFaults};
-ghost use Rattle.cola_handle.specs.Calls.{ByLength};
-ghost use Rattle.cola_handle.specs.Cursors.{row_pair, IsGoodRow, is_good, not_given, GaveSome, Writes, Moves, NextSays};
+ghost use Rattle.cola_handle.specs.Cursors.{row_pair, IsGoodRow, is_good, not_given, ByLength, GaveSome, Writes, Moves, NextSays};
 ghost use Rattle.cola_handle.specs.Open.{HoldsMap, levels_of, place_of};
-ghost use Rattle.cola_handle.specs.Reading.{Reads};
-ghost use Rattle.cola_handle.specs.Walking.{Fills, FillSays, RangeCall, RangeSays};
+ghost use Rattle.cola_handle.specs.Walking.{Fills, FillSays, RangeCall, RangeSays, Reads};
 
-use crate::answer::Refusal;
 use crate::cursor::{Cursor, Row};
 use crate::session::Session;
-use cola_cell::{Key, ReadFault, Value};
+use cola_cell::ReadFault;
+use cola_kv::{Error, Key, Value};
 use cola_outside::Steps;
 use cola_table::Table;
 use std::sync::ledger::Ledger;
@@ -76,7 +74,7 @@ fn fill<T: Table, L: Ledger>(
     Ok(given)
 }
 
-/// The next rows of the cursor, and how many they are: it stands behind the last of them then. A refusal leaves the cursor. `Length`
+/// The next rows of the cursor, and how many they are: it stands behind the last of them then. A refusal leaves the cursor. `KeyLength`
 /// where a length of the cursor is more than its list has; then nothing is read.
 #[tactic(auto, using(crate::proofs::Turns::fill_reads, crate::proofs::Turns::no_turn))]
 pub fn next<L: Ledger>(
@@ -84,7 +82,7 @@ pub fn next<L: Ledger>(
     cursor: &mut Cursor,
     rows: &mut [Row],
     steps: &mut Steps<L>,
-) -> Result<usize, Refusal>
+) -> Result<usize, Error>
     ensures answer { (m : Map) → HoldsMap session.old m →
         NextSays m cursor.old cursor.new rows.new (HoldsMap session.new) result }
     ensures given { RangeSays session.old session.new cursor.old rows.new result }
@@ -96,26 +94,34 @@ pub fn next<L: Ledger>(
     ensures good { is_good cursor.old ≡ true → is_good cursor.new ≡ true }
     ensures ticks { steps.new ≤ steps.old + range_bound (levels_of session.old) }
     ensures reads { Reads session.old session.new (range_bound (levels_of session.old)) }
-    ensures last_ticks { session.new.ticks ≡ session.old.ticks }
-    ensures terms { terms_of session.new.store ≡ terms_of session.old.store }
+    ensures last_ticks { session.new.kv.ticks ≡ session.old.kv.ticks }
+    ensures cache { session.new.kv.cache ≡ session.old.kv.cache }
+    ensures terms { terms_of session.new.kv.store ≡ terms_of session.old.kv.store }
     ensures place { place_of session.new ≡ place_of session.old }
 {
     if !cursor.is_good() {
-        return Err(Refusal::Length);
+        return Err(Error::KeyLength);
     }
     if rows.len() == 0 || cursor.is_void() {
         return Ok(0);
     }
     let low = cursor.low();
     let high = cursor.high();
-    match fill(&mut session.store, cursor, &low, high.as_ref(), rows, steps) {
+    match fill(
+        &mut session.kv.store,
+        cursor,
+        &low,
+        high.as_ref(),
+        rows,
+        steps,
+    ) {
         Ok(given) => {
             if given > 0 {
                 cursor.pass(&rows[given - 1]);
             }
             Ok(given)
         }
-        Err(ReadFault::BadCell(_)) => Err(Refusal::BadCell),
+        Err(ReadFault::BadCell(cell)) => Err(Error::BadCell(cell)),
         Err(ReadFault::Device) => unreachable!(),
     }
 }

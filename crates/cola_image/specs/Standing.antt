@@ -57,4 +57,5 @@ IsSlotAlike spots others level slot count = (index : ℕ) → index < count → 
 abbrev pub AreRunsAlike : Spots → Spots → ℕ → ℕ → List Marks → Type 0
 AreRunsAlike spots others t j [] = ⊤
 AreRunsAlike spots others t j (m ∷ below) =
-    IsSlotAlike spots others j (visible_slot t j) m.visible × IsSlotAlike spots others j (1 - visible_slot t j) m.shadow × AreRunsAlike spots others t (suc j) below
+    IsSlotAlike spots others j (visible_slot t j) m.visible × IsSlotAlike spots others j (1 - visible_slot t j) m.shadow
+    × AreRunsAlike spots others t (suc j) below

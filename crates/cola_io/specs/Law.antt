@@ -44,7 +44,8 @@ bytes_taken calls = flat_map (λ call. call.took) calls
 abbrev pub lines_told : List Call → List lines.Line
 lines_told calls = flat_map (λ call. line_told call.answer call.after.line) calls
 
--- what an answer says of the lines told before it and all bytes taken: at the end they are all lines of the bytes, at a fault or the budget those that a line feed ends
+-- what an answer says of the lines told before it and all bytes taken: at the end they are all
+-- lines of the bytes, at a fault or the budget those that a line feed ends
 abbrev pub Tells : ℕ → List lines.Line → List ℕ → Next → Type 0
 Tells limit told bytes Line = ⊤
 Tells limit told bytes TooLong = ⊤
@@ -58,7 +59,8 @@ LinesAreRead limit =
     (calls : List Call) (middle last : Reading) (took : List ℕ) (answer : Next) → Calls (fresh limit) calls middle → NextLine middle took answer last
     → Tells limit (lines_told calls) (bytes_taken calls ++ took) answer
 
--- a reader of so many bytes took these bytes and told these lines, and stands here now: with whatever may come behind them, the lines of the bytes are those told, and then those of the bytes still pending
+-- a reader of so many bytes took these bytes and told these lines, and stands here now: with whatever
+-- may come behind them, the lines of the bytes are those told, and then those of the bytes still pending
 pub record HasRead (limit : ℕ) (bytes : List ℕ) (told : List lines.Line) (now : Reading) : Type 0 where
   pub counted : now.allowed + length bytes ≡ limit
   pub going : now.ended ≡ false → (more : List ℕ) → all_lines (bytes ++ more) ≡ told ++ all_lines (now.pending ++ more)

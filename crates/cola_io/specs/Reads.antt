@@ -22,7 +22,8 @@ abbrev pub GaveSome : List Read → Type 0
 GaveSome [] = ⊤
 GaveSome (read ∷ earlier) = (0 < length (unwrap_or read.gave [])) × GaveSome earlier
 
--- a read behind these: each of them gave some bytes, more are wanted behind what they gave, and it asks for 512 bytes, or for those that the limit still allows
+-- a read behind these: each of them gave some bytes, more are wanted behind what they gave, and
+-- it asks for 512 bytes, or for those that the limit still allows
 pub record IsDue (Wanted : List ℕ → Type 0) (limit : ℕ) (earlier : List Read) (read : Read) : Type 0 where
   pub gave_some : GaveSome earlier
   pub wanted : Wanted (bytes_read earlier)

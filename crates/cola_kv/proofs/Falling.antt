@@ -1,29 +1,38 @@
 -- What a falling range of a store, and its greatest key, say, as the records of an open store.
-use Rattle.std.proofs.Common.{◌≡◌, ◌&&◌, ℕ, ◌≤◌, Bool, true, false, List, Option, Some, None, Result, Ok, Err, refl, sym, ap, subst, ◌∙◌}
-use Rattle.std.specs.Prelude.{IfOk, IfErr}
+use Rattle.std.proofs.Common.{◌≡◌, ◌&&◌, ℕ, ◌≤◌, Bool, true, false, List, Option, Some, None, Result, Ok, Err, refl, sym, ap, subst, ◌∙◌, arith}
+use Rattle.std.specs.Result.{IsErrAnd}
+use Rattle.std.specs.Prelude.{IfOk, IfErr, IsOk}
 use Rattle.std.specs.declared.ops.Bound.{Bound}
 use Rattle.cola_cell.specs.declared.fault.ReadFault.{ReadFault}
 use Rattle.cola_cell.specs.declared.fault.ReadFault.TheVariants as read
 use Rattle.cola_cursor.specs.declared.cursor.Cursor.{Cursor}
 use Rattle.cola_device.specs.declared.device.Device as device
 use Rattle.cola_spec.specs.Map.{Map, Shape}
-use Rattle.cola_table.specs.Answers.{ReadFaults}
-use Rattle.cola_store.specs.Backward.{RangeBackAnswers, LastAnswers}
-use Rattle.cola_store.specs.Store.{kept_of}
+use Rattle.cola_spec.specs.Bounds.{range_bound}
+use Rattle.cola_cell.specs.Spent.{Spent}
+use Rattle.cola_table.specs.Answers.{ReadFaults, OnlyDeviceRead}
+use Rattle.cola_store.specs.declared.account.Account.{Account}
+use Rattle.cola_store.specs.Backward as store
+use Rattle.cola_store.specs.Backward.{RangeBackAnswers, LastAnswers, AsksLast}
+use Rattle.cola_store.specs.Store.{Stored, kept_of, spent_of}
+use Rattle.cola_store.specs.Walks.{TurnsWithin, left_of}
 use Rattle.cola_kv.specs.declared.error.Error.{Error}
 use Rattle.cola_kv.specs.declared.error.Error.TheVariants.{KeyLength}
 use Rattle.cola_kv.specs.declared.kv.Kv.{Kv}
 use Rattle.cola_kv.specs.Errors.{of_read}
-use Rattle.cola_kv.specs.Kv.{Holds, shape_of, faults_of}
-use Rattle.cola_kv.specs.Backward.{BackCause, BeginsBack, Lasts, are_ends, is_low, is_high}
-use Rattle.cola_kv.specs.Ranged.{Stands, Ahead}
-use Rattle.cola_kv.proofs.Moved.{Searched}
-use Rattle.cola_kv.proofs.Answered.{stays-of, stays-same, read-undamaged, differ}
-use Rattle.cola_kv.proofs.Ranging.{result_of, step-cause}
+use Rattle.cola_kv.specs.Kv.{Holds, shape_of, levels_of, faults_of}
+use Rattle.cola_kv.specs.Backward.{BackCause, IsBackRefusal, BeginsBack, Lasts, StoreBeginsBack, StoreLasts, are_ends, is_low, is_high}
+use Rattle.cola_kv.specs.Ranged.{Stands, Ahead, TurnsFew, left_behind}
+use Rattle.cola_kv.proofs.Answered.{stays-of, stays-same, read-step-refusal, differ}
+use Rattle.cola_kv.proofs.Ranging.{result_of, step-cause, left-few, no-turns}
 
 back-cause : (A : Type 0) (shape : Shape) (low : Option (List ℕ)) (high : Bound (List ℕ)) (before now : ℕ) (f : ReadFault) → ReadFaults {A = A} (Err f) before now → BackCause shape low high before now (of_read f)
 back-cause A shape low high before now read.Device faults = faults
 back-cause A shape low high before now (read.BadCell cell) faults = faults
+
+back-refusal : (shape : Shape) (low : Option (List ℕ)) (high : Bound (List ℕ)) (f : ReadFault) → OnlyDeviceRead f → IsBackRefusal shape low high (of_read f)
+back-refusal shape low high read.Device only = tt
+back-refusal shape low high (read.BadCell cell) only = only
 
 both-ends : (shape : Shape) (low : Option (List ℕ)) (high : Bound (List ℕ)) → is_low shape low ≡ true → is_high shape high ≡ true → are_ends shape low high ≡ true
 both-ends shape low high a b = ap (λ (x : Bool). x && is_high shape high) a ∙ b
@@ -38,55 +47,109 @@ module _ {D : Type 0} (d : device.Ghosts D) where
   -- a range with an end that is no key
   pub back-short : (kv : Kv D d) (low : Option (List ℕ)) (high : Bound (List ℕ)) (error : Error) → error ≡ KeyLength → are_ends (shape_of kv) low high ≡ false → BeginsBack d kv kv low high (Err error)
   back-short kv low high error is short = subst (λ (e : Error). BeginsBack d kv kv low high (Err e)) (sym is) (record {
+    given = refl;
     ahead = λ m holds. tt;
     map_stays = λ m holds. holds;
-    undamaged = λ m holds. tt;
+    refusal = λ m holds. short;
     stands = tt;
-    short_end = λ _. refl;
+    short_end = λ _. (refl, refl);
     cause = short;
     no_step = refl;
+    left = omega arith;
+    blocks = no-turns _ _;
+    no_ticks = refl;
     stays = stays-same d kv;
   })
 
-  module _ (old new : Kv D d) (cache : new.cache ≡ old.cache) (kept : kept_of d.bytes d.counts d.kept new.store ≡ kept_of d.bytes d.counts d.kept old.store)
-      (faults_stay : faults_of d old ≤ faults_of d new) (moved : Searched old.store new.store) where
+  pub lasts-err : (old new : Kv D d) (result : Result (Option (List ℕ × List ℕ)) Error) (error : Error) → IsErrAnd result (λ e. e ≡ error) → Lasts d old new (Err error) → Lasts d old new result
+  lasts-err old new (Ok pair) error so is = absurd so
+  lasts-err old new (Err e) error so is = subst (λ (x : Error). Lasts d old new (Err x)) (sym so) is
+
+  module _ (old new : Kv D d) (cache : new.cache ≡ old.cache) (ticks : new.ticks ≡ old.ticks) (kept : kept_of d.bytes d.counts d.kept new.store ≡ kept_of d.bytes d.counts d.kept old.store)
+      (faults_stay : faults_of d old ≤ faults_of d new) where
+    back-refused : (low : Option (List ℕ)) (high : Bound (List ℕ)) (f : ReadFault) → store.BeginsBack d.bytes d.counts old.store low high (Err f) new.store → StoreBeginsBack d old new low high (Err (of_read f))
+    back-refused low high read.Device given = given
+    back-refused low high (read.BadCell cell) given = given
+
+    last-refused : (from to : ℕ) (f : ReadFault) → AsksLast d.bytes d.counts old.store (Err f) new.store from to → StoreLasts d old new from to (Err (of_read f))
+    last-refused from to read.Device given = given
+    last-refused from to (read.BadCell cell) given = given
+
     pub begins-back : (low : Option (List ℕ)) (high : Bound (List ℕ)) → is_low (shape_of old) low ≡ true → is_high (shape_of old) high ≡ true → (result : Result Cursor ReadFault) →
-        ((m : Map) → Holds d old m → RangeBackAnswers m low high (Holds d new) (Ahead d new) result) → IfOk result (Stands d new) → ReadFaults result (faults_of d old) (faults_of d new) → BeginsBack d old new low high (result_of result)
-    begins-back low high low_fits high_fits (Ok walk) answers stands faults = record {
+        ((m : Map) → Holds d old m → RangeBackAnswers m low high (Holds d new) (Ahead d new) result) → store.BeginsBack d.bytes d.counts old.store low high result new.store → IfOk result (Stands d new) →
+        ReadFaults result (faults_of d old) (faults_of d new) → BeginsBack d old new low high (result_of result)
+    begins-back low high low_fits high_fits (Ok walk) answers given stands faults = record {
+      given = given;
       ahead = λ m holds. (answers m holds).0;
       map_stays = λ m holds. (answers m holds).1;
-      undamaged = λ m holds. tt;
+      refusal = λ m holds. tt;
       stands = stands;
       short_end = λ short. absurd (differ (are_ends (shape_of old) low high) (both-ends (shape_of old) low high low_fits high_fits) short);
       cause = tt;
-      no_step = moved.steps;
-      stays = stays-of d old new kept cache moved.opened faults_stay;
+      no_step = given.same.steps_are;
+      left = left-few _ _ _ _ given.turns;
+      blocks = given.turns;
+      no_ticks = ticks;
+      stays = stays-of d old new kept cache (ap (λ (a : Account). a.opened) given.account_is) faults_stay;
     }
-    begins-back low high low_fits high_fits (Err f) answers stands faults = record {
+    begins-back low high low_fits high_fits (Err f) answers given stands faults = record {
+      given = back-refused low high f given;
       ahead = λ m holds. tt;
       map_stays = λ m holds. (answers m holds).1;
-      undamaged = λ m holds. read-undamaged f (answers m holds).0;
+      refusal = λ m holds. back-refusal (shape_of old) low high f (answers m holds).0;
       stands = tt;
       short_end = λ short. absurd (differ (are_ends (shape_of old) low high) (both-ends (shape_of old) low high low_fits high_fits) short);
       cause = back-cause Cursor (shape_of old) low high (faults_of d old) (faults_of d new) f faults;
-      no_step = moved.steps;
-      stays = stays-of d old new kept cache moved.opened faults_stay;
+      no_step = given.same.steps_are;
+      left = omega arith;
+      blocks = given.turns;
+      no_ticks = ticks;
+      stays = stays-of d old new kept cache (ap (λ (a : Account). a.opened) given.account_is) faults_stay;
     }
 
-    pub lasts : (result : Result (Option (List ℕ × List ℕ)) ReadFault) → ((m : Map) → Holds d old m → LastAnswers m (Holds d new) result) → ReadFaults result (faults_of d old) (faults_of d new) → Lasts d old new (result_of result)
-    lasts (Ok pair) answers faults = record {
+    -- the walk that is begun at the end, and asked once, turns to no more than a range may
+    asked-turns : (one two three : Spent) (left rest most : ℕ) → TurnsWithin one two left most → TurnsWithin two three rest left → TurnsWithin one three 0 most
+    asked-turns one two three left rest most first second = record {
+      turned_stays = omega (arith, first.turned_stays, second.turned_stays);
+      turned_rises = omega (arith, first.turned_rises, second.turned_rises);
+      written_is = second.written_is ∙ first.written_is;
+    }
+
+    asked : (from to : ℕ) (result : Result (Option (List ℕ × List ℕ)) ReadFault) (a : AsksLast d.bytes d.counts old.store result new.store from to) → TurnsFew d old new 0 (range_bound (levels_of old))
+    asked from to result a = asked-turns (spent_of d.counts old.store) (spent_of d.counts a.mid) (spent_of d.counts new.store) _ _ _ a.begins.turns a.goes.turns
+
+    asked-steps : (from to : ℕ) (result : Result (Option (List ℕ × List ℕ)) ReadFault) (a : AsksLast d.bytes d.counts old.store result new.store from to) → new.store.chain.accepted ≡ old.store.chain.accepted
+    asked-steps from to result a = a.goes.same.steps_are ∙ a.begins.same.steps_are
+
+    asked-opened : (from to : ℕ) (result : Result (Option (List ℕ × List ℕ)) ReadFault) (a : AsksLast d.bytes d.counts old.store result new.store from to) → new.store.account.opened ≡ old.store.account.opened
+    asked-opened from to result a = ap (λ (x : Account). x.opened) (a.goes.account_is ∙ a.begins.account_is)
+
+    pub lasts : {from to : ℕ} (result : Result (Option (List ℕ × List ℕ)) ReadFault) → ((m : Map) → Holds d old m → LastAnswers m (Holds d new) result) →
+        AsksLast d.bytes d.counts old.store result new.store from to →
+        ReadFaults result (faults_of d old) (faults_of d new) → Lasts d old new (result_of result)
+    lasts {from} {to} (Ok pair) answers given faults = record {
+      ticks = from;
+      ticks_now = to;
+      given = given;
       answer = λ m holds. (answers m holds).0;
       map_stays = λ m holds. (answers m holds).1;
-      undamaged = λ m holds. tt;
+      refusal = λ m holds. tt;
       cause = tt;
-      no_step = moved.steps;
-      stays = stays-of d old new kept cache moved.opened faults_stay;
+      no_step = asked-steps from to (Ok pair) given;
+      blocks = asked from to (Ok pair) given;
+      no_ticks = ticks;
+      stays = stays-of d old new kept cache (asked-opened from to (Ok pair) given) faults_stay;
     }
-    lasts (Err f) answers faults = record {
+    lasts {from} {to} (Err f) answers given faults = record {
+      ticks = from;
+      ticks_now = to;
+      given = last-refused from to f given;
       answer = λ m holds. tt;
       map_stays = λ m holds. (answers m holds).1;
-      undamaged = λ m holds. read-undamaged f (answers m holds).0;
+      refusal = λ m holds. read-step-refusal f (answers m holds).0;
       cause = step-cause (Option (List ℕ × List ℕ)) (faults_of d old) (faults_of d new) f faults;
-      no_step = moved.steps;
-      stays = stays-of d old new kept cache moved.opened faults_stay;
+      no_step = asked-steps from to (Err f) given;
+      blocks = asked from to (Err f) given;
+      no_ticks = ticks;
+      stays = stays-of d old new kept cache (asked-opened from to (Err f) given) faults_stay;
     }

@@ -1,3 +1,4 @@
+mod Refusing
 pub mod Moved
 pub mod Answered
 pub mod Listing

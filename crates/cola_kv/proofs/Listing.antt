@@ -19,7 +19,8 @@ use Rattle.cola_kv.specs.declared.list.Answer.{Answer}
 use Rattle.cola_kv.specs.declared.list.Call.{Call}
 use Rattle.cola_kv.specs.declared.kv.Kv.{Kv}
 use Rattle.cola_kv.specs.Kv.{Holds, Stays, shape_of, faults_of, steps_of, geometry_of, levels_of, WritesWithin}
-use Rattle.cola_kv.specs.Listed.{command_of, IsAnswered, AreAnswered, map_after, last_map, most_ticks, Carries, CarriesAll}
+use Rattle.cola_kv.proofs.Answered.{stays-same}
+use Rattle.cola_kv.specs.Listed.{command_of, IsAnswered, AreAnswered, map_after, last_map, most_ticks, Carries, CarriesAll, Start, Then}
 
 module _ (shape : Shape) where
   answered-more : (m : Map) (calls : List Call) (results : List (Result Answer Error)) (call : Call) (result : Result Answer Error) → AreAnswered shape m calls results → IsAnswered shape (last_map shape m calls results) call result →
@@ -61,6 +62,7 @@ module _ {D : Type 0} (d : device.Ghosts D) where
 
   pub none-yet : (kv : Kv D d) → Stays d kv kv → CarriesAll d kv kv [] []
   none-yet kv stays = record {
+    made = Start;
     many = refl;
     answers = λ m holds. tt;
     map = λ m holds. holds;
@@ -81,6 +83,7 @@ module _ {D : Type 0} (d : device.Ghosts D) where
         let results_many = length-append results (result ∷ []) in
         let was = all.many in
         record {
+          made = Then call result all.made one;
           many = omega (arith, many, results_many, was);
           answers = λ m holds.
               answered-more (shape_of old) m calls results call result (all.answers m holds)
@@ -99,6 +102,10 @@ module _ {D : Type 0} (d : device.Ghosts D) where
   pub record Progress (old now : Kv D d) (calls : List Call) (done : ℕ) (results : List (Result Answer Error)) (before steps : ℕ) : Type 0 where
     pub carries : CarriesAll d old now (take done calls) results
     pub ticks : steps ≤ before + most_ticks (levels_of old) (take done calls)
+
+  -- no call was made yet
+  pub progress-none : (kv : Kv D d) (calls : List Call) (results : List (Result Answer Error)) (steps : ℕ) → results ≡ [] → Progress kv kv calls 0 results steps steps
+  progress-none kv calls results steps is = subst (λ (rs : List (Result Answer Error)). Progress kv kv calls 0 rs steps steps) (sym is) (record { carries = none-yet kv (stays-same d kv); ticks = omega arith })
 
   -- one call more
   pub progress-more : (old mid new : Kv D d) (calls : List Call) (done : ℕ) (results : List (Result Answer Error)) (before steps steps' : ℕ) (call : Call) (result : Result Answer Error) → done < length calls → call ≡ get_or calls done call →

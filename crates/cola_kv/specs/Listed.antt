@@ -1,5 +1,5 @@
 -- Calls as data: what a map answers them one after another, what they may spend, and what making them says.
-use Rattle.std.specs.Prelude.{◌≡◌, ℕ, ◌+◌, ◌≤◌, List, [], ◌∷◌, length, sum_by, All, Result, Ok, Err, ⊤}
+use Rattle.std.specs.Prelude.{◌≡◌, ℕ, ◌+◌, ◌≤◌, Option, List, [], ◌∷◌, ◌++◌, length, sum_by, All, Result, Ok, Err, ⊤}
 use Rattle.cola_outside.specs.Faults.{Rose}
 use Rattle.cola_device.specs.declared.device.Device as device
 use Rattle.cola_spec.specs.Bounds.{command_bound}
@@ -9,6 +9,8 @@ use Rattle.cola_spec.specs.Machine.{open_reply}
 use Rattle.cola_spec.specs.Map.{Shape, Map, put_outcome, put_if_outcome, after_put, after_put_if, after_delete}
 use Rattle.cola_spec.specs.Reply.{Reply}
 use Rattle.cola_spec.specs.Reply as reply
+use Rattle.cola_table.specs.declared.Put.{Put}
+use Rattle.cola_table.specs.declared.PutIf.{PutIf}
 use Rattle.cola_table.specs.Answers.{put_answer, put_if_answer}
 use Rattle.cola_kv.specs.declared.error.Error.{Error}
 use Rattle.cola_kv.specs.declared.error.Error.TheVariants.{Device}
@@ -17,7 +19,8 @@ use Rattle.cola_kv.specs.declared.list.Answer.TheVariants as answer
 use Rattle.cola_kv.specs.declared.list.Call.{Call}
 use Rattle.cola_kv.specs.declared.list.Call.TheVariants as call
 use Rattle.cola_kv.specs.declared.kv.Kv.{Kv}
-use Rattle.cola_kv.specs.Causes.{IsUndamaged, IsPutRefusal}
+use Rattle.cola_kv.specs.Calls.{Gets, Stamps, Deletes, Puts, PutsIf}
+use Rattle.cola_kv.specs.Causes.{IsReadRefusal, IsPutRefusal}
 use Rattle.cola_kv.specs.Kv.{Holds, Stays, shape_of, faults_of, steps_of}
 
 -- the command that a call is
@@ -49,13 +52,13 @@ abbrev pub map_after : Shape → Map → Call → Result Answer Error → Map
 map_after shape m call (Ok answer) = made_after shape m call
 map_after shape m call (Err error) = m
 
--- why a call on a map may be refused
+-- why a store that holds a map refuses a call
 abbrev pub IsRefusal : Shape → Map → Call → Error → Type 0
-IsRefusal shape m (call.Put key value) error = IsPutRefusal (put_outcome shape m key.now) error
-IsRefusal shape m (call.PutIf key seen value) error = IsPutRefusal (put_if_outcome shape m key.now seen) error
-IsRefusal shape m (call.Delete key) error = IsUndamaged error
-IsRefusal shape m (call.Get key) error = IsUndamaged error
-IsRefusal shape m (call.Stamp key) error = IsUndamaged error
+IsRefusal shape m (call.Put key value) error = IsPutRefusal shape key.now value.now (put_outcome shape m key.now) error
+IsRefusal shape m (call.PutIf key seen value) error = IsPutRefusal shape key.now value.now (put_if_outcome shape m key.now seen) error
+IsRefusal shape m (call.Delete key) error = IsReadRefusal shape key.now error
+IsRefusal shape m (call.Get key) error = IsReadRefusal shape key.now error
+IsRefusal shape m (call.Stamp key) error = IsReadRefusal shape key.now error
 
 -- a call is answered as the map answers it, or is refused with a reason that the map allows
 abbrev pub IsAnswered : Shape → Map → Call → Result Answer Error → Type 0
@@ -82,20 +85,43 @@ last_map shape m (call ∷ calls) (result ∷ results) = last_map shape (map_aft
 abbrev pub most_ticks : ℕ → List Call → ℕ
 most_ticks levels calls = sum_by (λ call. command_bound levels (command_of call)) calls
 
-module _ {D : Type 0} (d : device.Ghosts D) (old new : Kv D d) where
-  -- one call was made, and was answered so
-  pub record Carries (call : Call) (result : Result Answer Error) : Type 0 where
-    pub answer : (m : Map) → Holds d old m → IsAnswered (shape_of old) m call result
-    pub map : (m : Map) → Holds d old m → Holds d new (map_after (shape_of old) m call result)
-    pub fault : result ≡ Err Device → Rose (faults_of d old) (faults_of d new)
-    pub one_step : steps_of new ≤ steps_of old + 1
-    pub stays : Stays d old new
+-- the result of one call as that of a list
+abbrev pub told_as : {A : Type 0} → (A → Answer) → Result A Error → Result Answer Error
+told_as answer_of (Ok a) = Ok (answer_of a)
+told_as answer_of (Err error) = Err error
 
-  -- calls were made one after another, and were answered so
-  pub record CarriesAll (calls : List Call) (results : List (Result Answer Error)) : Type 0 where
-    pub many : length results ≡ length calls
-    pub answers : (m : Map) → Holds d old m → AreAnswered (shape_of old) m calls results
-    pub map : (m : Map) → Holds d old m → Holds d new (last_map (shape_of old) m calls results)
-    pub faults : All (λ result. result ≡ Err Device → Rose (faults_of d old) (faults_of d new)) results
-    pub steps : steps_of new ≤ steps_of old + length calls
-    pub stays : Stays d old new
+module _ {D : Type 0} (d : device.Ghosts D) where
+  module _ (old new : Kv D d) where
+    -- on every store, sound or not: the call's own was made, with all that it says, and its result is told
+    abbrev pub Makes : Call → Result Answer Error → Type 0
+    Makes (call.Put key value) result = (put : Result Put Error) × (result ≡ told_as answer.Put put) × Puts d old new key.now value.now put
+    Makes (call.PutIf key seen value) result = (put : Result PutIf Error) × (result ≡ told_as answer.PutIf put) × PutsIf d old new key.now seen value.now put
+    Makes (call.Delete key) result = (had : Result (Option (List ℕ)) Error) × (result ≡ told_as answer.Deleted had) × Deletes d old new key.now had
+    Makes (call.Get key) result = (has : Result (Option (List ℕ)) Error) × (result ≡ told_as answer.Got has) × Gets d old new key.now has
+    Makes (call.Stamp key) result = (stamp : Result (Option ℕ) Error) × (result ≡ told_as answer.Stamped stamp) × Stamps d old new key.now stamp
+
+    -- one call was made, and was answered so
+    pub record Carries (call : Call) (result : Result Answer Error) : Type 0 where
+      pub made : Makes call result
+      pub answer : (m : Map) → Holds d old m → IsAnswered (shape_of old) m call result
+      pub map : (m : Map) → Holds d old m → Holds d new (map_after (shape_of old) m call result)
+      pub fault : result ≡ Err Device → Rose (faults_of d old) (faults_of d new)
+      pub one_step : steps_of new ≤ steps_of old + 1
+      pub stays : Stays d old new
+
+  -- calls with their results, one after another, each on the store that the one before it left
+  pub data Follow : Kv D d → List Call → List (Result Answer Error) → Kv D d → Type 0 where
+    Start : {kv : Kv D d} → Follow kv [] [] kv
+    Then : {old mid new : Kv D d} {calls : List Call} {results : List (Result Answer Error)} (call : Call) (result : Result Answer Error) →
+        Follow old calls results mid → Carries mid new call result → Follow old (calls ++ call ∷ []) (results ++ result ∷ []) new
+
+  module _ (old new : Kv D d) where
+    -- calls were made one after another, and were answered so
+    pub record CarriesAll (calls : List Call) (results : List (Result Answer Error)) : Type 0 where
+      pub made : Follow old calls results new
+      pub many : length results ≡ length calls
+      pub answers : (m : Map) → Holds d old m → AreAnswered (shape_of old) m calls results
+      pub map : (m : Map) → Holds d old m → Holds d new (last_map (shape_of old) m calls results)
+      pub faults : All (λ result. result ≡ Err Device → Rose (faults_of d old) (faults_of d new)) results
+      pub steps : steps_of new ≤ steps_of old + length calls
+      pub stays : Stays d old new

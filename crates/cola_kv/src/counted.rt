@@ -50,11 +50,14 @@ impl<D: Device> Kv<D> {
     ) -> Result<(Option<Value>, u32), Error>
         ensures gets { Gets D.Device self.old self.new key.now (unticked result) }
         ensures counted { IfOk result (λ answer. steps.new ≡ steps.old + answer.1) }
+        ensures told { IfOk result (λ answer. self.new.ticks ≡ answer.1) }
         ensures no_fewer { steps.old ≤ steps.new }
         ensures within { steps.new ≤ steps.old + get_bound (levels_of self.old) }
     {
         let key = self.key_of(key)?;
-        Ok(self.store.get(&key, steps)?)
+        let answer = self.store.get(&key, steps)?;
+        self.ticks = answer.1;
+        Ok(answer)
     }
 
     /// [`Kv::stamp`], with its number of ticks: at most 8 for each level.
@@ -65,11 +68,14 @@ impl<D: Device> Kv<D> {
     ) -> Result<(Option<u64>, u32), Error>
         ensures stamps { Stamps D.Device self.old self.new key.now (unticked result) }
         ensures counted { IfOk result (λ answer. steps.new ≡ steps.old + answer.1) }
+        ensures told { IfOk result (λ answer. self.new.ticks ≡ answer.1) }
         ensures no_fewer { steps.old ≤ steps.new }
         ensures within { steps.new ≤ steps.old + get_bound (levels_of self.old) }
     {
         let key = self.key_of(key)?;
-        Ok(self.store.stamp(&key, steps)?)
+        let answer = self.store.stamp(&key, steps)?;
+        self.ticks = answer.1;
+        Ok(answer)
     }
 
     /// [`Kv::delete`], with its number of ticks: at most 40 for each level.
@@ -80,11 +86,14 @@ impl<D: Device> Kv<D> {
     ) -> Result<(Option<Value>, u32), Error>
         ensures deletes { Deletes D.Device self.old self.new key.now (unticked result) }
         ensures counted { IfOk result (λ answer. steps.new ≡ steps.old + answer.1) }
+        ensures told { IfOk result (λ answer. self.new.ticks ≡ answer.1) }
         ensures no_fewer { steps.old ≤ steps.new }
         ensures within { steps.new ≤ steps.old + put_bound (levels_of self.old) }
     {
         let key = self.key_of(key)?;
-        Ok(self.store.delete(&key, steps)?)
+        let answer = self.store.delete(&key, steps)?;
+        self.ticks = answer.1;
+        Ok(answer)
     }
 
     /// [`Kv::put`], with its number of ticks: at most 40 for each level.
@@ -96,12 +105,15 @@ impl<D: Device> Kv<D> {
     ) -> Result<(Put, u32), Error>
         ensures puts { Puts D.Device self.old self.new key.now value.now (unticked result) }
         ensures counted { IfOk result (λ answer. steps.new ≡ steps.old + answer.1) }
+        ensures told { IfOk result (λ answer. self.new.ticks ≡ answer.1) }
         ensures no_fewer { steps.old ≤ steps.new }
         ensures within { steps.new ≤ steps.old + put_bound (levels_of self.old) }
     {
         let key = self.key_of(key)?;
         let value = self.value_of(value)?;
-        Ok(self.store.put(&key, &value, steps)?)
+        let answer = self.store.put(&key, &value, steps)?;
+        self.ticks = answer.1;
+        Ok(answer)
     }
 
     /// [`Kv::put_if`], with its number of ticks: at most 40 for each level.
@@ -114,11 +126,14 @@ impl<D: Device> Kv<D> {
     ) -> Result<(PutIf, u32), Error>
         ensures puts { PutsIf D.Device self.old self.new key.now seen value.now (unticked result) }
         ensures counted { IfOk result (λ answer. steps.new ≡ steps.old + answer.1) }
+        ensures told { IfOk result (λ answer. self.new.ticks ≡ answer.1) }
         ensures no_fewer { steps.old ≤ steps.new }
         ensures within { steps.new ≤ steps.old + put_bound (levels_of self.old) }
     {
         let key = self.key_of(key)?;
         let value = self.value_of(value)?;
-        Ok(self.store.put_if(&key, seen, &value, steps)?)
+        let answer = self.store.put_if(&key, seen, &value, steps)?;
+        self.ticks = answer.1;
+        Ok(answer)
     }
 }

@@ -8,8 +8,11 @@ use cola_store::{Closing, Store};
 /// An open store over the device `D`: an ordered map from byte strings to byte strings.
 #[derive(Drop)]
 pub struct Kv<D: Device> {
-    pub(crate) store: Store<D>,
+    /// Its table, for what is generic over tables.
+    pub store: Store<D>,
     pub(crate) cache: u32,
+    /// How many ticks the last call made that was answered.
+    pub(crate) ticks: u32,
     pub ghost few: { cache ≤ 4096 },
 }
 

@@ -1,12 +1,13 @@
 //! A store that is made, opened, closed, and kept safe in between.
-ghost use Rattle.std.specs.Prelude.{◌≡◌, ◌<◌, OnOk, IfOk, IfErr, MatchResult};
+ghost use Rattle.std.specs.Prelude.{◌≡◌, ◌<◌, OnOk, IfOk, IfErr, IfSome, MatchResult};
 ghost use Rattle.cola_outside.specs.Faults.{Rose};
 ghost use Rattle.cola_device.specs.Settling.{IsSettled};
 ghost use Rattle.cola_spec.specs.Map.{Map, count};
 ghost use Rattle.cola_run.specs.Store as run;
-ghost use Rattle.cola_store.specs.Sessions.{Owes};
+ghost use Rattle.cola_store.specs.Create.{CountsOneWrite};
+ghost use Rattle.cola_store.specs.Sessions.{ClosesStore, Owes};
 ghost use Rattle.cola_kv.specs.Kv.{Holds, geometry_of, levels_of, device_of, faults_of};
-ghost use Rattle.cola_kv.specs.Opened.{IsMade, CreateCause, IsOpen, OpenCause, IsOpenRefusal, StandsFor, IsSaved, IsLeft, UnfinishedCause};
+ghost use Rattle.cola_kv.specs.Opened.{IsMade, CreateCause, HasGeometry, IsOpen, OpenCause, IsOpenRefusal, StandsFor, IsSaved, IsLeft, Reopens, UnfinishedCause};
 
 use crate::error::Error;
 use crate::kv::{Kv, Unfinished};
@@ -28,9 +29,10 @@ const MOST_CACHED: u32 = 4096;
 /// `Keys` and `Block` where there is no store of these numbers: the device is not called. `NotEmpty` where the device has
 /// bytes, which stay. `Device` where it refused a call: a device that was empty may then have any part of a file.
 pub fn create<D: Device>(device: &mut D, options: &Options) -> Result<(), Error>
-    ensures made { OnOk result (IsMade D.Device device.old device.new) }
+    ensures made { OnOk result (IsMade D.Device options.now device.old device.new) }
     ensures cause { IfErr result (CreateCause D.Device options.now device.old device.new) }
     ensures kept { D.kept device.new ≡ D.kept device.old }
+    ensures counts { CountsOneWrite (D.counts device.old) (D.counts device.new) }
 {
     create_as(device, options.keys, options.block_exp, options.format)?;
     Ok(())
@@ -50,11 +52,17 @@ fn open_store<D: Device, L: Ledger>(
     ensures cause { IfErr result (λ refusal. OpenCause D.Device device refusal.0 refusal.1) }
     ensures sound { (m : Map) → StandsFor D.Device device m → MatchResult result
         (λ kv. Holds D.Device kv m) (λ refusal. IsOpenRefusal D.Device device refusal.0 refusal.1) }
+    ensures kept { MatchResult result (λ kv. D.kept (device_of kv) ≡ D.kept device)
+        (λ refusal. D.kept refusal.0 ≡ D.kept device) }
 {
     let mut steps = Steps::<L>::begin(blank);
     let cache = cache.min(MOST_CACHED);
     match Store::open_on(alloc, device, cache, &mut steps) {
-        Ok(store) => Ok(Kv { store, cache }),
+        Ok(store) => Ok(Kv {
+            store,
+            cache,
+            ticks: 0,
+        }),
         Err((device, fault)) => Err((device, Error::from(fault))),
     }
 }
@@ -71,13 +79,16 @@ impl<D: Device> Kv<D> {
         // the file that stands for a map is opened, unless there is no memory or the device fails
         ensures sound { (m : Map) → StandsFor D.Device device m → MatchResult result
             (λ kv. Holds D.Device kv m) (λ refusal. IsOpenRefusal D.Device device refusal.0 refusal.1) }
+        ensures kept { MatchResult result (λ kv. D.kept (device_of kv) ≡ D.kept device)
+            (λ refusal. D.kept refusal.0 ≡ D.kept device) }
     {
         open_store::<D, Brand>(Blank::new(1), alloc, device, cache)
     }
 
     /// The number of keys.
     pub fn count(&self) -> u64
-        ensures { (m : Map) → Holds D.Device self.now m → result ≡ count m }
+        ensures stored { result ≡ self.now.store.count }
+        ensures counted { (m : Map) → Holds D.Device self.now m → result ≡ count m }
     {
         self.store.count()
     }
@@ -96,15 +107,25 @@ impl<D: Device> Kv<D> {
         self.store.levels()
     }
 
+    /// The number of ticks of the last call that was answered, and 0 where none was yet. A range leaves it.
+    pub fn ticks(&self) -> u32
+        ensures { result ≡ self.now.ticks }
+    {
+        self.ticks
+    }
+
     /// Closes the store: writes what its file does not have yet, and gives the device. An error comes only where the device
     /// refused a call; what it gives owes all still, and may be closed again.
     pub fn close(self) -> Result<D, Closing<D>>
+        ensures given { ClosesStore D.Device self.store result }
+        ensures file { IfOk result (λ device. IfSome (D.bytes device) (HasGeometry (geometry_of self))) }
         ensures stands { (m : Map) → Holds D.Device self m → IfOk result (λ device. StandsFor D.Device device m) }
         ensures settled { IfOk result (IsSettled D.Device) }
         ensures owes { (m : Map) → Holds D.Device self m → IfErr result (λ closing. Owes D.Device closing m) }
         ensures cause { IfErr result
             (λ closing. Rose (faults_of D.Device self) (D.counts (run.device_of closing.runs)).faults) }
-        ensures kept { IfOk result (λ device. D.kept device ≡ D.kept (device_of self)) }
+        ensures kept { MatchResult result (λ device. D.kept device ≡ D.kept (device_of self))
+            (λ closing. D.kept (run.device_of closing.runs) ≡ D.kept (device_of self)) }
     {
         self.store.close()
     }
@@ -116,6 +137,7 @@ impl<D: Device> Kv<D> {
         ensures saved { (m : Map) → Holds D.Device self m →
             IfOk result (λ kv. IsSaved D.Device m (device_of kv)) }
         ensures left { (m : Map) → Holds D.Device self m → IfErr result (IsLeft D.Device m) }
+        ensures reopens { IfOk result (Reopens D.Device self) }
         ensures cause { IfErr result (UnfinishedCause D.Device self) }
         ensures cache_stays { IfOk result (λ kv. kv.cache ≡ self.cache) }
     {

@@ -18,7 +18,8 @@ pub record Level (K V : Type 0) : Type 0 where
   pub incoming : ℕ
   pub sampled : ℕ
 
--- the part that a level above the bottom builds: all items in an even period, of its own items only the young ones in an odd one
+-- the part that a level above the bottom builds: all items in an even period, of its own items
+-- only the young ones in an odd one
 abbrev pub upper_part : Bool → Part
 upper_part odd = cond odd young_items all_items
 
@@ -53,7 +54,8 @@ module _ {K V : Type 0} where
   first_keys (run ∷ runs) = sample run
 
 module _ {K V : Type 0} (cmp : K → K → Ordering) where
-  -- the value that a list of runs has for a key: that of the first run with an item of it. A tombstone and no item both mean none
+  -- the value that a list of runs has for a key: that of the first run with an item of it. A
+  -- tombstone and no item both mean none
   abbrev pub value_at : List (List (Cell K V)) → K → Option V
   value_at runs q = value_of (answer cmp q runs)
 

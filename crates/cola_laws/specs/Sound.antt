@@ -84,7 +84,8 @@ module _ {K V : Type 0} (cmp : K → K → Ordering) (most : ℕ) where
   HaveShadows t j above (l ∷ ls) =
       (flips t j ≡ true → IsFinished (is_odd (period t j)) j above l.visible l.shadow ls (next_runs t j ls)) × HaveShadows t (suc j) l.visible ls
 
-  -- a level whose window is over has a finished shadow, and its runs with those below it have a live answer for at most so many keys
+  -- a level whose window is over has a finished shadow, and its runs with those below it have a
+  -- live answer for at most so many keys
   pub record IsKept (t j : ℕ) (above : List (Cell K V)) (l : Level K V) (below : List (Level K V)) : Type 0 where
     pub over : is_over t j ≡ true → IsFinished (is_odd (period t j)) j above l.visible l.shadow below (next_runs t j below)
     pub few : AreFew (visibles (l ∷ below))
@@ -109,7 +110,8 @@ pub record IsAtRest {K V : Type 0} (l : Level K V) : Type 0 where
 
 -- a build over its three sources that has consumed at least so many of their cells, or all: no cursor is past its source,
 -- the cursors cut the build after the shadow, and the shadow has at least the sampled cells and at most the consumed ones
-pub record IsWorking {K V : Type 0} (cmp : K → K → Ordering) (part : Part) (own incoming : List (Cell K V)) (keys : List K) (least : ℕ) (build : Build K V) : Type 0 where
+pub record IsWorking {K V : Type 0} (cmp : K → K → Ordering) (part : Part) (own incoming : List (Cell K V)) (keys : List K)
+    (least : ℕ) (build : Build K V) : Type 0 where
   pub under_way : IsUnderWay cmp part own incoming keys build
   pub enough : min (length own + length incoming + length keys) least ≤ consumed build
   pub sampled_done : build.sampled ≤ length build.done

@@ -24,13 +24,15 @@ pub fn builds_sample_one_run<K, V>()
 /// Each level of a sound chain that works at its clock has a build that it can do: its sources are in order, their weave
 /// fits its slot, and 28 steps for each mutation of its window are enough.
 pub fn builds_can_be_done<K: Ord, V>()
-    ensures { (most ahead t : ℕ) (map : K → Option V) (top : Level K V) (below : List (Level K V)) → IsSoundFrom K.cmp most ahead t map top below → most ≤ 2 ^ (length below + 2) →
+    ensures { (most ahead t : ℕ) (map : K → Option V) (top : Level K V) (below : List (Level K V)) →
+        IsSoundFrom K.cmp most ahead t map top below → most ≤ 2 ^ (length below + 2) →
         AreWorkable K.cmp t 1 top.visible below }
 {}
 
 /// Level 0 of a sound chain, which has one more level below it, can be built whole with any new item.
 pub fn top_can_be_built<K: Ord, V>()
-    ensures { (most ahead t : ℕ) (map : K → Option V) (k : K) (item : Item V) (top next : Level K V) (below : List (Level K V)) → IsSoundFrom K.cmp most ahead t map top (next ∷ below) →
+    ensures { (most ahead t : ℕ) (map : K → Option V) (k : K) (item : Item V) (top next : Level K V) (below : List (Level K V)) →
+        IsSoundFrom K.cmp most ahead t map top (next ∷ below) →
         most ≤ 2 ^ (length (next ∷ below) + 2) →
         IsBuildable K.cmp (part_of (is_odd (period t 0)) (next ∷ below)) 0 top.visible (new_run k item) (first_keys (next_runs t 0 (next ∷ below))) }
 {}
@@ -44,7 +46,8 @@ pub fn no_build_overflows<K: Ord, V>()
 /// A build inside its window that goes on by so many steps of the merge is one that has consumed so many source cells
 /// more, or all that were left; and one that has done so many steps has done fewer.
 pub fn steps_go_on<K: Ord, V>()
-    ensures steps { (part : Part) (own incoming : List (Cell K V)) (keys : List K) (least count : ℕ) (before after : Build K V) → IsRising K.cmp own → IsRising K.cmp incoming →
+    ensures steps { (part : Part) (own incoming : List (Cell K V)) (keys : List K) (least count : ℕ) (before after : Build K V) →
+        IsRising K.cmp own → IsRising K.cmp incoming →
         IsStrictlySortedBy K.cmp keys → IsWorking K.cmp part own incoming keys least before → steps.IsAdvanced K.cmp part own incoming keys count before after →
         IsWorking K.cmp part own incoming keys (consumed before + count) after }
     ensures fewer { (part : Part) (own incoming : List (Cell K V)) (keys : List K) (least less : ℕ) (build : Build K V) → less ≤ least →
@@ -53,10 +56,13 @@ pub fn steps_go_on<K: Ord, V>()
 
 /// The visible run of each level, and its shadow where that is finished, fit its slots of `2 ^ (j + 2)` cells.
 pub fn runs_fit_their_slots<K: Ord, V>()
-    ensures visible { (most t j : ℕ) (level : Level K V) (below : List (Level K V)) → AreVisible K.cmp most t j (visibles (level ∷ below)) → most ≤ 2 ^ (j + suc (length below) + 1) →
+    ensures visible { (most t j : ℕ) (level : Level K V) (below : List (Level K V)) →
+        AreVisible K.cmp most t j (visibles (level ∷ below)) → most ≤ 2 ^ (j + suc (length below) + 1) →
         length level.visible ≤ 2 ^ (j + 2) }
-    ensures finished { (most t j : ℕ) (above : List (Cell K V)) (level : Level K V) (below : List (Level K V)) → AreVisible K.cmp most t (suc j) (visibles below) →
-        AreKept K.cmp most t (suc j) level.visible below → IsFinished K.cmp most (is_odd (period t j)) j above level.visible level.shadow below (next_runs t j below) →
+    ensures finished { (most t j : ℕ) (above : List (Cell K V)) (level : Level K V) (below : List (Level K V)) →
+        AreVisible K.cmp most t (suc j) (visibles below) →
+        AreKept K.cmp most t (suc j) level.visible below →
+        IsFinished K.cmp most (is_odd (period t j)) j above level.visible level.shadow below (next_runs t j below) →
         most ≤ 2 ^ (j + suc (length below) + 1) → length level.shadow ≤ 2 ^ (j + 2) }
 {}
 

@@ -38,14 +38,17 @@ pub fn clock_may_wrap_in_slots<K: Ord, V>()
 
 /// Levels in slots that hold as many cells as the marks say have these marks.
 pub fn levels_have_their_marks<K, V>()
-    ensures { (cells : ℕ → ℕ → ℕ → List (Cell K V)) (t j : ℕ) (marks : List Marks) → AreHeld cells t j marks → all_marks_of (levels_of cells t j marks) ≡ marks }
+    ensures { (cells : ℕ → ℕ → ℕ → List (Cell K V)) (t j : ℕ) (marks : List Marks) → AreHeld cells t j marks →
+        all_marks_of (levels_of cells t j marks) ≡ marks }
 {}
 
 /// The marks of a sound chain meet the rules on marks of the clock: both runs of a level fit its slots, and its cursors
 /// are those of its phase, also where its levels are so many steps ahead of the clock.
 pub fn sound_marks<K: Ord, V>()
-    ensures between { (most t : ℕ) (map : K → Option V) (top : Level K V) (below : List (Level K V)) → IsSound K.cmp most t map top below → most ≤ 2 ^ (length below + 2) →
+    ensures between { (most t : ℕ) (map : K → Option V) (top : Level K V) (below : List (Level K V)) →
+        IsSound K.cmp most t map top below → most ≤ 2 ^ (length below + 2) →
         AreChainMarks t (marks_of top ∷ all_marks_of below) }
-    ensures ahead { (most ahead t : ℕ) (map : K → Option V) (top : Level K V) (below : List (Level K V)) → IsSoundFrom K.cmp most ahead t map top below → most ≤ 2 ^ (length below + 2) →
+    ensures ahead { (most ahead t : ℕ) (map : K → Option V) (top : Level K V) (below : List (Level K V)) →
+        IsSoundFrom K.cmp most ahead t map top below → most ≤ 2 ^ (length below + 2) →
         AreAllMarks ahead t 1 (length top.visible) (all_marks_of below) }
 {}

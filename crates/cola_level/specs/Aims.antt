@@ -15,7 +15,8 @@ use Rattle.cola_transfers.specs.Chain.{sampled_slot}
 abbrev pub visible_run : ℕ → ℕ → ℕ → Run
 visible_run t j len = record { level = j; slot = visible_slot t j; len = len }
 
--- the run that level j samples, where the level below it has these marks: its visible run in an even period of level j, its shadow in an odd one
+-- the run that level j samples, where the level below it has these marks: its visible run in an
+-- even period of level j, its shadow in an odd one
 abbrev pub sampled_run : ℕ → ℕ → Marks → Run
 sampled_run t j next = record { level = suc j; slot = sampled_slot t j; len = cond (is_odd (period t j)) next.shadow next.visible }
 

@@ -33,7 +33,8 @@ stood held t j m = level_of (slot_cells held) t j m
 abbrev pub all_stood : Held → ℕ → ℕ → List Marks → List (Level (List ℕ) Stamped)
 all_stood held t j marks = levels_of (slot_cells held) t j marks
 
--- a level that works, as it may be called to: the object tells it, its length is that of its shadow, it keeps pace with the clock, and it has a build that it can do
+-- a level that works, as it may be called to: the object tells it, its length is that of its
+-- shadow, it keeps pace with the clock, and it has a build that it can do
 pub record CanAdvance (held : Held) (aim : Aim) (t i above : ℕ) (m : Marks) (below : List Marks) : Type 0 where
   pub tells : IsTelling held
   pub feeds : AreFeedsTold held aim
@@ -49,7 +50,8 @@ pub record CanAdvance (held : Held) (aim : Aim) (t i above : ℕ) (m : Marks) (b
 abbrev pub is_kept : Held → ℕ → Bool
 is_kept held level = (held.shadows level).saved || nat_lt (slot_size level) (span held)
 
--- the transfers of an object: the blocks that it turned to and wrote, those that its readers read last, and which shadows are kept
+-- the transfers of an object: the blocks that it turned to and wrote, those that its readers
+-- read last, and which shadows are kept
 abbrev pub transfers_of : Held → Spent → Transfers
 transfers_of held spent = record {
   reads = spent.turned;

@@ -32,7 +32,8 @@ sources aim = feed_len aim.own + feed_len aim.incoming + feed_len aim.sample
 abbrev pub is_ended : Aim → Merger → Bool
 is_ended aim m = nat_le (sources aim) (consumed m)
 
--- how many source cells were consumed: where it was accepted those of so many steps, or all; where it was refused at most so many. None is given back
+-- how many source cells were consumed: where it was accepted those of so many steps, or all;
+-- where it was refused at most so many. None is given back
 pub record Takes {A : Type 0} (aim : Aim) (m n : Merger) (result : Result A StepFault) : Type 0 where
   pub enough : min (sources aim) (consumed m + taken result) ≤ consumed n
   pub rises : consumed m ≤ consumed n
@@ -74,7 +75,8 @@ IsDevice Device = ⊤
 IsDevice (BadCell number) = ⊥
 IsDevice (Overfull level) = ⊥
 
--- what the work spends: at most 59 ticks, which the object counts too; each turns to or writes one block at most, and the finish writes one more; no count falls
+-- what the work spends: at most 59 ticks, which the object counts too; each turns to or writes
+-- one block at most, and the finish writes one more; no count falls
 pub record SpendsFor (old new : Spent) (before after : ℕ) : Type 0 where
   pub steps_stay : before ≤ after
   pub steps_rise : after ≤ before + 59
@@ -90,7 +92,8 @@ WritesDown old new aim n =
     IsWrittenDown (slot_size aim.level) (span old.held) (old.held.shadows aim.level).len (new.held.shadows aim.level).len (is_ended aim n)
     (is_kept old.held aim.level) (is_kept new.held aim.level) old.spent.written new.spent.written
 
--- a level that could advance did: by so many steps that the laws count it so many steps further, its shadow is told, and it was refused only by the device
+-- a level that could advance did: by so many steps that the laws count it so many steps
+-- further, its shadow is told, and it was refused only by the device
 pub record Advances {A : Type 0} (old new : Held) (t i above : ℕ) (m n : Marks) (below : List Marks) (result : Result A StepFault) : Type 0 where
   pub advanced : IsAdvanced key_cmp (taken result) t (suc i) (visible_cells old t i above)
       (stood old t (suc i) m) (all_stood old t (suc (suc i)) below) (stood new t (suc i) n)

@@ -48,7 +48,8 @@ pub record Works {A : Type 0} (aim : Aim) (old new : State) (l n : Level) (from 
   pub spends : SpendsFor old.spent new.spent from to
   pub turned : OnOk result (TurnsWithin aim (state old l.merger from) (state new n.merger to))
   pub written : OnOk result (WritesDown old new aim n.merger)
-  -- and so, by the rules of a chain, where the aim is that of level i + 1 at clock t: its marks, its runs as the laws of levels have them, and its transfers
+  -- and so, by the rules of a chain, where the aim is that of level i + 1 at clock t: its
+  -- marks, its runs as the laws of levels have them, and its transfers
   pub marked : (t i above : ℕ) (below : List Marks) → aim ≡ aim_at t i l.visible above below →
       l.shadow ≡ (old.held.shadows (suc i)).len → works t (suc i) ≡ true →
       AreLevelMarks 0 t (suc i) above (marks_of l) below → AreLevelMarks (taken result) t (suc i) above (marks_of n) below

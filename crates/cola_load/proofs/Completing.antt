@@ -145,7 +145,7 @@ module _ {D E : Type 0} (d : device.Ghosts D) (e : device.Ghosts E) (from from_n
   headless-left NotStore h = uncalled NotStore h.untouched
   headless-left NotClosed h = uncalled NotClosed h.untouched
   headless-left (Fewer count) h = uncalled (Fewer count) h.0.untouched
-  headless-left OutOfMemory h = inl h.copies
+  headless-left OutOfMemory h = inl h.copies.bytes_stay
   headless-left (BadCell number) h = elim h.copies.left [
     | inl same ↦ uncalled (BadCell number) same
     | inr none ↦ inr (inl none)

@@ -37,8 +37,8 @@ use Rattle.cola_load.specs.Filled.{Row, rows_of}
 use Rattle.cola_load.specs.declared.fault.LoadFault.{LoadFault}
 use Rattle.cola_load.specs.declared.fault.LoadFault.TheVariants as load
 use Rattle.cola_load.specs.Loading.{Loading, HasBegun, Begins, last_key}
-use Rattle.cola_load.specs.Growing.{AreValuesOf, runs_in, least, pair_of, Breaks, OfPairs, Walks, unread_as}
-use Rattle.cola_load.specs.Grow.{AreInFile, OfFilePairs, AreFilePairs, AreFirstPairs, IsForNone, Copies, Uncalled, NotBegun, Headless, NotFinished, unbegun_as}
+use Rattle.cola_load.specs.Growing.{AreValuesOf, runs_in, least, pair_of, Breaks, OfPairs, IsBegun, Walks, unread_as}
+use Rattle.cola_load.specs.Grow.{AreInFile, OfFilePairs, AreFilePairs, AreFirstPairs, IsForNone, IsLeftHeadless, Copies, Uncalled, NotBegun, Headless, NotFinished, unbegun_as}
 use Rattle.cola_load.proofs.Maps.{runs-alike, runs-listed, runs-are, begins-near, chain-sampled, chain-says, pairs-all, rows-are, none-breaks, bad-none, bad-cell, no-bad, value-there}
 use Rattle.cola_pairs.proofs.Order.{all_change}
 
@@ -137,8 +137,8 @@ module _ {E : Type 0} (e : device.Ghosts E) (header : Header) (geometry : Geomet
   pub begin-refused : (told : Option (List ℕ)) (to now : E) (fault : LoadFault) (result : GrowFault) → result ≡ unbegun_as fault → Begins e geometry header.last to now (Err fault) → Spends (e.counts to) (e.counts now) 0 0 2 →
       Copies e header geometry told to now (Err result)
   begin-refused told to now load.NotEmpty result is begins spends =
-      subst (λ (r : GrowFault). Copies e header geometry told to now (Err r)) (sym is) (record { was = begins.why_is; bytes_stay = begins.bytes_stay })
-  begin-refused told to now load.OutOfMemory result is begins spends = subst (λ (r : GrowFault). Copies e header geometry told to now (Err r)) (sym is) begins.bytes_stay
+      subst (λ (r : GrowFault). Copies e header geometry told to now (Err r)) (sym is) (record { was = begins.why_is; bytes_stay = begins.bytes_stay; spends = begins.spends })
+  begin-refused told to now load.OutOfMemory result is begins spends = subst (λ (r : GrowFault). Copies e header geometry told to now (Err r)) (sym is) (record { bytes_stay = begins.bytes_stay; left = inr begins.why_is; spends = begins.spends })
   begin-refused told to now load.Device result is begins spends = subst (λ (r : GrowFault). Copies e header geometry told to now (Err r)) (sym is) (NotBegun (record { failed = begins; spends = spends }))
 
   module _ (held : Held) (told : Option (List ℕ)) (same : IfSome told (run.AreFileSpots header.geometry held.spots)) (format : geometry.format ≡ header.geometry.format) (few : header.count ≤ geometry.keys) where
@@ -171,9 +171,17 @@ module _ {E : Type 0} (e : device.Ghosts E) (header : Header) (geometry : Geomet
     first-pairs None same rows row pairs = tt
     first-pairs (Some bytes) same rows row pairs = file-pairs header held bytes same (λ pairs. (others : List (List ℕ × Stamped)) × (pairs ≡ map pair_of rows ++ pair_of row ∷ others)) pairs
 
-    copied : (to mid now : E) (loading : Loading) → HasBegun e geometry header.last to mid loading → (result : Result ℕ GrowFault) → Walks held (runs_in header) geometry header.last (e.counts mid).faults (e.counts now).faults (e.bytes now) result →
-        OnOk result (IsSettled e now) → Copies e header geometry told to now result
-    copied to mid now loading begun (Ok count) walks settled =
+    -- the new file without a header, by its calls from its beginning on
+    left-headless : (to mid now : E) (loading : Loading) → HasBegun e geometry header.last to mid loading → Spends (e.counts to) (e.counts mid) 0 0 2 → IsBegun (e.counts mid) (e.counts now) (e.bytes now) → IsLeftHeadless e to now
+    left-headless to mid now loading begun spends undone = record {
+      was_empty = begun.was_empty;
+      no_header = undone.headless;
+      few_others = (let few = spends.others_rise in let none = undone.no_others in omega (arith, few, none));
+    }
+
+    copied : (to mid now : E) (loading : Loading) → HasBegun e geometry header.last to mid loading → Spends (e.counts to) (e.counts mid) 0 0 2 → (result : Result ℕ GrowFault) →
+        Walks held (runs_in header) geometry header.last (e.counts mid) (e.counts now) (e.bytes now) result → OnOk result (IsSettled e now) → Copies e header geometry told to now result
+    copied to mid now loading begun spends (Ok count) walks settled =
         let walked = walks.1 in (
           walks.0,
           record {
@@ -187,15 +195,15 @@ module _ {E : Type 0} (e : device.Ghosts E) (header : Header) (geometry : Geomet
             settled = settled;
           },
         )
-    copied to mid now loading begun (Err Small) walks settled = walks
-    copied to mid now loading begun (Err NotStore) walks settled = walks
-    copied to mid now loading begun (Err NotClosed) walks settled = walks
-    copied to mid now loading begun (Err (Fewer count)) walks settled = walks
-    copied to mid now loading begun (Err OutOfMemory) walks settled = absurd walks
-    copied to mid now loading begun (Err (BadCell number)) walks settled =
-        let seen = bad-run told same number walks.0 in record { bad = seen.0; no_map = seen.1; left = inr (record { was_empty = begun.was_empty; no_header = walks.1 }) }
-    copied to mid now loading begun (Err NotEmpty) walks settled = absurd walks
-    copied to mid now loading begun (Err (Disorder number)) walks settled =
+    copied to mid now loading begun spends (Err Small) walks settled = walks
+    copied to mid now loading begun spends (Err NotStore) walks settled = walks
+    copied to mid now loading begun spends (Err NotClosed) walks settled = walks
+    copied to mid now loading begun spends (Err (Fewer count)) walks settled = walks
+    copied to mid now loading begun spends (Err OutOfMemory) walks settled = absurd walks
+    copied to mid now loading begun spends (Err (BadCell number)) walks settled =
+        let seen = bad-run told same number walks.0 in record { bad = seen.0; no_map = seen.1; left = inr (left-headless to mid now loading begun spends walks.1) }
+    copied to mid now loading begun spends (Err NotEmpty) walks settled = absurd walks
+    copied to mid now loading begun spends (Err (Disorder number)) walks settled =
         let broken = walks.1 in
         record {
           rows = walks.0;
@@ -205,10 +213,10 @@ module _ {E : Type 0} (e : device.Ghosts E) (header : Header) (geometry : Geomet
           given = in-file told same (broken.row ∷ walks.0) broken.given;
           pairs_are = first-pairs told same walks.0 broken.row broken.pairs_are;
           no_map = no-map told same walks.0 broken.row broken.pairs_are broken.breaks;
-          left = record { was_empty = begun.was_empty; no_header = broken.headless };
+          left = left-headless to mid now loading begun spends broken.begun;
         }
-    copied to mid now loading begun (Err Device) walks settled = elim walks [
-      | inl headless ↦ Headless (record { was_empty = begun.was_empty; no_header = headless })
+    copied to mid now loading begun spends (Err Device) walks settled = elim walks [
+      | inl undone ↦ Headless (left-headless to mid now loading begun spends undone)
       | inr w ↦ NotFinished w.0 (record {
         cause = subst (λ (n : ℕ). Rose n (e.counts now).faults) begun.no_fault w.1.cause;
         was_empty = begun.was_empty;
@@ -219,7 +227,7 @@ module _ {E : Type 0} (e : device.Ghosts E) (header : Header) (geometry : Geomet
       })
     ]
 
-    pub store-copied : (runs : List Run) → runs ≡ runs_in header → (to mid now : E) (loading : Loading) → HasBegun e geometry header.last to mid loading → (result : Result ℕ GrowFault) →
-        Walks held runs geometry header.last (e.counts mid).faults (e.counts now).faults (e.bytes now) result → OnOk result (IsSettled e now) → Copies e header geometry told to now result
-    store-copied runs are to mid now loading begun result walks settled =
-        copied to mid now loading begun result (subst (λ (rs : List Run). Walks held rs geometry header.last (e.counts mid).faults (e.counts now).faults (e.bytes now) result) are walks) settled
+    pub store-copied : (runs : List Run) → runs ≡ runs_in header → (to mid now : E) (loading : Loading) → HasBegun e geometry header.last to mid loading → Spends (e.counts to) (e.counts mid) 0 0 2 → (result : Result ℕ GrowFault) →
+        Walks held runs geometry header.last (e.counts mid) (e.counts now) (e.bytes now) result → OnOk result (IsSettled e now) → Copies e header geometry told to now result
+    store-copied runs are to mid now loading begun spends result walks settled =
+        copied to mid now loading begun spends result (subst (λ (rs : List Run). Walks held rs geometry header.last (e.counts mid) (e.counts now) (e.bytes now) result) are walks) settled

@@ -54,7 +54,7 @@ module _ {D E : Type 0} (d : device.Ghosts D) (e : device.Ghosts E) (from from_n
       | inr partly ↦ inr (inr (n.failed.cause, (partly.was_empty, inl (partly.at_most, n.spends))))
     ],
   )
-  stopped h (Headless n) = (h.faults, inr (inl (n.was_empty, n.no_header)))
+  stopped h (Headless n) = (h.faults, inr (inl (n.was_empty, (n.no_header, n.few_others))))
   stopped h (NotFinished rows f) = (h.faults, inr (inr (f.cause, (f.was_empty, inr (rows, ((f.map_is, (f.given, f.pairs_are)), f.left))))))
 
   pub says : (result : Result ℕ GrowFault) → Grows d e from from_now to to_now ticks ticks_now keys block_exp result → GrowSays d e from from_now to to_now ticks ticks_now keys block_exp result
@@ -65,21 +65,21 @@ module _ {D E : Type 0} (d : device.Ghosts D) (e : device.Ghosts E) (from from_n
   says (Err NotStore) h = (h.seen, (h.untouched, h.no_ticks))
   says (Err NotClosed) h = (h.seen, (h.untouched, h.no_ticks))
   says (Err (Fewer count)) h = (h.1, (h.0.seen, (h.0.untouched, h.0.no_ticks)))
-  says (Err OutOfMemory) h = copied (Err OutOfMemory) h (h.faults, h.copies)
+  says (Err OutOfMemory) h = copied (Err OutOfMemory) h (h.faults, ((h.copies.bytes_stay, h.copies.spends), h.copies.left))
   says (Err (BadCell number)) h = copied (Err (BadCell number)) h (
     h.faults,
     (
       elim h.copies.left [
         | inl same ↦ inl same
-        | inr n ↦ inr (n.was_empty, n.no_header)
+        | inr n ↦ inr (n.was_empty, (n.no_header, n.few_others))
       ],
       (h.copies.bad, h.copies.no_map),
     ),
   )
-  says (Err NotEmpty) h = copied (Err NotEmpty) h (h.faults, (h.copies.bytes_stay, h.copies.was))
+  says (Err NotEmpty) h = copied (Err NotEmpty) h (h.faults, ((h.copies.bytes_stay, h.copies.spends), h.copies.was))
   says (Err (Disorder number)) h =
       let c = h.copies in
-      copied (Err (Disorder number)) h (h.faults, ((c.left.was_empty, c.left.no_header), (c.rows, (c.row, (c.number_is, (c.breaks, (c.given, (c.pairs_are, c.no_map))))))))
+      copied (Err (Disorder number)) h (h.faults, ((c.left.was_empty, (c.left.no_header, c.left.few_others)), (c.rows, (c.row, (c.number_is, (c.breaks, (c.given, (c.pairs_are, c.no_map))))))))
   says (Err Device) (inl f) = inl (f.failed, (f.untouched, f.no_ticks))
   says (Err Device) (inr h) = inr (copied (Err Device) h (stopped h h.copies))
 
@@ -111,7 +111,7 @@ module _ {D E : Type 0} (d : device.Ghosts D) (e : device.Ghosts E) (from from_n
   stays (Err NotStore) h = untouched h.untouched
   stays (Err NotClosed) h = untouched h.untouched
   stays (Err (Fewer count)) h = untouched h.0.untouched
-  stays (Err OutOfMemory) h = h.copies
+  stays (Err OutOfMemory) h = h.copies.bytes_stay
   stays (Err (BadCell number)) h = elim h.copies.left [
     | inl same ↦ untouched same
     | inr n ↦ not-empty n.was_empty

@@ -1,5 +1,5 @@
 -- A file that is filled with the pairs of runs.
-use Rattle.std.proofs.Common.{◌≡◌, inl, inr, ℕ, List, [], ◌∷◌, Option, Some, None, Ok, Err, sym, subst, ◌∙◌}
+use Rattle.std.proofs.Common.{◌≡◌, ◌≤◌, inl, inr, ℕ, List, [], ◌∷◌, Option, Some, None, Ok, Err, sym, subst, ◌∙◌, arith}
 use Rattle.std.specs.Prelude.{IfSome}
 use Rattle.cola_outside.specs.Faults.{Rose}
 use Rattle.cola_outside.specs.Told.{Both}
@@ -11,6 +11,7 @@ use Rattle.cola_cell.specs.Order.{key_cmp}
 use Rattle.cola_cursor.specs.declared.cursor.Cursor.{Cursor}
 use Rattle.cola_cursor.specs.Seeking.{HasBadRun, RunsCause}
 use Rattle.cola_cursor.specs.Standing.{Ahead, AreSearched, runs_of}
+use Rattle.cola_device.specs.declared.counts.Counts.{Counts}
 use Rattle.cola_layout.specs.declared.geometry.Geometry.{Geometry}
 use Rattle.cola_look.specs.Runs.{AreRuns}
 use Rattle.cola_pairs.specs.Live.{live, between}
@@ -49,12 +50,14 @@ not-finished T why loading rows geometry last (Some x) (Some y) same final holds
     subst (λ (n : ℕ). IsUnfinished geometry n rows y) final (subst (λ (g : Geometry). IsUnfinished g loading.last rows y) same (finishes rows holds))
 
 -- a cell that was not read where a walk begins: the file has no header
-pub seek-refused : (held : Held) (runs : List Run) (geometry : Geometry) (last faults faults_now before now : ℕ) (loading : Loading) (told : Option (List ℕ)) (fault : ReadFault) (result : GrowFault) → result ≡ unread_as fault →
-    RunsCause held runs before now fault → IfSome told (λ bytes. HoldsRows loading bytes []) → Walks held runs geometry last faults faults_now told (Err result)
-seek-refused held runs geometry last faults faults_now before now loading told (read.BadCell number) result is cause holds =
-    subst (λ (r : GrowFault). Walks held runs geometry last faults faults_now told (Err r)) (sym is) (cause, no-header loading told [] holds)
-seek-refused held runs geometry last faults faults_now before now loading told read.Device result is cause holds =
-    subst (λ (r : GrowFault). Walks held runs geometry last faults faults_now told (Err r)) (sym is) (inl (no-header loading told [] holds))
+pub seek-refused : (held : Held) (runs : List Run) (geometry : Geometry) (last : ℕ) (counts : Counts) (before now : ℕ) (loading : Loading) (told : Option (List ℕ)) (fault : ReadFault) (result : GrowFault) → result ≡ unread_as fault →
+    RunsCause held runs before now fault → IfSome told (λ bytes. HoldsRows loading bytes []) → Walks held runs geometry last counts counts told (Err result)
+seek-refused held runs geometry last counts before now loading told (read.BadCell number) result is cause holds =
+    subst (λ (r : GrowFault). Walks held runs geometry last counts counts told (Err r)) (sym is)
+    (cause, record { headless = no-header loading told [] holds; no_others = omega arith })
+seek-refused held runs geometry last counts before now loading told read.Device result is cause holds =
+    subst (λ (r : GrowFault). Walks held runs geometry last counts counts told (Err r)) (sym is)
+    (inl (record { headless = no-header loading told [] holds; no_others = omega arith }))
 
 module _ (held other : Held) (same : other ≡ held) (runs : List Run) (key : List ℕ) (key-is : key ≡ least) (cursor : Cursor) (begins : runs_of cursor.lines.items ≡ runs)
     (found : (lists : List (List LawCell)) → AreRuns held runs lists → AreSearched key lists → Ahead held cursor (live key_cmp (between key_cmp key None) lists)) (geometry : Geometry) (last : ℕ) where
@@ -66,16 +69,17 @@ module _ (held other : Held) (same : other ≡ held) (runs : List Run) (key : Li
   values : (rows : List Row) → AreValuesOf other.spots (runs_of cursor.lines.items) rows → AreValuesOf held.spots runs rows
   values rows given = subst (λ (rs : List Run). AreValuesOf held.spots rs rows) begins (subst (λ (h : Held). AreValuesOf h.spots (runs_of cursor.lines.items) rows) same given)
 
-  pub fill-refused : (after : Cursor) (loading : Loading) (told : Option (List ℕ)) (faults faults_now : ℕ) (fault : GrowFault) → CopiesAll other cursor geometry last after loading told (Err fault) → Walks held runs geometry last faults faults_now told (Err fault)
-  fill-refused after loading told faults faults_now Small all = all
-  fill-refused after loading told faults faults_now NotStore all = all
-  fill-refused after loading told faults faults_now NotClosed all = all
-  fill-refused after loading told faults faults_now (Fewer count) all = all
-  fill-refused after loading told faults faults_now OutOfMemory all = all
-  fill-refused after loading told faults faults_now (BadCell number) all =
-      (subst (λ (rs : List Run). HasBadRun held number rs) begins (subst (λ (h : Held). HasBadRun h number (runs_of cursor.lines.items)) same all.0), all.1)
-  fill-refused after loading told faults faults_now NotEmpty all = all
-  fill-refused after loading told faults faults_now (Disorder number) all = (
+  pub fill-refused : (after : Cursor) (loading : Loading) (told : Option (List ℕ)) (before now : Counts) (fault : GrowFault) → now.others ≤ before.others →
+      CopiesAll other cursor geometry last after loading told (Err fault) → Walks held runs geometry last before now told (Err fault)
+  fill-refused after loading told before now Small none all = all
+  fill-refused after loading told before now NotStore none all = all
+  fill-refused after loading told before now NotClosed none all = all
+  fill-refused after loading told before now (Fewer count) none all = all
+  fill-refused after loading told before now OutOfMemory none all = all
+  fill-refused after loading told before now (BadCell number) none all =
+      (subst (λ (rs : List Run). HasBadRun held number rs) begins (subst (λ (h : Held). HasBadRun h number (runs_of cursor.lines.items)) same all.0), record { headless = all.1; no_others = none })
+  fill-refused after loading told before now NotEmpty none all = all
+  fill-refused after loading told before now (Disorder number) none all = (
     all.0,
     record {
       row = all.1.row;
@@ -83,10 +87,10 @@ module _ (held other : Held) (same : other ≡ held) (runs : List Run) (key : Li
       breaks = all.1.breaks;
       pairs_are = λ lists are searched. all.1.gave (live key_cmp (between key_cmp least None) lists) (ahead lists are searched);
       given = values (all.1.row ∷ all.0) all.1.given;
-      headless = all.1.headless;
+      begun = record { headless = all.1.headless; no_others = none };
     },
   )
-  fill-refused after loading told faults faults_now Device all = inl all
+  fill-refused after loading told before now Device none all = inl (record { headless = all; no_others = none })
 
   pub fill-walked : {T : Type 0} (E : Type 0) (value : T) (after : Cursor) (loading : Loading) (told now : Option (List ℕ)) (found count : ℕ) → CopiesAll other cursor geometry last after loading told (Ok found) →
       loading.geometry ≡ geometry → loading.last ≡ last → count ≡ loading.rows → Both told now (Finishes {T = T} {E = E} (Ok value) loading) → (rows : List Row) × IsWalked held runs geometry last now rows count
@@ -103,9 +107,9 @@ module _ (held other : Held) (same : other ≡ held) (runs : List Run) (key : Li
         },
       )
 
-  pub fill-unfinished : (T : Type 0) {E : Type 0} (why : E) (after : Cursor) (loading : Loading) (told now : Option (List ℕ)) (found faults faults_now : ℕ) → CopiesAll other cursor geometry last after loading told (Ok found) →
-      loading.geometry ≡ geometry → loading.last ≡ last → Rose faults faults_now → Both told now (Finishes {T = T} {E = E} (Err why) loading) → Walks held runs geometry last faults faults_now now (Err Device)
-  fill-unfinished T why after loading told now found faults faults_now all geometry-is last-is cause finishes =
+  pub fill-unfinished : (T : Type 0) {E : Type 0} (why : E) (after : Cursor) (loading : Loading) (told now : Option (List ℕ)) (found : ℕ) (counts counts_now : Counts) → CopiesAll other cursor geometry last after loading told (Ok found) →
+      loading.geometry ≡ geometry → loading.last ≡ last → Rose counts.faults counts_now.faults → Both told now (Finishes {T = T} {E = E} (Err why) loading) → Walks held runs geometry last counts counts_now now (Err Device)
+  fill-unfinished T why after loading told now found counts counts_now all geometry-is last-is cause finishes =
       let rows = all.0 in
       let copied = all.1.1.0 in
       inr (

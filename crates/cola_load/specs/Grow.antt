@@ -94,10 +94,11 @@ abbrev pub AreFirstPairs : Header → List Row → Row → List ℕ → Type 0
 AreFirstPairs header rows row = OfFilePairs header (λ pairs.
     (others : List (List ℕ × Stamped)) × (pairs ≡ map pair_of rows ++ pair_of row ∷ others))
 
--- the new file was empty, and has no header
+-- the new file was empty, and has no header: beside blocks it was called for its size and its layout alone, and not to settle
 pub record IsLeftHeadless {E : Type 0} (e : device.Ghosts E) (to to_now : E) : Type 0 where
   pub was_empty : IsEmpty (e.bytes to)
   pub no_header : IfSome (e.bytes to_now) IsHeadless
+  pub few_others : (e.counts to_now).others ≤ (e.counts to).others + 2
 
 -- how many cells of a file with this lowest level are read at most, and how many reads of the device are made for it: those of
 -- a load, and one for each tick
@@ -141,10 +142,17 @@ module _ {E : Type 0} (e : device.Ghosts E) (header : Header) (geometry : Geomet
     pub no_map : IfSome told (IsForNone header)
     pub left : IsLeftHeadless e to to_now
 
-  -- the new file had a byte, and stays
+  -- the new file had a byte, and stays: it was asked for its size alone
   pub record IsOccupied : Type 0 where
     pub was : IfSome (e.bytes to) (λ bytes. 0 < length bytes)
     pub bytes_stay : e.bytes to_now ≡ e.bytes to
+    pub spends : Spends (e.counts to) (e.counts to_now) 0 0 1
+
+  -- there was no memory: the new file stays, and was not called, or was empty and asked for its size alone
+  pub record HasNoMemory : Type 0 where
+    pub bytes_stay : e.bytes to_now ≡ e.bytes to
+    pub left : (to_now ≡ to) ⊎ IsEmpty (e.bytes to)
+    pub spends : Spends (e.counts to) (e.counts to_now) 0 0 1
 
   -- the new file has all rows, those of the map where the old file stands for one, but it was not finished: its device refused a
   -- call then
@@ -173,7 +181,7 @@ module _ {E : Type 0} (e : device.Ghosts E) (header : Header) (geometry : Geomet
   -- what copying the map answered
   abbrev pub Copies : Result ℕ GrowFault → Type 0
   Copies (Ok count) = (rows : List Row) × IsGrown rows count
-  Copies (Err OutOfMemory) = e.bytes to_now ≡ e.bytes to
+  Copies (Err OutOfMemory) = HasNoMemory
   Copies (Err (BadCell number)) = HasBad number
   Copies (Err NotEmpty) = IsOccupied
   Copies (Err (Disorder number)) = IsDisordered number

@@ -193,6 +193,11 @@ pub record WritesRows (geometry : Geometry) (before now : Counts) (more others :
   pub rows_are : IfOk result (λ count. count ≡ rows)
   pub spends : Spends before now 0 (full_blocks geometry rows + more) others
 
+-- a file has no header yet, and was called for blocks alone
+pub record IsBegun (before now : Counts) (told : Option (List ℕ)) : Type 0 where
+  pub headless : IfSome told IsHeadless
+  pub no_others : now.others ≤ before.others
+
 -- ---- all pairs of runs
 
 module _ (held : Held) (runs : List Run) where
@@ -209,14 +214,14 @@ module _ (held : Held) (runs : List Run) where
     pub given : AreValuesOf held.spots runs rows
 
   -- the pair behind these rows may not be pushed
-  pub record IsBroken (geometry : Geometry) (last : ℕ) (told : Option (List ℕ)) (rows : List Row) (number : ℕ) : Type 0 where
+  pub record IsBroken (geometry : Geometry) (last : ℕ) (before now : Counts) (told : Option (List ℕ)) (rows : List Row) (number : ℕ) : Type 0 where
     pub row : Row
     pub number_is : number ≡ length rows + 1
     pub breaks : Breaks geometry last (length rows) (last_key rows) row
     pub pairs_are : OfPairs (λ pairs. (others : List (List ℕ × Stamped)) ×
         (pairs ≡ map pair_of rows ++ pair_of row ∷ others))
     pub given : AreValuesOf held.spots runs (row ∷ rows)
-    pub headless : IfSome told IsHeadless
+    pub begun : IsBegun before now told
 
   -- all pairs of the runs were pushed, but the file was not finished: its device refused a call
   pub record IsNotFinished (geometry : Geometry) (last faults faults_now : ℕ) (told : Option (List ℕ)) (rows : List Row) : Type 0 where
@@ -225,17 +230,16 @@ module _ (held : Held) (runs : List Run) where
     pub pairs_are : OfPairs (λ pairs. pairs ≡ map pair_of rows)
     pub given : AreValuesOf held.spots runs rows
 
-  -- what a walk over the runs answered, that filled a file for this geometry and last number; the counts of faults are those of
-  -- the file's device
-  abbrev pub Walks : Geometry → (last faults faults_now : ℕ) → Option (List ℕ) → Result ℕ GrowFault → Type 0
-  Walks geometry last faults faults_now told (Ok count) = (rows : List Row) × IsWalked geometry last told rows count
-  Walks geometry last faults faults_now told (Err (BadCell number)) = HasBadRun held number runs × IfSome told IsHeadless
-  Walks geometry last faults faults_now told (Err (Disorder number)) = (rows : List Row) × IsBroken geometry last told rows number
-  Walks geometry last faults faults_now told (Err Device) =
-      IfSome told IsHeadless ⊎ ((rows : List Row) × IsNotFinished geometry last faults faults_now told rows)
-  Walks geometry last faults faults_now told (Err Small) = ⊥
-  Walks geometry last faults faults_now told (Err NotStore) = ⊥
-  Walks geometry last faults faults_now told (Err NotClosed) = ⊥
-  Walks geometry last faults faults_now told (Err (Fewer count)) = ⊥
-  Walks geometry last faults faults_now told (Err OutOfMemory) = ⊥
-  Walks geometry last faults faults_now told (Err NotEmpty) = ⊥
+  -- what a walk over the runs answered, that filled a file for this geometry and last number; counts are of its device
+  abbrev pub Walks : Geometry → ℕ → (before now : Counts) → Option (List ℕ) → Result ℕ GrowFault → Type 0
+  Walks geometry last before now told (Ok count) = (rows : List Row) × IsWalked geometry last told rows count
+  Walks geometry last before now told (Err (BadCell number)) = HasBadRun held number runs × IsBegun before now told
+  Walks geometry last before now told (Err (Disorder number)) = (rows : List Row) × IsBroken geometry last before now told rows number
+  Walks geometry last before now told (Err Device) =
+      IsBegun before now told ⊎ ((rows : List Row) × IsNotFinished geometry last before.faults now.faults told rows)
+  Walks geometry last before now told (Err Small) = ⊥
+  Walks geometry last before now told (Err NotStore) = ⊥
+  Walks geometry last before now told (Err NotClosed) = ⊥
+  Walks geometry last before now told (Err (Fewer count)) = ⊥
+  Walks geometry last before now told (Err OutOfMemory) = ⊥
+  Walks geometry last before now told (Err NotEmpty) = ⊥

@@ -14,6 +14,7 @@ use Rattle.cola_device.specs.Bytes.{IsEmpty}
 use Rattle.cola_device.specs.Settling.{IsSettled}
 use Rattle.cola_front.specs.Front.{FrontCells, cell_at, cell_bytes}
 use Rattle.cola_layout.specs.declared.geometry.Geometry.{Geometry}
+use Rattle.cola_opening.specs.Counted.{Spends}
 use Rattle.cola_run.specs.Cells.{block_cells, block_bytes, device_levels, file_bytes, tail_number, tails_bytes}
 use Rattle.cola_run.specs.Saving.{SameFront, SameLevels}
 use Rattle.cola_spec.specs.Map.{key_cmp}
@@ -154,10 +155,11 @@ module _ {D : Type 0} (d : device.Ghosts D) (geometry : Geometry) (last : ℕ) (
     pub holds : IfSome (d.bytes now) (λ bytes. HoldsRows loading bytes [])
     pub no_fault : (d.counts now).faults ≡ (d.counts before).faults
 
-  -- it stays as it was, and this is why
+  -- it stays as it was, and this is why: it was asked for its size alone
   pub record HasRefused (why : List ℕ → Type 0) : Type 0 where
     pub why_is : IfSome (d.bytes before) why
     pub bytes_stay : d.bytes now ≡ d.bytes before
+    pub spends : Spends (d.counts before) (d.counts now) 0 0 1
     pub no_fault : (d.counts now).faults ≡ (d.counts before).faults
 
   -- a layout of an empty device that was refused may leave any bytes, at most so many as the file has

@@ -282,7 +282,7 @@ fn fill<W: CellSource, E: Device, L: Ledger>(
     requires no_key { begun.now.key ≡ None }
     requires holds { IfSome (E.bytes to.old) (λ bytes. HoldsRows loader bytes []) }
     ensures walks { Walks (W.state work.old).held runs.now.items begun.now.geometry begun.now.last
-        (E.counts to.old).faults (E.counts to.new).faults (E.bytes to.new) result }
+        (E.counts to.old) (E.counts to.new) (E.bytes to.new) result }
     ensures settled { OnOk result (IsSettled E.Device to.new) }
     ensures at_most { steps.new ≤ steps.old + range_ticks (W.state work.old).held.fixed.levels }
     ensures reading { Reading (W.state work.old) (W.state work.new) steps.old steps.new }
@@ -398,8 +398,9 @@ fn copy_file<D: Device, E: Device, L: Ledger>(
 /// was empty and has none. After `Device` it was not called, kept its bytes where it refused to tell its size, has any bytes, and
 /// was not written, where it refused to be laid out, has no header where the call was refused before the last row was pushed, and
 /// behind that as [`Loader::finish`] says: only by a fault of its own device in the layout or behind the last row may it have a
-/// header. After every other refusal it keeps its bytes, and so does one that had a byte, whatever is answered. `from` is not
-/// written, and comes back. As many ticks are made at most as by a range over all.
+/// header. After `NotEmpty` and `OutOfMemory` it keeps its bytes and was asked for its size at most; after the other refusals
+/// it was not called. One that had a byte keeps its bytes, whatever is answered. `from` is not written, and comes back. As many
+/// ticks are made at most as by a range over all.
 pub fn grow<D: Device, E: Device, L: Ledger>(
     alloc: Global,
     from: D,

@@ -15,7 +15,8 @@ and_then (Found a) next = next a
 and_then (BadAt number) next = BadAt number
 and_then Open next = Open
 
--- the call answers what is told of it: the answer, seen in this way, or the number of the bad cell. The device may always refuse, and where a needed cell is not told nothing is said
+-- the call answers what is told of it: the answer, seen in this way, or the number of the bad
+-- cell. The device may always refuse, and where a needed cell is not told nothing is said
 abbrev pub Answers : {A T : Type 0} → Outcome A → (T → A) → Result T ReadFault → Type 0
 Answers Open view result = ⊤
 Answers (Found a) view (Ok answer) = view answer ≡ a

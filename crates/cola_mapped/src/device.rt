@@ -10,8 +10,8 @@ use crate::region::Region;
 use cola_device::{Device, DeviceFault, MAX_TRANSFER};
 use std::marker::Model;
 
-/// A device over lent bytes, of which there is at least one: the device has these bytes, as they lie in memory, and no call on it
-/// fails. It counts its calls up to the last value of `u64`. That what was written outlasts the program is up to whoever
+/// A device over lent bytes, of which there is at least one: the device has these bytes, as they lie in memory, and no call on
+/// it fails. It counts its calls up to the last value of `u64`. That what was written outlasts the program is up to whoever
 /// lent the bytes: a settle writes nothing.
 #[derive(Drop)]
 pub struct MappedDevice {

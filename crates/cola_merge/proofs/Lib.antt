@@ -1,6 +1,8 @@
 pub mod Groups
 pub mod Kept
 pub mod Sums
+pub mod Woven
+pub mod Fronts
 pub mod Reading
 pub mod Ruling
 pub mod Pushing

@@ -1,5 +1,5 @@
 -- The heads of a step: three fetches, and what the rules ask for then.
-use Rattle.std.proofs.Common.{◌≡◌, ℕ, ◌+◌, Bool, true, false, ◌<◌, ◌≤◌, Option, None, Some, Result, Ok, Err, refl, ap, sym, subst, ◌∙◌, arith}
+use Rattle.std.proofs.Common.{◌≡◌, ℕ, ◌+◌, Bool, true, false, ◌-◌, ◌<◌, ◌≤◌, Option, None, Some, Result, Ok, Err, refl, ap, sym, subst, ◌∙◌, arith}
 use Rattle.std.proofs.lemmas.Bool.{true≢false}
 use Rattle.cola_cell.specs.declared.cell.Reader.{Reader}
 use Rattle.cola_cell.specs.declared.cell.Reader.TheVariants.{Own, Incoming, Sample}
@@ -12,7 +12,7 @@ use Rattle.cola_cell.specs.State.{State}
 use Rattle.cola_cell.specs.ToldCells.{shadow_cells}
 use Rattle.cola_merge.specs.declared.aims.Aim.{Aim}
 use Rattle.cola_merge.specs.declared.aims.Progress.{Progress}
-use Rattle.cola_merge.specs.declared.aims.Progress.TheVariants.{Done}
+use Rattle.cola_merge.specs.declared.aims.Progress.TheVariants.{Done, More}
 use Rattle.cola_merge.specs.Fetched.{Head}
 use Rattle.cola_merge.specs.declared.rules.Choice.{Choice}
 use Rattle.cola_merge.specs.declared.merging.Merger.{Merger}
@@ -208,9 +208,6 @@ was_taken {aim} {s} {t} b e h = subst (λ (x : Bool). Taken aim s t (Ok x)) e h
 
 -- ---- steps of a quota
 
-pub no_more : (b : Bool) {P : Type 0} → (P → b ≡ true) → b ≡ false → P → ⊥
-no_more b f e p = true≢false (sym (f p) ∙ e)
-
 -- none was taken behind so many
 pub done_ran : {aim : Aim} {s t u : MergeState} {count quota : ℕ} (b : Bool) → b ≡ false → IsReady s.held aim s.merger → Took aim s t count → Taken aim t u (Ok b) → count < quota → TakesQuota aim s u quota (Ok Done)
 done_ran {aim} {s} {t} {u} {count} b e r k h l =
@@ -222,3 +219,15 @@ pub refused_ran : {aim : Aim} {s t u : MergeState} {count quota : ℕ} (result :
 refused_ran {aim} {s} {t} {u} {count} {quota} result fault e r k h l =
     subst (λ (x : Result Progress StepFault). TakesQuota aim s u quota x) (sym e)
     (record { steps = (count, l, subst (λ (n : ℕ). Refused aim s u n fault) (let z : count + 0 ≡ count = omega arith in z) (refused_then r k h)) })
+
+-- ---- steps of a quota, of which so many are left
+
+-- so many more of those that were left
+pub took_more : {aim : Aim} {s t u : MergeState} (quota left count rest : ℕ) → IsReady s.held aim s.merger → Took aim s t (quota - left) → Took aim t u count → left ≤ quota → rest + count ≡ left → Took aim s u (quota - rest)
+took_more {aim} {s} {t} {u} quota left count rest r k h l e =
+    subst (λ (n : ℕ). Took aim s u n) (let z : (quota - left) + count ≡ quota - rest = omega (arith, l, e) in z) (took_then r k h)
+
+-- all of them were taken
+pub all_ran : {aim : Aim} {s u : MergeState} (quota rest : ℕ) (progress : Progress) → (progress ≡ More → IsUsedUp aim u.merger → ⊥) → (progress ≡ Done → IsUsedUp aim u.merger) → rest ≡ 0 → Took aim s u (quota - rest) → TakesQuota aim s u quota (Ok progress)
+all_ran {aim} {s} {u} quota rest More f h e k = record { steps = (subst (λ (n : ℕ). Took aim s u n) (let z : quota - rest ≡ quota = omega (arith, e) in z) k, f refl) }
+all_ran {aim} {s} {u} quota rest Done f h e k = record { steps = (quota, omega arith, subst (λ (n : ℕ). Took aim s u n) (let z : quota - rest ≡ quota = omega (arith, e) in z) k, h refl) }

@@ -10,3 +10,4 @@ pub mod Advance
 pub mod Pulls
 pub mod Laws
 pub mod Calls
+pub mod Weaving

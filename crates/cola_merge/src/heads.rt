@@ -1,5 +1,5 @@
 //! Cursors and the heads that are held.
-ghost use Rattle.std.specs.Prelude.{◌≡◌, ◌+◌, ◌<◌, ◌^◌, None, option_copied};
+ghost use Rattle.std.specs.Prelude.{◌≡◌, ◌+◌, ◌<◌, ◌≤◌, ◌^◌, None, option_copied};
 ghost use Rattle.cola_cell.specs.declared.format.Format.{Format};
 ghost use Rattle.cola_cell.specs.Format.{CellFits};
 ghost use Rattle.cola_cell.specs.Held.{Held};
@@ -29,7 +29,8 @@ impl Model for Head {
 
 impl Head {
     ghost use Rattle.cola_merge.specs.Feeds.{IsFeed, feed_len};
-    ghost use Rattle.cola_merge.specs.Heads.{head_at, held_at, IsHead};
+    ghost use Rattle.cola_merge.specs.Heads.{head_at, held_at, IsHead, held_head};
+    ghost use Rattle.cola_merge.specs.Weaving.{gone, standing_head};
     ghost use Rattle.cola_merge.specs.States.{Fetch};
 
     /// The head behind so many consumed cells, not read yet.
@@ -82,6 +83,35 @@ impl Head {
     {
         self.at += 1;
         self.is_held = false;
+    }
+
+    /// Goes on by so many cells of a window, which stand so many bytes behind one another, and holds the cell that stands
+    /// there, where its bytes spell one. Says how many cells that were which were not held.
+    #[inline(always)]
+    pub(crate) fn go(&mut self, format: Format, window: &[u8], count: u32, step: usize) -> u32
+        requires at { self.old.at + count < 2 ^ 32 }
+        requires count { count ≤ 65536 }
+        requires step { step ≤ 1024 }
+        ensures gone { self.new ≡ gone format step count window.now self.old }
+        ensures ticks { result + held_head self.old.cell ≡ count + held_head self.new.cell }
+    {
+        if count == 0 && self.is_held {
+            return 0;
+        }
+        let was_held = self.is_held;
+        self.at += count;
+        let begin = (count as usize * step).min(window.len());
+        self.hold_front(format, &window[begin..]);
+        count + u32::from(self.is_held) - u32::from(was_held)
+    }
+
+    /// Holds the cell that stands at the beginning of these bytes, where they spell one, and else none.
+    #[inline(always)]
+    fn hold_front(&mut self, format: Format, bytes: &[u8])
+        ensures { self.new ≡ standing_head format self.old.at bytes.now }
+    {
+        self.is_held = bytes.len() >= format.width()
+            && self.packed.refill(format, &bytes[..format.width()]);
     }
 
     /// Reads the head where it is not held and the feed, which has so many cells, has one.

@@ -10,6 +10,8 @@ mod heads;
 pub mod laws;
 mod merging;
 mod rules;
+mod weaving;
 
 pub use aims::{Aim, Feed, Progress};
 pub use merging::Merger;
+pub use weaving::Share;

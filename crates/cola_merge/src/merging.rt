@@ -1,5 +1,6 @@
 //! The merger.
 ghost use Rattle.std.specs.Prelude.{◌≡◌, ◌+◌, ◌*◌, ◌<◌, ◌≤◌, ◌^◌, ◌↔◌, IsTrue, Some};
+ghost use Rattle.cola_merge.specs.declared.aims.Progress.{Progress};
 ghost use Rattle.std.specs.Borrow.{sem};
 ghost use Rattle.cola_cell.specs.declared.format.Format.{Format};
 ghost use Rattle.cola_merge.specs.Rules.{HeadFits, Suits, emitted_of};
@@ -15,9 +16,9 @@ use std::sync::ledger::Ledger;
 /// A merge on its way: how many cells of each of its three sources were consumed, and the heads that were read already.
 #[derive(Drop)]
 pub struct Merger {
-    own: Head,
-    incoming: Head,
-    sample: Head,
+    pub(crate) own: Head,
+    pub(crate) incoming: Head,
+    pub(crate) sample: Head,
 }
 
 /// Puts what becomes of the head's cell, if it is passed on, behind the shadow.
@@ -52,6 +53,18 @@ fn given(head: &Head, pass: Option<Pass>) -> Option<Cell>
 {
     let pass = pass?;
     Some(head.cell()?.cell_as(pass))
+}
+
+/// How often in turn an object took no step, after it took so many.
+#[inline(always)]
+fn misses_after(misses: u32, taken: u32) -> u32
+    ensures { 0 < taken → result ≡ 0 }
+{
+    if taken > 0 {
+        0
+    } else {
+        misses.saturating_add(1)
+    }
 }
 
 impl Merger {
@@ -253,8 +266,9 @@ impl Merger {
         Ok(true)
     }
 
-    /// Takes steps until so many are taken or no source cell is left.
-    #[inline(always)]
+    /// Takes steps until so many are taken or no source cell is left: as many as the object takes over its own bytes, and
+    /// between these single ones, which read and write blocks. An object that took none three times is not asked again,
+    /// since most that lend no bytes never do.
     fn run<W: CellSink, L: Ledger>(
         &mut self,
         work: &mut W,
@@ -270,15 +284,34 @@ impl Merger {
             self.old self.new steps.old steps.new quota result }
     {
         let ends = aim.ends();
-        for _ in 0..quota {
+        let mut left = quota;
+        let mut misses: u32 = 0;
+        while left > 0 {
+            let taken = self.weave(work, aim, left, misses < 3, steps);
+            misses = misses_after(misses, taken);
+            let rest = left - taken;
+            if rest == 0 {
+                return Ok(self.progress(aim));
+            }
             if !self.take(work, aim, ends, steps)? {
                 return Ok(Progress::Done);
             }
+            left = rest - 1;
         }
+        Ok(self.progress(aim))
+    }
+
+    /// Whether source cells are left.
+    #[inline(always)]
+    fn progress(&self, aim: &Aim) -> Progress
+        ensures more { result ≡ Progress.More → IsUsedUp aim.now self.now → ⊥ }
+        ensures done { result ≡ Progress.Done → IsUsedUp aim.now self.now }
+    {
         if self.is_done(aim) {
-            return Ok(Progress::Done);
+            Progress::Done
+        } else {
+            Progress::More
         }
-        Ok(Progress::More)
     }
 
     /// Consumes source cells until one is given or none is left.

@@ -6,3 +6,4 @@ pub mod ComparedLemmas
 pub mod RebuildLemmas
 pub mod WholeLemmas
 mod Examples
+pub mod RebuildSaid

@@ -169,15 +169,20 @@ module _ {D E : Type 0} (d : device.Ghosts D) (e : device.Ghosts E) (from mid no
   was : IfSome (d.bytes from) IsClosedFile
   was = found-closed found head (d.bytes from) closed seen.why_is
 
+  had : IfBoth (d.bytes from) (e.bytes to) (λ bytes old. (length old ≡ 0) ⊎ (length old ≡ length bytes))
+  had = had-told found.size head (d.bytes from) (e.bytes to) file ready.was
+
   pub copying-failed : (fault : DeviceFault) → Moves d e mid now other last 512 (found.size - 512) (Err fault) → Rebuilds d e from now to last (Err Device)
   copying-failed fault moves = inr (inr (inl (record {
     was = was;
+    had = had;
     cause = elim moves [
       | inl mine ↦ inl (rose-after (d.counts from).faults (d.counts mid).faults (d.counts now).faults seen.no_fault mine)
       | inr others ↦ inr (rose-after (e.counts to).faults (e.counts other).faults (e.counts last).faults ready.no_fault others)
     ];
     many = many-told found.size head (d.bytes from) (e.bytes last) file (begun-long found.size (e.bytes to) (e.bytes other) (e.bytes last) ready.begun below);
     head = begun-head found.size (e.bytes to) (e.bytes other) (e.bytes last) ready.begun below;
+    few_others = (let first = ready.spends.others_rise in let none = only.other_spends.others_rise in omega (arith, first, none));
   })))
 
   pub copied-so_far : OnlyCopied d e from now to last
@@ -213,6 +218,7 @@ module _ {D E : Type 0} (d : device.Ghosts D) (e : device.Ghosts E) (from mid no
       Rebuilds d e from now to end (Err Device)
   last-failed end fault moved wrote called = inr (inr (inr (record {
     was = was;
+    had = had;
     cause = rose-after (e.counts to).faults (e.counts last).faults (e.counts end).faults (moved.other_no_fault ∙ ready.no_fault) called.cause;
     no_fault = moved.no_fault ∙ seen.no_fault;
     behind = last-told {T = Unit {0}} {F = DeviceFault} (Err fault) found.size head (d.bytes from) (e.bytes last) (e.bytes end) long many file (begun-long found.size (e.bytes to) (e.bytes other) (e.bytes last) ready.begun below)
@@ -223,7 +229,7 @@ module _ {D E : Type 0} (d : device.Ghosts D) (e : device.Ghosts E) (from mid no
       Called {T = Unit {0}} {E = DeviceFault} (e.counts last) (e.counts end) 0 1 1 (Ok value) → Rebuilds d e from now to end (Ok tt)
   all-done end value moved wrote settled called = record {
     was = was;
-    had = had-told found.size head (d.bytes from) (e.bytes to) file ready.was;
+    had = had;
     same = whole-told DeviceFault value found.size head (d.bytes from) (e.bytes last) (e.bytes end) long many file (begun-long found.size (e.bytes to) (e.bytes other) (e.bytes last) ready.begun below)
         (subst (λ (t : Option (List ℕ)). IfBoth t (e.bytes last) (λ old new. part new 512 (found.size - 512) ≡ part old 512 (found.size - 512))) seen.bytes_stay moved.same) wrote;
     settled = settled;

@@ -1,5 +1,5 @@
 -- A mirror as a device, and as it is made.
-use Rattle.std.specs.Prelude.{ℕ, false, ◌&&◌}
+use Rattle.std.specs.Prelude.{false, ◌&&◌}
 use Rattle.cola_device.specs.declared.device.Device as device
 use Rattle.cola_mirror.specs.declared.sides.Sides.TheVariants.{Both}
 use Rattle.cola_mirror.specs.Mirror.{Pair, Settings, settings, bytes_of, IsSettling}

@@ -5,3 +5,4 @@ pub mod Device
 pub mod Settled
 pub mod Differ
 pub mod Rebuild
+pub mod RebuildLaws

@@ -1,14 +1,13 @@
 -- What a rebuild answers, with the cause of each answer, and what both devices have then.
-use Rattle.std.specs.Prelude.{◌≡◌, ◌≢◌, ◌⊎◌, ℕ, ◌≤◌, max, true, false, List, [], ◌∷◌, length, take, drop, replicate, Result, Ok, Err, IfSome, IsSomeAnd}
+use Rattle.std.specs.Prelude.{◌≡◌, ◌≢◌, ◌⊎◌, ℕ, ◌+◌, ◌≤◌, max, List, [], ◌∷◌, length, take, drop, replicate, Result, Ok, Err, IfSome, IsSomeAnd}
 use Rattle.cola_outside.specs.Faults.{Rose}
 use Rattle.cola_outside.specs.Told.{Both}
 use Rattle.cola_device.specs.declared.device.Device as device
 use Rattle.cola_device.specs.declared.device.DeviceFault.{DeviceFault}
 use Rattle.cola_device.specs.Bytes.{part, IsEmpty, HasSize}
 use Rattle.cola_device.specs.Settling.{IsSettled}
-use Rattle.cola_layout.specs.Header.{Fields}
 use Rattle.cola_opening.specs.Counted.{Spends}
-use Rattle.cola_opening.specs.Judged.{HasHeader, IsSmall, IsNoStore, IsSeen, FailedReading, IsClosedFile, IsInUse}
+use Rattle.cola_opening.specs.Judged.{IsSmall, IsNoStore, IsSeen, FailedReading, IsClosedFile, IsInUse}
 use Rattle.cola_mirror.specs.declared.fault.RebuildFault.{RebuildFault}
 use Rattle.cola_mirror.specs.declared.fault.RebuildFault.TheVariants.{Small, NotStore, NotClosed, Other, Device}
 use Rattle.cola_mirror.specs.Differ.{pieces_of, IfBoth}
@@ -93,14 +92,15 @@ module _ {D E : Type 0} (d : device.Ghosts D) (e : device.Ghosts E) (from from_n
     pub source : IsSeen d from why 1 1 from_now
     pub untouched : to_now ≡ to
 
-  -- the file could be copied, but the other device has so many bytes: some, and not as many as the file
+  -- the file could be copied, but the other device has so many bytes: some, and not as many as the file. It was asked for its
+  -- size alone
   pub record IsOther (many : ℕ) : Type 0 where
     pub source : IsSeen d from (λ bytes. IsClosedFile bytes × (many ≢ length bytes)) 1 1 from_now
     pub many_is : HasSize (e.bytes to) many
     pub some : many ≢ 0
     pub bytes_stay : e.bytes to_now ≡ e.bytes to
+    pub spends : Spends (e.counts to) (e.counts to_now) 0 0 1
     pub no_fault : (e.counts to_now).faults ≡ (e.counts to).faults
-    pub no_write : (e.counts to_now).writes ≡ (e.counts to).writes
 
   -- the one device failed before the header was read, and the other was not called
   pub record FailedAtHeader : Type 0 where
@@ -114,16 +114,24 @@ module _ {D E : Type 0} (d : device.Ghosts D) (e : device.Ghosts E) (from from_n
     pub spends : Spends (e.counts to) (e.counts to_now) 0 0 2
     pub left : (e.bytes to_now ≡ e.bytes to) ⊎ (IsEmpty (e.bytes to) × IfBoth (d.bytes from) (e.bytes to_now) (λ bytes new. length new ≤ length bytes))
 
-  -- one of the two failed as the bytes behind the first 512 were copied: the other has all its bytes, and no new header
+  -- the other device was empty or had as many bytes as the file, where both are told
+  abbrev pub HadRoom : Type 0
+  HadRoom = IfBoth (d.bytes from) (e.bytes to) (λ bytes old. (length old ≡ 0) ⊎ (length old ≡ length bytes))
+
+  -- one of the two failed as the bytes behind the first 512 were copied: the other has all its bytes, and no new header; beside
+  -- pieces it was called for its size and its layout alone, and not to settle
   pub record FailedCopying : Type 0 where
     pub was : IfSome (d.bytes from) IsClosedFile
+    pub had : HadRoom
     pub cause : Rose (d.counts from).faults (d.counts from_now).faults ⊎ Rose (e.counts to).faults (e.counts to_now).faults
     pub many : IfBoth (d.bytes from) (e.bytes to_now) (λ bytes new. length new ≡ length bytes)
     pub head : Both (e.bytes to) (e.bytes to_now) (λ old new. take 512 new ≡ first_bytes old)
+    pub few_others : (e.counts to_now).others ≤ (e.counts to).others + 2
 
   -- the other failed as the first 512 bytes were written or as it settled: all behind them is copied
   pub record FailedLast : Type 0 where
     pub was : IfSome (d.bytes from) IsClosedFile
+    pub had : HadRoom
     pub cause : Rose (e.counts to).faults (e.counts to_now).faults
     pub no_fault : (d.counts from_now).faults ≡ (d.counts from).faults
     pub behind : IfBoth (d.bytes from) (e.bytes to_now) (λ bytes new. (length new ≡ length bytes) × (drop 512 new ≡ drop 512 bytes))
@@ -131,7 +139,7 @@ module _ {D E : Type 0} (d : device.Ghosts D) (e : device.Ghosts E) (from from_n
   -- the other has the bytes of the file, where both are told, and settled with them; no fault was met
   pub record IsWhole : Type 0 where
     pub was : IfSome (d.bytes from) IsClosedFile
-    pub had : IfBoth (d.bytes from) (e.bytes to) (λ bytes old. (length old ≡ 0) ⊎ (length old ≡ length bytes))
+    pub had : HadRoom
     pub same : IfBoth (d.bytes from) (e.bytes to_now) (λ bytes new. new ≡ bytes)
     pub settled : IsSettled e to_now
     pub no_fault : (d.counts from_now).faults ≡ (d.counts from).faults

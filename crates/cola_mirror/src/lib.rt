@@ -7,6 +7,7 @@ mod comparing;
 mod fault;
 pub mod laws;
 mod mirror;
+pub mod rebuild_laws;
 mod rebuilding;
 mod sides;
 

@@ -35,6 +35,7 @@ pub fn answers_exclude_each_other()
 
 /// The header of a file that has one is found, unless the device failed and its count of faults rose.
 pub fn a_header_is_found<D: Device>()
-    ensures { (header : Fields) (bytes head : List ℕ) (before now : D) (result : Result AnyFound AnyFault) → D.bytes before ≡ Some bytes → HasHeader header bytes →
+    ensures { (header : Fields) (bytes head : List ℕ) (before now : D) (result : Result AnyFound AnyFault) →
+        D.bytes before ≡ Some bytes → HasHeader header bytes →
         FindsHeader D.Device before head now result → IsHeaderOrFault header result }
 {}

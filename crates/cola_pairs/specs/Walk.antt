@@ -50,4 +50,5 @@ module _ {K V : Type 0} (cmp : K → K → Ordering) where
   pub data Walks (hi : Option K) : List (List (Cell K V)) → List (K × V) → Type 0 where
     Ends : {rests : List (List (Cell K V))} → HeadsPast hi rests → Walks hi rests []
     Takes : {rests : List (List (Cell K V))} {left : List (K × V)} {pairs : List (K × V)} (k : K) →
-        IsTrue (below_end cmp hi k) → HeadsFrom k rests → Walks hi (pass_keys k rests) left → pairs ≡ with_answer k (answer cmp k rests) left → Walks hi rests pairs
+        IsTrue (below_end cmp hi k) → HeadsFrom k rests → Walks hi (pass_keys k rests) left →
+        pairs ≡ with_answer k (answer cmp k rests) left → Walks hi rests pairs

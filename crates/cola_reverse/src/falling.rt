@@ -15,9 +15,11 @@ ghost use Rattle.cola_reverse.specs.Falling.{WalksWithin, fronts_below, from_low
 /// runs without the cells of `k` at their ends, and last what the runs have of `k`, which is the first item that the
 /// step passes. So a walk from the upper end down gives the live pairs from the last one on, each once.
 pub fn live_by_key_falling<K: Ord, V>()
-    ensures step { (within : K → Bool) (k : K) (runs : List (List (Cell K V))) → IsAntisymmetric K.cmp → AllByRecursion (IsRising K.cmp) runs →
-        IsTrue (within k) → LastsUpTo K.cmp k runs → live K.cmp within runs ≡ live K.cmp within (leave_keys K.cmp k runs) ++ with_answer k (answer K.cmp k runs) [] }
-    ensures rising { (k : K) (runs : List (List (Cell K V))) → AllByRecursion (IsRising K.cmp) runs → AllByRecursion (IsRising K.cmp) (leave_keys K.cmp k runs) }
+    ensures step { (within : K → Bool) (k : K) (runs : List (List (Cell K V))) → IsAntisymmetric K.cmp →
+        AllByRecursion (IsRising K.cmp) runs → IsTrue (within k) → LastsUpTo K.cmp k runs →
+        live K.cmp within runs ≡ live K.cmp within (leave_keys K.cmp k runs) ++ with_answer k (answer K.cmp k runs) [] }
+    ensures rising { (k : K) (runs : List (List (Cell K V))) → AllByRecursion (IsRising K.cmp) runs →
+        AllByRecursion (IsRising K.cmp) (leave_keys K.cmp k runs) }
     ensures item { (k : K) (runs : List (List (Cell K V))) → AllByRecursion (IsRising K.cmp) runs → LastsUpTo K.cmp k runs →
         first_passed (flip_args K.cmp) k (map reverse runs) ≡ answer K.cmp k runs }
     ensures reversed { (within : K → Bool) (runs : List (List (Cell K V))) → IsAntisymmetric K.cmp → AllByRecursion (IsRising K.cmp) runs →

@@ -1,4 +1,5 @@
-//! Files of made sessions of which bytes were changed: what the mode `check` says of each, beside the verdict of the plain program.
+//! Files of made sessions of which bytes were changed: what the mode `check` says of each,
+//! beside the verdict of the plain program.
 use crate::fault::Fault;
 use crate::files::{device_of, file_after_puts, simple_session};
 use crate::talk::{Talk, WITH_STAMPS, WITHOUT_STAMPS, next_number};

@@ -1,5 +1,6 @@
 //! The program `cola_rows`: it reads rows from standard input, does each in memory, and prints what came; or it compares
-//! made lines with the plain session, or what `check` says of changed files with the plain program; or it prints the statuses of the program `cola`.
+//! made lines with the plain session, or what `check` says of changed files with the plain
+//! program; or it prints the statuses of the program `cola`.
 #![tactic(auto)]
 
 mod allocations;

@@ -20,3 +20,5 @@ pub mod Heads
 pub mod Flushes
 pub mod Firsts
 pub mod News
+pub mod Shown
+pub mod Sounding

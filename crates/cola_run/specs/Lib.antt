@@ -5,3 +5,4 @@ pub mod Turns
 pub mod Saving
 pub mod Loading
 pub mod Calls
+pub mod Weaving

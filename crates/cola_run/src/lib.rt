@@ -6,5 +6,6 @@ pub mod laws;
 mod run_store;
 mod saving;
 mod traits;
+mod weaving;
 
 pub use run_store::RunStore;

@@ -7,6 +7,8 @@ ghost use Rattle.cola_cell.specs.Shadows.{Restarts, Pushes, PushSpends, push_tic
 ghost use Rattle.cola_run.specs.Cells.{IsOnDevice};
 ghost use Rattle.cola_run.specs.Store.{IsStore, held_of, state_of, Kept, kept_of, buffer_number, reader_number};
 ghost use Rattle.cola_run.specs.Turns.{buffer_index};
+ghost use Rattle.cola_cell.specs.Windows.{IsReach, Weaves};
+ghost use Rattle.cola_run.specs.Weaving.{RunsBelow, is_at_hand};
 ghost use Rattle.cola_run.specs.Calls.{IsInTail, MemoryAnswers, ReadsBy};
 
 use crate::device_cells::{
@@ -14,7 +16,11 @@ use crate::device_cells::{
     read_by_buffer, saved, set_shadow, shadow_of, taken_or_bad,
 };
 use crate::run_store::RunStore;
-use cola_cell::{Cell, CellSink, CellSource, Packed, Pass, PushFault, ReadFault, Reader, Shadow};
+use crate::weaving::weave_on_device;
+use cola_cell::{
+    Cell, CellSink, CellSource, Packed, Pass, PushFault, Reach, ReadFault, Reader, Shadow,
+    WindowMerge, tick_all,
+};
 use cola_device::Device;
 use cola_front::block::refill_from;
 use cola_layout::Geometry;
@@ -266,5 +272,59 @@ impl<D: Device> CellSink for RunStore<D> {
     fn shadow_len(&self, level: u8) -> u32 {
         let _ = &self.geometry;
         shadow_of(&self.shadows, level).len
+    }
+
+    fn weave<M: WindowMerge, L: Ledger>(
+        &mut self,
+        level: u8,
+        own: Reach,
+        incoming: Reach,
+        sample: Reach,
+        merge: &mut M,
+        job: &M::Job,
+        steps: &mut Steps<L>,
+    ) -> u32
+        requires level_in { level < (state_of D.bytes D.counts self.old).held.fixed.levels }
+        requires can { M.can merge.old job.now }
+        requires own { IsReach (state_of D.bytes D.counts self.old).held level own }
+        requires incoming { IsReach (state_of D.bytes D.counts self.old).held level incoming }
+        requires sample { IsReach (state_of D.bytes D.counts self.old).held level sample }
+        ensures kept { kept_of D.bytes D.counts D.kept self.new ≡ kept_of D.bytes D.counts D.kept self.old }
+        ensures weaves { Weaves M.wove (state_of D.bytes D.counts self.old) (state_of D.bytes D.counts self.new) level own incoming sample
+            merge.old merge.new job.now steps.old steps.new result }
+        ensures runs { D.lends ≡ true → IsOnDevice self.old.geometry level →
+            is_at_hand self.old.geometry self.old.shadows own ≡ true →
+            is_at_hand self.old.geometry self.old.shadows incoming ≡ true →
+            is_at_hand self.old.geometry self.old.shadows sample ≡ true →
+            RunsBelow M.wove (D.bytes self.old.buffers.cache.device) self.old.geometry self.old.shadows self.new.shadows
+            self.old.tails self.new.tails level own incoming sample merge.old merge.new job.now result }
+    {
+        if level < self.geometry.front_levels()
+            || !self.is_at_hand(own)
+            || !self.is_at_hand(incoming)
+            || !self.is_at_hand(sample)
+        {
+            return 0;
+        }
+        let woven = weave_on_device(
+            &self.buffers,
+            &self.geometry,
+            &mut self.shadows,
+            &mut self.tails,
+            level,
+            own,
+            incoming,
+            sample,
+            merge,
+            job,
+        );
+        match woven {
+            Some(passed) => {
+                self.ticked = self.ticked.wrapping_add(passed.ticks as u64);
+                tick_all(steps, passed.ticks);
+                passed.steps
+            }
+            None => 0,
+        }
     }
 }

@@ -25,7 +25,8 @@ module _ {K V : Type 0} where
   abbrev pub place_cmp : (K → K → Ordering) → Cell K V → Cell K V → Ordering
   place_cmp cmp = then_cmp (on key_of cmp) (on is_look bool_cmp)
 
-  -- each cell stands before all that follow it: keys rise, and a key has at most one item and one lookahead cell, the item first
+  -- each cell stands before all that follow it: keys rise, and a key has at most one item and
+  -- one lookahead cell, the item first
   abbrev pub IsRising : (K → K → Ordering) → List (Cell K V) → Type 0
   IsRising cmp = IsStrictlySortedBy (place_cmp cmp)
 

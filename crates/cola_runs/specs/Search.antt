@@ -58,7 +58,8 @@ module _ {K V : Type 0} (cmp : K → K → Ordering) (q : K) where
   abbrev pub seek : ℕ → List (Cell K V) → ℕ → Seat V
   seek start run next_len = seat_at run next_len (stop start run)
 
-  -- the search of a list of runs: the item of the first run in which it is found, each run searched from the link of the one above
+  -- the search of a list of runs: the item of the first run in which it is found, each run
+  -- searched from the link of the one above
   abbrev pub find : ℕ → List (List (Cell K V)) → Option (Item V)
   find start [] = None
   find start (run ∷ runs) = option_or (seek start run (first_len runs)).hit (find (seek start run (first_len runs)).link runs)

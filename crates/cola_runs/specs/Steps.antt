@@ -49,7 +49,8 @@ module _ {K V : Type 0} (cmp : K → K → Ordering) where
   item_or_look part link head c None = Take head (emitted part link head c)
   item_or_look part link head c (Some k) = cond (is_gt (cmp (key_of c) k)) (Take Sample (Some (Look k link))) (Take head (emitted part link head c))
 
-  -- the rule that fits where neither head is passed over: of two equal keys the own item is dropped, else the smaller key goes first
+  -- the rule that fits where neither head is passed over: of two equal keys the own item is
+  -- dropped, else the smaller key goes first
   abbrev pub least : Part → ℕ → Option (Cell K V) → Option (Cell K V) → Option K → Action K V
   least part link None None None = Ended
   least part link None None (Some k) = Take Sample (Some (Look k link))
@@ -111,7 +112,8 @@ module _ {K V : Type 0} (cmp : K → K → Ordering) (part : Part) (own incoming
     pub sampled_within : p.sampled ≤ length keys
     pub cut : IsCut cmp part own incoming keys (drop p.own own) (drop p.incoming incoming) (drop p.sampled keys) p.done
 
-  -- n steps lead from one build to the other: it is under way, and has consumed n more source cells, or all that were left; it emitted at most one cell for each, behind what was emitted before, and no cursor fell
+  -- n steps lead from one build to the other: it is under way, and has consumed n more source cells, or all
+  -- that were left; it emitted at most one cell for each, behind what was emitted before, and no cursor fell
   pub record IsAdvanced (n : ℕ) (before after : Build K V) : Type 0 where
     pub under_way : IsUnderWay after
     pub consumes : consumed after ≡ consumed before + min n (cells_left own incoming keys before)

@@ -106,15 +106,18 @@ module _ {K V : Type 0} (cmp : K → K → Ordering) where
   set_cells [] base = base
   set_cells (c ∷ cells) base = set_cell c (set_cells cells base)
 
-  -- the weave before its links are counted: the incoming items set among the own ones, without the tombstones that are left out, and the keys set among them
+  -- the weave before its links are counted: the incoming items set among the own ones, without
+  -- the tombstones that are left out, and the keys set among them
   unfoldable pub unlinked : Part → List (Cell K V) → List (Cell K V) → List K → List (Cell K V)
   unlinked part own incoming keys = set_cells (map look_at keys) (filter (stays part) (set_cells (taken_incoming part incoming) (taken_own part own)))
 
-  -- the weave of three sources: each item of the merge with its flag, and one lookahead cell for each key, in order, with the links of a run
+  -- the weave of three sources: each item of the merge with its flag, and one lookahead cell
+  -- for each key, in order, with the links of a run
   unfoldable pub weave : Part → List (Cell K V) → List (Cell K V) → List K → List (Cell K V)
   weave part own incoming keys = relinked 0 (unlinked part own incoming keys)
 
-  -- a cut of a build: the cells done, followed by the weave of what is left of the sources, are the weave of the whole sources, with the links counted in the whole
+  -- a cut of a build: the cells done, followed by the weave of what is left of the sources, are
+  -- the weave of the whole sources, with the links counted in the whole
   abbrev pub IsCut : Part → List (Cell K V) → List (Cell K V) → List K → List (Cell K V) → List (Cell K V) → List K → List (Cell K V) → Type 0
   IsCut part own incoming keys own_left incoming_left keys_left done =
       done ++ relinked (count_looks done) (unlinked part own_left incoming_left keys_left) ≡ weave part own incoming keys

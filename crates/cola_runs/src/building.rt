@@ -41,7 +41,8 @@ pub fn done_looks<K: Ord, V>()
 /// What a build under way has emitted is a well-formed run with no more cells, items and young items than the whole weave
 /// may have.
 pub fn done_cells<K: Ord, V>()
-    ensures formed { (part : Part) (own incoming : List (Cell K V)) (keys : List K) (build : Build K V) → IsRising K.cmp own → IsUnderWay K.cmp part own incoming keys build →
+    ensures formed { (part : Part) (own incoming : List (Cell K V)) (keys : List K) (build : Build K V) → IsRising K.cmp own →
+        IsUnderWay K.cmp part own incoming keys build →
         IsWellFormed K.cmp build.done }
     ensures length { (part : Part) (own incoming : List (Cell K V)) (keys : List K) (build : Build K V) → IsUnderWay K.cmp part own incoming keys build →
         length build.done ≤ length (weave K.cmp part own incoming keys) }
@@ -54,11 +55,14 @@ pub fn done_cells<K: Ord, V>()
 /// While a rule emits a cell, what was emitted is shorter than the weave. So a build whose weave fits its slot never
 /// finds it full. Where no rule fits, the whole weave was emitted.
 pub fn rule_at_cursors<K: Ord, V>()
-    ensures room { (part : Part) (own incoming : List (Cell K V)) (keys : List K) → IsRising K.cmp own → IsRising K.cmp incoming → IsStrictlySortedBy K.cmp keys →
+    ensures room { (part : Part) (own incoming : List (Cell K V)) (keys : List K) → IsRising K.cmp own → IsRising K.cmp incoming →
+        IsStrictlySortedBy K.cmp keys →
         (build : Build K V) → IsUnderWay K.cmp part own incoming keys build → (head : Head) (cell : Cell K V) →
-        rule K.cmp part (8 * build.sampled) (slice_get own build.own) (slice_get incoming build.incoming) (slice_get keys build.sampled) ≡ Take head (Some cell) →
+        rule K.cmp part (8 * build.sampled) (slice_get own build.own) (slice_get incoming build.incoming) (slice_get keys build.sampled) ≡
+        Take head (Some cell) →
         length build.done < length (weave K.cmp part own incoming keys) }
-    ensures ended { (part : Part) (own incoming : List (Cell K V)) (keys : List K) → IsRising K.cmp own → IsRising K.cmp incoming → IsStrictlySortedBy K.cmp keys →
+    ensures ended { (part : Part) (own incoming : List (Cell K V)) (keys : List K) → IsRising K.cmp own → IsRising K.cmp incoming →
+        IsStrictlySortedBy K.cmp keys →
         (build : Build K V) → IsUnderWay K.cmp part own incoming keys build →
         rule K.cmp part (8 * build.sampled) (slice_get own build.own) (slice_get incoming build.incoming) (slice_get keys build.sampled) ≡ Ended →
         build.done ≡ weave K.cmp part own incoming keys }
@@ -67,7 +71,8 @@ pub fn rule_at_cursors<K: Ord, V>()
 /// No build overflows on its way: after any number of steps what was emitted fits the slot of level `j`, of
 /// `2 ^ (j + 2)` cells, where its sources are as small as those of level `j` are.
 pub fn steps_fit<K: Ord, V>()
-    ensures { (part : Part) (own incoming : List (Cell K V)) (keys : List K) (j : ℕ) → IsRising K.cmp own → IsRising K.cmp incoming → IsStrictlySortedBy K.cmp keys →
+    ensures { (part : Part) (own incoming : List (Cell K V)) (keys : List K) (j : ℕ) → IsRising K.cmp own →
+        IsRising K.cmp incoming → IsStrictlySortedBy K.cmp keys →
         own_items part own ≤ 2 * 2 ^ j → count_items incoming ≤ 2 ^ j → length keys ≤ 2 ^ j →
         (n : ℕ) → length (steps K.cmp part own incoming keys n begun).done ≤ 2 ^ (j + 2) }
 {}

@@ -23,10 +23,14 @@ pub fn weave_is_formed<K: Ord, V>()
 /// What a weave has: one lookahead cell for each key of the sample, at most the items that the part takes of its
 /// two runs, and young items only where the part marks the incoming ones.
 pub fn weave_counts<K: Ord, V>()
-    ensures keys { (part : Part) (own incoming : List (Cell K V)) (keys : List K) → IsStrictlySortedBy K.cmp keys → look_keys (weave K.cmp part own incoming keys) ≡ keys }
-    ensures looks { (part : Part) (own incoming : List (Cell K V)) (keys : List K) → IsStrictlySortedBy K.cmp keys → count_looks (weave K.cmp part own incoming keys) ≡ length keys }
-    ensures items { (part : Part) (own incoming : List (Cell K V)) (keys : List K) → count_items (weave K.cmp part own incoming keys) ≤ own_items part own + count_items incoming }
-    ensures young { (part : Part) (own incoming : List (Cell K V)) (keys : List K) → count_young (weave K.cmp part own incoming keys) ≤ cond part.marks_young (count_items incoming) 0 }
+    ensures keys { (part : Part) (own incoming : List (Cell K V)) (keys : List K) → IsStrictlySortedBy K.cmp keys →
+        look_keys (weave K.cmp part own incoming keys) ≡ keys }
+    ensures looks { (part : Part) (own incoming : List (Cell K V)) (keys : List K) → IsStrictlySortedBy K.cmp keys →
+        count_looks (weave K.cmp part own incoming keys) ≡ length keys }
+    ensures items { (part : Part) (own incoming : List (Cell K V)) (keys : List K) →
+        count_items (weave K.cmp part own incoming keys) ≤ own_items part own + count_items incoming }
+    ensures young { (part : Part) (own incoming : List (Cell K V)) (keys : List K) →
+        count_young (weave K.cmp part own incoming keys) ≤ cond part.marks_young (count_items incoming) 0 }
     ensures length { (part : Part) (own incoming : List (Cell K V)) (keys : List K) → IsStrictlySortedBy K.cmp keys →
         length (weave K.cmp part own incoming keys) ≤ own_items part own + count_items incoming + length keys }
 {}

@@ -20,7 +20,8 @@ abbrev pub item_or : Option (Item Stamped) → Outcome (Option (Item Stamped)) �
 item_or None below = below
 item_or (Some item) below = Found (Some item)
 
--- the search of a list of runs: the item of the first run in which it is found, each run searched from the link of the one above
+-- the search of a list of runs: the item of the first run in which it is found, each run
+-- searched from the link of the one above
 abbrev pub found_in_runs : Held → List ℕ → ℕ → List Run → Outcome (Option (Item Stamped))
 found_in_runs held key start [] = Found None
 found_in_runs held key start (run ∷ runs) =

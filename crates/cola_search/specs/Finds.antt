@@ -16,7 +16,8 @@ use Rattle.cola_look.specs.Outcome.{Found, Answers}
 use Rattle.cola_look.specs.Runs.{AreRuns, BeginsNear}
 use Rattle.cola_search.specs.Find.{found_in_runs, FindCause}
 
--- the search of a list of runs for a key: its answer, by what the object told before it, the cause of a refusal, and what it spent
+-- the search of a list of runs for a key: its answer, by what the object told before it, the
+-- cause of a refusal, and what it spent
 pub record Finds (runs : List Run) (key : List ℕ) (old new : State) (before after : ℕ) (result : Result (Option Item) ReadFault) : Type 0 where
   -- on all runs: the answer that their cells give, as far as they are told
   pub exact : Answers (found_in_runs old.held key 0 runs) (option_map as_item) result

@@ -35,8 +35,8 @@ pub trait Home {
     fn cost(&self) -> bool
         ensures { result ≡ home.cost self.now };
 
-    /// Says that the bounds on what its open table read and wrote hold, and that what stays as it is keeps what every line
-    /// keeps. Nothing is done.
+    /// For proofs alone: nothing is done. Behind this call a caller knows that the open table has kept its bounds on reads and
+    /// writes, and that whoever leaves the home as it is has kept what each line keeps.
     fn know(&self)
         ensures few { home.few self.now }
         ensures stays { home.keeps self.now self.now };

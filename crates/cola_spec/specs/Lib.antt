@@ -8,3 +8,4 @@ pub mod Laws
 pub mod Spelling
 pub mod Told
 pub mod Kinds
+pub mod Table

@@ -8,7 +8,8 @@ use Rattle.std.specs.FinMap as finite
 use Rattle.std.specs.FinMap.{FinMap}
 use Rattle.std.specs.Coded.{Coded, code_by, coded×, coded_list, coded_ℕ}
 
--- what the maps of one store may hold: at most `limit` keys, each of 1 to `key_limit` bytes, with values of at most `value_limit` bytes; and whether an accepted put takes a stamp
+-- what the maps of one store may hold: at most `limit` keys, each of 1 to `key_limit` bytes,
+-- with values of at most `value_limit` bytes; and whether an accepted put takes a stamp
 pub record Shape : Type 0 where
   pub limit : ℕ
   pub key_limit : ℕ
@@ -37,7 +38,8 @@ stored_code =
 -- a map is coded as its entries and its last stamp
 abbrev pub map_code : Coded Map
 map_code =
-    code_by (FinMap key_cmp Stored × ℕ) (coded× (finite.code (coded_list coded_ℕ) stored_code) coded_ℕ) (λ m. (m.entries, m.last)) (λ p. record { entries = p.0; last = p.1 }) (λ _. refl)
+    code_by (FinMap key_cmp Stored × ℕ) (coded× (finite.code (coded_list coded_ℕ) stored_code) coded_ℕ) (λ m. (m.entries, m.last))
+    (λ p. record { entries = p.0; last = p.1 }) (λ _. refl)
 
 -- the largest stamp: no put is accepted after it
 abbrev pub last_stamp : ℕ

@@ -27,7 +27,8 @@ IsNumberWord most number digits = All (IsInRange 48 57) digits × (1 ≤ length 
 abbrev pub Spells : Shape → Command → List ℕ → Type 0
 Spells shape (Put key value) text = (text ≡ codes "put " ++ key ++ 32 ∷ value) × IsKeyWord shape key × IsValueWord shape value
 Spells shape (PutIf key seen value) text =
-    (digits : List ℕ) × (text ≡ codes "putif " ++ key ++ 32 ∷ (digits ++ 32 ∷ value)) × (shape.stamped ≡ true) × IsKeyWord shape key × IsNumberWord 19 seen digits × IsValueWord shape value
+    (digits : List ℕ) × (text ≡ codes "putif " ++ key ++ 32 ∷ (digits ++ 32 ∷ value)) × (shape.stamped ≡ true) × IsKeyWord shape key
+    × IsNumberWord 19 seen digits × IsValueWord shape value
 Spells shape (Del key) text = (text ≡ codes "del " ++ key) × IsKeyWord shape key
 Spells shape (Get key) text = (text ≡ codes "get " ++ key) × IsKeyWord shape key
 Spells shape (Stamp key) text = (text ≡ codes "stamp " ++ key) × (shape.stamped ≡ true) × IsKeyWord shape key
@@ -67,7 +68,8 @@ command_text Reopen = codes "open"
 abbrev pub IsOneLine : List ℕ → Type 0
 IsOneLine text = All (λ byte. byte ≢ 10) text
 
--- the line that asks a command, ended by a carriage return and a line feed: so a text that itself ends in a carriage return keeps it
+-- the line that asks a command, ended by a carriage return and a line feed: so a text that
+-- itself ends in a carriage return keeps it
 abbrev pub command_line : Command → List ℕ
 command_line command = line (command_text command ++ 13 ∷ [])
 

@@ -5,7 +5,8 @@ use Rattle.cola_spec.specs.Reply.{Reply, Failure, Fault, Damaged, Overfull, Put,
 use Rattle.cola_spec.specs.Machine.{Turn}
 use Rattle.cola_spec.specs.Spelling.{IsOneLine}
 
--- the reply, up to what its text does not tell: `none` is one text of a get, a delete and a stamp, and rows that end before the first are a failure alone
+-- the reply, up to what its text does not tell: `none` is one text of a get, a delete and a
+-- stamp, and rows that end before the first are a failure alone
 abbrev pub told : Reply → Reply
 told (Put outcome) = Put outcome
 told (Deleted None) = Got None

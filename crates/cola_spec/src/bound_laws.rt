@@ -7,7 +7,8 @@ ghost use Rattle.cola_spec.specs.Machine.{Turn, FaultedStep, faulted_steps, kind
 ghost use Rattle.cola_spec.specs.Bounds.{get_bound, put_bound, range_bound, request_bound};
 ghost use Rattle.cola_spec.specs.Kinds.{is_look_up, is_mutation, requests_bound, rows_asked};
 
-/// A put, a put that depends on a stamp and a delete have 40 cell accesses a level, a get and a stamp 8, a whole range or scan 9 and the cells of the widest level twice, and everything else none.
+/// A put, a put that depends on a stamp and a delete have 40 cell accesses a level, a get and a stamp
+/// 8, a whole range or scan 9 and the cells of the widest level twice, and everything else none.
 pub fn bounds_of_commands()
     ensures mutation { (levels : ℕ) (command : Command) → is_mutation command ≡ true →
         request_bound levels (Some command) ≡ 40 * levels }
@@ -30,7 +31,8 @@ pub fn numbers()
     ensures stamp { last_stamp ≡ 9223372036854775808 }
 {}
 
-/// The bound of many requests is the sum of their bounds. A run in which each turn is within the bound of its request is within the bound of all its requests.
+/// The bound of many requests is the sum of their bounds. A run in which each turn is within
+/// the bound of its request is within the bound of all its requests.
 pub fn bounds_of_runs()
     ensures none { (levels : ℕ) → requests_bound levels [] ≡ 0 }
     ensures one { (levels : ℕ) (request : Option Command) →

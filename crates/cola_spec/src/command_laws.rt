@@ -1,4 +1,5 @@
-//! The laws of commands: which texts spell one, how a line is read, and that the line of each command asks it. Each function does nothing: its clauses are the law.
+//! The laws of commands: which texts spell one, how a line is read, and that the line of each
+//! command asks it. Each function does nothing: its clauses are the law.
 
 ghost use Rattle.std.specs.Prelude.{ℕ, ◌≡◌, ◌≢◌, ◌≤◌, ◌<◌, ◌↔◌, true, List, [], ◌∷◌, ◌++◌, Option, Some, None, length, map, All};
 ghost use Rattle.std.specs.List.{flat_map};
@@ -8,7 +9,8 @@ ghost use Rattle.cola_spec.specs.Command.{Command, command_of, line_requests, re
 ghost use Rattle.cola_spec.specs.Reply.{line};
 ghost use Rattle.cola_spec.specs.Spelling.{IsAskable, IsOneLine, Spells, command_lines, command_text};
 
-/// A text is a command exactly where it spells it, so it spells one at most. A key has 1 to as many bytes as the shape allows, a value up to as many.
+/// A text is a command exactly where it spells it, so it spells one at most. A key has 1 to as
+/// many bytes as the shape allows, a value up to as many.
 pub fn commands_are_spelt()
     ensures spelt { (shape : Shape) (text : List ℕ) (command : Command) →
         (command_of shape text ≡ Some command) ↔ Spells shape command text }
@@ -18,7 +20,9 @@ pub fn commands_are_spelt()
         (is_value shape value ≡ true) ↔ (length value ≤ shape.value_limit) }
 {}
 
-/// The text of a command that fits the shape is that command, and no text asks any other. With keys of at most 40 bytes and values of at most 72 it has at most 139 bytes, within the limit of a line, and the lines of commands ask these commands and nothing else.
+/// The text of a command that fits the shape is that command, and no text asks any other. With
+/// keys of at most 40 bytes and values of at most 72 it has at most 139 bytes, within the limit
+/// of a line, and the lines of commands ask these commands and nothing else.
 pub fn commands_are_read_back()
     ensures text { (shape : Shape) (command : Command) → IsAskable shape command →
         command_of shape (command_text command) ≡ Some command }
@@ -32,7 +36,8 @@ pub fn commands_are_read_back()
         requests shape (raw_lines (command_lines commands)) ≡ map Some commands }
 {}
 
-/// A line of more than 160 bytes before its end is too long, and every other is read as its bytes without one carriage return at their end. Texts without a line feed that are written as lines are read as these lines.
+/// A line of more than 160 bytes before its end is too long, and every other is read as its bytes without one
+/// carriage return at their end. Texts without a line feed that are written as lines are read as these lines.
 pub fn lines_are_read()
     ensures limit { line_limit ≡ 160 }
     ensures too_long { (raw : List ℕ) → 160 < length raw → line_of raw ≡ TooLong }

@@ -11,7 +11,8 @@ ghost use Rattle.cola_spec.specs.Machine.{State, Turn, Step, History, PlainStep,
 ghost use Rattle.cola_spec.specs.Bounds.{ceiling_log, levels_of, put_bound, get_bound, range_bound};
 ghost use Rattle.cola_spec.specs.Laws.{is_accepted, Rises, map_of, RequestFits};
 
-/// After an accepted put its key has the value and the next stamp, and every other key has what it had. A refused put changes nothing.
+/// After an accepted put its key has the value and the next stamp, and every other key has what
+/// it had. A refused put changes nothing.
 pub fn get_after_put()
     ensures value { (shape : Shape) (m : Map) (key value : List ℕ) →
         is_accepted (put_outcome shape m key) ≡ true →
@@ -28,7 +29,8 @@ pub fn get_after_put()
         is_accepted (put_outcome shape m key) ≡ false → after_put shape m key value ≡ m }
 {}
 
-/// A put that depends on the stamp seen is refused with the stamp that there is, exactly where that is another one, and changes nothing then. Else it is the put.
+/// A put that depends on the stamp seen is refused with the stamp that there is, exactly where
+/// that is another one, and changes nothing then. Else it is the put.
 pub fn get_after_put_if()
     ensures other { (shape : Shape) (m : Map) (key : List ℕ) (seen stamp : ℕ) →
         (put_if_outcome shape m key seen ≡ Other stamp)
@@ -43,7 +45,8 @@ pub fn get_after_put_if()
         after_put_if shape m key seen value ≡ m }
 {}
 
-/// Which answer a put has: full exactly at a new key where the map has as many keys as it may, worn exactly where it is not full and no stamp is left, and else the value replaced, or new.
+/// Which answer a put has: full exactly at a new key where the map has as many keys as it may,
+/// worn exactly where it is not full and no stamp is left, and else the value replaced, or new.
 pub fn put_answers()
     ensures full { (shape : Shape) (m : Map) (key : List ℕ) →
         (put_outcome shape m key ≡ Full) ↔ ((value_of m key ≡ None) × (shape.limit ≤ count m)) }
@@ -92,7 +95,8 @@ pub fn maps_keep_their_shape()
         IsMap shape (after_delete m key) }
 {}
 
-/// The pairs of a map are what its keys have, those of an interval are the ones whose key lies in it, and the first of those are what a scan gives. Their keys strictly rise, so each stands once.
+/// The pairs of a map are what its keys have, those of an interval are the ones whose key lies in
+/// it, and the first of those are what a scan gives. Their keys strictly rise, so each stands once.
 pub fn ranges()
     ensures pairs { (m : Map) (row : List ℕ × List ℕ) →
         Contains (pairs m) row ↔ (value_of m row.0 ≡ Some row.1) }
@@ -108,7 +112,8 @@ pub fn ranges()
     ensures scan_rises { (m : Map) (low : List ℕ) (most : ℕ) → Rises (scan m low most) }
 {}
 
-/// The lines of bytes, each with a line feed, are the bytes again, with one line feed added where they do not end in one. No line has a line feed, and bytes that go on after a line feed have the lines before and the lines after.
+/// The lines of bytes, each with a line feed, are the bytes again, with one line feed added where they do not end in
+/// one. No line has a line feed, and bytes that go on after a line feed have the lines before and the lines after.
 pub fn lines()
     ensures none { raw_lines [] ≡ [] }
     ensures ended { (bytes : List ℕ) →
@@ -150,7 +155,8 @@ pub fn plain_steps()
         kind_of turn.answer ≡ ShortStep → Step shape state turn next → map_of next ≡ map_of state }
 {}
 
-/// A run over requests that fit leads from a map of the shape to a map of the shape. The plain run is a run, and a run whose steps are all plain has its answers, its last state and, without costs, its text.
+/// A run over requests that fit leads from a map of the shape to a map of the shape. The plain run is a
+/// run, and a run whose steps are all plain has its answers, its last state and, without costs, its text.
 pub fn runs()
     ensures shape { (shape : Shape) (state : State) (turns : List Turn) (last : State) →
         History shape state turns last → All (λ turn. RequestFits shape turn.request) turns →
@@ -168,7 +174,8 @@ pub fn runs()
         (plain_turns shape state (map (λ turn. turn.request) turns)) }
 {}
 
-/// The power is the least that is not below the number. A store has the fewest levels, four at least, whose last one has room for all keys. The numbers for 1, 32, 33, 1,000 and 65,536 keys.
+/// The power is the least that is not below the number. A store has the fewest levels, four at
+/// least, whose last one has room for all keys. The numbers for 1, 32, 33, 1,000 and 65,536 keys.
 pub fn bounds()
     ensures fits { (number : ℕ) → number ≤ 2 ^ ceiling_log number }
     ensures least { (number power : ℕ) → number ≤ 2 ^ power → ceiling_log number ≤ power }

@@ -1,10 +1,12 @@
-//! The laws of the order of keys, of intervals, and of what a map of a shape holds. Each function does nothing: its clauses are the law.
+//! The laws of the order of keys, of intervals, and of what a map of a shape holds. Each
+//! function does nothing: its clauses are the law.
 
 ghost use Rattle.std.specs.Prelude.{ℕ, ◌≡◌, ◌≢◌, ◌≤◌, ◌<◌, ◌↔◌, ◌^◌, true, false, List, [], ◌∷◌, ◌++◌, Option, Some, None};
 ghost use Rattle.std.specs.declared.cmp.Ordering.TheVariants.{Less, Equal, Greater};
 ghost use Rattle.cola_spec.specs.Map.{Shape, Map, IsMap, count, empty_map, is_before, is_from, is_key, is_value, key_cmp, pairs_between, range, stamp_of, value_of};
 
-/// Keys are ordered as byte strings: a key stands before each that it begins, and where two differ first, the one with the smaller byte stands before the other. Only the same key ties.
+/// Keys are ordered as byte strings: a key stands before each that it begins, and where two
+/// differ first, the one with the smaller byte stands before the other. Only the same key ties.
 pub fn keys_have_an_order()
     ensures begins { (key : List ℕ) (byte : ℕ) (bytes : List ℕ) →
         key_cmp key (key ++ byte ∷ bytes) ≡ Less }
@@ -25,7 +27,8 @@ pub fn intervals_have_ends()
         range m low high ≡ pairs_between m low (Some high) }
 {}
 
-/// A map of a shape has at most as many keys as the limit, each key and value fits, and no stamp is above the last, which is at most 2 to the 63 and 0 where nothing is stamped. The empty map has nothing.
+/// A map of a shape has at most as many keys as the limit, each key and value fits, and no stamp is above
+/// the last, which is at most 2 to the 63 and 0 where nothing is stamped. The empty map has nothing.
 pub fn maps_fit_their_shape()
     ensures count { (shape : Shape) (m : Map) → IsMap shape m → count m ≤ shape.limit }
     ensures pairs { (shape : Shape) (m : Map) (key value : List ℕ) → IsMap shape m →

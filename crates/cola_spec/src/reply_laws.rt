@@ -6,7 +6,8 @@ ghost use Rattle.cola_spec.specs.Reply.{Reply, Failure, Fault, Damaged, Overfull
 ghost use Rattle.cola_spec.specs.Machine.{History, State, Turn, turns_text};
 ghost use Rattle.cola_spec.specs.Told.{IsReadable, IsReadableTurn, IsWritten, is_costed, told, told_turn};
 
-/// The text of the replies to many lines tells each reply, up to what is one text whatever was asked, and the costs that are printed: two texts are the same exactly where both tell the same. So do the texts of two replies.
+/// The text of the replies to many lines tells each reply, up to what is one text whatever was asked, and the costs
+/// that are printed: two texts are the same exactly where both tell the same. So do the texts of two replies.
 pub fn texts_tell_replies()
     ensures turns { (cost : Bool) (turns others : List Turn) → All IsReadableTurn turns →
         All IsReadableTurn others →
@@ -17,9 +18,13 @@ pub fn texts_tell_replies()
         reply_text cost ticks answer ≡ reply_text cost others other → told answer ≡ told other }
 {}
 
-/// For the requests that were made the text tells the replies whole: two runs over the same requests, whatever their steps met, have the same text only where they have the same replies.
+/// For the requests that were made the text tells the replies whole: two runs over the same
+/// requests, whatever their steps met, have the same text only where they have the same replies.
 pub fn texts_tell_runs()
-    ensures { (cost : Bool) (shape other_shape : Shape) (state other_state : State) (turns others : List Turn) (last other_last : State) → History shape state turns last → History other_shape other_state others other_last → All IsReadableTurn turns → All IsReadableTurn others → map (λ turn. turn.request) turns ≡ map (λ turn. turn.request) others → turns_text cost turns ≡ turns_text cost others → map (λ turn. turn.answer) turns ≡ map (λ turn. turn.answer) others }
+    ensures { (cost : Bool) (shape other_shape : Shape) (state other_state : State) (turns others : List Turn) (last other_last : State) →
+        History shape state turns last → History other_shape other_state others other_last → All IsReadableTurn turns →
+        All IsReadableTurn others → map (λ turn. turn.request) turns ≡ map (λ turn. turn.request) others →
+        turns_text cost turns ≡ turns_text cost others → map (λ turn. turn.answer) turns ≡ map (λ turn. turn.answer) others }
 {}
 
 /// The words of the replies, without costs.
@@ -80,7 +85,8 @@ pub fn rows_have_lines()
         (Failed failure) }
 {}
 
-/// Where costs are asked for, ` # ` and the cost stand behind what a put, a delete, a get and a stamp answer, and behind no other reply, as full and worn.
+/// Where costs are asked for, ` # ` and the cost stand behind what a put, a delete, a get and a
+/// stamp answer, and behind no other reply, as full and worn.
 pub fn replies_have_costs()
     ensures new { (ticks : ℕ) →
         reply_text true ticks (Put New) ≡ codes "new # " ++ decimal ticks ++ 10 ∷ [] }

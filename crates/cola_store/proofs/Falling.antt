@@ -1,13 +1,12 @@
 -- Falling walks over a store.
-use Rattle.std.proofs.Common.{◌≡◌, ◌+◌, ◌≤◌, arith, ℕ, ◌&&◌, Bool, true, false, cond, T, List, [], ◌∷◌, ◌++◌, map, filter, reverse, Option, Some, None, Result, Ok, Err, option_map, refl, ap, sym, subst, ◌∙◌}
+use Rattle.std.proofs.Common.{◌≡◌, ◌+◌, ◌*◌, ◌≤◌, arith, length, ℕ, Bool, true, cond, T, List, [], ◌∷◌, ◌++◌, map, filter, reverse, Option, Some, None, Result, Ok, Err, option_map, refl, ap, sym, subst, ◌∙◌}
 use Rattle.std.proofs.lemmas.List.{reverse-reverse, map-append}
-use Rattle.std.specs.Prelude.{IfOk, IfErr}
-use Rattle.std.specs.List.{last_or, AllByRecursion}
+use Rattle.std.specs.Prelude.{IfOk, IfErr, OnOk}
+use Rattle.std.specs.List.{last_or}
 use Rattle.std.specs.declared.ops.Bound.{Bound}
 use Rattle.std.specs.declared.ops.Bound.TheVariants.{Included, Excluded, Unbounded}
 use Rattle.std.specs.FinMap as finite
 use Rattle.std.specs.Cmp.Lexicographic.{nat_list_cmp_total}
-use Rattle.cola_runs.specs.Cells.{IsRising}
 use Rattle.cola_laws.specs.Chain.{value_at}
 use Rattle.cola_cell.specs.declared.cell.Run.{Run}
 use Rattle.cola_cell.specs.declared.fault.ReadFault.{ReadFault}
@@ -17,6 +16,7 @@ use Rattle.cola_shapes.specs.Shapes.{stamped_of}
 use Rattle.cola_spec.specs.Map as spec
 use Rattle.cola_spec.specs.Map.{Map}
 use Rattle.cola_image.specs.Standing.{found_in}
+use Rattle.cola_look.specs.Outcome.{Answers}
 use Rattle.cola_look.specs.Runs.{AreRuns}
 use Rattle.cola_look.proofs.RunLists.{sampled_rise}
 use Rattle.cola_pairs.specs.Live.{live}
@@ -24,16 +24,16 @@ use Rattle.cola_pairs.proofs.LivePairs.{live_entries}
 use Rattle.cola_reverse.specs.Falling.{within_bounds}
 use Rattle.cola_reverse.proofs.Turned.{reverse_first}
 use Rattle.cola_cursor.specs.declared.cursor.Cursor.{Cursor}
-use Rattle.cola_cursor.specs.Seeking.{RunsCause, range_ticks, left_sought}
+use Rattle.cola_cursor.specs.Seeking.{RunsCause, aheads_of, range_ticks, left_sought}
 use Rattle.cola_cursor.specs.Standing as standing
 use Rattle.cola_cursor.specs.Standing.{runs_of}
-use Rattle.cola_cursor.specs.Turning.{AreSearchedTo, SeekBackGives, places_to, over_key}
+use Rattle.cola_cursor.specs.Turning.{AreSearchedTo, SeekBackGives, places_to, places_told_to, over_key}
 use Rattle.cola_cursor.proofs.Keys.{keys_alike}
 use Rattle.cola_chain.specs.Runs.{AreSearched}
 use Rattle.cola_store.specs.Store as opened
 use Rattle.cola_store.specs.Store.{Stored, Holds, held_of, spent_of, levels_of}
-use Rattle.cola_store.specs.Walks.{Ahead, pair_of}
-use Rattle.cola_store.specs.Backward.{pairs_back, RangeBackAnswers, LastAnswers, BeginsBack}
+use Rattle.cola_store.specs.Walks.{Ahead, Goes, left_of, left_after, pair_of}
+use Rattle.cola_store.specs.Backward.{pairs_back, RangeBackAnswers, LastAnswers, BeginsBack, AsksLast}
 use Rattle.cola_store.proofs.Storing.{same}
 use Rattle.cola_table.specs.Answers.{NextAnswers}
 use Rattle.cola_device.specs.declared.counts.Counts.{Counts}
@@ -145,9 +145,27 @@ module _ {D K : Type 0} (bytes : D → Option (List ℕ)) (counts : D → Counts
         ends = begun-end runs low result seeks.begins;
         way = begun-way runs low result seeks.begins;
         places = subst (λ (rs : List Run). (lists : List (List LawCell)) → AreRuns (held_of bytes store) rs lists → IfOk result (λ walk. map ahead_of walk.lines.items ≡ places_to high lists)) visible seeks.places;
+        exact = subst (λ (rs : List Run). Answers (places_told_to (held_of bytes store) high rs) (λ (walk : Cursor). aheads_of walk.lines) result) visible seeks.exact;
+        few = subst (λ (rs : List Run). (chain.spent_of counts now).turned ≤ (spent_of counts store).turned + 2 * length rs) visible seeks.costs.turned_rises;
         unread = λ e. let u = seeks.unread e in (u.0, ap (λ (s : State). s.spent) u.1);
         cause = subst (λ (rs : List Run). IfErr result (RunsCause (held_of bytes store) rs (spent_of counts store).faults (chain.spent_of counts now).faults)) visible seeks.cause;
         turns = record { turned_stays = costs.turned_stays; turned_rises = omega (arith, left, steps, rises); written_is = costs.written_is };
         same = same bytes counts kept store now store.account held_is kept_is;
         account_is = refl;
       }
+
+-- ---- what the call for the greatest key read
+
+last-reads : (ticks mid now : ℕ) (walk after : Cursor) (result : Result (Option (List ℕ × List ℕ)) ReadFault) → mid ≡ ticks → now ≤ mid + left_of walk →
+    OnOk result (now + left_of after ≤ mid + left_of walk) → now + left_after after result ≤ ticks + left_of walk
+last-reads ticks mid now walk after (Ok pair) unread within left = subst (λ (n : ℕ). now + left_of after ≤ n + left_of walk) unread left
+last-reads ticks mid now walk after (Err fault) unread within left =
+    let w : now ≤ ticks + left_of walk = subst (λ (n : ℕ). now ≤ n + left_of walk) unread within in
+    omega (arith, w)
+
+module _ {D : Type 0} (bytes : D → Option (List ℕ)) (counts : D → Counts) where
+  pub asked-last : (old mid new : Stored D) (walk after : Cursor) (result : Result (Option (List ℕ × List ℕ)) ReadFault) (ticks between now : ℕ) →
+      BeginsBack bytes counts old None Unbounded (Ok walk) mid → Goes bytes counts mid walk result new after → between ≡ ticks → now ≤ between + left_of walk →
+      OnOk result (now + left_of after ≤ between + left_of walk) → AsksLast bytes counts old result new ticks now
+  asked-last old mid new walk after result ticks between now begins goes unread within left =
+      record { mid = mid; walk = walk; after = after; begins = begins; goes = goes; reads = last-reads ticks between now walk after result unread within left }

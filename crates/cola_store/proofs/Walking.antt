@@ -40,7 +40,7 @@ use Rattle.cola_cursor.specs.Way.{at}
 use Rattle.cola_chain.specs.Runs.{visible_runs, AreSearched}
 use Rattle.cola_store.specs.Store as opened
 use Rattle.cola_store.specs.Store.{Stored, Holds, held_of, spent_of, levels_of}
-use Rattle.cola_store.specs.Walks.{Stands, Ahead, Begins, GoesOn, Stays, Then, TurnsWithin, pair_of, left_of, cells_ahead}
+use Rattle.cola_store.specs.Walks.{Stands, Ahead, GoesOn, Stays, Then, TurnsWithin, pair_of, left_of, cells_ahead}
 
 -- The visible runs, as a range takes them
 
@@ -281,7 +281,7 @@ module _ {D : Type 0} (bytes : D → Option (List ℕ)) (counts : D → Counts) 
   goes-on old new walk last (Then {mid = mid} {after = after} answer goes rest) =
       turns-then (spent_of counts old) (spent_of counts mid) (spent_of counts new) (left_of walk) (left_of after) (left_of last) goes.turns (goes-on mid new after last rest)
 
-  pub walk-turns : (old mid new : Stored D) (low : List ℕ) (high : Option (List ℕ)) (walk last : Cursor) → Begins bytes counts old low high (Ok walk) mid →
+  pub walk-turns : (old mid new : Stored D) (walk last : Cursor) → TurnsWithin (spent_of counts old) (spent_of counts mid) (left_of walk) (range_ticks (levels_of old)) →
       GoesOn bytes counts mid walk new last → TurnsWithin (spent_of counts old) (spent_of counts new) (left_of last) (range_ticks (levels_of old))
-  walk-turns old mid new low high walk last begins goes =
-      turns-then (spent_of counts old) (spent_of counts mid) (spent_of counts new) (range_ticks (levels_of old)) (left_of walk) (left_of last) begins.turns (goes-on mid new walk last goes)
+  walk-turns old mid new walk last begun goes =
+      turns-then (spent_of counts old) (spent_of counts mid) (spent_of counts new) (range_ticks (levels_of old)) (left_of walk) (left_of last) begun (goes-on mid new walk last goes)

@@ -1,5 +1,6 @@
 -- What the laws of stores say: of new files, of what a store counts, of openings and of walks.
 use Rattle.std.specs.Prelude.{◌≡◌, ℕ, ◌<◌, true, List, length, Option, Some, Ok, Result, is_ok, IsSome, IsSomeAnd}
+use Rattle.std.specs.declared.ops.Bound.{Bound}
 use Rattle.cola_outside.specs.Faults.{Rose}
 use Rattle.cola_cell.specs.declared.format.Format.{Format}
 use Rattle.cola_cell.specs.declared.fault.StepFault.{StepFault}
@@ -16,6 +17,7 @@ use Rattle.cola_table.specs.Answers.{PutAnswers, PutIfAnswers, DeleteAnswers, Pu
 use Rattle.cola_table.specs.Replies.{turn_of, put_reply, put_if_reply, delete_reply}
 use Rattle.cola_cursor.specs.declared.cursor.Cursor.{Cursor}
 use Rattle.cola_cursor.specs.Seeking.{range_ticks}
+use Rattle.cola_store.specs.Backward.{BeginsBack}
 use Rattle.cola_store.specs.declared.fault.CreateFault.{CreateFault}
 use Rattle.cola_store.specs.declared.fault.OpenFault.{OpenFault}
 use Rattle.cola_store.specs.declared.fault.OpenFault.TheVariants.{NotClosed, NotStore}
@@ -123,4 +125,10 @@ module _ {D : Type 0} (d : device.Ghosts D) where
   abbrev pub WalksTurnWithinARange : Type 0
   WalksTurnWithinARange = (old mid new : Stored D) (low : List ℕ) (high : Option (List ℕ)) (walk last : Cursor) →
       Begins d.bytes d.counts old low high (Ok walk) mid → GoesOn d.bytes d.counts mid walk new last →
+      TurnsBy d.bytes d.counts old new (left_of last) (range_ticks (levels_of old))
+
+  -- the same of a falling range
+  abbrev pub FallingWalksTurnWithinARange : Type 0
+  FallingWalksTurnWithinARange = (old mid new : Stored D) (low : Option (List ℕ)) (high : Bound (List ℕ)) (walk last : Cursor) →
+      BeginsBack d.bytes d.counts old low high (Ok walk) mid → GoesOn d.bytes d.counts mid walk new last →
       TurnsBy d.bytes d.counts old new (left_of last) (range_ticks (levels_of old))

@@ -1,15 +1,16 @@
 -- Walks over an open store: when one stands, which pairs are ahead of it, and what its calls say on every file.
-use Rattle.std.specs.Prelude.{◌≡◌, false, ℕ, ◌+◌, ◌≤◌, List, map, Option, Result, Ok, Err, IfOk, IfErr}
+use Rattle.std.specs.Prelude.{◌≡◌, false, ℕ, ◌+◌, ◌*◌, ◌≤◌, List, length, map, Option, Result, Ok, Err, IfOk, IfErr}
 use Rattle.cola_cell.specs.declared.fault.ReadFault.{ReadFault}
 use Rattle.cola_cell.specs.Held.{LawCell, Stamped}
 use Rattle.cola_cell.specs.Spent.{Spent}
 use Rattle.cola_device.specs.declared.counts.Counts.{Counts}
+use Rattle.cola_look.specs.Outcome.{Answers}
 use Rattle.cola_look.specs.Runs.{AreRuns}
 use Rattle.cola_table.specs.Answers.{KeepsWalks}
 use Rattle.cola_cursor.specs.declared.cursor.Cursor.{Cursor}
 use Rattle.cola_cursor.specs.Lines.{all_left, all_ahead}
 use Rattle.cola_cursor.specs.Results.{LinesCause}
-use Rattle.cola_cursor.specs.Seeking.{places_from, range_ticks, left_sought, RunsCause}
+use Rattle.cola_cursor.specs.Seeking.{places_from, places_of, places_told, range_ticks, left_sought, RunsCause}
 use Rattle.cola_cursor.specs.Standing as standing
 use Rattle.cola_cursor.specs.Standing.{AnswerCause, LinesPassed, IsPassed, none_hidden, answered_key, with_stamp}
 use Rattle.cola_store.specs.Store.{Stored, held_of, spent_of, faults_of, levels_of, runs_of}
@@ -78,6 +79,9 @@ module _ {D : Type 0} (bytes : D → Option (List ℕ)) (counts : D → Counts) 
     pub way : IfOk result (λ walk. walk.falls ≡ false)
     pub places : (lists : List (List LawCell)) → AreRuns (held_of bytes old) (runs_of old) lists →
         IfOk result (λ walk. map (λ line. line.place) walk.lines.items ≡ places_from low 0 lists)
+    -- on all files the same as far as the cells are told: a bad cell that a search needs is answered
+    pub exact : Answers (places_told (held_of bytes old) low 0 (runs_of old)) (λ (walk : Cursor). places_of walk.lines) result
+    pub few : (spent_of counts new).turned ≤ (spent_of counts old).turned + 2 * length (runs_of old)
     pub cause : IfErr result (RangeCause old new)
     pub turns : TurnsBy old new (left_sought result) (range_ticks (levels_of old))
     pub same : Same bytes counts old new

@@ -1,5 +1,5 @@
 //! An open store by falling keys.
-ghost use Rattle.std.specs.Prelude.{◌≡◌, ◌+◌, ◌^◌, ◌≤◌, ◌<◌, IfOk, option_copied};
+ghost use Rattle.std.specs.Prelude.{◌≡◌, ◌+◌, ◌*◌, ◌^◌, ◌≤◌, ◌<◌, IfOk, length, option_copied};
 ghost use Rattle.std.specs.Bound.{bound_map};
 ghost use Rattle.std.specs.declared.ops.Bound.TheVariants.{Unbounded};
 ghost use Rattle.cola_spec.specs.Bounds.{range_bound};
@@ -7,7 +7,7 @@ ghost use Rattle.cola_spec.specs.Map.{Map};
 ghost use Rattle.cola_table.specs.Answers.{KeepsWalks, ReadFaults};
 ghost use Rattle.cola_table.specs.Terms.{Call};
 ghost use Rattle.cola_store.specs.Backward.{AsksLast, BeginsBack, LastAnswers, RangeBackAnswers};
-ghost use Rattle.cola_store.specs.Store.{Holds, faults_of, kept_by, levels_of, terms_of};
+ghost use Rattle.cola_store.specs.Store.{Holds, faults_of, kept_by, levels_of, runs_of, terms_of};
 ghost use Rattle.cola_store.specs.Walks.{Ahead, Stands, WalksStay, cells_ahead, left_of};
 
 use crate::store::Store;
@@ -41,6 +41,7 @@ impl<D: Device> Store<D> {
             steps.old steps.new (range_bound (levels_of self.old)) }
         ensures left { IfOk result
             (λ walk. steps.new + left_of walk ≤ steps.old + range_bound (levels_of self.old)) }
+        ensures few { steps.new ≤ steps.old + 8 * length (runs_of self.old) }
         ensures unread { bound_map (λ key. key.now) high.entry ≡ Unbounded → steps.new ≡ steps.old }
         ensures faults { ReadFaults result
             (faults_of D.counts self.old) (faults_of D.counts self.new) }
@@ -59,7 +60,7 @@ impl<D: Device> Store<D> {
     ) -> Result<Option<(Key, Value)>, ReadFault>
         ensures answer { (m : Map) → Holds D.bytes self.old m →
             LastAnswers m (Holds D.bytes self.new) result }
-        ensures given { AsksLast D.bytes D.counts self.old result self.new }
+        ensures given { AsksLast D.bytes D.counts self.old result self.new steps.old steps.new }
         ensures call { Call (terms_of self.old) (terms_of self.new)
             (faults_of D.counts self.old) (faults_of D.counts self.new)
             steps.old steps.new (range_bound (levels_of self.old)) }

@@ -1,5 +1,5 @@
 //! Laws of walks over open stores. Each function does nothing: its clauses are the law.
-ghost use Rattle.cola_store.specs.Laws.{WalksTurnWithinARange};
+ghost use Rattle.cola_store.specs.Laws.{FallingWalksTurnWithinARange, WalksTurnWithinARange};
 
 use cola_device::Device;
 
@@ -7,4 +7,9 @@ use cola_device::Device;
 /// none.
 pub fn walks_turn_within_a_range<D: Device>()
     ensures { WalksTurnWithinARange D.Device }
+{}
+
+/// The same of a range by falling keys.
+pub fn falling_walks_turn_within_a_range<D: Device>()
+    ensures { FallingWalksTurnWithinARange D.Device }
 {}

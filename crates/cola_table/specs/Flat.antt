@@ -30,7 +30,8 @@ pub record Entries : Type 0 where
 -- entries are coded as the pair of the fields
 abbrev pub entries_code : Coded Entries
 entries_code =
-    code_by (ℕ × List (List ℕ × Stored)) (coded× coded_ℕ (coded_list (coded× (coded_list coded_ℕ) stored_code))) (λ t. (t.limit, t.list)) (λ p. record { limit = p.0; list = p.1 }) (λ _. refl)
+    code_by (ℕ × List (List ℕ × Stored)) (coded× coded_ℕ (coded_list (coded× (coded_list coded_ℕ) stored_code)))
+    (λ t. (t.limit, t.list)) (λ p. record { limit = p.0; list = p.1 }) (λ _. refl)
 
 -- the map of entries by rising keys, none of which has a stamp
 abbrev pub map_of : List (List ℕ × Stored) → Map

@@ -1,6 +1,7 @@
 //! Lines in any pieces, faults in mid-stream, sinks with little room, and how often std is called.
 ghost use Rattle.std.specs.Prelude.{None};
 
+use crate::made::put_at;
 use arrayvec::ArrayVec;
 use cola_io::{
     LineReader, MemorySink, MemorySource, Next, Sink, SinkFault, Source, SourceFault, StdSink,
@@ -110,6 +111,43 @@ fn answers<S: Source>(source: &mut S, limit: u64, alloc: Global) -> Result<Vec<u
     Ok(out)
 }
 
+// Whether a source is answered so.
+fn is_right<S: Source>(
+    source: &mut S,
+    limit: u64,
+    alloc: Global,
+    want: &[u8],
+) -> Result<bool, AllocError> {
+    Ok(answers(source, limit, alloc)?.as_slice() == want)
+}
+
+// Whether the bytes are answered so from memory at once.
+fn is_right_at_once(
+    input: &[u8],
+    limit: u64,
+    alloc: Global,
+    want: &[u8],
+) -> Result<bool, AllocError> {
+    let mut whole = MemorySource {
+        bytes: input.to_vec(alloc)?,
+        at: 0,
+        calls: 0,
+        failing: Vec::new(alloc),
+    };
+    is_right(&mut whole, limit, alloc, want)
+}
+
+// Whether they are byte by byte.
+fn is_right_in_pieces(
+    input: &[u8],
+    limit: u64,
+    alloc: Global,
+    want: &[u8],
+) -> Result<bool, AllocError> {
+    let bytes = input.to_vec(alloc)?;
+    is_right(&mut Bytewise { bytes, at: 0 }, limit, alloc, want)
+}
+
 // The bytes are answered so from memory at once, byte by byte, and from a reader of std.
 fn is_answered(
     rt: &impl Abort,
@@ -117,21 +155,11 @@ fn is_answered(
     input: &[u8],
     limit: u64,
     want: &[u8],
-) -> Result<(), Fail> {
-    let mut whole = MemorySource {
-        bytes: input.to_vec(alloc)?,
-        at: 0,
-        calls: 0,
-        failing: Vec::new(alloc),
-    };
-    assert!(rt; answers(&mut whole, limit, alloc)?.as_slice() == want);
-    let mut pieces = Bytewise {
-        bytes: input.to_vec(alloc)?,
-        at: 0,
-    };
-    assert!(rt; answers(&mut pieces, limit, alloc)?.as_slice() == want);
+) -> Result<(), AllocError> {
+    assert!(rt; is_right_at_once(input, limit, alloc, want)?);
+    assert!(rt; is_right_in_pieces(input, limit, alloc, want)?);
     let mut reader = StdSource::new(input);
-    assert!(rt; answers(&mut reader, limit, alloc)?.as_slice() == want);
+    assert!(rt; is_right(&mut reader, limit, alloc, want)?);
     Ok(())
 }
 
@@ -152,15 +180,14 @@ fn lines_in_any_pieces(rt: HostRuntime) -> Result<(), Fail> {
     for (input, limit, want) in LINES {
         is_answered(&rt, alloc, input, limit, want)?;
     }
-    let mut input = vec![in alloc; b'x'; 160]?;
-    let mut want = input.clone()?;
-    input.push(b'\n')?;
-    for _ in 0..161 {
-        input.push(b'y')?;
-    }
-    input.extend_from_slice(b"\nget a\n")?;
-    want.extend_from_slice(b"\n<long>\nget a\n<end>")?;
-    is_answered(&rt, alloc, input.as_slice(), 1000, want.as_slice())
+    let mut input = [b'y'; 329];
+    put_at(&mut input, 0, &[b'x'; 160]);
+    put_at(&mut input, 160, b"\n");
+    put_at(&mut input, 322, b"\nget a\n");
+    let mut want = [b'x'; 179];
+    put_at(&mut want, 160, b"\n<long>\nget a\n<end>");
+    is_answered(&rt, alloc, &input, 1000, &want)?;
+    Ok(())
 }
 
 #[test]
@@ -178,24 +205,34 @@ fn fault_in_mid_stream(rt: HostRuntime) -> Result<(), Fail> {
     Ok(())
 }
 
+// Whether the first, and then the second, of two parts is written whole.
+fn put_two<S: Sink>(sink: &mut S, first: &[u8], second: &[u8]) -> (bool, bool) {
+    let first = put_all(sink, first).is_ok();
+    (first, put_all(sink, second).is_ok())
+}
+
+// A sink in memory takes what it has room for.
+fn fills_up(alloc: Global) -> Result<bool, AllocError> {
+    let mut sink = MemorySink::new(alloc, 4, Vec::new(alloc))?;
+    let put = put_two(&mut sink, b"abc", b"def");
+    Ok(put == (true, false) && sink.bytes() == b"abcd".as_slice())
+}
+
+// One that takes a byte at a time, and refuses its third call.
+fn goes_on(alloc: Global) -> Result<bool, AllocError> {
+    let failing = vec![in alloc; 3u64]?;
+    let sink = MemorySink::new(alloc, 9, failing)?;
+    let mut slow = Slow { sink };
+    let put = put_two(&mut slow, b"abc", b"def");
+    Ok(put == (false, true) && slow.sink.bytes() == b"abdef".as_slice())
+}
+
 #[test]
 fn sinks_with_room(rt: HostRuntime) -> Result<(), Fail> {
-    let alloc = rt.alloc();
-    let mut sink = MemorySink::new(alloc, 4, Vec::new(alloc))?;
-    let first = put_all(&mut sink, b"abc");
-    let second = put_all(&mut sink, b"def");
-    assert!(rt; first.is_ok() && second.is_err() && sink.bytes() == b"abcd".as_slice());
-    let mut slow = Slow {
-        sink: MemorySink::new(alloc, 9, vec![in alloc; 3u64]?)?,
-    };
-    let first = put_all(&mut slow, b"abc");
-    let second = put_all(&mut slow, b"def");
-    assert!(rt; first.is_err() && second.is_ok() && slow.sink.bytes() == b"abdef".as_slice());
     let held: ArrayVec<u8, 2> = ArrayVec::new();
     let mut real = StdSink::new(held);
-    let first = put_all(&mut real, b"ab");
-    let second = put_all(&mut real, b"c");
-    assert!(rt; first.is_ok() && second.is_err());
+    assert!(rt; put_two(&mut real, b"ab", b"c") == (true, false));
+    assert!(rt; fills_up(rt.alloc())? && goes_on(rt.alloc())?);
     Ok(())
 }
 
@@ -219,10 +256,9 @@ fn one_call_of_std_for_each(rt: HostRuntime) -> Result<(), Fail> {
         (Err(SourceFault), Err(SinkFault)),
         (Ok(1), Ok(1)),
     ] {
-        assert!(rt; source.read(&mut into) == read);
-        assert!(rt; sink.write(b"abc") == wrote);
-        assert!(rt; long_source.read(&mut long_into) == read);
-        assert!(rt; long_sink.write(&long) == wrote);
+        let got = [source.read(&mut into), long_source.read(&mut long_into)];
+        let put = [sink.write(b"abc"), long_sink.write(&long)];
+        assert!(rt; got == [read, read] && put == [wrote, wrote]);
     }
     Ok(())
 }

@@ -28,7 +28,8 @@ sampled_slot t j = if is_odd (period t j) then 1 - visible_slot t (suc j) else v
 abbrev pub sample_left : (doublings : ℕ) → Readers → (t j : ℕ) → List Marks → ℕ → ℕ
 sample_left doublings readers t j [] cursor = 0
 sample_left doublings readers t j (m ∷ below) cursor =
-    source_left (slot_cells (suc j)) (block_cells doublings) (2 ^ doublings) (readers.sample (suc j) (sampled_slot t j)) (sample_end (is_odd (period t j)) (m ∷ below)) cursor
+    source_left (slot_cells (suc j)) (block_cells doublings) (2 ^ doublings) (readers.sample (suc j) (sampled_slot t j))
+    (sample_end (is_odd (period t j)) (m ∷ below)) cursor
 
 -- the blocks left of the merge of level i + 1, with the marks m, below a visible run of `above` cells
 abbrev pub merge_left : (doublings : ℕ) → Readers → (t i above : ℕ) → Marks → List Marks → ℕ
@@ -92,7 +93,8 @@ pub record IsLevelWorked (doublings t i above : ℕ) (m n : Marks) (below : List
   pub reads_stay : old.reads ≤ new.reads
   pub writes_stay : old.writes ≤ new.writes
   pub reads : new.reads + merge_left doublings new.readers t i above n below ≤ old.reads + merge_left doublings old.readers t i above m below
-  pub writes : IsWrittenDown (slot_cells (suc i)) (block_cells doublings) m.shadow n.shadow (has_ended t i above n below) (old.kept (suc i)) (new.kept (suc i)) old.writes new.writes
+  pub writes : IsWrittenDown (slot_cells (suc i)) (block_cells doublings) m.shadow n.shadow (has_ended t i above n below)
+      (old.kept (suc i)) (new.kept (suc i)) old.writes new.writes
   pub beside : StaysBeside i old new
 
 -- a level that rests stays as it was, and the chain's transfers with it
@@ -111,9 +113,11 @@ AreLevelsWorked doublings t i above [] [] old new = new ≡ old
 AreLevelsWorked doublings t i above [] (n ∷ under) old new = ⊥
 AreLevelsWorked doublings t i above (m ∷ below) [] old new = ⊥
 AreLevelsWorked doublings t i above (m ∷ below) (n ∷ under) old new =
-    (next : Transfers) × IsLevelsTurn doublings t i above m n below old next (works t (suc i)) × AreLevelsWorked doublings t (suc i) m.visible below under next new
+    (next : Transfers) × IsLevelsTurn doublings t i above m n below old next (works t (suc i))
+    × AreLevelsWorked doublings t (suc i) m.visible below under next new
 
--- level 0 is built whole, over levels that have had their turns: it reads at most the blocks of its sample and writes none; no number falls
+-- level 0 is built whole, over levels that have had their turns: it reads at most the blocks of
+-- its sample and writes none; no number falls
 pub record IsTopBuilt (doublings t : ℕ) (worked : List Marks) (old new : Transfers) : Type 0 where
   pub reads_stay : old.reads ≤ new.reads
   pub writes_stay : old.writes ≤ new.writes

@@ -37,8 +37,10 @@ pub fn one_mutation_is_paid()
 /// besides; and it has written at most 4 cells for each, and once the blocks of its file. A block is no larger than the
 /// file's `2^(L+4)` cells. The lemmas are `bound-reads` and `bound-writes` of `proofs/PaidLaws.antt`.
 pub fn paid_chains_are_bounded()
-    ensures reads { (doublings mutations t above : ℕ) (ahead : List Marks) (chain : Transfers) → doublings ≤ suc (length ahead) → IsPaid doublings mutations t above ahead chain →
+    ensures reads { (doublings mutations t above : ℕ) (ahead : List Marks) (chain : Transfers) → doublings ≤ suc (length ahead) →
+        IsPaid doublings mutations t above ahead chain →
         chain.reads ≤ parts (14 * (mutations * suc (length ahead))) (block_cells doublings) + 4 * (file_cells (length ahead) / block_cells doublings) }
-    ensures writes { (doublings mutations t above : ℕ) (ahead : List Marks) (chain : Transfers) → doublings ≤ suc (length ahead) → IsPaid doublings mutations t above ahead chain →
+    ensures writes { (doublings mutations t above : ℕ) (ahead : List Marks) (chain : Transfers) → doublings ≤ suc (length ahead) →
+        IsPaid doublings mutations t above ahead chain →
         chain.writes ≤ parts (4 * (mutations * suc (length ahead))) (block_cells doublings) + file_cells (length ahead) / block_cells doublings }
 {}

@@ -107,7 +107,8 @@ HasFew most odd j run (x ∷ below) = HasFewItems (cond odd 3 2 * 2 ^ j) (2 ^ j)
 
 -- a shadow whose window is over: a run as it may be visible in the next period, which carries what the run above has and keeps
 -- what it must of the level's own run
-pub record IsShadowFinished (most : ℕ) (odd : Bool) (j : ℕ) (above : List LawCell) (level : FileLevel) (below : List FileLevel) (next : List (List LawCell)) : Type 0 where
+pub record IsShadowFinished (most : ℕ) (odd : Bool) (j : ℕ) (above : List LawCell) (level : FileLevel) (below : List FileLevel)
+    (next : List (List LawCell)) : Type 0 where
   pub fit : IsVisible key_cmp most (not odd) j level.shadow below (chain.first_keys next)
   pub carried : (q : List ℕ) → Carried (chain.part_of odd below) (seen key_cmp q above) (seen key_cmp q level.visible) (seen key_cmp q level.shadow)
   pub keeps : KeepsAll odd below ((q : List ℕ) → Keeps (seen key_cmp q level.visible) (seen key_cmp q level.shadow))
@@ -144,7 +145,8 @@ module _ (file : Tested) where
   -- level 0 has no window: its run is built whole by each mutation
   abbrev pub ShadowAt : ℕ → Type 0
   ShadowAt zero = ⊤
-  ShadowAt (suc i) = HasShadow file.most file.clock (suc i) (level_at (levels_in file) i).visible (level_at (levels_in file) (suc i)) (below_at (levels_in file) (suc i))
+  ShadowAt (suc i) = HasShadow file.most file.clock (suc i) (level_at (levels_in file) i).visible (level_at (levels_in file) (suc i))
+      (below_at (levels_in file) (suc i))
 
   abbrev pub LiveAt : ℕ → Type 0
   LiveAt j = HasFewLive file.most file.clock j (level_at (levels_in file) j) (below_at (levels_in file) j)

@@ -52,7 +52,9 @@ module _ (file : Tested) where
   earlier Count = Cell ∷ Order ∷ Sample ∷ Length ∷ Shadow ∷ Live ∷ []
   earlier Stamp = Cell ∷ Order ∷ Sample ∷ Length ∷ Shadow ∷ Live ∷ Count ∷ []
 
-  -- the verdict on the file: it passes all tests and has so many live keys, or it passes those before a test, which it fails there
+  -- the verdict on the file: it passes all tests and has so many live keys, or it passes those
+  -- before a test, which it fails there
   abbrev pub IsVerdict : Verdict → Type 0
-  IsVerdict (Sound count) = AllByRecursion Passes (Cell ∷ Order ∷ Sample ∷ Length ∷ Shadow ∷ Live ∷ Count ∷ Stamp ∷ []) × (count ≡ length (live_pairs (visibles (levels_in file))))
+  IsVerdict (Sound count) = AllByRecursion Passes (Cell ∷ Order ∷ Sample ∷ Length ∷ Shadow ∷ Live ∷ Count ∷ Stamp ∷ [])
+      × (count ≡ length (live_pairs (visibles (levels_in file))))
   IsVerdict (Broken flaw level number) = AllByRecursion Passes (earlier flaw) × FailsAt flaw level number

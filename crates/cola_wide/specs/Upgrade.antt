@@ -217,8 +217,10 @@ module _ {D E : Type 0} (d : device.Ghosts D) (e : device.Ghosts E) (from from_n
       FailedAtHeader
       ⊎ ((header : Header)
       × (FailedAtLayout (fields_of header)
-      ⊎ (WasBegun (fields_of header) (FailedCopying d e (fields_of header) from from_now to to_now (upgrade_reads (fields_of header)) reading_others (block_count (fields_of header)) laying_others)
-      ⊎ WasBegun (fields_of header) (FailedLast d e (fields_of header) from from_now to to_now (upgrade_reads (fields_of header)) reading_others (block_count (fields_of header)) writing_others))))
+      ⊎ (WasBegun (fields_of header)
+      (FailedCopying d e (fields_of header) from from_now to to_now (upgrade_reads (fields_of header)) reading_others (block_count (fields_of header)) laying_others)
+      ⊎ WasBegun (fields_of header)
+      (FailedLast d e (fields_of header) from from_now to to_now (upgrade_reads (fields_of header)) reading_others (block_count (fields_of header)) writing_others))))
 
   -- the copy is whole, its device settled with it, and no fault was met
   pub record IsWhole (header : Fields) : Type 0 where
@@ -241,7 +243,8 @@ module _ {D E : Type 0} (d : device.Ghosts D) (e : device.Ghosts E) (from from_n
   Upgrades (Err Device) = DeviceFailed
   Upgrades (Err (BadCell number)) =
       (header : Header)
-      × WasBegun (fields_of header) (MeetsBadCell d e (fields_of header) from from_now to to_now 0 number (upgrade_reads (fields_of header)) reading_others (block_count (fields_of header)) laying_others)
+      × WasBegun (fields_of header)
+      (MeetsBadCell d e (fields_of header) from from_now to to_now 0 number (upgrade_reads (fields_of header)) reading_others (block_count (fields_of header)) laying_others)
 
   -- the file stands for a map and is of format One, the other device tells that it is empty, and no fault was met
   pub record CanBeUpgraded (m : Map) : Type 0 where

@@ -1,4 +1,5 @@
-//! What the definitions of an upgrade say in plain terms, with the numbers of one header. Each function does nothing: its clauses are the law.
+//! What the definitions of an upgrade say in plain terms, with the numbers of one header. Each
+//! function does nothing: its clauses are the law.
 ghost use Rattle.std.specs.Prelude.{◌≡◌, ◌⊎◌, ℕ, ◌+◌, ◌-◌, ◌≤◌, ◌<◌, true, false, List, [], ◌∷◌, length, take, replicate, Result, Ok, Err, IfSome, IsSomeAnd};
 ghost use Rattle.cola_outside.specs.Faults.{Rose};
 ghost use Rattle.cola_cell.specs.Cell.{stamp_of};
@@ -55,8 +56,8 @@ pub fn headers_are_widened()
         with_version version (a ∷ b ∷ c ∷ d ∷ e ∷ f ∷ g ∷ h ∷ old ∷ rest) ≡ a ∷ b ∷ c ∷ d ∷ e ∷ f ∷ g ∷ h ∷ version ∷ rest }
 {}
 
-/// Which cells are cells of runs: of level 1, whose slots begin at cells 16 and 24, as many as the marks say, of the visible run
-/// in its slot and of the shadow in the other. A cell of a run is one of some level, and without marks there is none.
+/// Which cells are cells of runs: of level 1, whose slots begin at cells 16 and 24, as many as the marks say, of the visible
+/// run in its slot and of the shadow in the other. A cell of a run is one of some level, and without marks there is none.
 pub fn worked_runs()
     ensures visible { (header : Fields) (number : ℕ) → 1 ≤ header.bottom →
         visible_slot header.clock 1 ≡ 0 → (marks_of header.levels 1).visible ≡ 5 → 16 ≤ number →
@@ -69,16 +70,18 @@ pub fn worked_runs()
         number < 19 → IsOfRun header number }
     ensures only { (header : Fields) (number : ℕ) → IsOfRun header number →
         (level : ℕ) × ((level ≤ header.bottom)
-        × (((number_of level (visible_slot header.clock level) 0 ≤ number) × (number < number_of level (visible_slot header.clock level) 0 + (marks_of header.levels level).visible))
-        ⊎ ((number_of level (1 - visible_slot header.clock level) 0 ≤ number) × (number < number_of level (1 - visible_slot header.clock level) 0 + (marks_of header.levels level).shadow)))) }
+        × (((number_of level (visible_slot header.clock level) 0 ≤ number)
+        × (number < number_of level (visible_slot header.clock level) 0 + (marks_of header.levels level).visible))
+        ⊎ ((number_of level (1 - visible_slot header.clock level) 0 ≤ number)
+        × (number < number_of level (1 - visible_slot header.clock level) 0 + (marks_of header.levels level).shadow)))) }
     ensures none { (header : Fields) (number : ℕ) →
         ((level : ℕ) →
         ((marks_of header.levels level).visible ≡ 0)
         × ((marks_of header.levels level).shadow ≡ 0)) → IsOfRun header number → ⊥ }
 {}
 
-/// What becomes of one cell: one of a run is the same cell with stamp 0, and any other is 128 zero bytes; and what the calls say
-/// of the cells from one number up to another.
+/// What becomes of one cell: one of a run is the same cell with stamp 0, and any other is 128 zero bytes; and what the calls
+/// say of the cells from one number up to another.
 pub fn cells_are_copied()
     ensures run { (header : Fields) (number : ℕ) (one two : List ℕ) →
         IsCopied header number one two → IsOfRun header number →
@@ -108,7 +111,8 @@ pub fn copies_are_whole()
     ensures size { (header : Fields) (old new : List ℕ) → IsCopyOf header old new →
         length new ≡ wide_size header }
     ensures head { (header : Fields) (old new : List ℕ) → IsCopyOf header old new →
-        (take 512 new ≡ with_version 2 (take 512 old)) × (layout.IsSpelling (wide_header header) (take 512 new) × ((header.last ≡ 0) × (part new 512 512 ≡ replicate 512 0))) }
+        (take 512 new ≡ with_version 2 (take 512 old)) × (layout.IsSpelling (wide_header header) (take 512 new)
+        × ((header.last ≡ 0) × (part new 512 512 ≡ replicate 512 0))) }
     ensures cells { (header : Fields) (number : ℕ) (old new : List ℕ) → IsCopyOf header old new →
         8 ≤ number → number < cells_of header →
         IsCopied header number (cell_bytes One old number) (cell_bytes Two new number) }
@@ -127,15 +131,18 @@ pub fn files_are_judged<D: Device>()
         HasHeader header bytes × ((header.format ≡ One) × (header.closed ≡ true)) }
     ensures found { (header : Fields) (before now : D) (reads others : ℕ) →
         IsFound D.Device before now (IsClosedFile header) reads others →
-        IfSome (D.bytes before) (IsClosedFile header) × (Spends (D.counts before) (D.counts now) reads 0 others × ((D.counts now).faults ≡ (D.counts before).faults)) }
+        IfSome (D.bytes before) (IsClosedFile header) × (Spends (D.counts before) (D.counts now) reads 0 others
+        × ((D.counts now).faults ≡ (D.counts before).faults)) }
     ensures failed { (before now : D) (reads others : ℕ) →
         FailedReading D.Device before now reads others →
         Rose (D.counts before).faults (D.counts now).faults
         × Spends (D.counts before) (D.counts now) reads 0 others }
     ensures had { (size : ℕ) (before now : D) → HadBytes D.Device size before now →
-        IfSome (D.bytes before) (λ bytes. 0 < length bytes) × ((D.bytes now ≡ D.bytes before) × (Spends (D.counts before) (D.counts now) 0 0 1 × ((D.counts now).faults ≡ (D.counts before).faults))) }
+        IfSome (D.bytes before) (λ bytes. 0 < length bytes) × ((D.bytes now ≡ D.bytes before)
+        × (Spends (D.counts before) (D.counts now) 0 0 1 × ((D.counts now).faults ≡ (D.counts before).faults))) }
     ensures not_laid { (size : ℕ) (before now : D) → FailedLayingOut D.Device size before now →
-        Rose (D.counts before).faults (D.counts now).faults × (((D.bytes now ≡ D.bytes before) ⊎ (IsEmpty (D.bytes before) × IfSome (D.bytes now) (λ new. length new ≤ size)))
+        Rose (D.counts before).faults (D.counts now).faults × (((D.bytes now ≡ D.bytes before)
+        ⊎ (IsEmpty (D.bytes before) × IfSome (D.bytes now) (λ new. length new ≤ size)))
         × Spends (D.counts before) (D.counts now) 0 0 2) }
 {}
 
@@ -170,7 +177,8 @@ pub fn upgrades_are_carried_out<D: Device, E: Device>()
         Upgrades D.Device E.Device from from' to to' (Ok tt) →
         (header : Header)
         × (IfSome (D.bytes from) (IsClosedFile (fields_of header)) × (IsEmpty (E.bytes to)
-        × (IfSome (D.bytes from) (AreSpelled (fields_of header) 0 (cells_of (fields_of header))) × (IfSome (E.bytes to') (λ new. length new ≡ wide_size (fields_of header))
+        × (IfSome (D.bytes from) (AreSpelled (fields_of header) 0 (cells_of (fields_of header)))
+        × (IfSome (E.bytes to') (λ new. length new ≡ wide_size (fields_of header))
         × (IfSome (D.bytes from) (λ old. IfSome (E.bytes to') (IsCopyOf (fields_of header) old)) × IsSettled E.Device to'))))) }
     ensures done_calls { (from from' : D) (to to' : E) →
         Upgrades D.Device E.Device from from' to to' (Ok tt) →
@@ -195,27 +203,33 @@ pub fn devices_fail<D: Device, E: Device>()
     ensures places { (from from' : D) (to to' : E) →
         Upgrades D.Device E.Device from from' to to' (Err fault.Device) →
         (FailedReading D.Device from from' 1 1 × (to' ≡ to))
-        ⊎ ((header : Header) × ((IsFound D.Device from from' (IsClosedFile (fields_of header)) 1 1 × FailedLayingOut E.Device (wide_size (fields_of header)) to to')
+        ⊎ ((header : Header) × ((IsFound D.Device from from' (IsClosedFile (fields_of header)) 1 1
+        × FailedLayingOut E.Device (wide_size (fields_of header)) to to')
         ⊎ (IfSome (D.bytes from) (IsClosedFile (fields_of header)) × (IsEmpty (E.bytes to)
         × (FailedCopying D.Device E.Device (fields_of header) from from' to to' (block_count (fields_of header) + 2) 1 (block_count (fields_of header)) 2
         ⊎ FailedLast D.Device E.Device (fields_of header) from from' to to' (block_count (fields_of header) + 2) 1 (block_count (fields_of header)) 3))))) }
-    ensures copying { (header : Fields) (reads asks writes others : ℕ) (from from' : D) (to to' : E) → FailedCopying D.Device E.Device header from from' to to' reads asks writes others →
+    ensures copying { (header : Fields) (reads asks writes others : ℕ) (from from' : D) (to to' : E) →
+        FailedCopying D.Device E.Device header from from' to to' reads asks writes others →
         (Rose (D.counts from).faults (D.counts from').faults ⊎ Rose (E.counts to).faults (E.counts to').faults)
-        × (IfSome (E.bytes to') (IsBegun header) × (Spends (D.counts from) (D.counts from') reads 0 asks × Spends (E.counts to) (E.counts to') 0 writes others)) }
+        × (IfSome (E.bytes to') (IsBegun header) × (Spends (D.counts from) (D.counts from') reads 0 asks
+        × Spends (E.counts to) (E.counts to') 0 writes others)) }
     ensures last { (header : Fields) (reads asks writes others : ℕ) (from from' : D) (to to' : E) →
         FailedLast D.Device E.Device header from from' to to' reads asks writes others →
-        Rose (E.counts to).faults (E.counts to').faults × (IsFound D.Device from from' (AreSpelled header 0 (cells_of header)) reads asks × (IfSome (E.bytes to') (λ new. length new ≡ wide_size header)
-        × (IfSome (D.bytes from) (λ old. IfSome (E.bytes to') (AreCopied header (block_cells header) (cells_of header) old)) × Spends (E.counts to) (E.counts to') 0 writes others))) }
+        Rose (E.counts to).faults (E.counts to').faults × (IsFound D.Device from from' (AreSpelled header 0 (cells_of header)) reads asks
+        × (IfSome (E.bytes to') (λ new. length new ≡ wide_size header)
+        × (IfSome (D.bytes from) (λ old. IfSome (E.bytes to') (AreCopied header (block_cells header) (cells_of header) old))
+        × Spends (E.counts to) (E.counts to') 0 writes others))) }
 {}
 
-/// When an upgrade is done but for memory: the file stands for a map in format One, the other device tells that it is empty, and
-/// no fault is met. Nothing else is asked.
+/// When an upgrade is done but for memory: the file stands for a map in format One, the other device tells that it is empty,
+/// and no fault is met. Nothing else is asked.
 pub fn upgrades_can_be_done<D: Device, E: Device>()
     ensures asked { (from from' : D) (to to' : E) (m : Map) →
         IsSomeAnd (D.bytes from)
         (λ bytes. (header : Fields) × (HeaderStandsFor header bytes m × (header.format ≡ One))) →
         IsSomeAnd (E.bytes to) (λ bytes. length bytes ≡ 0) →
-        (Rose (D.counts from).faults (D.counts from').faults → ⊥) → (Rose (E.counts to).faults (E.counts to').faults → ⊥) → CanBeUpgraded D.Device E.Device from from' to to' m }
+        (Rose (D.counts from).faults (D.counts from').faults → ⊥) → (Rose (E.counts to).faults (E.counts to').faults → ⊥) →
+        CanBeUpgraded D.Device E.Device from from' to to' m }
     ensures answered { (result : Result (Unit {0}) UpgradeFault) → IsDoneForMemory result →
         (result ≡ Ok tt) ⊎ (result ≡ Err fault.OutOfMemory) }
 {}

@@ -44,7 +44,8 @@ no_tally = record { fresh = 0; gone = 0; wrong = 0; over = 0 }
 -- the line of a tally and the number of keys that are left
 abbrev pub workload_line : Tally → ℕ → List ℕ
 workload_line tally left =
-    line (codes "new " ++ decimal tally.fresh ++ codes " gone " ++ decimal tally.gone ++ codes " left " ++ decimal left ++ codes " wrong " ++ decimal tally.wrong ++ codes " over " ++ decimal tally.over)
+    line (codes "new " ++ decimal tally.fresh ++ codes " gone " ++ decimal tally.gone ++ codes " left " ++ decimal left
+    ++ codes " wrong " ++ decimal tally.wrong ++ codes " over " ++ decimal tally.over)
 
 -- the line where every call answers as a map does: each put makes a key, each second one is deleted, and the others are left
 abbrev pub right_line : ℕ → List ℕ
@@ -103,20 +104,24 @@ module _ {D : Type 0} (d : device.Ghosts D) where
 -- The calls of the workload, one after another
 
 module _ {D : Type 0} (d : device.Ghosts D) (t : table.Ghosts (Stored D) Cursor) (keys : ℕ) where
-  -- the puts and deletes of the workload on a store, or why one was refused; on one that holds no key, with room, they leave the keys of the odd places, and only the device refuses
+  -- the puts and deletes of the workload on a store, or why one was refused; on one that holds
+  -- no key, with room, they leave the keys of the odd places, and only the device refuses
   pub record Fills (result : Result (Unit {0}) PutFault) (old new : State (Stored D)) : Type 0 where
     pub given : Generated t (put_bound (t.terms old.table).depth) (t.terms old.table).depth (made keys) result old new
-    pub from_empty : t.holds old.table empty_map → made keys ≤ (t.terms old.table).limit → MatchResult result (λ _. MadeOdd t (made keys) old new) (λ refusal. refusal ≡ put.Device)
+    pub from_empty : t.holds old.table empty_map → made keys ≤ (t.terms old.table).limit →
+        MatchResult result (λ _. MadeOdd t (made keys) old new) (λ refusal. refusal ≡ put.Device)
     pub none_over : new.tally.over ≡ old.tally.over
     pub tallied : RisesBy (made keys) (evens (made keys)) 0 (made keys + evens (made keys)) old.tally new.tally
     pub spent : Spent t ((made keys + evens (made keys)) * put_bound (t.terms old.table).depth) old new
     pub faults : PutFaults result (t.faults old.table) (t.faults new.table)
 
-  -- the gets of the workload on a store, or why one was refused; on one that holds a map, only the device refuses, and on one that holds the keys of the odd places none is wrong
+  -- the gets of the workload on a store, or why one was refused; on one that holds a map, only
+  -- the device refuses, and on one that holds the keys of the odd places none is wrong
   pub record Asks (result : Result (Unit {0}) ReadFault) (old new : State (Stored D)) : Type 0 where
     pub given : Ran t gets read_refused (get_bound (t.terms old.table).depth) (t.terms old.table).depth (made keys) result old new
     pub holds : (m : Map) → t.holds old.table m → t.holds new.table m
-    pub wrong : (m : Map) → t.holds old.table m → MatchResult result (λ _. new.tally.wrong ≡ old.tally.wrong + wrong_in m (made keys)) (λ refusal. refusal ≡ read.Device)
+    pub wrong : (m : Map) → t.holds old.table m → MatchResult result (λ _. new.tally.wrong ≡ old.tally.wrong + wrong_in m (made keys))
+        (λ refusal. refusal ≡ read.Device)
     pub none_wrong : (m : Map) → t.holds old.table m → HasOdd (made keys) m → OnOk result (new.tally.wrong ≡ old.tally.wrong)
     pub none_over : new.tally.over ≡ old.tally.over
     pub tallied : RisesBy 0 0 (made keys) (made keys) old.tally new.tally
@@ -149,30 +154,40 @@ module _ {D : Type 0} (d : device.Ghosts D) (t : table.Ghosts (Stored D) Cursor)
 
   -- a call was refused before the file was filled and closed: what is done then, and the status
   pub data FillingRefused (before now : D) (steps steps' status : ℕ) : Type 0 where
-    NotMade : (fault : CreateFault) → status ≡ making_status fault → Created d One keys 5 before now (Err fault) → steps' ≡ steps → FillingRefused before now steps steps' status
-    NotOpened : (fault : OpenFault) (made_on : D) → status ≡ refusal_status fault → Made d One keys 5 before made_on → OpensStore d made_on 0 (Err (now, fault)) → steps' ≡ steps → FillingRefused before now steps steps' status
-    NotFilled : (fault : PutFault) (made_on : D) (last : State (Stored D)) → status ≡ filling_status fault → Made d One keys 5 before made_on → Filled made_on steps (Err fault) last → ClosedOnce d last.table now → steps' ≡ last.steps
+    NotMade : (fault : CreateFault) → status ≡ making_status fault → Created d One keys 5 before now (Err fault) → steps' ≡ steps →
+        FillingRefused before now steps steps' status
+    NotOpened : (fault : OpenFault) (made_on : D) → status ≡ refusal_status fault → Made d One keys 5 before made_on →
+        OpensStore d made_on 0 (Err (now, fault)) → steps' ≡ steps → FillingRefused before now steps steps' status
+    NotFilled : (fault : PutFault) (made_on : D) (last : State (Stored D)) → status ≡ filling_status fault →
+        Made d One keys 5 before made_on → Filled made_on steps (Err fault) last → ClosedOnce d last.table now → steps' ≡ last.steps
         → FillingRefused before now steps steps' status
-    NotClosed : (made_on : D) (last : State (Stored D)) → status ≡ 5 → Made d One keys 5 before made_on → Filled made_on steps (Ok tt) last → ClosedLate d last.table now → steps' ≡ last.steps → FillingRefused before now steps steps' status
+    NotClosed : (made_on : D) (last : State (Stored D)) → status ≡ 5 → Made d One keys 5 before made_on →
+        Filled made_on steps (Ok tt) last → ClosedLate d last.table now → steps' ≡ last.steps → FillingRefused before now steps steps' status
 
   -- a call was refused after that: what is done then, and the status
   pub data AskingRefused (before now : D) (tally : Tally) (steps steps' status : ℕ) : Type 0 where
-    NotReopened : (fault : OpenFault) → status ≡ refusal_status fault → OpensStore d before 0 (Err (now, fault)) → steps' ≡ steps → AskingRefused before now tally steps steps' status
-    NotAsked : (fault : ReadFault) (last : State (Stored D)) → status ≡ asking_status fault → Asked before tally steps (Err fault) last → ClosedOnce d last.table now → steps' ≡ last.steps → AskingRefused before now tally steps steps' status
-    NotClosedAgain : (last : State (Stored D)) → status ≡ 5 → Asked before tally steps (Ok tt) last → ClosedLate d last.table now → steps' ≡ last.steps → AskingRefused before now tally steps steps' status
+    NotReopened : (fault : OpenFault) → status ≡ refusal_status fault → OpensStore d before 0 (Err (now, fault)) → steps' ≡ steps →
+        AskingRefused before now tally steps steps' status
+    NotAsked : (fault : ReadFault) (last : State (Stored D)) → status ≡ asking_status fault →
+        Asked before tally steps (Err fault) last → ClosedOnce d last.table now → steps' ≡ last.steps → AskingRefused before now tally steps steps' status
+    NotClosedAgain : (last : State (Stored D)) → status ≡ 5 → Asked before tally steps (Ok tt) last → ClosedLate d last.table now →
+        steps' ≡ last.steps → AskingRefused before now tally steps steps' status
 
 -- How it ends
 
 module _ {K D : Type 0} (k : sink.Ghosts K) (d : device.Ghosts D) (t : table.Ghosts (Stored D) Cursor) (keys : ℕ) where
   -- how a filled and closed file is asked: to the end, which the line tells, or up to a refusal, and then nothing is written
   pub data AskEnds (before now : D) (tally : Tally) (sink sink' : K) (steps steps' status : ℕ) : Type 0 where
-    Told : (asked : State (Stored D)) → WasAsked d t keys before tally steps asked now → steps' ≡ asked.steps → LineEnds k (workload_line asked.tally asked.table.count) 0 sink sink' status
+    Told : (asked : State (Stored D)) → WasAsked d t keys before tally steps asked now → steps' ≡ asked.steps →
+        LineEnds k (workload_line asked.tally asked.table.count) 0 sink sink' status
         → AskEnds before now tally sink sink' steps steps' status
     AskRefused : AskingRefused d t keys before now tally steps steps' status → sink' ≡ sink → AskEnds before now tally sink sink' steps steps' status
 
-  -- how the workload ends: the file was filled and closed, and then asked; or a call before that was refused, and nothing is written
+  -- how the workload ends: the file was filled and closed, and then asked; or a call before
+  -- that was refused, and nothing is written
   pub data GenEnds (before now : D) (sink sink' : K) (steps steps' status : ℕ) : Type 0 where
-    FillDone : (filled : State (Stored D)) (between : D) → WasFilled d t keys before steps filled between → AskEnds between now filled.tally sink sink' filled.steps steps' status → GenEnds before now sink sink' steps steps' status
+    FillDone : (filled : State (Stored D)) (between : D) → WasFilled d t keys before steps filled between →
+        AskEnds between now filled.tally sink sink' filled.steps steps' status → GenEnds before now sink sink' steps steps' status
     FillRefused : FillingRefused d t keys before now steps steps' status → sink' ≡ sink → GenEnds before now sink sink' steps steps' status
 
 -- how the first half of the workload ends: with the filled and closed file and its tally, or with the device and the status
@@ -197,7 +212,8 @@ abbrev pub FillFaults : {D : Type 0} → device.Ghosts D → ℕ → Result (D �
 FillFaults d before (Ok filled) = (d.counts filled.0).faults ≡ before
 FillFaults d before (Err refused) = FaultsCaused refused.1 before (d.counts refused.0).faults
 
--- a file stands for a map with the keys of the odd places, each with its value, and no other, and has as many bytes as all cells of a store for so many keys
+-- a file stands for a map with the keys of the odd places, each with its value, and no other,
+-- and has as many bytes as all cells of a store for so many keys
 pub record IsFileOfOdd (keys : ℕ) (bytes : List ℕ) : Type 0 where
   pub map : Map
   pub stands : FileStandsFor bytes map
@@ -206,9 +222,12 @@ pub record IsFileOfOdd (keys : ℕ) (bytes : List ℕ) : Type 0 where
   pub suits : Suits keys 5 bottom
   pub size : length bytes ≡ file_size One bottom
 
--- how the workload ends on a device that tells that it is empty: with 0 the right line was written, with 4 a front of it, and with both the file stands for the map that the puts and deletes leave; else it is want of memory, or the device failed
+-- how the workload ends on a device that tells that it is empty: with 0 the right line was written, with 4 a front of it,
+-- and with both the file stands for the map that the puts and deletes leave; else it is want of memory, or the device failed
 pub data EndsOnEmpty {K : Type 0} (k : sink.Ghosts K) (keys : ℕ) (sink sink' : K) (told : Option (List ℕ)) (status : ℕ) : Type 0 where
-  Right : status ≡ 0 → Appended (right_line keys) (k.written sink) (k.written sink') → IsSomeAnd told (IsFileOfOdd keys) → EndsOnEmpty k keys sink sink' told status
-  RightFront : status ≡ 4 → (n : ℕ) → Appended (take n (right_line keys)) (k.written sink) (k.written sink') → k.faults sink' ≡ after_fault (k.faults sink) → IsSomeAnd told (IsFileOfOdd keys) → EndsOnEmpty k keys sink sink' told status
+  Right : status ≡ 0 → Appended (right_line keys) (k.written sink) (k.written sink') → IsSomeAnd told (IsFileOfOdd keys) →
+      EndsOnEmpty k keys sink sink' told status
+  RightFront : status ≡ 4 → (n : ℕ) → Appended (take n (right_line keys)) (k.written sink) (k.written sink') →
+      k.faults sink' ≡ after_fault (k.faults sink) → IsSomeAnd told (IsFileOfOdd keys) → EndsOnEmpty k keys sink sink' told status
   NoMemory : status ≡ 1 → EndsOnEmpty k keys sink sink' told status
   DeviceFailed : status ≡ 5 → EndsOnEmpty k keys sink sink' told status

@@ -1,4 +1,5 @@
-//! What the definitions of how a workload ends say in plain terms, with the numbers of four keys. Each function does nothing: its clauses are the law.
+//! What the definitions of how a workload ends say in plain terms, with the numbers of four
+//! keys. Each function does nothing: its clauses are the law.
 ghost use Rattle.std.specs.Prelude.{◌≡◌, ◌⊎◌, ℕ, ◌+◌, ◌*◌, ◌≤◌, List, [], ◌∷◌, ◌++◌, length, take, codes, Option, Result, Ok, Err, IsSomeAnd};
 ghost use Rattle.cola_outside.specs.Faults.{Rose};
 ghost use Rattle.cola_cell.specs.declared.fault.ReadFault.{ReadFault};
@@ -74,25 +75,32 @@ pub fn stores_are_closed_anyhow<D: Device>()
 pub fn four_keys_are_filled<D: Device>()
     ensures done { (store : Stored D) (steps : ℕ) (new : State (Stored D)) →
         Fills D.Device (store_table D.Device) 4 (Ok tt) (at store no_tally steps) new →
-        (between : State (Stored D)) × (AllAnswered (store_table D.Device) puts (put_bound (terms_of store).depth) (terms_of store).depth 3 (at store no_tally steps) between
+        (between : State (Stored D)) × (AllAnswered (store_table D.Device) puts (put_bound (terms_of store).depth)
+        (terms_of store).depth 3 (at store no_tally steps) between
         × AllAnswered (store_table D.Device) deletes (put_bound (terms_of store).depth) (terms_of store).depth 2 between new) }
     ensures refused { (store : Stored D) (steps : ℕ) (fault : PutFault) (new : State (Stored D)) →
         Fills D.Device (store_table D.Device) 4 (Err fault) (at store no_tally steps) new →
         Stopped (store_table D.Device) puts (put_bound (terms_of store).depth) (terms_of store).depth 3 (put_refused fault) (at store no_tally steps) new
-        ⊎ ((between : State (Stored D)) × (AllAnswered (store_table D.Device) puts (put_bound (terms_of store).depth) (terms_of store).depth 3 (at store no_tally steps) between
+        ⊎ ((between : State (Stored D)) × (AllAnswered (store_table D.Device) puts (put_bound (terms_of store).depth)
+        (terms_of store).depth 3 (at store no_tally steps) between
         × Stopped (store_table D.Device) deletes (put_bound (terms_of store).depth) (terms_of store).depth 2 (put_refused fault) between new)) }
     ensures left { (store : Stored D) (steps : ℕ) (new : State (Stored D)) →
         Fills D.Device (store_table D.Device) 4 (Ok tt) (at store no_tally steps) new →
         Holds D.bytes store empty_map → 3 ≤ (terms_of store).limit →
         (new.tally.fresh ≡ 3) × ((new.tally.gone ≡ 2) × ((map : Map) × (Holds D.bytes new.table map × HasOdd 3 map))) }
-    ensures only_device { (store : Stored D) (steps : ℕ) (fault : PutFault) (new : State (Stored D)) → Fills D.Device (store_table D.Device) 4 (Err fault) (at store no_tally steps) new →
+    ensures only_device { (store : Stored D) (steps : ℕ) (fault : PutFault) (new : State (Stored D)) →
+        Fills D.Device (store_table D.Device) 4 (Err fault) (at store no_tally steps) new →
         Holds D.bytes store empty_map → 3 ≤ (terms_of store).limit → fault ≡ put.Device }
-    ensures tallied { (store : Stored D) (steps : ℕ) (result : Result (Unit {0}) PutFault) (new : State (Stored D)) → Fills D.Device (store_table D.Device) 4 result (at store no_tally steps) new →
+    ensures tallied { (store : Stored D) (steps : ℕ) (result : Result (Unit {0}) PutFault) (new : State (Stored D)) →
+        Fills D.Device (store_table D.Device) 4 result (at store no_tally steps) new →
         (new.tally.fresh ≤ 3) × ((new.tally.gone ≤ 2) × ((new.tally.wrong ≡ 0) × (new.tally.over ≡ 0))) }
-    ensures cost { (store : Stored D) (steps : ℕ) (result : Result (Unit {0}) PutFault) (new : State (Stored D)) → Fills D.Device (store_table D.Device) 4 result (at store no_tally steps) new →
+    ensures cost { (store : Stored D) (steps : ℕ) (result : Result (Unit {0}) PutFault) (new : State (Stored D)) →
+        Fills D.Device (store_table D.Device) 4 result (at store no_tally steps) new →
         (steps ≤ new.steps) × (new.steps ≤ steps + 5 * put_bound (terms_of store).depth) }
-    ensures keeps { (store : Stored D) (steps : ℕ) (result : Result (Unit {0}) PutFault) (new : State (Stored D)) → Fills D.Device (store_table D.Device) 4 result (at store no_tally steps) new →
-        (kept_of D.bytes D.counts D.kept new.table ≡ kept_of D.bytes D.counts D.kept store) × ((terms_of new.table ≡ terms_of store) × PutFaults result (spent_of D.counts store).faults (spent_of D.counts new.table).faults) }
+    ensures keeps { (store : Stored D) (steps : ℕ) (result : Result (Unit {0}) PutFault) (new : State (Stored D)) →
+        Fills D.Device (store_table D.Device) 4 result (at store no_tally steps) new →
+        (kept_of D.bytes D.counts D.kept new.table ≡ kept_of D.bytes D.counts D.kept store)
+        × ((terms_of new.table ≡ terms_of store) × PutFaults result (spent_of D.counts store).faults (spent_of D.counts new.table).faults) }
 {}
 
 /// The gets of four keys on a store: three, of which the first that was refused ended the rest. They change no map and count
@@ -119,13 +127,15 @@ pub fn four_keys_are_asked<D: Device>()
         fault ≡ read.Device }
     ensures tallied { (result : Result (Unit {0}) ReadFault) (old new : State (Stored D)) →
         Asks D.Device (store_table D.Device) 4 result old new →
-        (new.tally.fresh ≡ old.tally.fresh) × ((new.tally.gone ≡ old.tally.gone) × ((new.tally.wrong ≤ old.tally.wrong + 3) × (new.tally.over ≡ old.tally.over))) }
+        (new.tally.fresh ≡ old.tally.fresh) × ((new.tally.gone ≡ old.tally.gone)
+        × ((new.tally.wrong ≤ old.tally.wrong + 3) × (new.tally.over ≡ old.tally.over))) }
     ensures cost { (result : Result (Unit {0}) ReadFault) (old new : State (Stored D)) →
         Asks D.Device (store_table D.Device) 4 result old new →
         (old.steps ≤ new.steps) × (new.steps ≤ old.steps + 3 * get_bound (terms_of old.table).depth) }
     ensures keeps { (result : Result (Unit {0}) ReadFault) (old new : State (Stored D)) →
         Asks D.Device (store_table D.Device) 4 result old new →
-        (kept_of D.bytes D.counts D.kept new.table ≡ kept_of D.bytes D.counts D.kept old.table) × ((terms_of new.table ≡ terms_of old.table) × ReadFaults result (spent_of D.counts old.table).faults (spent_of D.counts new.table).faults) }
+        (kept_of D.bytes D.counts D.kept new.table ≡ kept_of D.bytes D.counts D.kept old.table)
+        × ((terms_of new.table ≡ terms_of old.table) × ReadFaults result (spent_of D.counts old.table).faults (spent_of D.counts new.table).faults) }
 {}
 
 /// The two halves that were carried out: a file was made in format One with blocks of 32 cells, opened, filled and closed; and
@@ -137,10 +147,13 @@ pub fn halves_are_carried_out<D: Device>()
         × (Fills D.Device (store_table D.Device) keys (Ok tt) (at store no_tally steps) filled × IsStoreClosed D.Device filled.table now)))) }
     ensures asked { (keys steps : ℕ) (tally : Tally) (before now : D) (asked : State (Stored D)) →
         WasAsked D.Device (store_table D.Device) keys before tally steps asked now →
-        (store : Stored D) × (IsStoreOpened D.Device before 0 store × (Asks D.Device (store_table D.Device) keys (Ok tt) (at store tally steps) asked × IsStoreClosed D.Device asked.table now)) }
-    ensures filled_so_far { (keys steps : ℕ) (before : D) (result : Result (Unit {0}) PutFault) (last : State (Stored D)) → Filled D.Device (store_table D.Device) keys before steps result last →
+        (store : Stored D) × (IsStoreOpened D.Device before 0 store
+        × (Asks D.Device (store_table D.Device) keys (Ok tt) (at store tally steps) asked × IsStoreClosed D.Device asked.table now)) }
+    ensures filled_so_far { (keys steps : ℕ) (before : D) (result : Result (Unit {0}) PutFault) (last : State (Stored D)) →
+        Filled D.Device (store_table D.Device) keys before steps result last →
         (store : Stored D) × (IsStoreOpened D.Device before 0 store × Fills D.Device (store_table D.Device) keys result (at store no_tally steps) last) }
-    ensures asked_so_far { (keys steps : ℕ) (tally : Tally) (before : D) (result : Result (Unit {0}) ReadFault) (last : State (Stored D)) → Asked D.Device (store_table D.Device) keys before tally steps result last →
+    ensures asked_so_far { (keys steps : ℕ) (tally : Tally) (before : D) (result : Result (Unit {0}) ReadFault) (last : State (Stored D)) →
+        Asked D.Device (store_table D.Device) keys before tally steps result last →
         (store : Stored D) × (IsStoreOpened D.Device before 0 store × Asks D.Device (store_table D.Device) keys result (at store tally steps) last) }
 {}
 
@@ -149,14 +162,22 @@ pub fn halves_are_refused<D: Device>()
     ensures filling { (keys steps steps' status : ℕ) (before now : D) →
         FillingRefused D.Device (store_table D.Device) keys before now steps steps' status →
         ((fault : CreateFault) × ((status ≡ making_status fault) × (Created D.Device One keys 5 before now (Err fault) × (steps' ≡ steps))))
-        ⊎ (((fault : OpenFault) × ((made : D) × ((status ≡ refusal_status fault) × (Made D.Device One keys 5 before made × (OpensStore D.Device made 0 (Err (now, fault)) × (steps' ≡ steps))))))
-        ⊎ (((fault : PutFault) × ((made : D) × ((last : State (Stored D)) × ((status ≡ filling_status fault) × (Made D.Device One keys 5 before made × (Filled D.Device (store_table D.Device) keys made steps (Err fault) last × (ClosedOnce D.Device last.table now × (steps' ≡ last.steps))))))))
-        ⊎ ((made : D) × ((last : State (Stored D)) × ((status ≡ 5) × (Made D.Device One keys 5 before made × (Filled D.Device (store_table D.Device) keys made steps (Ok tt) last × (ClosedLate D.Device last.table now × (steps' ≡ last.steps))))))))) }
+        ⊎ (((fault : OpenFault) × ((made : D) × ((status ≡ refusal_status fault)
+        × (Made D.Device One keys 5 before made × (OpensStore D.Device made 0 (Err (now, fault)) × (steps' ≡ steps))))))
+        ⊎ (((fault : PutFault) × ((made : D) × ((last : State (Stored D))
+        × ((status ≡ filling_status fault) × (Made D.Device One keys 5 before made
+        × (Filled D.Device (store_table D.Device) keys made steps (Err fault) last × (ClosedOnce D.Device last.table now × (steps' ≡ last.steps))))))))
+        ⊎ ((made : D) × ((last : State (Stored D)) × ((status ≡ 5)
+        × (Made D.Device One keys 5 before made × (Filled D.Device (store_table D.Device) keys made steps (Ok tt) last
+        × (ClosedLate D.Device last.table now × (steps' ≡ last.steps))))))))) }
     ensures asking { (keys steps steps' status : ℕ) (tally : Tally) (before now : D) →
         AskingRefused D.Device (store_table D.Device) keys before now tally steps steps' status →
         ((fault : OpenFault) × ((status ≡ refusal_status fault) × (OpensStore D.Device before 0 (Err (now, fault)) × (steps' ≡ steps))))
-        ⊎ (((fault : ReadFault) × ((last : State (Stored D)) × ((status ≡ asking_status fault) × (Asked D.Device (store_table D.Device) keys before tally steps (Err fault) last × (ClosedOnce D.Device last.table now × (steps' ≡ last.steps))))))
-        ⊎ ((last : State (Stored D)) × ((status ≡ 5) × (Asked D.Device (store_table D.Device) keys before tally steps (Ok tt) last × (ClosedLate D.Device last.table now × (steps' ≡ last.steps)))))) }
+        ⊎ (((fault : ReadFault) × ((last : State (Stored D))
+        × ((status ≡ asking_status fault) × (Asked D.Device (store_table D.Device) keys before tally steps (Err fault) last
+        × (ClosedOnce D.Device last.table now × (steps' ≡ last.steps))))))
+        ⊎ ((last : State (Stored D)) × ((status ≡ 5) × (Asked D.Device (store_table D.Device) keys before tally steps (Ok tt) last
+        × (ClosedLate D.Device last.table now × (steps' ≡ last.steps)))))) }
     ensures not_empty { (keys steps steps' : ℕ) (before now : D) →
         FillingRefused D.Device (store_table D.Device) keys before now steps steps' 8 →
         Created D.Device One keys 5 before now (Err create.NotEmpty) × (steps' ≡ steps) }
@@ -174,12 +195,14 @@ pub fn workloads_end<K: Sink, D: Device>()
         GenEnds K.Sink D.Device (store_table D.Device) keys before now sink sink' steps steps' 4 →
         (filled : State (Stored D)) × ((between : D) × (WasFilled D.Device (store_table D.Device) keys before steps filled between
         × ((asked : State (Stored D)) × (WasAsked D.Device (store_table D.Device) keys between filled.tally filled.steps asked now × ((steps' ≡ asked.steps)
-        × ((size : ℕ) × (Appended (take size (workload_line asked.tally asked.table.count)) (K.written sink) (K.written sink') × (K.faults sink' ≡ after_fault (K.faults sink))))))))) }
+        × ((size : ℕ) × (Appended (take size (workload_line asked.tally asked.table.count)) (K.written sink) (K.written sink')
+        × (K.faults sink' ≡ after_fault (K.faults sink))))))))) }
     ensures others { (keys steps steps' status : ℕ) (before now : D) (sink sink' : K) →
         GenEnds K.Sink D.Device
         (store_table D.Device) keys before now sink sink' steps steps' status →
         (status ≡ 0 → ⊥) → (status ≡ 4 → ⊥) → (sink' ≡ sink) × (FillingRefused D.Device (store_table D.Device) keys before now steps steps' status
-        ⊎ ((filled : State (Stored D)) × ((between : D) × (WasFilled D.Device (store_table D.Device) keys before steps filled between × AskingRefused D.Device (store_table D.Device) keys between now filled.tally filled.steps steps' status)))) }
+        ⊎ ((filled : State (Stored D)) × ((between : D) × (WasFilled D.Device (store_table D.Device) keys before steps filled between
+        × AskingRefused D.Device (store_table D.Device) keys between now filled.tally filled.steps steps' status)))) }
 {}
 
 /// How a workload ends on a device that tells that it is empty; four keys leave a file of 128 cells of 64 bytes, with the key
@@ -191,7 +214,8 @@ pub fn new_files_end<K: Sink>()
         × IsSomeAnd told (IsFileOfOdd keys) }
     ensures status_4 { (keys : ℕ) (sink sink' : K) (told : Option (List ℕ)) →
         EndsOnEmpty K.Sink keys sink sink' told 4 →
-        ((size : ℕ) × Appended (take size (right_line keys)) (K.written sink) (K.written sink')) × ((K.faults sink' ≡ after_fault (K.faults sink)) × IsSomeAnd told (IsFileOfOdd keys)) }
+        ((size : ℕ) × Appended (take size (right_line keys)) (K.written sink) (K.written sink'))
+        × ((K.faults sink' ≡ after_fault (K.faults sink)) × IsSomeAnd told (IsFileOfOdd keys)) }
     ensures others { (keys status : ℕ) (sink sink' : K) (told : Option (List ℕ)) →
         EndsOnEmpty K.Sink keys sink sink' told status →
         (status ≡ 0) ⊎ ((status ≡ 1) ⊎ ((status ≡ 4) ⊎ (status ≡ 5))) }

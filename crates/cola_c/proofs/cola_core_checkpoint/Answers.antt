@@ -1,8 +1,12 @@
-use Rattle.std.proofs.Common.{rules, ◌≡◌, ◌∙◌, refl, sym, subst}
+use Rattle.std.proofs.Common.{rules, ℕ, ◌≡◌, ◌∙◌, refl, sym, subst}
 use Rattle.std.proofs.lemmas.Option.{same_Some}
+use denote.RawPtr.{Ptr}
+use Rattle.cola_mapped.specs.Mapped.{unused}
 use Rattle.cola_mapped.specs.Region.{bytes_in}
+use Rattle.cola_kv.specs.Opened.{IsOpen}
 use Rattle.cola_store.specs.Store.{terms_of}
 use Rattle.cola_handle.specs.declared.session.Session.{Session}
+use Rattle.cola_handle.specs.Open.{lent_device}
 use Rattle.cola_handle.proofs.Openings.{same-terms, terms-left}
 use Rattle.cola_c.specs.Exports.{Checkpoints, Unfinished}
 use Rattle.cola_c.proofs.Inside.{inside}
@@ -20,9 +24,10 @@ returns-in-Ok-clause-done c = λ old was new now.
         closed = bytes_in c.close-bytes.result.bytes;
         stood = c.close-bytes.ensures.stands;
         marked = c.in-Ok.ensures.marked;
+        again = subst (λ (p : Ptr × ℕ). IsOpen lent_device (unused p.0 p.1 (bytes_in c.close-bytes.result.bytes)) 0 last.kv) c.close-bytes.ensures.place c.in-Ok.ensures.opens;
         holds = λ m held. c.in-Ok.ensures.holds m (c.close-bytes.ensures.stands m held);
         stays = record {
-          terms_are = same-terms (terms_of last.store) (terms_of first.store) (bytes_in c.close-bytes.result.bytes) c.in-Ok.ensures.terms c.close-bytes.ensures.terms;
+          terms_are = same-terms (terms_of last.kv.store) (terms_of first.kv.store) (bytes_in c.close-bytes.result.bytes) c.in-Ok.ensures.terms c.close-bytes.ensures.terms;
           place_is = c.in-Ok.ensures.place ∙ c.close-bytes.ensures.place;
         };
       })),

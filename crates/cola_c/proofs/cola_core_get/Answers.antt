@@ -1,6 +1,7 @@
 use Rattle.std.proofs.Common.{rules, ◌≡◌, ◌∙◌, subst}
+use Rattle.cola_kv.specs.Calls as kv
 use Rattle.cola_handle.specs.declared.session.Session.{Session}
-use Rattle.cola_c.specs.Exports.{Gets}
+use Rattle.cola_handle.specs.Open.{lent_device}
 use Rattle.cola_c.proofs.Inside.{inside}
 use Rattle.cola_c.proofs.cola_core_get.Goals as goal
 
@@ -8,19 +9,12 @@ pub returns-clause-answered : goal.returns-clause-answered
 returns-clause-answered c = λ session is.
     let old : c.deref_mut.result.now ≡ session = c.deref_mut.ensures.value ∙ inside _ session _ is c.in-Some.ensures.taken in
     record {
-      new = c.get-answer.new.session;
+      new = record { kv = c.get-answer.new.self };
       answer = c.get-answer.result;
       is_open = c.put.ensures;
       number_is = search (rules, c.tell_value.ensures.number);
       says = (
-        subst (λ (o : Session). Gets o c.args.key.now c.get-answer.new.session c.get-answer.result) old (record {
-          answer = c.get-answer.ensures.answer;
-          given = c.get-answer.ensures.given;
-          length = c.get-answer.ensures.length;
-          ticks = c.get-answer.ensures.ticks;
-          reads = c.get-answer.ensures.reads;
-          stays = record { terms_are = c.get-answer.ensures.terms; place_is = c.get-answer.ensures.place };
-        }),
+        subst (λ (o : Session). kv.Gets lent_device o.kv c.get-answer.new.self c.args.key.now c.get-answer.result) old c.get-answer.ensures,
         c.tell_value.ensures.value,
         c.tell_value.ensures.len,
       );

@@ -12,6 +12,7 @@ returns-in-Ok-clause-opened c = λ none session now.
       search (rules, c.code-in-Ok.ensures),
       ap (λ (r : Region). r.bytes) c.replace-bytes.ensures.after ∙ c.none.ensures,
       subst (λ (r : Region). Opens r session) is (subst (λ (s : Session). Opens c.replace-bytes.result s) then (record {
+        given = c.in-Ok.ensures.opens;
         terms = c.in-Ok.ensures.terms;
         marked = c.in-Ok.ensures.marked;
         place = c.in-Ok.ensures.place;

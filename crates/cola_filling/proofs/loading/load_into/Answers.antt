@@ -1,5 +1,5 @@
 -- A load does not begin, its lines stop, or it is finished.
-use Rattle.std.proofs.Common.{◌≡◌, ◌∙◌, ◌+◌, ap, refl, arith}
+use Rattle.std.proofs.Common.{◌≡◌, ◌∙◌, ap, refl, arith}
 use Rattle.cola_layout.specs.declared.geometry.Geometry.{Geometry}
 use Rattle.cola_load.proofs.Blocks.{blocks-few}
 use Rattle.cola_opening.specs.Counted.{Spends}
@@ -19,7 +19,8 @@ load_lines-requires-clause-fresh g c = begun-fresh g.D.Device c.args.geometry c.
 pub returns-in-Some-clause-ends : goal.returns-in-Some-clause-ends
 returns-in-Some-clause-ends g c =
     stopped g.S.Source g.K.Sink g.D.Device c.args.geometry c.in-Ok.loader c.load_lines.new.loader c.args.source.now c.load_lines.new.source c.args.sink.now c.load_lines.new.sink c.load_lines.new.sink
-    c.args.device.now c.begin.new.device c.load_lines.new.device c.load_lines.new.device c.in-Some.status c.in-Ok.ensures.begins c.begin.ensures.spends.writes_rise c.in-Some.ensures.ends
+    c.args.device.now c.begin.new.device c.load_lines.new.device c.load_lines.new.device c.in-Some.status c.in-Ok.ensures.begins c.begin.ensures.spends.writes_rise
+    (spends-then c.begin.ensures.spends c.load_lines.ensures.spends (omega arith) (omega arith) (omega arith)) c.in-Some.ensures.ends
 
 pub finish_load-requires : goal.finish_load-requires
 finish_load-requires g c =

@@ -9,8 +9,8 @@ use Rattle.cola_handle.proofs.opening.close.Goals as goal
 
 pub returns-clause-stands : goal.returns-clause-stands
 returns-clause-stands c = λ m holds.
-    subst (λ (b : Option (List ℕ)). FileStandsFor (bytes_in b) m) (sym c.into_region.ensures.bytes) (c.in-Ok.ensures.closes.stands m holds)
+    subst (λ (b : Option (List ℕ)). FileStandsFor (bytes_in b) m) (sym c.into_region.ensures.bytes) (c.in-Ok.ensures.given.stands m holds)
 
 pub returns-clause-terms : goal.returns-clause-terms
 returns-clause-terms c =
-    subst (λ (b : Option (List ℕ)). HasTerms (terms_of c.args.session.store) (bytes_in b)) (sym c.into_region.ensures.bytes) (closed-terms _ _ c.in-Ok.ensures.closes)
+    subst (λ (b : Option (List ℕ)). HasTerms (terms_of c.args.session.kv.store) (bytes_in b)) (sym c.into_region.ensures.bytes) (closed-terms _ _ c.in-Ok.ensures.given)

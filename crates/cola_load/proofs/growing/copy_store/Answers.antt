@@ -18,7 +18,7 @@ returns-in-Err-clause-copies g c =
 pub returns-in-Ok-begin-clause-copies : goal.returns-in-Ok-begin-clause-copies
 returns-in-Ok-begin-clause-copies g c =
     store-copied g.E.Device c.args.header.now c.args.geometry (held_of g.D.Device.bytes c.load.new.self) (g.D.Device.bytes c.args.runs.now.buffers.cache.device) c.in-Ok.ensures.loaded.spots c.requires.format c.requires.few
-    c.visible_runs.result.items c.visible_runs.ensures.runs c.args.to.now c.begin.new.device c.fill.new.to c.in-Ok-begin.loader c.in-Ok-begin.ensures.begins c.fill.result c.fill.ensures.walks c.fill.ensures.settled
+    c.visible_runs.result.items c.visible_runs.ensures.runs c.args.to.now c.begin.new.device c.fill.new.to c.in-Ok-begin.loader c.in-Ok-begin.ensures.begins c.begin.ensures.spends c.fill.result c.fill.ensures.walks c.fill.ensures.settled
 
 pub returns-in-Err-begin-clause-copies : goal.returns-in-Err-begin-clause-copies
 returns-in-Err-begin-clause-copies g c =

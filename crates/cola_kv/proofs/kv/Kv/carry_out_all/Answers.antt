@@ -1,10 +1,13 @@
-use Rattle.std.proofs.Common.{◌+◌, List, Result, sym, subst, arith}
+use Rattle.std.proofs.Common.{rules, ◌+◌, List, Result, sym, subst, arith}
 use Rattle.std.proofs.lemmas.List.{get_or_default}
 use Rattle.cola_kv.specs.declared.error.Error.{Error}
 use Rattle.cola_kv.specs.declared.list.Answer.{Answer}
-use Rattle.cola_kv.proofs.Listing.{Progress, progress-more, progress-steps, pushed, pushed-len, within-more}
+use Rattle.cola_kv.proofs.Listing.{Progress, progress-none, progress-more, progress-steps, pushed, pushed-len, within-more}
 use Rattle.cola_kv.specs.Kv.{steps_of}
 use Rattle.cola_kv.proofs.kv.Kv.carry_out_all.Goals as goal
+
+pub loop-call-init : goal.loop-call-init
+loop-call-init g c = (progress-none g.D.Device _ c.args.calls.now _ _ c.in_ok-results.ensures.items, (search (rules, arith), c.in_ok-results.ensures.len))
 
 pub loop-call-preserved : goal.loop-call-preserved
 loop-call-preserved g c =

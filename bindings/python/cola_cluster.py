@@ -1,0 +1,520 @@
+# SPDX-License-Identifier: MIT
+"""One ordered map over the workers of a Dask cluster: a shard for each range of keys, a file of cola for each shard.
+
+    import cola_cluster
+    from distributed import Client
+
+    client = Client("scheduler:8786", direct_to_workers=True)
+    with cola_cluster.create(client, "events", keys=1_000_000, splits=[b"g", b"p"], folder="/var/cola",
+                             shared="/shared/events", journal="events.journal") as store:
+        store.put_rows((b"key%06d" % n, b"value") for n in range(100_000))
+        print(store.get_many([b"key000001", b"nothing"]), store.count())
+        for key, value in store.range(b"key0000", b"key0001"):
+            print(key, value)
+
+A shard is an actor on a worker, with its file in `folder`, on that worker's disk. A checkpoint copies the files into `shared`,
+a folder that all workers and this client reach by the same path. The journal, a file of this client, has the batches behind the
+last checkpoint, and is synced before a batch is answered. Where a worker dies, its shards are opened on others, from the last
+checkpoint, and the batches behind it are made again: a put that is made twice leaves the same map.
+
+One client at a time has a store. What is promised, and what is not, stands in docs/manual/CLUSTER.md.
+"""
+
+import asyncio
+import bisect
+import collections
+import io
+import itertools
+import os
+import pickle
+import shutil
+import struct
+import time
+import uuid
+import zlib
+
+import distributed
+
+import cola
+
+__all__ = ["create", "open", "splits_of", "Cluster", "Lost"]
+
+_PAGE = 4096  # rows that a range asks of a shard at once
+_GONE = (OSError, ValueError, asyncio.CancelledError, distributed.TimeoutError,
+         distributed.KilledWorker)  # what Dask raises of a worker that is gone, or does not answer in time
+
+
+class Lost(Exception):
+    """No worker is left that serves a shard."""
+
+
+class _Shard:
+    """The actor: an open store in a file of its own. Rows cross as one pickled string, since Dask is slow with lists of bytes.
+    Each call gives the exception that it met, or None, and what it answers: what Dask raises is of the worker then."""
+
+    def __init__(self, path, base, options):
+        os.makedirs(os.path.dirname(path), exist_ok=True)
+        if base is None:
+            cola.create(path, *options)
+        else:
+            shutil.copyfile(base, path)
+        self._path, self._options = path, options
+        self._store = cola.open(path)
+
+    def call(self, name, *words):
+        try:
+            return None, getattr(self, name)(*words)
+        except Exception as error:
+            return error, None
+
+    def update(self, rows):
+        """Makes the calls of a batch, in their order, where a pair without a value takes its key out. How many were made
+        before the store was full."""
+        rows, done = pickle.loads(rows), 0
+        for is_out, some in itertools.groupby(rows, lambda row: row[1] is None):
+            some = list(some)
+            try:
+                if is_out:
+                    for key, _ in some:
+                        self._store.pop(key, None)
+                else:
+                    self._store.update(some)
+            except cola.Full as error:
+                return done + error.done
+            done += len(some)
+        return done
+
+    def get_many(self, keys):
+        return pickle.dumps(self._store.get_many(pickle.loads(keys)))
+
+    def rows(self, low, high):
+        return pickle.dumps(list(itertools.islice(self._store[low:high], _PAGE)))
+
+    def count(self):
+        return len(self._store)
+
+    def checkpoint(self, copy):
+        self._store.checkpoint(copy)
+
+    def split(self, lower, upper):
+        """Makes a closed store of each half of the rows, and gives the least key of the upper one."""
+        rows = self._store[:]
+        for path, part in (lower, itertools.islice(rows, len(self._store) // 2)), (upper, rows):
+            if os.path.exists(path):
+                os.remove(path)  # (of a split that was not finished)
+            cola.create(path, *self._options)
+            with cola.open(path) as store:
+                store.update(part)
+        with cola.open(upper) as store:
+            return next(iter(store))
+
+    def close(self):
+        self._store.close()
+        os.remove(self._path)
+
+
+class _Part:
+    """What the client holds of a shard: its least key, the name of its incarnation, the checkpoint from which it is opened
+    (None: an empty store), and the number of the last batch that this has."""
+
+    def __init__(self, low, name, base, position):
+        self.low, self.name, self.base, self.position = low, name, base, position
+        self.future = self.actor = self.worker = None
+
+    def words(self):
+        return self.low, self.name, self.base, self.position
+
+
+class _Journal:
+    """Maps of the shards and batches in the order in which they came, each pickled, with its length and a sum. What stands
+    behind the first record that lacks them is the rest of a write that was cut off. Without a path it is in memory alone."""
+
+    def __init__(self, path, records=()):
+        self._path, self._file, self._records = path, None, list(records)
+
+    def records(self):
+        """All of them, in their order."""
+        if self._path is None:
+            yield from self._records
+            return
+        with io.open(self._path, "rb") as file:
+            while len(head := file.read(8)) == 8:
+                length, total = struct.unpack("<II", head)
+                body = file.read(length)
+                if len(body) < length or zlib.crc32(body) != total:
+                    return
+                yield pickle.loads(body)
+
+    def batches(self, position):
+        """The batches behind this one, with their numbers."""
+        return (record for kind, *record in self.records() if kind == "batch" and record[0] > position)
+
+    def begin(self, map_, position):
+        """Begins anew: with this map, and the batches behind a position, in a file that takes the old one's place as a whole."""
+        kept = itertools.chain([("map", map_)], (("batch", *batch) for batch in self.batches(position)))
+        if self._path is None:
+            self._records = list(kept)
+            return
+        unfinished = f"{self._path}.new"
+        file = io.open(unfinished, "wb")
+        for record in kept:
+            self._write(file, record)
+        self._sync(file)
+        os.replace(unfinished, self._path)
+        folder = os.open(os.path.dirname(os.path.abspath(self._path)), os.O_RDONLY)
+        os.fsync(folder)
+        os.close(folder)
+        self.close()
+        self._file = file
+
+    def append(self, *record):
+        """Adds a record, which is on the disk then. Where that fails the journal is for an opening alone."""
+        if self._path is None:
+            self._records.append(record)
+        else:
+            self._write(self._file, record)
+            self._sync(self._file)
+
+    def close(self):
+        if self._file is not None:
+            self._file.close()
+
+    @staticmethod
+    def _write(file, record):
+        body = pickle.dumps(record)
+        file.write(struct.pack("<II", len(body), zlib.crc32(body)) + body)
+
+    @staticmethod
+    def _sync(file):
+        file.flush()
+        os.fsync(file.fileno())
+
+
+def splits_of(sample, shards):
+    """Keys that part a sample of keys into so many ranges with as many of them each."""
+    keys = sorted(set(sample))
+    return sorted({keys[len(keys) * at // shards] for at in range(1, shards)} - {keys[0]}) if keys else []
+
+
+def create(client, name, *, keys, folder, shared, journal, splits=(), block=5, version=1, patience=60):
+    """Makes a new, empty store: a shard below the first of the splits, and one from each split on, for so many keys each. Where
+    the journal is None, what came behind the last checkpoint is lost with this client, though not with a worker. A worker
+    that has not answered within so many seconds is taken for dead: more than a checkpoint of a shard takes."""
+    splits = list(splits)
+    if sorted(set(splits)) != splits or b"" in splits:
+        raise ValueError("splits are keys, each greater than the one before")
+    if keys < 2:
+        raise ValueError("a shard that is to be split is for two keys at least")
+    map_ = {"name": name, "folder": folder, "shared": shared, "options": (keys, block, version),
+            "parts": [(low, None, None, 0) for low in (b"", *splits)]}
+    if journal is None:
+        return Cluster(client, _Journal(None), map_, 0, patience)
+    io.open(journal, "xb").close()  # (one that is there is of another store, which open() opens)
+    try:
+        return Cluster(client, _Journal(journal), map_, 0, patience)
+    except BaseException:
+        os.remove(journal)
+        raise
+
+
+def open(client, journal, *, patience=60):
+    """Opens the store of a journal: each shard from its last checkpoint, with the batches behind it."""
+    found = _Journal(os.fspath(journal))
+    map_, last = None, 0
+    for kind, *record in found.records():
+        if kind == "map":
+            map_, = record
+        else:
+            last = record[0]
+    if map_ is None:
+        raise ValueError(f"{journal}: has no store")
+    return Cluster(client, found, map_, max(last, map_["position"]), patience)
+
+
+class Cluster:
+    """An open store over the workers of a cluster. Close it, or use it in a `with`: a close makes a checkpoint; a `with` that
+    is left by an exception makes none, and what was put is in the journal."""
+
+    def __init__(self, client, journal, map_, position, patience):
+        self._client, self._journal, self._map, self._patience = client, journal, map_, patience
+        self._position = position  # of the last batch
+        self._parts = [_Part(*words) for words in map_["parts"]]
+        key_max, value_max = {1: (24, 32), 2: (40, 72)}[map_["options"][2]]
+        self._key_max, self._value_max = key_max, value_max
+        for part in self._parts:
+            self._submit(part, ())
+        for part in self._parts:
+            try:
+                part.actor = part.future.result(self._patience)
+            except _GONE:
+                self._open(part, {part.worker})
+        self._journal.begin(self._noted(), min(part.position for part in self._parts))
+        self._again(b"", None, min(part.position for part in self._parts))
+
+    def __enter__(self):
+        return self
+
+    def __exit__(self, kind, *_):
+        self.close() if kind is None else self._release()
+
+    # -- The calls
+
+    def put_rows(self, rows, batch=5000):
+        """Puts pairs, of an iterable or a dask.bag, in batches; a pair whose value is None takes its key out. A batch is
+        synced in the journal before it is sent. What is made once this returns is made on all shards."""
+        under_way = []
+        try:
+            for some in self._batches(rows, batch):
+                self._check(some)
+                self._log("batch", self._position + 1, some)
+                self._position += 1
+                sent, under_way = under_way, []
+                self._finish(sent)
+                under_way = self._send(some, self._position)
+        finally:
+            self._finish(under_way)
+
+    def get_many(self, keys):
+        """The values of keys, in their order; None where a key is absent."""
+        keys = list(keys)
+        self._check((key, b"") for key in keys)
+        found = [None] * len(keys)
+        asked = [(part, places, self._call(part, "get_many", pickle.dumps([keys[at] for at in places])))
+                 for part, places in self._routed(range(len(keys)), keys.__getitem__)]
+        for part, places, call in asked:
+            answer = self._answer(call)
+            if answer is None:
+                self._replace(part)
+                values = self.get_many(keys[at] for at in places)
+            else:
+                values = pickle.loads(answer[0])
+            for at, value in zip(places, values):
+                found[at] = value
+        return found
+
+    def range(self, low=b"", high=None):
+        """The pairs of the keys from low on and below high, in order, streamed. Each page shows its shard as it is when it is
+        asked for."""
+        while high is None or low < high:
+            at = self._index(low)
+            until = self._parts[at + 1].low if at + 1 < len(self._parts) else None
+            end = min((bound for bound in (until, high) if bound is not None), default=None)
+            rows = pickle.loads(self._ask(low, "rows", low, end))
+            yield from rows
+            if len(rows) == _PAGE:
+                low = rows[-1][0] + b"\0"
+            elif end is None:
+                return
+            else:
+                low = end
+
+    def prefix(self, begin):
+        """The pairs of the keys that begin so, in order."""
+        head = begin.rstrip(b"\xff")
+        return self.range(begin, head[:-1] + bytes([head[-1] + 1]) if head else None)
+
+    def count(self):
+        """The number of keys."""
+        counted = [(part, self._call(part, "count")) for part in self._parts]
+        counts = [self._answer(call) for _, call in counted]
+        for (part, _), count in zip(counted, counts):
+            if count is None:
+                self._replace(part)
+        return self.count() if None in counts else sum(count for count, in counts)
+
+    def checkpoint(self):
+        """Copies each shard's file into the shared folder, and begins a new journal: what it had is in the copies, on the
+        disk."""
+        before = {part.base for part in self._parts} - {None}
+        while late := [part for part in self._parts if part.base is None or part.position < self._position]:
+            copies = [(part, self._copy(part)) for part in late]
+            calls = [(part, copy, self._call(part, "checkpoint", copy)) for part, copy in copies]
+            for part, copy, call in calls:
+                if self._answer(call) is None:
+                    self._replace(part)
+                else:
+                    part.base, part.position = copy, self._position
+        self._journal.begin(self._noted(), self._position)
+        for base in before - {part.base for part in self._parts}:
+            _remove(base)
+
+    def close(self):
+        """Makes a checkpoint, and closes and removes the workers' files. A store that is closed stays so."""
+        if not self._parts:
+            return
+        self.checkpoint()
+        for call in [self._call(part, "close") for part in self._parts]:
+            self._answer(call)
+        self._release()
+
+    # -- Where keys go
+
+    def _index(self, key):
+        return bisect.bisect_right(self._parts, key, key=lambda part: part.low) - 1
+
+    def _routed(self, rows, key):
+        """The parts of these rows by shards, each in the order of the rows."""
+        if not self._parts:
+            raise cola.Closed("the store is closed")
+        lows, routed = [part.low for part in self._parts], collections.defaultdict(list)
+        for row in rows:
+            routed[bisect.bisect_right(lows, key(row)) - 1].append(row)
+        return [(self._parts[at], some) for at, some in routed.items()]
+
+    def _check(self, rows):
+        """Refuses a row that no shard takes, before any of its batch is made."""
+        for key, value in rows:
+            if not isinstance(key, bytes) or not isinstance(value, (bytes, type(None))):
+                raise TypeError("a key or a value is bytes")
+            if not 1 <= len(key) <= self._key_max or len(value or b"") > self._value_max:
+                raise cola.Length(f"a key has from 1 to {self._key_max} bytes, a value up to {self._value_max}")
+
+    def _batches(self, rows, size):
+        if hasattr(rows, "to_delayed"):  # (a bag: its parts are worked out on the cluster, one ahead)
+            rows = itertools.chain.from_iterable(map(self._client.gather, self._client.compute(rows.to_delayed())))
+        rows = iter(rows)
+        while some := list(itertools.islice(rows, size)):
+            yield some
+
+    # -- Calls of shards
+
+    def _call(self, part, name, *words):
+        """Begins a call; None where the shard's worker is gone."""
+        try:
+            return part.actor.call(name, *words)
+        except _GONE:
+            return None
+
+    def _answer(self, call):
+        """What a call answers, as a tuple of one; None where its worker is gone or does not answer in time."""
+        if call is None:
+            return None
+        try:
+            error, answer = call.result(self._patience)
+        except _GONE:
+            return None
+        if error is not None:
+            self._release()  # (an opening goes back to the checkpoint, and on from there)
+            raise error
+        return answer,
+
+    def _ask(self, key, name, *words):
+        """Asks the shard of a key, or the one that comes in its place."""
+        while True:
+            part = self._parts[self._index(key)]
+            answer = self._answer(self._call(part, name, *words))
+            if answer is not None:
+                return answer[0]
+            self._replace(part)
+
+    def _send(self, rows, number):
+        return [(part, some, number, self._call(part, "update", pickle.dumps(some)))
+                for part, some in self._routed(rows, lambda row: row[0])]
+
+    def _finish(self, under_way):
+        """Sees that the rows that were sent are made, by their shards or by those that come in their place."""
+        for part, rows, number, call in under_way:
+            answer = self._answer(call)
+            if answer is None:
+                self._replace(part)  # (the journal has these rows)
+            elif answer[0] < len(rows) and self._split(part, number - 1):
+                self._finish(self._send(rows[answer[0]:], number))
+
+    # -- Shards that come and go
+
+    def _noted(self):
+        """The map as the journal has it."""
+        return {**self._map, "position": self._position, "parts": [part.words() for part in self._parts]}
+
+    def _log(self, *record):
+        try:
+            self._journal.append(*record)
+        except OSError:
+            self._release()
+            raise
+
+    def _name(self):
+        """A name that no incarnation has had, of this client or of one that died."""
+        return f"{self._map['name']}-{uuid.uuid4().hex}"
+
+    def _copy(self, part):
+        return os.path.join(self._map["shared"], f"{part.name}-{self._position}")
+
+    def _submit(self, part, avoided):
+        """Begins the opening of a new incarnation of a shard, with a file of its own name, on the worker that has the fewest."""
+        used = collections.Counter(other.worker for other in self._parts if other is not part)
+        workers = self._workers(avoided)
+        part.worker, part.name = min(workers, key=lambda it: used[it]), self._name()
+        path = os.path.join(self._map["folder"], part.name)
+        part.future = self._client.submit(_Shard, path, part.base, self._map["options"], actor=True, pure=False,
+                                          workers=[part.worker], allow_other_workers=False)
+
+    def _workers(self, avoided):
+        """The workers but these; where there is none, those that come within the client's patience."""
+        until = time.monotonic() + self._patience
+        while not (workers := [it for it in self._client.scheduler_info()["workers"] if it not in avoided]):
+            if time.monotonic() > until:
+                raise Lost("no worker is left that serves the shards")
+            time.sleep(0.1)
+        return workers
+
+    def _open(self, part, avoided):
+        """Opens a shard on a worker that answers, and is not one of those."""
+        while True:
+            self._submit(part, avoided)
+            try:
+                part.actor = part.future.result(self._patience)
+                return
+            except _GONE:
+                part.future.release()
+                avoided = {*avoided, part.worker}
+
+    def _replace(self, part):
+        """Opens a shard anew, from its checkpoint, on another worker; what the one before still answers or writes is not read:
+        it has a file of its own."""
+        at = self._parts.index(part)
+        high = self._parts[at + 1].low if at + 1 < len(self._parts) else None
+        self._open(part, {part.worker})
+        self._log("map", self._noted())
+        self._again(part.low, high, part.position)
+
+    def _again(self, low, high, position):
+        """Makes the batches behind a position again, as far as their keys are from low on and below high."""
+        for number, rows in list(self._journal.batches(position)):
+            rows = [row for row in rows if row[0] >= low and (high is None or row[0] < high)
+                    and self._parts[self._index(row[0])].position < number]
+            self._finish(self._send(rows, number))
+
+    def _split(self, part, position):
+        """Splits a shard that is full in two, each opened from a file in the shared folder, that has the batches up to a position
+        and perhaps some rows behind it. The new bounds are in the journal before the old file is given up. No other shard moves.
+        False where the worker was lost instead, and the shard was opened anew with all that the journal has."""
+        lower, upper = (_Part(part.low, self._name(), None, position) for _ in range(2))
+        for half in lower, upper:
+            half.base = self._copy(half)
+        answer = self._answer(self._call(part, "split", lower.base, upper.base))
+        if answer is None:
+            self._replace(part)
+            return False
+        upper.low, = answer
+        at = self._parts.index(part)
+        self._parts[at:at + 1] = lower, upper
+        self._open(lower, ())
+        self._open(upper, ())
+        self._log("map", self._noted())
+        self._answer(self._call(part, "close"))
+        part.future.release()
+        return True
+
+    def _release(self):
+        self._journal.close()
+        for part in self._parts:
+            part.future.release()
+        self._parts = []
+
+
+def _remove(path):
+    try:
+        os.remove(path)
+    except OSError:
+        pass  # (it is of no use, and in no one's way)

@@ -1,0 +1,3 @@
+mod Examples
+pub mod Kept
+pub mod Told

@@ -1,0 +1,9 @@
+//! The protocol of a checkpoint by way of a journal: which step comes next.
+#![tactic(auto)]
+
+pub mod laws;
+mod stage;
+#[cfg(test)]
+mod tests;
+
+pub use stage::{Stage, Step};

@@ -1,0 +1,3 @@
+pub mod AppliedLemmas
+pub mod JournalLemmas
+pub mod ReadLemmas

@@ -1,0 +1,21 @@
+use Rattle.std.proofs.Common.{Ok, Err, refl, arith}
+use Rattle.cola_kv.specs.Errors.{of_read}
+use Rattle.cola_kv.proofs.Answered.{stamps, stamps-at, stamps-err}
+use Rattle.cola_kv.proofs.kv.Kv.stamp_counted.Goals as goal
+
+pub returns-in_err-answer-clause-stamps : goal.returns-in_err-answer-clause-stamps
+returns-in_err-answer-clause-stamps g c =
+    let d = g.D.Device in
+    let f = c.in_err-answer.field-0.0 in
+    stamps-err d c.args.self.now _ c.args.key.now c.from_residual-in_err-answer.result (of_read f) c.from_residual-in_err-answer.ensures.1
+    (stamps-at d c.args.self.now _ c.in_ok-key.key c.args.key.now (Err (of_read f)) c.in_ok-key.ensures.value
+    (stamps d c.args.self.now _ c.in_ok-key.key c.in_ok-key.ensures.exact refl c.stamp.ensures.kept c.stamp.ensures.call.faults_kept (Err f)
+    c.in_err-answer.ensures.answer c.in_err-answer.ensures.given c.in_err-answer.ensures.faults refl))
+
+pub returns-clause-stamps : goal.returns-clause-stamps
+returns-clause-stamps g c =
+    let d = g.D.Device in
+    let a = c.in_ok-answer.answer in
+    stamps-at d c.args.self.now _ c.in_ok-key.key c.args.key.now (Ok a.0) c.in_ok-key.ensures.value
+    (stamps d c.args.self.now _ c.in_ok-key.key c.in_ok-key.ensures.exact refl c.stamp.ensures.kept c.stamp.ensures.call.faults_kept (Ok a)
+    c.in_ok-answer.ensures.answer c.in_ok-answer.ensures.given c.in_ok-answer.ensures.faults (omega (arith, c.in_ok-answer.ensures.counted, c.stamp.ensures.call.within)))

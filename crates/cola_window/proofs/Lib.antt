@@ -1,0 +1,6 @@
+pub mod Fronts
+pub mod Going
+pub mod Taking
+pub mod Merging
+pub mod Sought
+pub mod Stopping

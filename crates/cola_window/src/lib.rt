@@ -1,0 +1,8 @@
+//! A merge of cells where their bytes lie.
+#![tactic(auto)]
+
+mod seeking;
+mod windows;
+
+pub use seeking::{Stop, seek_window};
+pub use windows::{Lasts, Rules, Taken, merge_windows};

@@ -1,0 +1,277 @@
+"""Tests of cola_cluster over workers that are processes of this machine, which are killed, stopped and let go on. They run by
+tests/cluster.sh, which says where the modules and the library are. The last line is 'N passed, M failed'."""
+
+import logging
+import os
+import random
+import signal
+import subprocess
+import sys
+import tempfile
+import threading
+import time
+
+import cola
+import cola_cluster
+from distributed import Client, LocalCluster
+
+passed, failed = 0, 0
+
+
+def check(what, is_right):
+    global passed, failed
+    if is_right:
+        passed += 1
+    else:
+        failed += 1
+        print("FAILED:", what, flush=True)
+
+
+def refuses(kind, call):
+    """Whether a call raises this, and nothing else."""
+    try:
+        call()
+    except kind:
+        return True
+    return False
+
+
+class Room:
+    """Folders for a store, and the words of create that all tests share."""
+
+    def __init__(self, client, path):
+        self.client, self.path, self.made = client, path, 0
+
+    def words(self, **words):
+        self.made += 1
+        at = os.path.join(self.path, str(self.made))
+        os.makedirs(os.path.join(at, "shared"))
+        return {"folder": os.path.join(at, "own"), "shared": os.path.join(at, "shared"), "journal": os.path.join(at, "journal"),
+                "patience": 20, **words}
+
+    def create(self, **words):
+        words = self.words(**words)
+        return cola_cluster.create(self.client, "events", **words), words["journal"]
+
+    def process(self, store, at):
+        """The process of the worker that has a shard."""
+        return self.client.run(os.getpid, workers=[store._parts[at].worker])[store._parts[at].worker]
+
+
+def rows_of(count, random_):
+    """Rows in an order of their own, some keys twice, a tenth of them taken out again."""
+    for _ in range(count):
+        number = random_.randrange(count)
+        yield b"key%07d" % number, None if random_.random() < 0.1 else b"value%d" % random_.randrange(10**9)
+
+
+def made(rows):
+    """The map of rows, as a dictionary."""
+    wanted = {}
+    for key, value in rows:
+        if value is None:
+            wanted.pop(key, None)
+        else:
+            wanted[key] = value
+    return wanted
+
+
+def same(store, wanted):
+    """Whether a store has exactly these pairs, in order."""
+    return list(store.range()) == sorted(wanted.items()) and store.count() == len(wanted)
+
+
+def as_a_dictionary(room):
+    random_ = random.Random(1)
+    rows = list(rows_of(200_000, random_))
+    wanted = made(rows)
+    splits = cola_cluster.splits_of([key for key, _ in random_.sample(rows, 1000)], 4)
+    store, journal = room.create(keys=100_000, splits=splits)
+    store.put_rows(iter(rows))
+    check("200,000 rows are those of a dictionary", same(store, wanted))
+    keys = [b"key%07d" % random_.randrange(300_000) for _ in range(5000)] + [b"absent"]
+    check("many keys at once", store.get_many(keys) == [wanted.get(key) for key in keys])
+    pairs = sorted(wanted.items())
+    for _ in range(5):
+        low, high = sorted(b"key%07d" % random_.randrange(250_000) for _ in range(2))
+        check("a range over shards", list(store.range(low, high)) == [it for it in pairs if low <= it[0] < high])
+    check("a prefix", list(store.prefix(b"key00123")) == [it for it in pairs if it[0].startswith(b"key00123")])
+    check("a prefix without an end", list(store.prefix(b"\xff")) == [] and list(store.prefix(b"")) == pairs)
+    check("an empty range", list(store.range(b"z", b"a")) == [])
+    size = os.path.getsize(journal)
+    store.checkpoint()
+    check("a checkpoint cuts the journal", os.path.getsize(journal) < 2000 < size)
+    check("and leaves the map", same(store, wanted))
+    store.put_rows([(b"behind", b"the checkpoint"), (b"key", b"again")])
+    wanted.update({b"behind": b"the checkpoint", b"key": b"again"})
+    store.close()
+    store.close()
+    check("a closed store refuses calls", refuses(cola.Closed, lambda: store.get_many([b"a"])))
+    check("and its journal is no new store's", refuses(FileExistsError, lambda: cola_cluster.create(
+        room.client, "other", keys=10, folder=".", shared=".", journal=journal)))
+    with cola_cluster.open(room.client, journal) as store:
+        check("it is opened again", same(store, wanted))
+        for row in (b"", b"value"), (b"k" * 25, b"value"), (b"key", b"v" * 33):
+            check("a row that is too long is refused", refuses(cola.Length, lambda: store.put_rows([(b"new", b"1"), row])))
+        check("text is refused", refuses(TypeError, lambda: store.put_rows([("key", b"value")])))
+        check("and nothing of its batch is made", same(store, wanted))
+    with open(journal, "ab") as file:
+        file.write(b"\x50\0\0\0torn")
+    with cola_cluster.open(room.client, journal) as store:
+        check("a write of the journal that was cut off", same(store, wanted))
+    check("splits that do not rise", refuses(ValueError, lambda: room.create(keys=10, splits=[b"b", b"a"])))
+
+
+def from_a_bag(room):
+    import dask.bag
+    bag = dask.bag.from_sequence(range(2000), npartitions=4).map(lambda number: (b"bag%05d" % number, b"%d" % number))
+    store, _ = room.create(keys=2000, splits=[b"bag01000"])
+    store.put_rows(bag)
+    check("the rows of a bag", same(store, {b"bag%05d" % number: b"%d" % number for number in range(2000)}))
+    store.close()
+
+
+def killed_between_batches(room):
+    random_ = random.Random(2)
+    for journal in {}, {"journal": None}:
+        rows = list(rows_of(20_000, random_))
+        store, _ = room.create(keys=20_000, splits=[b"key0010000"], **journal)
+        store.put_rows(rows[:8000])
+        store.checkpoint()
+        store.put_rows(rows[8000:12000], batch=1000)
+        os.kill(room.process(store, 0), signal.SIGKILL)
+        store.put_rows(rows[12000:], batch=1000)
+        check("a worker that is killed between two batches", same(store, made(rows)))
+        os.kill(room.process(store, 1), signal.SIGKILL)
+        check("a worker that is killed before a question", same(store, made(rows)))
+        store.close()
+
+
+def killed_in_a_checkpoint(room):
+    random_ = random.Random(3)
+    rows = list(rows_of(20_000, random_))
+    store, journal = room.create(keys=100_000, splits=[b"key0010000"])
+    for at in range(4):
+        store.put_rows(rows[at * 5000:(at + 1) * 5000], batch=1000)
+        process = room.process(store, at % 2)
+        killer = threading.Timer(0.005 * at, os.kill, (process, signal.SIGKILL))
+        killer.start()
+        store.checkpoint()
+        killer.join()
+        check("a worker that is killed in a checkpoint", same(store, made(rows[:(at + 1) * 5000])))
+    store.close()
+    with cola_cluster.open(room.client, journal) as store:
+        check("and the store is opened again", same(store, made(rows)))
+
+
+def stopped(room):
+    random_ = random.Random(4)
+    rows = list(rows_of(12_000, random_))
+    store, _ = room.create(keys=12_000, splits=[b"key0006000"], patience=3)
+    store.put_rows(rows[:4000])
+    process, files = room.process(store, 0), {part.name for part in store._parts}
+    os.kill(process, signal.SIGSTOP)
+    store.put_rows(rows[4000:8000], batch=500)
+    check("a worker that does not answer is replaced", same(store, made(rows[:8000])))
+    os.kill(process, signal.SIGCONT)
+    store.put_rows(rows[8000:], batch=500)
+    time.sleep(1)
+    check("where it lives on, nothing of it is seen", same(store, made(rows)))
+    check("its successor has a file of its own", store._parts[0].name not in files and store._parts[1].name in files)
+    store.close()
+
+
+def split(room):
+    random_ = random.Random(5)
+    rows = list(rows_of(12_000, random_))
+    store, journal = room.create(keys=2000, splits=[b"key0006000"])
+    before = len(store._parts)
+    store.put_rows(rows, batch=700)
+    check("full shards are split", len(store._parts) >= before + 2)
+    check("under load, and no row is lost", same(store, made(rows)))
+    names = {part.name for part in store._parts[-1:]}
+    store.put_rows([(b"a%05d" % number, b"") for number in range(3000)])
+    check("a split moves no other shard", names <= {part.name for part in store._parts})
+    store.__exit__(RuntimeError, None, None)
+    wanted = made(rows) | {b"a%05d" % number: b"" for number in range(3000)}
+    with cola_cluster.open(room.client, journal) as store:
+        check("a store that was not closed is opened from its journal", same(store, wanted))
+
+
+CLIENT = """
+import sys, cola_cluster
+from distributed import Client
+address, journal, shared, own = sys.argv[1:]
+client = Client(address, direct_to_workers=True)
+store = cola_cluster.create(client, "killed", keys=1500, folder=own, shared=shared, journal=journal, splits=[b"key0002000"])
+for at in range(100):
+    store.put_rows([(b"key%07d" % (at * 40 + row), b"%d" % at) for row in range(40)])
+    print(at, flush=True)
+    if at % 30 == 20:
+        store.checkpoint()
+"""
+
+
+def client_killed(room):
+    random_ = random.Random(6)
+    for _ in range(3):
+        words = room.words()
+        child = subprocess.Popen([sys.executable, "-c", CLIENT, room.client.scheduler.address, words["journal"],
+                                  words["shared"], words["folder"]], stdout=subprocess.PIPE, text=True)
+        answered = -1
+        for line in child.stdout:
+            answered = int(line)
+            if answered >= 10 and random_.random() < 0.03:
+                break
+        time.sleep(random_.random() / 50)
+        child.kill()
+        rest = child.stdout.read().split()
+        child.wait()
+        answered = int(rest[-1]) if rest else answered
+        with cola_cluster.open(room.client, words["journal"]) as store:
+            found = dict(store.range())
+        wanted = {b"key%07d" % (at * 40 + row): b"%d" % at for at in range(answered + 1) for row in range(40)}
+        more = {key: value for key, value in found.items() if key not in wanted}
+        check("what was answered outlives its client", wanted.items() <= found.items())
+        check("and of the batch under way all or nothing is there", len(more) in (0, 40))
+
+
+def none_left():
+    with tempfile.TemporaryDirectory() as path, \
+            LocalCluster(n_workers=1, threads_per_worker=1, dashboard_address=None, silence_logs=logging.CRITICAL) as cluster, \
+            Client(cluster, direct_to_workers=True) as client:
+        room = Room(client, path)
+        store, journal = room.create(keys=100, patience=30)
+        store.put_rows([(b"a", b"1")])
+        os.kill(room.process(store, 0), signal.SIGKILL)
+        check("the only worker is killed, and comes again", same(store, {b"a": b"1"}))
+        store._patience = 1
+        cluster.scale(0)
+        while client.scheduler_info()["workers"]:
+            time.sleep(0.1)
+        check("no worker is left", refuses(cola_cluster.Lost, lambda: store.put_rows([(b"b", b"2")])))
+        cluster.scale(1)
+        client.wait_for_workers(1)
+        with cola_cluster.open(client, journal, patience=30) as store:
+            check("the journal has what was not answered too", same(store, {b"a": b"1", b"b": b"2"}))
+
+
+def main():
+    logging.getLogger("distributed").setLevel(logging.CRITICAL)
+    with tempfile.TemporaryDirectory() as path, \
+            LocalCluster(n_workers=3, threads_per_worker=1, dashboard_address=None, silence_logs=logging.CRITICAL) as cluster, \
+            Client(cluster, direct_to_workers=True) as client:
+        room = Room(client, path)
+        for test in as_a_dictionary, from_a_bag, killed_between_batches, killed_in_a_checkpoint, stopped, split, client_killed:
+            begun = time.monotonic()
+            client.wait_for_workers(3)
+            test(room)
+            if "-v" in sys.argv:
+                print(f"{test.__name__}: {time.monotonic() - begun:.1f} s", flush=True)
+    none_left()
+    print(f"{passed} passed, {failed} failed")
+    return failed > 0
+
+
+if __name__ == "__main__":
+    sys.exit(main())
