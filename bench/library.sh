@@ -3,11 +3,14 @@
 #
 #     bench/library.sh [COUNT [ROUNDS]]        (1000000 keys, 3 rounds)
 #
-# Each store is one process for each text: COUNT keys in random order, and in rising order (bench/library.cpp). It prints a table
-# with the seconds, passed and of processor, their ratios to LevelDB's, the median, the 99.9th percentile and the worst call, and
-# the peak memory, and then what became of the aims. It wants a C++ compiler and the library (make library builds it; LIBRARY
-# names another folder that has libcola.a). The last row of a table is what the cells alone take that the calls of cola read and
-# move, without its code (bench/accesses.c, the least of the rounds). A peer whose headers are not there is skipped and named
+# Each store is one process for each text: COUNT keys in random order, and in rising order (bench/library.cpp). A put of cola
+# answers whether its key was there: so a peer looks the key up before it puts, and beside these rows are those of its puts
+# alone. With many rows at once a call is one of 1,000 rows; from Python it is update and get_many beside single calls
+# (bench/library.py). It prints a table with the seconds, passed and of processor, their ratios to those of LevelDB with look-ups,
+# the median, the 99.9th percentile and the worst call, and the peak memory; then what became of the aims, and how long all rows
+# take forwards and backwards; and what checkpoints of the resident store take (bench/checkpoints.c). It wants a C++ compiler and the library (make library builds it; LIBRARY names another folder that
+# has libcola.a, and libcola.so.1 for Python). The last row of a table is what the cells alone take that the calls of cola read
+# and move, without its code (bench/accesses.c, the least of the rounds). A peer whose headers are not there is skipped and named
 # (Debian: libleveldb-dev liblmdb-dev libsqlite3-dev libtkrzw-dev). It takes minutes and a gigabyte below TMPDIR, and means
 # something on an idle machine alone.
 set -euo pipefail
@@ -20,30 +23,38 @@ library=${LIBRARY:-out/lib}
 [ -n "${LIBRARY:-}" ] || make -s -f bindings/c/library.mk library
 
 stores=()
-# add NAME DEFINE HEADER LIBRARIES BATCH TITLE: compiles the driver for a store, where its header is there.
+# add NAME DEFINE HEADER LIBRARIES BATCH WORK TITLE: compiles the driver for a store, where its header is there.
 add() {
     if ! printf '#include <%s>\n' "$3" | c++ -std=c++17 -Iinclude -Ibindings/c -E -x c++ - >/dev/null 2>&1; then
-        echo "skipped: $6 ($3 is not installed)"
+        echo "skipped: $7 ($3 is not installed)"
         return
     fi
     [ -e "$room/$2" ] || c++ -O2 -std=c++17 -Iinclude -Ibindings/c -D"$2" -o "$room/$2" bench/library.cpp $4 -lpthread
-    stores+=("$1|$2|$5|$6")
+    stores+=("$1|$2|$5|$6|$7")
 }
-add cola-5 COLA cola_file.h "$library/libcola.a" 5 'cola, block 5'
-add cola-9 COLA cola_file.h "$library/libcola.a" 9 'cola, block 9'
-add leveldb LEVELDB leveldb/db.h -lleveldb 1 'LevelDB'
-add lmdb LMDB lmdb.h -llmdb 1 'LMDB'
-add lmdb-1000 LMDB lmdb.h -llmdb 1000 'LMDB, 1,000 puts a transaction'
-add sqlite SQLITE sqlite3.h -lsqlite3 1 'SQLite'
-add sqlite-1000 SQLITE sqlite3.h -lsqlite3 1000 'SQLite, 1,000 puts a transaction'
-add tkrzw TKRZW tkrzw_dbm_tree.h -ltkrzw 1 'Tkrzw'
+# peer NAME DEFINE HEADER LIBRARIES BATCH TITLE: the same, with look-ups and without.
+peer() {
+    add "$1" "$2" "$3" "$4" "$5" looked "$6"
+    add "$1-blind" "$2" "$3" "$4" "$5" blind "$6, puts alone"
+}
+add cola-5 COLA cola_file.h "$library/libcola.a" 5 blind 'cola, block 5'
+add cola-9 COLA cola_file.h "$library/libcola.a" 9 blind 'cola, block 9'
+add cola-resident RESIDENT cola_file.h "$library/libcola.a" 5 blind 'cola, block 5, resident'
+add cola-many COLA cola_file.h "$library/libcola.a" 5 many 'cola, block 5, 1,000 rows a call'
+peer leveldb LEVELDB leveldb/db.h -lleveldb 1 'LevelDB'
+peer lmdb LMDB lmdb.h -llmdb 1 'LMDB'
+peer lmdb-1000 LMDB lmdb.h -llmdb 1000 'LMDB, 1,000 puts a transaction'
+peer sqlite SQLITE sqlite3.h -lsqlite3 1 'SQLite'
+peer sqlite-1000 SQLITE sqlite3.h -lsqlite3 1000 'SQLite, 1,000 puts a transaction'
+peer tkrzw TKRZW tkrzw_dbm_tree.h -ltkrzw 1 'Tkrzw'
 
 cc -O2 -o "$room/accesses" bench/accesses.c
+cc -O2 -Iinclude -Ibindings/c -o "$room/checkpoints" bench/checkpoints.c "$library/libcola.a"
 
 for order in random rising; do
     for it in "${stores[@]}"; do
-        IFS='|' read -r name define batch title <<<"$it"
-        "$room/$define" "$room/$name.store" "$count" "$rounds" "$order" "$batch" >"$room/$order.$name"
+        IFS='|' read -r name define batch work title <<<"$it"
+        "$room/$define" "$room/$name.store" "$count" "$rounds" "$order" "$batch" "$work" >"$room/$order.$name"
         rm -rf "$room/$name.store"*
         echo "$title|$(cat "$room/$order.$name")" >>"$room/$order"
     done
@@ -62,9 +73,36 @@ done
 echo
 for order in random rising; do
     awk -F '[|]' -v order="$order" '
+        # part OF THAT: how much the one takes of the other.
+        function part(of, that) { return sprintf("%.2f", both[of] / both[that]) }
         { split($2, n, " "); both[$1] = n[1] + n[6]; worst[$1] = n[5] }
         END {
-            if ("LevelDB" in both) printf "The text of keys in %s order takes %.2f of the time of LevelDB (the aim: 1).\n", order, both["cola, block 5"] / both["LevelDB"]
+            for (block = 5; block <= 9; block += 4) {
+                it = "cola, block " block
+                if (!("LevelDB" in both)) continue
+                printf "The text of keys in %s order takes %s of the time of LevelDB with look-ups, ", order, part(it, "LevelDB")
+                printf "and %s of that of its puts alone (%s).\n", part(it, "LevelDB, puts alone"), it
+            }
+            it = "cola, block 5, 1,000 rows a call"
+            printf "By 1,000 rows a call it takes %s of the time of single calls in %s order.\n", part(it, "cola, block 5"), order
             if ("LMDB" in both) printf "The worst put in %s order takes %.2f of that of LMDB (the aim: 0.1).\n", order, worst["cola, block 5"] / worst["LMDB"]
+            if ("Tkrzw" in both) printf "The worst put of a resident store in %s order takes %.2f of that of Tkrzw (the aim: 0.6).\n", order, worst["cola, block 5, resident"] / worst["Tkrzw"]
         }' "$room/$order"
 done
+printf '\n| all rows of %s keys, put in random order | forwards, seconds | backwards | beside forwards |\n|---|---:|---:|---:|\n' "$count"
+for it in "${stores[@]}"; do
+    IFS='|' read -r name define batch work title <<<"$it"
+    case $name in cola-5 | cola-9 | leveldb | lmdb) ;; *) continue ;; esac
+    rows=$("$room/$define" "$room/$name.store" "$count" "$rounds" random "$batch" rows)
+    rm -rf "$room/$name.store"*
+    awk -v title="$title" '{ printf("| %s | %.3f | %.3f | %s |\n", title, $1, $2, $1 > 0 ? sprintf("%.2f", $2 / $1) : "") }' <<<"$rows"
+done
+echo
+if [ -e "$library/libcola.so.1" ] && command -v python3 >/dev/null; then
+    for order in random rising; do
+        COLA_LIBRARY=$library/libcola.so.1 PYTHONPATH=bindings/python PYTHONDONTWRITEBYTECODE=1 \
+            python3 bench/library.py "$room/python.store" "$count" "$rounds" "$order"
+    done
+else
+    echo 'skipped: many rows at once from Python (there is no python3, or no libcola.so.1)'
+fi

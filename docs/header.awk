@@ -3,7 +3,7 @@
 #     awk -v version=1.0 -f docs/header.awk include/cola.h bindings/c/cola_file.h >cola.3
 #
 # A header begins with a comment, which says what it is for. Behind it, parted by empty lines, are pieces of code, each with its
-# comment before it: the enumeration of answers, calls, and types and limits, which are shown as they are.
+# comment before it: the enumerations of answers, calls, and types and limits, which are shown as they are.
 
 # Text as roff takes it, with the names of the library in bold.
 function prose(text) {
@@ -64,7 +64,7 @@ function take(    call, at, line, count, tag) {
             else calls = calls ".SS " name "\n" paragraphs(said)
         }
     } else if (piece ~ /(^|\n)enum /) {
-        returned = returned paragraphs(said) answers(piece)
+        returned = returned (returned == "" ? "" : ".PP\n") paragraphs(said) answers(piece)
     } else if (piece ~ /\);\n$/ && piece !~ /\{/) {
         count = split(piece, line, "\n")
         for (at = 1; at < count; at++) {

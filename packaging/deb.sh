@@ -29,7 +29,7 @@ take python3-cola usr/bin/cola-shell usr/bin/cola-shell
 take python3-cola usr/share/man/man1/cola-shell.1 usr/share/man/man1/cola-shell.1
 sed -i '1s|.*|#!/usr/bin/python3|' "$room/python3-cola/usr/bin/cola-shell"
 take cola usr usr
-strip --strip-unneeded "$room/cola/usr/libexec/cola/cola" "$room/libcola1/$libraries/libcola.so.1"
+strip --strip-unneeded "$room/cola/usr/libexec/cola/cola" "$room/cola/usr/bin/cola-recover" "$room/libcola1/$libraries/libcola.so.1"
 strip -D --strip-debug "$room/libcola-dev/$libraries/libcola.a"
 
 # The changes in the form of Debian: a version's list, with its day.

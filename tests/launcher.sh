@@ -42,6 +42,11 @@ run "$root/cola" 'mem 4' </dev/null
 check 'a word with a space in it stays one word' ended 2
 run "$root/cola" mem 4 '' </dev/null
 check 'an empty word stays a word' ended 2
+"$root/cola" create kept --keys 4 >"$room/out" && echo 'of a session' >kept-journal
+run "$root/cola" run kept </dev/null
+check 'a file with a journal beside it is opened as before' ended 0
+check 'the journal is told in one line' complained 'cola-recover kept finishes its checkpoint'
+rm kept-journal
 run "$root/cola" mem 4 <"$root"
 check 'an input that cannot be read ends with 3' ended 3
 check 'status 3 is told in one line' complained 'status 3: reading the input failed'

@@ -33,8 +33,9 @@ library=$(cd "$library" && pwd -P) || exit 1
 program=$root/crates/cola/out/cola
 strict="-std=gnu11 -Wall -Wextra -Werror"
 folders="-Iinclude -Ibindings/c -Itests/library"
-fails="-Wl,--wrap=malloc,--wrap=realloc" # (the test of errors counts allocations)
-calls="close fchmod flock fstat fsync ftruncate mkostemp mmap msync munmap open posix_fallocate pread pwrite rename stat unlink"
+fails="-Wl,--wrap=malloc,--wrap=realloc" # (two tests count allocations)
+calls="close fchmod flock fstat fstatat fsync ftruncate madvise mkostemp mmap msync munmap open openat posix_fallocate pread pwrite realpath
+    rename stat unlink unlinkat"
 wraps=$(printf -- '-Wl,--wrap=%s ' $calls) # (the test of failing calls counts these)
 
 # compiles OUT FLAGS FILE..: whether the C compiler takes the files without a warning.
@@ -62,26 +63,28 @@ if is_there c++ 'the header as C++'; then
     check 'the headers are C++' c++ -x c++ -std=c++11 -pedantic -Wall -Wextra -Werror $folders -fsyntax-only "$room/alone.c"
 fi
 
-# The answers of the header are those of the crate, Answer::Done and Answer::Absent as COLA_OK and COLA_NONE; the C files give three more.
+# The answers of the header are those of the crates, Answer::Done and Answer::Absent as COLA_OK and COLA_NONE; the C files give four more.
 has_answers() {
-    sed -n 's/^ *COLA_\([A-Z_]*\) = \([0-9]*\)[^0-9]*.*/\2 \1/p' include/cola.h | grep -vE ' (NULL|SYSTEM|READ_ONLY_STORE)$' >"$room/header"
-    sed -n 's/^ *Answer::\([A-Za-z]*\) => \([0-9]*\),$/\2 \1/p' crates/cola_handle/src/answer.rt |
-        sed 's/Done/Ok/; s/Absent/None/; s/\([a-z]\)\([A-Z]\)/\1_\2/g' | tr 'a-z' 'A-Z' >"$room/answers"
-    [ "$(wc -l <"$room/header")" -eq 16 ] && diff "$room/header" "$room/answers"
+    sed -n 's/^ *COLA_\([A-Z_]*\) = \([0-9]*\)[^0-9]*.*/\2 \1/p' include/cola.h | grep -vE ' (NULL|SYSTEM|READ_ONLY_STORE|UNFINISHED|SOUND|FLAW_[A-Z]*)$' >"$room/header"
+    sed -n 's/^ *\(Answer\|ToolFault\|Verdict\)::\([A-Za-z]*\)[^=]* => \([0-9]*\),$/\3 \2/p' crates/cola_handle/src/answer.rt crates/cola_c/src/tools.rt |
+        sort -n | sed 's/Done/Ok/; s/Absent/None/; s/\([a-z]\)\([A-Z]\)/\1_\2/g' | tr 'a-z' 'A-Z' >"$room/answers"
+    [ "$(wc -l <"$room/header")" -eq 19 ] && diff "$room/header" "$room/answers"
 }
-check 'the answers of the header are those of the crate' has_answers
+check 'the answers of the header are those of the crates' has_answers
 
 has_calls() {
     cat include/cola.h bindings/c/cola_file.h | sed -n 's/^[a-z].*[ *]\(cola_[a-z_]*\)(.*/\1/p' | sort >"$room/header"
     nm -D --defined-only "$library/libcola.so" | awk '$2 != "A" { if (!sub(/@@COLA_[0-9.]*$/, "", $3)) $3 = $3 " has no version"; print $3 }' | sort >"$room/calls"
-    [ "$(wc -l <"$room/header")" -eq 23 ] && diff "$room/header" "$room/calls"
+    [ "$(wc -l <"$room/header")" -eq 40 ] && diff "$room/header" "$room/calls"
 }
 check 'libcola.so has the calls of the headers, each with its version, and nothing else' has_calls
 
-# has_wraps: whether the calls of the system that the library makes are those that the test lets fail. (getpid and sysconf do not fail.)
+# has_wraps: whether the calls of the system that the library makes are those that the test lets fail. (Those that are left out
+# here do not fail, or take memory alone.)
 has_wraps() {
-    ar p "$library/libcola.a" cola_file.o >"$room/cola_file.o" || return
-    nm -u "$room/cola_file.o" | awk '{ print $2 }' | grep -vE '^(cola_|_)|^(getpid|sysconf|snprintf|strrchr)$' | sort >"$room/calls"
+    local it
+    for it in cola_disk cola_file cola_file_tools cola_journal cola_resident; do ar p "$library/libcola.a" "$it.o" >"$room/$it.o" && nm -u "$room/$it.o" || return; done |
+        awk '{ print $2 }' | grep -vE '^(cola_|_)|^(getpid|sysconf|clock_gettime|malloc|free|snprintf|(mem|str)[a-z]*)$' | sort -u >"$room/calls"
     printf '%s\n' $calls | diff - "$room/calls"
 }
 check 'the test of failing calls knows each call of the system' has_wraps
@@ -91,16 +94,39 @@ check 'what is handed to the proved calls compiles' cc -O1 -g $strict $folders t
 check 'what is handed to the proved calls' quietly "$room/handed"
 check 'the test of answers compiles' compiles errors "-O2 -g $fails" tests/library/errors.c
 check 'the test of many rows compiles' compiles many '-O2 -g' tests/library/many.c
+check 'the test of rows backwards compiles' compiles backward '-O2 -g' tests/library/backward.c
+check 'the test of whole stores compiles' compiles tools "-O2 -g $fails" tests/library/tools.c
 check 'the test of random calls compiles' compiles random '-O2 -g' tests/library/random.c
 check 'the test of killed processes compiles' compiles killed '-O2 -g' tests/library/killed.c
 check 'the test of failing calls compiles' compiles failing "-O2 -g $wraps" tests/library/failing.c
+check 'the test of resident stores compiles' compiles resident '-O2 -g -Wl,--wrap=pwrite,--wrap=fsync' tests/library/resident.c
+disk=-Wl,--wrap=pwrite,--wrap=fsync,--wrap=ftruncate,--wrap=open,--wrap=openat,--wrap=unlinkat
+check 'the test of what a disk may be left as compiles' compiles states "-O2 -g $disk" tests/library/states.c
 check 'the example in C compiles' compiles words '-O2 -g' examples/words.c
 check 'each answer is met' quietly "$room/errors" "$room"
 check 'many rows at once, and the keys that begin so' quietly "$room/many"
+check 'rows backwards, and what a store says of itself' quietly "$room/backward"
+check 'stores are checked, grown and loaded' quietly "$room/tools" "$room"
 # (a hundred thousand of these calls are on small stores)
 check 'random calls, and a copy for the program after each hundred' quietly "$room/random" "$room" 125000 100 "$program"
 check 'killed processes leave a file that is refused, and their last copy' quietly "$room/killed" "$room" 20
 check 'a call of the system that fails, or is the last, leaves a file that is whole or refused' quietly "$room/failing" "$room"
+memory=$room # (a folder in memory, where there is one)
+[ ! -w /dev/shm ] || memory=$(mktemp -d /dev/shm/cola.XXXXXX) && trap 'rm -rf "$room" "$memory"' EXIT
+check 'resident stores, on disks that are full or fail, with journals of all kinds' quietly "$room/resident" "$memory"
+check 'processes with resident stores that are killed leave the last checkpoint' quietly "$room/killed" "$memory" 300 resident
+check 'from 100,000 states of a disk a recovery makes a checkpoint, byte for byte' quietly "$room/states" "$memory" 100000
+
+# are_sound: whether the program finds each of the files sound that a recovery may make.
+are_sound() {
+    local it count=0
+    for it in "$memory"/states.files/checkpoint-*; do
+        "$program" check "$it" >"$room/out" && grep -q '^sound ' "$room/out" || return
+        count=$((count + 1))
+    done
+    [ "$count" -gt 100 ]
+}
+check 'which the program finds sound' are_sound
 check 'an index of words in C' is_index "$room/words"
 "$program" check "$room/index" >"$room/out"
 check 'its file is sound' grep -qx 'sound 85' "$room/out"
@@ -110,6 +136,8 @@ if is_there valgrind 'the calls under valgrind'; then
     check 'what is handed to the proved calls, under valgrind' quietly $valgrind "$room/handed"
     check 'each answer, under valgrind' quietly $valgrind "$room/errors" "$room"
     check 'many rows, under valgrind' quietly $valgrind "$room/many"
+    check 'rows backwards, under valgrind' quietly $valgrind "$room/backward"
+    check 'whole stores, under valgrind' quietly $valgrind "$room/tools" "$room"
     check 'random calls, under valgrind' quietly $valgrind "$room/random" "$room" 3000 500
     check 'an index of words in C, under valgrind' is_index $valgrind "$room/words"
 fi
@@ -120,10 +148,16 @@ if cc $sanitizers "$room/empty.c" -o "$room/empty" 2>/dev/null && "$room/empty";
     check 'what is handed on, with sanitizers' quietly "$room/handed_sane"
     check 'the tests compile with sanitizers' compiles errors_sane "$sanitizers $fails" tests/library/errors.c bindings/c/*.c
     check 'many rows compile with sanitizers' compiles many_sane "$sanitizers" tests/library/many.c bindings/c/*.c
+    check 'rows backwards compile with sanitizers' compiles backward_sane "$sanitizers" tests/library/backward.c bindings/c/*.c
+    check 'whole stores compile with sanitizers' compiles tools_sane "$sanitizers $fails" tests/library/tools.c bindings/c/*.c
     check 'random calls compile with sanitizers' compiles random_sane "$sanitizers" tests/library/random.c bindings/c/*.c
     check 'the example compiles with sanitizers' compiles words_sane "$sanitizers" examples/words.c bindings/c/*.c
+    check 'resident stores compile with sanitizers' compiles resident_sane "$sanitizers -Wl,--wrap=pwrite,--wrap=fsync" tests/library/resident.c bindings/c/*.c
+    check 'resident stores, with sanitizers' quietly "$room/resident_sane" "$memory"
     check 'each answer, with sanitizers' quietly "$room/errors_sane" "$room"
     check 'many rows, with sanitizers' quietly "$room/many_sane"
+    check 'rows backwards, with sanitizers' quietly "$room/backward_sane"
+    check 'whole stores, with sanitizers' quietly "$room/tools_sane" "$room"
     check 'random calls, with sanitizers' quietly "$room/random_sane" "$room" 10000 500
     check 'an index of words in C, with sanitizers' is_index "$room/words_sane"
 else
@@ -135,8 +169,8 @@ prefix="$room/prefix"
 with_make() { quietly make -s -f bindings/c/library.mk "$1-library" LIBRARY="$library" PREFIX="$prefix" DESTDIR=; }
 check 'it is installed' with_make install
 check 'nothing else is written' [ "$(cd "$prefix" && find . -type f | LC_ALL=C sort | tr '\n' ' ')" = \
-    "./bin/cola-shell ./include/cola.h ./include/cola_file.h ./lib/libcola.a ./lib/libcola.so.1 ./lib/pkgconfig/cola.pc $(
-        LC_ALL=C; cd bindings/python && printf './share/cola/%s ' cola/*.py cola_cluster.py)./share/man/man1/cola-shell.1 ./share/man/man3/cola.3 " ]
+    "./bin/cola-recover ./bin/cola-shell ./include/cola.h ./include/cola_file.h ./lib/libcola.a ./lib/libcola.so.1 ./lib/pkgconfig/cola.pc $(
+        LC_ALL=C; cd bindings/python && printf './share/cola/%s ' cola/*.py cola_cluster.py)./share/man/man1/cola-recover.1 ./share/man/man1/cola-shell.1 ./share/man/man3/cola.3 " ]
 check 'a program that is linked without a number finds it' [ "$(readlink "$prefix/lib/libcola.so")" = libcola.so.1 ]
 # first PAGE WORD: the first block of a page that has the word.
 first() {

@@ -50,6 +50,7 @@ check 'the manual page has it' grep -q "^\.TH COLA 1 .*\"cola $version\"" docs/c
 check 'the changes begin with it' [ "$(sed -n 's/^## \(.*\), [0-9-]*$/\1/p' CHANGELOG.md | head -n 1)" = "$version" ]
 check 'the module for Python has it' grep -qx "__version__ = \"$version\"" bindings/python/cola/__init__.py
 check 'and the page of its shell' grep -q "^\.TH COLA-SHELL 1 .*\"cola $version\"" docs/cola-shell.1
+check 'and that of its recovery' grep -q "^\.TH COLA-RECOVER 1 .*\"cola $version\"" docs/cola-recover.1
 three=$version
 case $version in *.*.*) ;; *) three=$version.0 ;; esac
 check 'the crate for Rust has it' [ "$(sed -n 's/^version = "\(.*\)"/\1/p' bindings/rust/Cargo.toml)" = "$three" ]
@@ -130,7 +131,7 @@ check 'and it is said that the library is not' grep -q '^cola: .*make library' "
 check 'what is installed answers' [ "$(printf 'put a 1\nget a\n' | PATH=$tools "$room/first/bin/cola" mem 4)" = $'new\nval 1' ]
 check 'a built library is installed with nothing built' in_clone make -s install PREFIX="$room/second" LIBRARY="$library"
 check 'it has the program, the library, the shell and their pages' \
-    [ "$(install_lists second | grep -cE '^./(bin/cola(-shell)?|libexec/cola/cola|lib/libcola.(a|so.1)|share/man/man[13]/cola(-shell)?.[13])$')" -eq 8 ]
+    [ "$(install_lists second | grep -cE '^./(bin/cola(-shell|-recover)?|libexec/cola/cola|lib/libcola.(a|so.1)|share/man/man[13]/cola(-shell|-recover)?.[13])$')" -eq 10 ]
 check 'it is taken off' in_clone make -s uninstall PREFIX="$room/second"
 check 'and leaves no file' [ -z "$(find "$room/second" ! -type d)" ]
 awk -v version="$version" -f docs/header.awk include/cola.h bindings/c/cola_file.h >"$room/cola.3"
@@ -241,7 +242,7 @@ if [ -n "$has_deb" ] && has dpkg 'the packages in a root'; then
     cp "$room"/made/*.deb "$target/packages"
     check 'the packages are installed' in_dpkg -i $(cd "$target/packages" && printf "$at/packages/%s " *.deb)
     check 'a first session is served' serves "$at/usr/bin/cola"
-    for it in man1/cola.1 man1/cola-shell.1 man3/cola.3; do check "there is the page $it" gzip -t "$target/usr/share/man/$it.gz"; done
+    for it in man1/cola.1 man1/cola-shell.1 man1/cola-recover.1 man3/cola.3; do check "there is the page $it" gzip -t "$target/usr/share/man/$it.gz"; done
     check 'there is the completion' cmp docs/cola.bash "$target/usr/share/bash-completion/completions/cola"
     if [ -n "$has_c" ]; then
         export PKG_CONFIG_LIBDIR=$target/usr/lib/$triplet/pkgconfig PKG_CONFIG_SYSROOT_DIR=$target

@@ -29,8 +29,18 @@ int32_t cola_core_delete(cola *store, const void *key, size_t key_len);
 int32_t cola_core_count(cola *store, uint64_t *count);
 int32_t cola_core_seek(cola_cursor *cursor, const void *low, size_t low_len, const void *high, size_t high_len, bool bounded);
 int32_t cola_core_next(cola *store, cola_cursor *cursor, cola_row *rows, size_t most, size_t *given);
+int32_t cola_core_seek_last(cola_cursor *cursor, const void *high, size_t high_len, bool bounded);
+int32_t cola_core_prev(cola *store, cola_cursor *cursor, cola_row *rows, size_t most, size_t *given);
+int32_t cola_core_info(cola *store, cola_store_info *info);
+int32_t cola_core_level(cola *store, uint8_t level, cola_level_info *info);
+int32_t cola_core_check(const void *bytes, size_t len, cola_verdict *verdict);
+int32_t cola_core_grow(const void *bytes, size_t len, cola_region *to, uint64_t keys, uint8_t block, uint64_t *rows);
+int32_t cola_core_load_begin(cola_load *load, cola_region *region, uint64_t keys, uint8_t block, uint8_t version);
+int32_t cola_core_load_row(cola_load *load, const void *key, size_t key_len, const void *value, size_t value_len);
+int32_t cola_core_load_end(cola_load *load, cola_region *region, uint64_t *rows);
 int32_t cola_core_checkpoint(cola *store, cola_region *region);
-int32_t cola_core_close(cola *store, cola_region *region);
+int32_t cola_core_open_marked(cola *store, cola_region *region, cola_region *marks);
+int32_t cola_core_close(cola *store, cola_region *region, cola_region *marks);
 
 /* Whether bytes are said to be where there can be none. */
 static bool is_null(const void *bytes, size_t len) { return bytes == NULL && len > 0; }
@@ -50,8 +60,14 @@ static bool is_true(const bool *it) {
     return byte != 0;
 }
 
+/* Why nothing may be written to the store, where it is open: it is read alone, or a checkpoint of its file is not finished. */
+static int32_t refusal(const cola *store) {
+    if (!is_true(&store->is_open)) return COLA_OK;
+    return is_true(&store->is_read_only) ? COLA_READ_ONLY_STORE : is_true(&store->is_unfinished) ? COLA_UNFINISHED : COLA_OK;
+}
+
 /* Whether the store is open, to be read alone. */
-static bool is_read_only(const cola *store) { return is_true(&store->is_open) && is_true(&store->is_read_only); }
+static bool is_read_only(const cola *store) { return refusal(store) == COLA_READ_ONLY_STORE; }
 
 /* Takes back the handle that a call had, and gives its answer. */
 static int32_t back(cola *store, const cola *own, int32_t answer) {
@@ -80,14 +96,24 @@ int32_t cola_open(cola *store, void *bytes, size_t len) {
     cola_region region = {bytes, len};
     cola own = *store;
     int32_t answer = back(store, &own, cola_core_open(&own, &region));
-    if (answer == COLA_OK) store->is_read_only = false;
+    if (answer == COLA_OK) store->is_read_only = store->is_unfinished = false;
+    return answer;
+}
+
+int32_t cola_open_marked(cola *store, void *bytes, size_t len, uint8_t *marks, size_t pages) {
+    if (store == NULL || bytes == NULL || marks == NULL) return COLA_NULL;
+    cola_region region = {bytes, len}, lent = {marks, pages};
+    cola own = *store;
+    int32_t answer = back(store, &own, cola_core_open_marked(&own, &region, &lent));
+    if (answer == COLA_OK) store->is_read_only = store->is_unfinished = false;
     return answer;
 }
 
 int32_t cola_put(cola *store, const void *key, size_t key_len, const void *value, size_t value_len, bool *was) {
     bool told = false;
     if (store == NULL || is_null(key, key_len) || is_null(value, value_len)) return COLA_NULL;
-    if (is_read_only(store)) return COLA_READ_ONLY_STORE;
+    int32_t refused = refusal(store);
+    if (refused != COLA_OK) return refused;
     cola own = *store;
     int32_t answer = back(store, &own, cola_core_put(&own, some(key), of_key(key_len), some(value), of_value(value_len), &told));
     if (answer == COLA_OK && was != NULL) *was = told;
@@ -97,7 +123,8 @@ int32_t cola_put(cola *store, const void *key, size_t key_len, const void *value
 int32_t cola_put_if(cola *store, const void *key, size_t key_len, uint64_t seen, const void *value, size_t value_len, uint64_t *stamp) {
     uint64_t unasked = 0;
     if (store == NULL || is_null(key, key_len) || is_null(value, value_len)) return COLA_NULL;
-    if (is_read_only(store)) return COLA_READ_ONLY_STORE;
+    int32_t refused = refusal(store);
+    if (refused != COLA_OK) return refused;
     cola own = *store;
     return back(store, &own, cola_core_put_if(&own, some(key), of_key(key_len), seen, some(value), of_value(value_len),
                                               stamp == NULL ? &unasked : stamp));
@@ -117,7 +144,8 @@ int32_t cola_stamp(cola *store, const void *key, size_t key_len, uint64_t *stamp
 
 int32_t cola_delete(cola *store, const void *key, size_t key_len) {
     if (store == NULL || is_null(key, key_len)) return COLA_NULL;
-    if (is_read_only(store)) return COLA_READ_ONLY_STORE;
+    int32_t refused = refusal(store);
+    if (refused != COLA_OK) return refused;
     cola own = *store;
     return back(store, &own, cola_core_delete(&own, some(key), of_key(key_len)));
 }
@@ -129,7 +157,7 @@ static const void *value_of(const cola_row *row) { return row->value_len > COLA_
 
 int32_t cola_put_many(cola *store, const cola_row *rows, size_t count, bool *was, size_t *done) {
     if (store == NULL || (rows == NULL && count > 0) || done == NULL) return COLA_NULL;
-    int32_t answer = !is_true(&store->is_open) ? COLA_CLOSED : is_read_only(store) ? COLA_READ_ONLY_STORE : COLA_OK;
+    int32_t answer = !is_true(&store->is_open) ? COLA_CLOSED : refusal(store);
     size_t at = 0;
     while (at < count && answer == COLA_OK) {
         const cola_row *row = &rows[at];
@@ -184,7 +212,18 @@ int32_t cola_seek_prefix(cola_cursor *cursor, const void *prefix, size_t prefix_
     return cola_seek(cursor, prefix, prefix_len, len > 0 ? end : NULL, len);
 }
 
-int32_t cola_next(cola *store, cola_cursor *cursor, cola_row *rows, size_t most, size_t *given) {
+int32_t cola_seek_last(cola_cursor *cursor, const void *high, size_t high_len) {
+    cola_cursor place = {0};
+    if (cursor == NULL || is_null(high, high_len)) return COLA_NULL;
+    int32_t answer = cola_core_seek_last(&place, some(high), of_key(high_len), high != NULL);
+    if (answer == COLA_OK) *cursor = place;
+    return answer;
+}
+
+/* One of the two calls that give rows. */
+typedef int32_t walk(cola *store, cola_cursor *cursor, cola_row *rows, size_t most, size_t *given);
+
+static int32_t walks(walk *to, cola *store, cola_cursor *cursor, cola_row *rows, size_t most, size_t *given) {
     cola_row none = {0};
     cola_cursor place;
     if (store == NULL || cursor == NULL || (rows == NULL && most > 0) || given == NULL) return COLA_NULL;
@@ -192,9 +231,29 @@ int32_t cola_next(cola *store, cola_cursor *cursor, cola_row *rows, size_t most,
     memcpy(&place, cursor, sizeof place);
     place.behind = is_true(&cursor->behind);
     place.bounded = is_true(&cursor->bounded);
-    int32_t answer = back(store, &own, cola_core_next(&own, &place, rows == NULL ? &none : rows, most, given));
+    int32_t answer = back(store, &own, to(&own, &place, rows == NULL ? &none : rows, most, given));
     if (answer == COLA_OK) *cursor = place;
     return answer;
+}
+
+int32_t cola_next(cola *store, cola_cursor *cursor, cola_row *rows, size_t most, size_t *given) {
+    return walks(cola_core_next, store, cursor, rows, most, given);
+}
+
+int32_t cola_prev(cola *store, cola_cursor *cursor, cola_row *rows, size_t most, size_t *given) {
+    return walks(cola_core_prev, store, cursor, rows, most, given);
+}
+
+int32_t cola_info(cola *store, cola_store_info *info) {
+    if (store == NULL || info == NULL) return COLA_NULL;
+    cola own = *store;
+    return back(store, &own, cola_core_info(&own, info));
+}
+
+int32_t cola_level(cola *store, uint8_t level, cola_level_info *info) {
+    if (store == NULL || info == NULL) return COLA_NULL;
+    cola own = *store;
+    return back(store, &own, cola_core_level(&own, level, info));
 }
 
 int32_t cola_checkpoint(cola *store) {
@@ -206,8 +265,60 @@ int32_t cola_checkpoint(cola *store) {
 }
 
 int32_t cola_close(cola *store) {
-    cola_region region = {NULL, 0};
+    cola_region region = {NULL, 0}, marks = {NULL, 0};
     if (store == NULL) return COLA_NULL;
     cola own = *store;
-    return back(store, &own, cola_core_close(&own, &region));
+    return back(store, &own, cola_core_close(&own, &region, &marks));
+}
+
+int32_t cola_check(const void *bytes, size_t len, cola_verdict *verdict) {
+    if (is_null(bytes, len) || verdict == NULL) return COLA_NULL;
+    return cola_core_check(some(bytes), len, verdict);
+}
+
+int32_t cola_grow(const void *bytes, size_t len, void *to, size_t to_len, uint64_t keys, uint8_t block, uint64_t *rows) {
+    uint64_t unasked = 0;
+    cola_region region = {to, to_len};
+    if (is_null(bytes, len) || to == NULL) return COLA_NULL;
+    return cola_core_grow(some(bytes), len, &region, keys, block, rows == NULL ? &unasked : rows);
+}
+
+/* Takes back the handle of a load that a call had, and gives its answer. */
+static int32_t load_back(cola_load *load, const cola_load *own, int32_t answer) {
+    load->is_open = own->is_open;
+    load->at = own->at;
+    return answer;
+}
+
+int32_t cola_load_begin(cola_load *load, void *bytes, size_t len, uint64_t keys, uint8_t block, uint8_t version) {
+    cola_region region = {bytes, len};
+    if (load == NULL || bytes == NULL) return COLA_NULL;
+    cola_load own = *load;
+    return load_back(load, &own, cola_core_load_begin(&own, &region, keys, block, version));
+}
+
+int32_t cola_load_row(cola_load *load, const void *key, size_t key_len, const void *value, size_t value_len) {
+    if (load == NULL || is_null(key, key_len) || is_null(value, value_len)) return COLA_NULL;
+    cola_load own = *load;
+    return load_back(load, &own, cola_core_load_row(&own, some(key), of_key(key_len), some(value), of_value(value_len)));
+}
+
+int32_t cola_load_many(cola_load *load, const cola_row *rows, size_t count, size_t *done) {
+    if (load == NULL || (rows == NULL && count > 0) || done == NULL) return COLA_NULL;
+    int32_t answer = is_true(&load->is_open) ? COLA_OK : COLA_CLOSED;
+    size_t at = 0;
+    while (at < count && answer == COLA_OK) {
+        answer = cola_load_row(load, key_of(&rows[at]), rows[at].key_len, value_of(&rows[at]), rows[at].value_len);
+        at += answer == COLA_OK;
+    }
+    *done = at;
+    return answer;
+}
+
+int32_t cola_load_end(cola_load *load, uint64_t *rows) {
+    uint64_t unasked = 0;
+    cola_region region = {NULL, 0};
+    if (load == NULL) return COLA_NULL;
+    cola_load own = *load;
+    return load_back(load, &own, cola_core_load_end(&own, &region, rows == NULL ? &unasked : rows));
 }

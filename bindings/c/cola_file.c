@@ -7,80 +7,25 @@
 #include <limits.h>
 #include <stdio.h>
 #include <stdlib.h>
-#include <string.h>
 #include <sys/file.h>
 #include <sys/mman.h>
 #include <sys/stat.h>
 #include <unistd.h>
 
-enum { HEADER = 512 }; /* the bytes of a header, which a disk writes as a whole */
+#include "cola_disk.h"
+#include "cola_journal.h"
+#include "cola_resident.h"
 
-/* The bytes that are mapped for this process alone, and written to the file by write_all: the first page, or all of a file
+/* The bytes that are mapped for this process alone, and written to the file by cola_disk_store: the first page, or all of a file
  * that is shorter. A header that is closed, or in use, reaches the disk when it is written, and at no other moment. */
 static size_t first_of(size_t length) {
     size_t page = (size_t)sysconf(_SC_PAGESIZE);
     return length < page ? length : page;
 }
 
-/* Writes bytes at a place of the file, and waits until they are on the disk. A system that takes none and gives no reason is a
- * disk that fails. */
-static bool write_all(int descriptor, const char *bytes, size_t length, size_t place) {
-    while (length > 0) {
-        ssize_t wrote = pwrite(descriptor, bytes, length, (off_t)place);
-        if (wrote < 0 && errno == EINTR) continue;
-        if (wrote == 0) errno = EIO;
-        if (wrote <= 0) return false;
-        bytes += wrote, place += (size_t)wrote, length -= (size_t)wrote;
-    }
-    return fsync(descriptor) == 0;
-}
-
-/* Reads the first bytes of the file, and answers how many it gave, fewer at its end alone; -1 on failure. */
-static ssize_t read_first(int descriptor, char *bytes, size_t length) {
-    size_t had = 0;
-    while (had < length) {
-        ssize_t got = pread(descriptor, bytes + had, length - had, (off_t)had);
-        if (got < 0 && errno == EINTR) continue;
-        if (got < 0) return -1;
-        if (got == 0) break;
-        had += (size_t)got;
-    }
-    return (ssize_t)had;
-}
-
-/* Gives up the lock, which a child or a mapping may have too, and closes the file. */
-static void let_go(int descriptor) {
-    int error = errno;
-    flock(descriptor, LOCK_UN);
-    close(descriptor);
-    errno = error;
-}
-
-/* Waits until a name in a folder is on the disk. */
-static bool sync_name(const char *path) {
-    char folder[PATH_MAX];
-    const char *end = strrchr(path, '/');
-    if (end != NULL && end - path >= PATH_MAX) return errno = ENAMETOOLONG, false;
-    snprintf(folder, sizeof folder, "%.*s", end == NULL ? 1 : end == path ? 1 : (int)(end - path), end == NULL ? "." : path);
-    int descriptor = open(folder, O_RDONLY | O_DIRECTORY | O_CLOEXEC);
-    if (descriptor < 0) return false;
-    bool synced = fsync(descriptor) == 0;
-    int error = errno;
-    close(descriptor);
-    errno = error;
-    return synced;
-}
-
-/* Takes room on the disk for the first bytes of the file. */
-static bool take_room(int descriptor, size_t length) {
-    int error = posix_fallocate(descriptor, 0, (off_t)length);
-    errno = error;
-    return error == 0;
-}
-
 /* Makes the new store in an empty file. */
 static int32_t lay_out(int descriptor, size_t length, uint64_t keys, uint8_t block, uint8_t version) {
-    if (!take_room(descriptor, length)) return COLA_SYSTEM;
+    if (!cola_disk_take_room(descriptor, length)) return COLA_SYSTEM;
     void *bytes = mmap(NULL, length, PROT_READ | PROT_WRITE, MAP_SHARED, descriptor, 0);
     if (bytes == MAP_FAILED) return COLA_SYSTEM;
     int32_t answer = cola_create(bytes, length, keys, block, version);
@@ -108,13 +53,13 @@ int32_t cola_file_create(const char *path, uint64_t keys, uint8_t block, uint8_t
         removes = is_new && about.st_size == 0;
         empties = !is_new && about.st_size == 0;
         answer = about.st_size != 0 ? COLA_NOT_EMPTY : lay_out(descriptor, (size_t)length, keys, block, version);
-        if (answer == COLA_OK && !sync_name(path)) answer = COLA_SYSTEM;
+        if (answer == COLA_OK && !cola_disk_sync_name(path)) answer = COLA_SYSTEM;
     }
     int error = errno;
     if (answer != COLA_OK && removes) unlink(path);
     if (answer != COLA_OK && empties && ftruncate(descriptor, 0) != 0) error = errno;
     errno = error;
-    let_go(descriptor);
+    cola_disk_let_go(descriptor);
     return answer;
 }
 
@@ -124,6 +69,7 @@ static int32_t keep(cola_file *file, char *bytes, size_t length, int descriptor)
     file->length = length;
     file->descriptor = descriptor;
     file->owner = (long)getpid();
+    file->is_resident = false;
     return COLA_OK;
 }
 
@@ -153,10 +99,10 @@ static int32_t map_and_open(cola_file *file, int descriptor, size_t length, cons
     int32_t answer = COLA_SYSTEM;
     if (mmap(bytes, first_of(length), PROT_READ | PROT_WRITE, MAP_PRIVATE | MAP_FIXED, descriptor, 0) != MAP_FAILED) {
         answer = cola_open(&file->store, bytes, length);
-        if (answer == COLA_OK && !write_all(descriptor, bytes, HEADER, 0)) {
+        if (answer == COLA_OK && !cola_disk_store(descriptor, bytes, COLA_HEADER, 0)) {
             int error = errno;
             cola_close(&file->store);               /* (in memory alone) */
-            write_all(descriptor, head, HEADER, 0); /* the mark is taken back, where the disk lets it be */
+            cola_disk_store(descriptor, head, COLA_HEADER, 0); /* the mark is taken back, where the disk lets it be */
             errno = error;
             answer = COLA_SYSTEM;
         }
@@ -166,54 +112,48 @@ static int32_t map_and_open(cola_file *file, int descriptor, size_t length, cons
 
 /* Opens the store in a locked file. The file's first bytes are judged before room is taken, and that for the store alone, and
  * not where it is only read. */
-static int32_t judge_and_open(cola_file *file, int descriptor, bool reads) {
-    char head[HEADER];
+static int32_t judge_and_open(cola_file *file, const char *path, int descriptor, uint32_t flags) {
+    char head[COLA_HEADER];
     uint64_t length;
     struct stat about;
     if (fstat(descriptor, &about) != 0) return COLA_SYSTEM;
-    ssize_t had = read_first(descriptor, head, about.st_size < HEADER ? (size_t)about.st_size : HEADER);
+    ssize_t had = cola_disk_read(descriptor, head, about.st_size < COLA_HEADER ? (size_t)about.st_size : COLA_HEADER);
     if (had < 0) return COLA_SYSTEM;
     int32_t answer = cola_stored_size(head, (size_t)had, (uint64_t)about.st_size, &length);
     if (answer != COLA_OK) return answer;
-    if (reads) return map_and_read(file, descriptor, (size_t)length);
-    if (!take_room(descriptor, (size_t)length)) return COLA_SYSTEM;
+    if (flags == COLA_READ_ONLY) return map_and_read(file, descriptor, (size_t)length);
+    if (!cola_disk_take_room(descriptor, (size_t)length)) return COLA_SYSTEM;
+    if (flags == COLA_RESIDENT) return cola_resident_open(file, path, descriptor, (size_t)length);
     return map_and_open(file, descriptor, (size_t)length, head);
 }
 
-/* Whether the path names the locked file, and not another one, or none, by now. False too where that could not be told: then
- * *told is. */
-static bool is_named(int descriptor, const char *path, bool *told) {
-    struct stat own, named;
-    *told = fstat(descriptor, &own) == 0;
-    if (!*told) return false;
-    if (stat(path, &named) == 0) return own.st_dev == named.st_dev && own.st_ino == named.st_ino;
-    *told = errno == ENOENT;
-    return false;
-}
-
-/* Opens the file and locks it, alone or as one of those that read it; -1 on failure. Where the path got another file meanwhile,
- * as by a copy that took the old one's place, that one is opened. */
-static int open_locked(const char *path, bool reads) {
-    bool told = true;
-    while (told) {
-        int descriptor = open(path, (reads ? O_RDONLY : O_RDWR) | O_CLOEXEC);
-        if (descriptor < 0) return -1;
-        told = flock(descriptor, (reads ? LOCK_SH : LOCK_EX) | LOCK_NB) == 0;
-        if (told && is_named(descriptor, path, &told)) return descriptor;
-        let_go(descriptor);
+/* Opens the file and locks it, alone or as one of those that read it, when the journal that may stand beside was finished or
+ * dropped. One that is only read is opened anew behind that. */
+static int32_t open_settled(const char *path, bool reads, int *descriptor) {
+    bool beside = true;
+    while (beside) {
+        *descriptor = cola_disk_open_locked(path, reads);
+        if (*descriptor < 0) return COLA_SYSTEM;
+        int32_t answer = !reads ? cola_journal_settle(path, *descriptor, NULL)
+                       : cola_journal_is_beside(path, *descriptor, &beside) ? COLA_OK : COLA_SYSTEM;
+        if (answer == COLA_OK && !(reads && beside)) return COLA_OK;
+        cola_disk_let_go(*descriptor);
+        if (answer == COLA_OK) answer = cola_journal_recover(path, &beside);
+        if (answer != COLA_OK) return answer;
+        beside = true;
     }
-    return -1;
+    return COLA_OK;
 }
 
 int32_t cola_file_open_as(cola_file *file, const char *path, uint32_t flags) {
-    bool reads = (flags & COLA_READ_ONLY) != 0;
+    int descriptor;
     if (file == NULL || path == NULL) return COLA_NULL;
-    if ((flags & ~(uint32_t)COLA_READ_ONLY) != 0) return COLA_OPTIONS;
+    if (flags > COLA_RESIDENT) return COLA_OPTIONS; /* (both flags at once are none) */
     if (file->bytes != NULL) return COLA_IN_USE;
-    int descriptor = open_locked(path, reads);
-    if (descriptor < 0) return COLA_SYSTEM;
-    int32_t answer = judge_and_open(file, descriptor, reads);
-    if (answer != COLA_OK) let_go(descriptor);
+    int32_t answer = open_settled(path, flags == COLA_READ_ONLY, &descriptor);
+    if (answer != COLA_OK) return answer;
+    answer = judge_and_open(file, path, descriptor, flags);
+    if (answer != COLA_OK) cola_disk_let_go(descriptor);
     return answer;
 }
 
@@ -239,49 +179,66 @@ static bool write_copy(const cola_file *file, const char *copy) {
     if (descriptor < 0) return false;
     const char *bytes = file->bytes;
     bool is_copied = fchmod(descriptor, own.st_mode & 0777) == 0 &&
-                     write_all(descriptor, bytes + HEADER, file->length - HEADER, HEADER) &&
-                     write_all(descriptor, bytes, HEADER, 0) && rename(unfinished, copy) == 0;
+                     cola_disk_store(descriptor, bytes + COLA_HEADER, file->length - COLA_HEADER, COLA_HEADER) &&
+                     cola_disk_store(descriptor, bytes, COLA_HEADER, 0) && rename(unfinished, copy) == 0;
     int error = errno;
     close(descriptor);
     if (!is_copied) unlink(unfinished);
     errno = error;
-    return is_copied && sync_name(copy);
+    return is_copied && cola_disk_sync_name(copy);
+}
+
+/* Opens the store again, which was closed in memory. */
+static int32_t reopen(cola_file *file) {
+    return file->is_resident ? cola_resident_reopen(file) : cola_open(&file->store, file->bytes, file->length);
 }
 
 int32_t cola_file_checkpoint(cola_file *file, const char *copy) {
-    if (file == NULL || copy == NULL) return COLA_NULL;
+    if (file == NULL) return COLA_NULL;
     if (file->bytes == NULL || file->owner != (long)getpid()) return COLA_CLOSED;
     if (file->store.is_read_only) return COLA_READ_ONLY_STORE;
+    if (copy == NULL) return file->is_resident ? cola_resident_checkpoint(file) : COLA_NULL;
     int32_t answer = cola_close(&file->store);
     if (answer != COLA_OK) return answer;
     bool is_copied = write_copy(file, copy);
     int error = errno;
-    answer = cola_open(&file->store, file->bytes, file->length);
+    answer = reopen(file);
     errno = error;
     return answer != COLA_OK ? answer : is_copied ? COLA_OK : COLA_SYSTEM;
 }
 
-int32_t cola_file_close(cola_file *file) {
-    if (file == NULL) return COLA_NULL;
-    if (file->bytes == NULL) return COLA_CLOSED;
+/* Closes the store in a mapped file, and unmaps it: all that lies behind the header is written, and then the header, which says
+ * that the store is closed. */
+static int32_t close_mapped(cola_file *file, bool is_owner) {
     int32_t answer = COLA_OK;
     char *bytes = file->bytes;
     size_t first = first_of(file->length);
-    bool is_owner = file->owner == (long)getpid();
     if (is_owner) {
         answer = cola_close(&file->store);
         if (answer == COLA_CLOSED) answer = COLA_OK; /* (a checkpoint had no memory to open it again) */
-        /* All that lies behind the header, and then the header, which says that the store is closed. */
         bool written = file->store.is_read_only ||
                        (answer == COLA_OK && msync(bytes, file->length, MS_SYNC) == 0 &&
-                        write_all(file->descriptor, bytes + HEADER, first - HEADER, HEADER) &&
-                        write_all(file->descriptor, bytes, HEADER, 0));
+                        cola_disk_store(file->descriptor, bytes + COLA_HEADER, first - COLA_HEADER, COLA_HEADER) &&
+                        cola_disk_store(file->descriptor, bytes, COLA_HEADER, 0));
         if (answer == COLA_OK && !written) answer = COLA_SYSTEM;
     }
-    int error = errno;
-    munmap(bytes, file->length);
-    is_owner ? let_go(file->descriptor) : (void)close(file->descriptor);
+    return unmap(bytes, file->length, answer);
+}
+
+static int32_t close_file(cola_file *file, bool discards) {
+    bool is_owner = file->owner == (long)getpid();
+    int32_t answer = file->is_resident ? cola_resident_close(file, discards, is_owner) : close_mapped(file, is_owner);
+    is_owner ? cola_disk_let_go(file->descriptor) : cola_disk_close(file->descriptor);
     *file = (cola_file)COLA_FILE_INIT;
-    errno = error;
     return answer;
+}
+
+int32_t cola_file_close(cola_file *file) {
+    if (file == NULL) return COLA_NULL;
+    return file->bytes == NULL ? COLA_CLOSED : close_file(file, false);
+}
+
+int32_t cola_file_discard(cola_file *file) {
+    if (file == NULL) return COLA_NULL;
+    return file->bytes == NULL ? COLA_CLOSED : close_file(file, file->is_resident);
 }

@@ -1,5 +1,5 @@
 /* SPDX-License-Identifier: MIT */
-/* A store's file for cola.h: made, mapped into memory, copied, closed. Plain C over POSIX calls, tested and not proved.
+/* A store's file for cola.h: made, mapped into memory or read into it, copied, closed. Plain C over POSIX calls, tested and not proved.
  *
  *     cola_file file = COLA_FILE_INIT;
  *     if (cola_file_open(&file, "notes") != COLA_OK) ..
@@ -12,6 +12,12 @@
  * cola_file_close that came to its end, or is refused from then on with COLA_NOT_CLOSED. Then go back to a copy: the one of
  * the last cola_file_checkpoint is whole, and is a closed store.
  *
+ * A resident store (COLA_RESIDENT) is read whole into memory, on huge pages where the system gives them: no call but these
+ * waits for the disk or meets a page that is not there. The file is not written but by cola_file_checkpoint(&file, NULL) and the
+ * close, which write what changed: first to NAME-journal beside it, which the close removes, then to the file. So where the
+ * process dies or the machine stops, the file has the last checkpoint, at whatever moment, once an opening of any kind, or the
+ * program cola-recover, has finished a whole journal or dropped another. Journal and file are kept, moved and put back together.
+ *
  * A store in use has all its bytes on the disk: a full disk is told by cola_file_open, not by a put.
  *
  * A file is open in one process that writes it, or in any number of them that only read it (COLA_READ_ONLY): the system's lock
@@ -19,7 +25,8 @@
  *
  * What a call takes: cola_file_create and cola_file_checkpoint write as many bytes as the store has; cola_file_open asks the
  * system for room for as many, and reads and syncs few; cola_file_close syncs what was written since. A file that is read alone
- * is opened with neither.
+ * is opened with neither. A resident store is read whole as it opens, and takes as much memory; its checkpoints take what changed.
+ * cola_file_check reads the store; cola_file_grow and a load write as many bytes as the new one has.
  *
  * Asked of the caller: no other program makes the file shorter while it is open, which would end the process by a signal;
  * the file lies on a disk of this machine; a process made by fork does not call with a store that its parent has open,
@@ -42,11 +49,14 @@ typedef struct cola_file {
     void *bytes;    /* the mapped store, NULL while it is closed */
     size_t length;  /* its bytes */
     int descriptor; /* locked against other processes that open it */
+    bool is_resident;
     long owner;     /* the process that opened it */
 } cola_file;
-#define COLA_FILE_INIT {COLA_INIT, NULL, 0, -1, 0}
+#define COLA_FILE_INIT {COLA_INIT, NULL, 0, -1, false, 0}
 
-#define COLA_READ_ONLY 1 /* a flag of cola_file_open_as: the store is read alone */
+/* The flags of cola_file_open_as, of which one may be given. */
+#define COLA_READ_ONLY 1 /* the store is read alone */
+#define COLA_RESIDENT 2  /* the store is kept in memory, and the file has its last checkpoint */
 
 /* Makes the file of a new, closed store for so many keys, with blocks of 2^block cells, of version 1 or 2. A file that is
  * there has to be empty (COLA_NOT_EMPTY). Where it is not made, the folder and the file are as before; a process that dies
@@ -61,9 +71,13 @@ int32_t cola_file_create(const char *path, uint64_t keys, uint8_t block, uint8_t
  * the lock is taken, as a copy that is renamed does, it is that one that is opened. */
 int32_t cola_file_open(cola_file *file, const char *path);
 
-/* cola_file_open, where flags is 0. With COLA_READ_ONLY the store is open to be read alone, beside others that read it, and no
- * byte of the file is written, which may be one that this process may not write: a put, a delete and a checkpoint are answered
- * COLA_READ_ONLY_STORE. EWOULDBLOCK is that a process has it open for writing. COLA_OPTIONS: a flag is none. */
+/* cola_file_open, where flags is 0. With COLA_RESIDENT the store is kept in memory. With COLA_READ_ONLY it is open to be read
+ * alone, beside others that read it, and no byte of the file is written, which may be one that this process may not write: a put,
+ * a delete and a checkpoint are answered COLA_READ_ONLY_STORE. EWOULDBLOCK is that a process has it open for writing.
+ * COLA_OPTIONS: there are no such flags.
+ *
+ * Each opening finishes or drops a journal that stands beside the file; one that reads alone has to write for that, where the
+ * journal is whole. COLA_UNFINISHED: it is whole, and could not be finished (errno), or is none of this store (EINVAL): it stays. */
 int32_t cola_file_open_as(cola_file *file, const char *path, uint32_t flags);
 
 /* Makes a copy of the store as it is now, in the file named copy, which is replaced as a whole and is on the disk when this
@@ -71,12 +85,56 @@ int32_t cola_file_open_as(cola_file *file, const char *path, uint32_t flags);
  * or digits, which a refused call removes, and a process that dies meanwhile leaves behind: that one is refused, or is the whole
  * copy. COLA_SYSTEM: the store is open as before, and copy is as it was, or is the new one where its name alone could not be
  * synced; with errno EINVAL copy is the store's own file. COLA_MEMORY: the store is closed, the file has its map, and
- * cola_file_close is all that is left to call. */
+ * cola_file_close is all that is left to call.
+ *
+ * Of a resident store copy may be NULL: then the file itself is made to have what the store has. COLA_SYSTEM: the disk was full,
+ * or failed; the store is open as before, and the file has its last checkpoint, or this one. COLA_UNFINISHED: the disk failed
+ * (errno) behind the sync of the journal, in which this checkpoint holds; puts and deletes have that answer too, until a
+ * checkpoint or an opening has finished it. */
 int32_t cola_file_checkpoint(cola_file *file, const char *copy);
 
 /* Closes the store and the file; when it answers COLA_OK all is on the disk. Whatever it answers, *file is closed then:
- * after COLA_SYSTEM (a disk that fails) the file may be refused, as after a process that died. */
+ * after COLA_SYSTEM (a disk that fails) the file may be refused, as after a process that died. A resident store's has its last
+ * checkpoint then, or, after COLA_UNFINISHED, the journal has this one: a checkpoint before the close leaves it open where it
+ * is refused. */
 int32_t cola_file_close(cola_file *file);
+
+/* Tests the closed store in the file, beside others that read it, and writes nothing: as cola_check answers of its bytes. */
+int32_t cola_file_check(const char *path, cola_verdict *verdict);
+
+/* Tests the store of an open file as it is now: it is closed in memory, tested, and opened again. COLA_MEMORY: as
+ * cola_file_checkpoint's. */
+int32_t cola_file_check_open(cola_file *file, cola_verdict *verdict);
+
+/* Makes the store of the file one for so many keys, with such blocks: cola_grow into a new file, which takes the place of the old
+ * one as a whole, and is on the disk when this answers COLA_OK. The file is locked for this process alone meanwhile. As
+ * cola_grow answers, and COLA_SYSTEM: the file is as it was, or is the new one where its name alone could not be synced. The new
+ * file is written as a copy of cola_file_checkpoint is, and what a process that dies leaves is as such a one. */
+int32_t cola_file_grow(const char *path, uint64_t keys, uint8_t block, uint64_t *rows);
+
+/* A new file that is filled with rows: &load.load serves cola_load_row and cola_load_many. */
+typedef struct cola_file_load {
+    cola_load load;
+    void *bytes;    /* the mapped bytes, NULL while nothing is filled */
+    size_t length;
+    char *name;     /* of the file while it is filled: the path, .new- and six letters or digits */
+    int descriptor;
+    long owner;     /* the process that began */
+} cola_file_load;
+#define COLA_FILE_LOAD_INIT {COLA_LOAD_INIT, NULL, 0, NULL, -1, 0}
+
+/* Begins the file of a new store, as cola_file_create makes it and with its answers, to be filled with rows by rising keys. It has
+ * another name until it is whole: a process that dies leaves nothing in the path's place. COLA_IN_USE where *load is open. */
+int32_t cola_file_load_begin(cola_file_load *load, const char *path, uint64_t keys, uint8_t block, uint8_t version);
+
+/* Ends it: the file is on the disk, and has its name, when this answers COLA_OK. Else nothing is there but what was: COLA_NOT_EMPTY
+ * where a file came to the path meanwhile. *load is closed then, whatever the answer is. */
+int32_t cola_file_load_end(cola_file_load *load, uint64_t *rows);
+
+/* Gives it up: nothing of it is left. */
+int32_t cola_file_load_drop(cola_file_load *load);
+/* Closes the file of a resident store without a checkpoint: what changed since the last one is gone. Any other is closed. */
+int32_t cola_file_discard(cola_file *file);
 
 #ifdef __cplusplus
 }

@@ -22,6 +22,10 @@ const char *cola_strerror(int32_t answer) {
     case COLA_MEMORY: return "there was no memory";
     case COLA_SYSTEM: return "a call of the system failed";
     case COLA_READ_ONLY_STORE: return "the store is open to be read alone";
+    case COLA_ORDER: return "the key of a row is not above that of the row before";
+    case COLA_FEWER: return "the new store is for fewer keys than there are";
+    case COLA_BROKEN: return "the store stands for no map";
+    case COLA_UNFINISHED: return "a checkpoint is not finished: the journal beside the file has it";
     default: return "no answer of this library";
     }
 }

@@ -1,7 +1,7 @@
 # The library for C, a part of the Makefile at the top. libcola.a is the proved crate cola_c, the toolchain's heap and
-# bindings/c in one archive; libcola.so.1 is the same, for programs and languages that load it.
+# bindings/c in one archive; libcola.so.1 is the same, for programs and languages that load it; cola-recover stands on the first.
 #
-#     make library                     builds both in $(LIBRARY)
+#     make library                     builds them in $(LIBRARY)
 #     make install-library             installs what was built, the headers with their manual page, cola.pc, the module for
 #                                      Python with its shell, and that for clusters
 #     make uninstall-library           removes what was installed
@@ -22,6 +22,7 @@ strict = -std=gnu11 -Wall -Wextra -Werror -fPIC -Iinclude
 heap = $(dir $(shell rt doc))c/liblibc_c.a
 objects = $(patsubst bindings/c/%.c,$(LIBRARY)/%.o,$(wildcard bindings/c/*.c))
 headers = include/cola.h bindings/c/cola_file.h
+inner = $(wildcard bindings/c/*.h)
 libraries = $(DESTDIR)$(LIBDIR)
 included = $(DESTDIR)$(PREFIX)/include
 pages = $(DESTDIR)$(PREFIX)/share/man/man3
@@ -41,7 +42,7 @@ install:
 	@if [ -f '$(LIBRARY)/$(shared)' ]; then $(MAKE) --no-print-directory install-library; \
 	    else echo 'cola: the library for programs is not installed, since it was not built: make library builds it' >&2; fi
 
-library: $(LIBRARY)/libcola.a $(LIBRARY)/libcola.so
+library: $(LIBRARY)/libcola.a $(LIBRARY)/libcola.so $(LIBRARY)/cola-recover
 
 ifndef CORE
 CORE = crates/cola_c/out/libcola_c.a
@@ -49,7 +50,7 @@ $(CORE): always
 	cd crates/cola_c && rt lib
 endif
 
-$(LIBRARY)/%.o: bindings/c/%.c $(headers)
+$(LIBRARY)/%.o: bindings/c/%.c $(headers) $(inner)
 	mkdir -p '$(LIBRARY)'
 	$(CC) $(CFLAGS) $(strict) -c $< -o $@
 
@@ -64,6 +65,9 @@ $(LIBRARY)/$(shared): $(LIBRARY)/libcola.a bindings/c/cola.map
 $(LIBRARY)/libcola.so: $(LIBRARY)/$(shared)
 	ln -sf $(shared) $@
 
+$(LIBRARY)/cola-recover: bindings/c/recover/cola_recover.c $(LIBRARY)/libcola.a
+	$(CC) $(CFLAGS) $(strict) -Ibindings/c $(LDFLAGS) $^ -o $@
+
 install-library:
 	@test -f '$(LIBRARY)/$(shared)' || { echo 'cola: make library builds the library first' >&2; exit 1; }
 	$(INSTALL) -d '$(libraries)/pkgconfig' '$(included)' '$(pages)' '$(modules)/cola' '$(commands)' '$(command_pages)'
@@ -77,12 +81,14 @@ install-library:
 	$(INSTALL) -m 644 $(module_files:%=bindings/python/cola/%) '$(modules)/cola'
 	$(INSTALL) -m 644 bindings/python/cola_cluster.py '$(modules)/cola_cluster.py'
 	$(INSTALL) -m 755 bindings/python/cola-shell '$(commands)/cola-shell'
-	$(INSTALL) -m 644 docs/cola-shell.1 '$(command_pages)/cola-shell.1'
+	$(INSTALL) -m 755 '$(LIBRARY)/cola-recover' '$(commands)/cola-recover'
+	$(INSTALL) -m 644 docs/cola-shell.1 docs/cola-recover.1 '$(command_pages)'
 
 uninstall-library:
 	rm -f '$(libraries)/libcola.a' '$(libraries)/libcola.so' '$(libraries)/$(shared)' '$(libraries)/pkgconfig/cola.pc'
 	rm -f '$(included)/cola.h' '$(included)/cola_file.h' '$(pages)/cola.3'
 	rm -f $(module_files:%='$(modules)/cola/%') '$(modules)/cola_cluster.py' '$(commands)/cola-shell' '$(command_pages)/cola-shell.1'
+	rm -f '$(commands)/cola-recover' '$(command_pages)/cola-recover.1'
 	-rm -rf '$(modules)/cola/__pycache__'
 	-rmdir '$(modules)/cola' '$(modules)' 2>/dev/null
 

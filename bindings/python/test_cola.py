@@ -57,6 +57,17 @@ class Stores(unittest.TestCase):
                     self.assertEqual(list(store[low:]), [pair for pair in pairs if low <= pair[0]])
                     self.assertEqual(list(store[:high]), [pair for pair in pairs if pair[0] < high])
                     self.assertEqual(len(store), len(plain))
+                    fallen = pairs[::-1]
+                    self.assertEqual(list(reversed(store.items())), fallen)
+                    self.assertEqual(list(reversed(store)), list(reversed(store.keys())))
+                    self.assertEqual(list(zip(reversed(store), reversed(store.values()))), fallen)
+                    self.assertEqual(list(reversed(store[low:high])), [pair for pair in fallen if low <= pair[0] < high])
+                    self.assertEqual(list(store[high:low:-1]), [pair for pair in fallen if low < pair[0] <= high])
+                    self.assertEqual(list(reversed(store[high:low:-1])), [pair for pair in pairs if low < pair[0] <= high])
+                    self.assertEqual(list(store[:low:-1]), [pair for pair in fallen if low < pair[0]])
+                    self.assertEqual(list(store[high::-1]), [pair for pair in fallen if pair[0] <= high])
+                    for count in 0, 1, 31, 32, 33, 1000:
+                        self.assertEqual(store.last(count), fallen[:count])
                     store.close()
                     store = cola.open(self.path)
                     self.addCleanup(store.close)
@@ -81,8 +92,19 @@ class Stores(unittest.TestCase):
             store[b"key"]
         with self.assertRaises(KeyError):
             del store[b"key"]
-        with self.assertRaises(ValueError):
-            store[b"a":b"b":2]
+        for step in 2, -2, 0:
+            with self.assertRaises(ValueError):
+                store[b"a":b"b":step]
+        for key in "text", 7:
+            with self.assertRaises(TypeError):
+                store[key:]
+            with self.assertRaises(TypeError):
+                store[:key:-1]
+        for count in -1, 1 << 70:
+            with self.assertRaises(ValueError):
+                store.last(count)
+        with self.assertRaises(TypeError):
+            store.last("5")
         store[bytearray(b"key")] = memoryview(b"value")
         self.assertEqual(store[b"key"], b"value")
 
@@ -93,6 +115,10 @@ class Stores(unittest.TestCase):
         self.assertEqual([key for key, _ in store[b"a" * 41:]], [b"b"])
         self.assertEqual([key for key, _ in store[:b"a" * 41]], [b"a" * 40])
         self.assertEqual([key for key, _ in store[b"a" * 40:b"a" * 41]], [b"a" * 40])
+        self.assertEqual([key for key, _ in reversed(store[b"a" * 41:])], [b"b"])
+        self.assertEqual([key for key, _ in store[:b"a" * 41:-1]], [b"b"])
+        self.assertEqual([key for key, _ in store[b"a" * 41:b"a" * 39:-1]], [b"a" * 40])
+        self.assertEqual([key for key, _ in store[b"a" * 41:b"a" * 40:-1]], [])
 
     def test_a_prefix_has_the_keys_that_begin_so(self):
         store, dice = self.store(version=2), random.Random(20261129)
@@ -100,7 +126,9 @@ class Stores(unittest.TestCase):
         store.update((key, key[:9]) for key in keys)
         prefixes = [b"", b"\0", b"\xff", b"\xff" * 2, b"\xff" * 3, b"\xff" * 40, b"\xfe\xff", b"a" * 40, b"a" * 41, b"a" * 1000, *keys[::7]]
         for prefix in prefixes + [key[:1 + at % 2] for at, key in enumerate(keys)]:
-            self.assertEqual(list(store.prefix(prefix)), [(key, key[:9]) for key in keys if key.startswith(prefix)])
+            pairs = [(key, key[:9]) for key in keys if key.startswith(prefix)]
+            self.assertEqual(list(store.prefix(prefix)), pairs)
+            self.assertEqual(list(reversed(store.prefix(prefix))), pairs[::-1])
         self.assertEqual(list(store.prefix(bytearray(b"a"))), list(store.prefix(b"a")))
         for no_key in "a", 7, None:
             with self.assertRaises(TypeError):
@@ -108,6 +136,40 @@ class Stores(unittest.TestCase):
         store.close()
         with self.assertRaises(cola.Closed):
             store.prefix(b"a")
+
+    def test_rows_are_given_one_by_one_in_both_directions(self):
+        store = self.store()
+        store.update((b"%03d" % at, b"") for at in range(100))
+        rows = store[b"010":b"090"]
+        self.assertEqual(next(rows), (b"010", b""))
+        backwards = reversed(rows)
+        self.assertEqual(next(backwards), (b"089", b""))
+        self.assertEqual([key for key, _ in rows], [b"%03d" % at for at in range(11, 90)])
+        self.assertEqual([key for key, _ in reversed(backwards)], [b"%03d" % at for at in range(10, 90)])
+        self.assertEqual([key for key, _ in backwards], [b"%03d" % at for at in range(88, 9, -1)])
+        self.assertRaises(StopIteration, next, rows)
+        self.assertEqual(list(store[b"090":b"010"]) + list(store[b"010":b"090":-1]), [])
+        store.close()
+        for call in (lambda: store.last(1)), (lambda: store[::-1]), (lambda: list(reversed(store))), store.info:
+            with self.assertRaises(cola.Closed):
+                call()
+
+    def test_a_store_says_what_it_is(self):
+        store = self.store(keys=500, block=4, version=2)
+        self.assertEqual(store.last(1), [])
+        info = store.info()
+        self.assertEqual((info.keys, info.count, info.bytes, info.version, info.block), (500, 0, os.path.getsize(self.path), 2, 4))
+        self.assertEqual((info.write_bound, info.get_bound), (40 * len(info.levels), 8 * len(info.levels)))
+        store.update((b"%d" % at, b"") for at in range(400))
+        info = store.info()
+        self.assertEqual(info.count, 400)
+        for number, level in enumerate(info.levels):
+            self.assertEqual(level.room, 4 << number)
+            self.assertLessEqual(max(level.visible, level.shadow), level.room)
+        self.assertGreaterEqual(sum(level.visible for level in info.levels), 400)
+        store.close()
+        with cola.open(self.path, read_only=True) as store:
+            self.assertEqual(store.info(), info)
 
     def test_many_pairs_are_put_at_once(self):
         store = self.store(keys=3000)
@@ -182,6 +244,76 @@ class Stores(unittest.TestCase):
         store.close()
         with self.assertRaises(cola.Closed):
             store.get_many([b"a"])
+
+    def test_a_store_is_loaded(self):
+        pairs = [(b"k%05d" % at, b"v%d" % at) for at in range(2500)]
+        self.assertEqual(cola.load(self.path, pairs, keys=3000, block=4, version=2), 2500)
+        with cola.open(self.path) as store:
+            self.assertEqual(list(store.items()), pairs)
+            self.assertEqual(store.limits, {"keys": 3000, "block": 4, "version": 2})
+        with self.assertRaises(cola.NotEmpty):
+            cola.load(self.path, pairs, keys=3000)
+        os.remove(self.path)
+        self.assertEqual(cola.load(self.path, {b"b": b"1", b"c": bytearray(b"2")}, keys=2), 2)
+        os.remove(self.path)
+        self.assertEqual(cola.load(self.path, iter([]), keys=2), 0)
+        os.remove(self.path)
+        swapped = pairs[:1500] + [pairs[1600], pairs[1500]] + pairs[1700:]
+        for wrong, kind, done in ((swapped, cola.Order, 1501), (pairs, cola.Full, 2000), (pairs[:9] + [(b"", b"")], cola.Length, 9),
+                                  (pairs[:5] * 2, cola.Order, 5)):
+            with self.assertRaises(kind) as raised:
+                cola.load(self.path, wrong, keys=2000)
+            self.assertEqual(raised.exception.done, done)
+            self.assertIn(f"pair {done + 1}, {wrong[done][0]!r}", str(raised.exception))
+        for wrong, kind in ([("a", b"1")], TypeError), ([b"ab"], TypeError), ((1 / 0 for _ in [1]), ZeroDivisionError), (7, TypeError):
+            with self.assertRaises(kind):
+                cola.load(self.path, wrong, keys=2000)
+        for keys, block in (0, 5), (1 << 70, 5), (5, 300):
+            with self.assertRaises(cola.Options):
+                cola.load(self.path, [], keys=keys, block=block)
+        with self.assertRaises(FileNotFoundError):
+            cola.load(os.path.join(self.folder, "none", "store"), [], keys=5)
+        self.assertEqual(os.listdir(self.folder), [])
+
+    def test_a_store_is_checked_and_grown(self):
+        pairs = [(b"k%05d" % at, b"v%d" % at) for at in range(300)]
+        store = self.store(keys=300, version=2)
+        store.update(reversed(pairs))
+        stamps = [store.stamp(key) for key, _ in pairs]
+        self.assertEqual(store.check(), (True, 300, None, None, None))
+        self.assertEqual(dict(store), dict(pairs))
+        store[b"k00000"] = b"again"
+        for call in (lambda: cola.check(self.path)), (lambda: cola.grow(self.path, 1000)):
+            with self.assertRaises(BlockingIOError):
+                call()
+        store.close()
+        with self.assertRaises(cola.Closed):
+            store.check()
+        self.assertEqual(cola.check(self.path), (True, 300, None, None, None))
+        with self.assertRaises(cola.Fewer):
+            cola.grow(self.path, 299)
+        for keys, block in (1000, 99), (0, 5), (-1, 5):
+            with self.assertRaises(cola.Options):
+                cola.grow(self.path, keys, block)
+        self.assertEqual(cola.grow(self.path, 1000, block=4), 300)
+        self.assertEqual(os.listdir(self.folder), ["store"])
+        with cola.open(self.path, read_only=True) as store:
+            self.assertEqual(store.limits, {"keys": 1000, "block": 4, "version": 2})
+            self.assertEqual(dict(store), {**dict(pairs), b"k00000": b"again"})
+            self.assertEqual([store.stamp(key) for key, _ in pairs[1:]], stamps[1:])
+            self.assertEqual(store.check(), cola.check(self.path))
+            with self.assertRaises(cola.ReadOnly):
+                store[b"a"] = b"b"
+        with open(self.path, "r+b") as file:
+            file.seek(24)
+            file.write(b"\x01")
+        self.assertEqual(cola.check(self.path)[:3], (False, None, "count"))
+        os.truncate(self.path, 600)
+        for call in (lambda: cola.check(self.path)), (lambda: cola.grow(self.path, 1000)):
+            with self.assertRaises(cola.Small):
+                call()
+        with self.assertRaises(FileNotFoundError):
+            cola.check(self.copy)
 
     def test_many_at_once_cross_once(self):
         store = self.store(version=2)
@@ -341,6 +473,37 @@ class Stores(unittest.TestCase):
         del store  # (closes it)
         with cola.open(self.path) as store:
             self.assertEqual(len(store), 1)
+
+    def test_the_file_of_a_resident_store_has_its_last_checkpoint(self):
+        def bytes_of_file():
+            with open(self.path, "rb") as file:
+                return file.read()
+
+        with self.assertRaises(TypeError):
+            with self.store() as store:
+                store.checkpoint()
+        with cola.open(self.path, resident=True) as store:
+            made = bytes_of_file()
+            store[b"a"] = b"1"
+            self.assertEqual(bytes_of_file(), made)
+            store.checkpoint()
+            saved = bytes_of_file()
+            self.assertNotEqual(saved, made)
+            self.assertTrue(os.path.exists(self.path + "-journal"))
+            store[b"b"] = b"2"
+            store.checkpoint(self.copy)
+            self.assertEqual(bytes_of_file(), saved)
+        self.assertFalse(os.path.exists(self.path + "-journal"))
+        self.assertEqual(bytes_of_file()[:15], saved[:15])
+        with self.assertRaises(ZeroDivisionError):
+            with cola.open(self.path, resident=True) as store:
+                self.assertEqual(list(store), [b"a", b"b"])
+                store[b"c"] = b"3"
+                1 / 0
+        with self.assertRaises(cola.Options):
+            cola.open(self.path, resident=True, read_only=True)
+        with cola.open(self.path) as store:
+            self.assertEqual(dict(store), {b"a": b"1", b"b": b"2"})
 
     def test_a_process_that_dies_leaves_its_checkpoint(self):
         cola.create(self.path, 1000)

@@ -156,7 +156,13 @@ class AtATerminal(Folder):
         self.assertEqual(session.says("del user:1001"), "deleted\n")
         self.assertEqual(session.says("del user:1001"), "There is no key user:1001: scan shows those that there are.\n")
         self.assertIn("for at most    1000\n", session.says("info"))
+        self.assertIn("cells a put    360\n", session.says("info"))
+        self.assertEqual(session.says("last"), 'key       value\n"user 2"  "Grace \\x00\\xff"\n(1 row)\n')
         self.assertEqual(session.says("checkpoint copy"), "The store as it is now is in copy.\n")
+        self.assertEqual(session.says("check"), "Sound: a map of 1 key.\n")
+        self.assertEqual(session.says("check co\t"), "Sound: a map of 1 key.\n")
+        self.assertEqual(session.says("check none"), "none: no such file or directory. Look at the name.\n")
+        self.assertIn("notes is open in another process", session.says("check notes"))
         self.assertEqual(session.says(""), "")
         self.assertIn("for example: put ", session.says("help put"))
         session.type("\x04")
@@ -164,6 +170,25 @@ class AtATerminal(Folder):
         self.assertEqual(self.rows(), {b"user 2": b"Grace \x00\xff"})
         self.path = os.path.join(self.folder, "copy")
         self.assertEqual(self.rows(), {b"user 2": b"Grace \x00\xff"})
+
+    def test_levels_are_drawn(self):
+        self.make(((b"%04d" % at, b"") for at in range(700)))
+        prompt = "notes (read alone)> "
+        lines = self.session("notes", "--read-only", prompt=prompt).says("levels", prompt).splitlines()
+        with cola.open(self.path, read_only=True) as store:
+            levels = store.info().levels
+        self.assertEqual(lines[0].split(), ["level", "room", "searched", "built"])
+        self.assertEqual(len(lines) - 1, len(levels))
+        self.assertEqual({len(line) for line in lines[1:]}, {5 + 2 + 4 + 2 * (2 + 31)})
+        for number, (line, level) in enumerate(zip(lines[1:], levels)):
+            found = re.fullmatch(r" +(\d+) +(\d+)  \[(#*)(\.*)\] +(\d+)  \[(#*)(\.*)\] +(\d+)", line)
+            self.assertEqual(tuple(map(int, found.group(1, 2, 5, 8))), (number, level.room, level.visible, level.shadow))
+            for marks, dots, cells in (*found.group(3, 4), level.visible), (*found.group(6, 7), level.shadow):
+                self.assertEqual(len(marks + dots), 24)
+                self.assertEqual((marks == "", dots == ""), (cells == 0, cells == level.room))
+                self.assertLess(abs(len(marks) - 24 * cells / level.room), 1)
+        told = self.piped("levels\n", "notes", "--read-only")[0].splitlines()
+        self.assertEqual([line.split("\t") for line in told], [[str(it) for it in (number, *level[2:], *level[:2])] for number, level in enumerate(levels)])
 
     def test_signs_of_two_columns_are_aligned(self):
         self.make({"日本".encode(): b"1", b"ab": b"2"})
@@ -295,6 +320,14 @@ class InAPipe(Folder):
         self.assertEqual(self.piped("scan\n"), ('Zoë\t日本\na\t1\ntab\\tand\\n\t"\\\\\\x00\\xff\n', ""))
         self.assertEqual(self.piped("get a\ncount\n\nget Zoë"), ("1\n3\n日本\n", ""))
         self.assertEqual(self.piped("info\n")[0].splitlines()[3:5], ["keys\t3", "for at most\t1000"])
+        self.assertEqual(self.piped("check\nput b 1\ncheck\ndel b\n")[0], "sound\t3\nsound\t4\n")
+        with open(self.path, "rb") as file, open(os.path.join(self.folder, "other"), "wb") as other:
+            other.write(file.read(24) + b"\x09" + file.read()[1:])
+        out, error = self.piped("check other\n", status=1)
+        self.assertRegex(out, r"^broken\tcount\t\d+\t\d+\n$")
+        self.assertRegex(error, r"^other is damaged \(count, level \d+, cell \d+\): go back to a copy of it; ")
+        self.assertEqual(self.piped("last 2\n")[0], self.piped("scan\n")[0].splitlines()[2] + "\na\t1\n")
+        self.assertEqual(self.piped("last 0\n", status=1)[1], "0 is no number of rows: write one from 1 on.\n")
         self.assertEqual(self.piped("put x \\x00\nput y 2\ndel a\nquit\nput z 3\n"), ("", ""))
         self.assertEqual(self.rows()[b"x"], b"\0")
         self.assertNotIn(b"z", self.rows())

@@ -15,10 +15,12 @@
 #include <sys/wait.h>
 #include <unistd.h>
 
+#include "allocations.h"
 #include "cola_file.h"
 #include "plain.h"
 
-static int failed, met[COLA_READ_ONLY_STORE + 1];
+enum { ANSWERS_IN_ALL = COLA_BROKEN + 1 };
+static int failed, met[ANSWERS_IN_ALL];
 
 #define ANSWERS(wanted, call) answers(wanted, call, #call, __LINE__)
 static void answers(int32_t wanted, int32_t is, const char *call, int line) {
@@ -35,23 +37,6 @@ static void holds(bool is, const char *what, int line) {
     if (is) return;
     failed = 1;
     fprintf(stderr, "errors: line %d: not so: %s\n", line, what);
-}
-
-static long allocations = -1; /* how many are left to be made, -1: any number */
-
-void *__real_malloc(size_t length);
-void *__real_realloc(void *old, size_t length);
-
-void *__wrap_malloc(size_t length) {
-    if (allocations == 0) return NULL;
-    if (allocations > 0) allocations--;
-    return __real_malloc(length);
-}
-
-void *__wrap_realloc(void *old, size_t length) {
-    if (allocations == 0) return NULL;
-    if (allocations > 0) allocations--;
-    return __real_realloc(old, length);
 }
 
 static void *zeros(uint64_t length) {
@@ -169,7 +154,9 @@ static void of_damaged_stores(void) {
     uint64_t length;
     cola store = COLA_INIT;
     char value[COLA_VALUE_MAX];
-    size_t value_len;
+    size_t value_len, given = 7;
+    cola_cursor cursor, place;
+    cola_row rows[32];
     uint8_t *bytes = store_of(32, 5, 1, 0, &length), *before = zeros(length);
     /* Two keys, two cells in level 0, and no cell there: the store is refused, and its bytes stay. */
     bytes[24] = bytes[32] = bytes[48] = 2;
@@ -202,6 +189,10 @@ static void of_damaged_stores(void) {
     ANSWERS(COLA_OK, cola_open(&store, bytes, length));
     ANSWERS(COLA_BAD_CELL, cola_get(&store, "k24", 3, value, &value_len));
     ANSWERS(COLA_OK, cola_get(&store, "k17", 3, value, &value_len));
+    ANSWERS(COLA_OK, cola_seek_last(&cursor, NULL, 0));
+    place = cursor;
+    ANSWERS(COLA_BAD_CELL, cola_prev(&store, &cursor, rows, 32, &given));
+    HOLDS(given == 7 && memcmp(&cursor, &place, sizeof cursor) == 0);
     ANSWERS(COLA_OK, cola_close(&store));
     free(before);
     free(bytes);
@@ -212,6 +203,10 @@ static void of_damaged_stores(void) {
 static void of_memory(void) {
     uint64_t length, count;
     cola store = COLA_INIT;
+    cola_cursor cursor;
+    cola_row row;
+    cola_store_info info;
+    size_t given;
     uint8_t *bytes = store_of(1000, 5, 1, 200, &length), *before = zeros(length);
     memcpy(before, bytes, length);
     int32_t answer = COLA_MEMORY;
@@ -232,6 +227,10 @@ static void of_memory(void) {
     allocations = 0; /* no call but an opening takes memory */
     ANSWERS(COLA_OK, cola_put(&store, "more", 4, "2", 1, NULL));
     ANSWERS(COLA_OK, cola_delete(&store, "k7", 2));
+    ANSWERS(COLA_OK, cola_seek_last(&cursor, NULL, 0));
+    ANSWERS(COLA_OK, cola_prev(&store, &cursor, &row, 1, &given));
+    ANSWERS(COLA_OK, cola_next(&store, &cursor, &row, 1, &given));
+    ANSWERS(COLA_OK, cola_info(&store, &info));
     ANSWERS(COLA_MEMORY, cola_checkpoint(&store));
     allocations = -1;
     ANSWERS(COLA_CLOSED, cola_close(&store));
@@ -241,6 +240,22 @@ static void of_memory(void) {
     ANSWERS(COLA_OK, cola_close(&store));
     free(before);
     free(bytes);
+}
+
+/* The answers of growing and loading; what they leave is tested in tools.c. */
+static void of_whole_stores(void) {
+    uint64_t length;
+    cola_load load = COLA_LOAD_INIT;
+    cola_verdict verdict;
+    uint8_t *bytes = store_of(30, 3, 1, 20, &length), *to = zeros(length);
+    ANSWERS(COLA_FEWER, cola_grow(bytes, length, to, length, 19, 3, NULL));
+    ANSWERS(COLA_OK, cola_load_begin(&load, to, length, 30, 3, 1));
+    ANSWERS(COLA_OK, cola_load_row(&load, "b", 1, "1", 1));
+    ANSWERS(COLA_ORDER, cola_load_row(&load, "a", 1, "1", 1));
+    ANSWERS(COLA_OK, cola_load_end(&load, NULL));
+    bytes[24]++; /* (of the number of keys) */
+    ANSWERS(COLA_BROKEN, cola_check(bytes, length, &verdict));
+    free(bytes), free(to);
 }
 
 static void of_closed_handles(void) {
@@ -534,6 +549,8 @@ static void read_file(const char *where, void *bytes, size_t length) {
 static void of_a_reader(cola_file *file) {
     cola_row row = {.key_len = 1, .value_len = 1, .key = "a", .value = "3"}, rows[4];
     cola_cursor cursor;
+    cola_store_info info;
+    cola_level_info level;
     char value[COLA_VALUE_MAX];
     uint64_t number = 7;
     size_t length = 7;
@@ -561,6 +578,13 @@ static void of_a_reader(cola_file *file) {
     ANSWERS(COLA_OK, cola_seek(&cursor, NULL, 0, NULL, 0));
     ANSWERS(COLA_OK, cola_next(&file->store, &cursor, rows, 4, &length));
     HOLDS(length == number && length < 4 && rows[0].key[0] == 'a');
+    ANSWERS(COLA_OK, cola_seek_last(&cursor, "b", 1));
+    ANSWERS(COLA_OK, cola_prev(&file->store, &cursor, rows, 4, &length));
+    HOLDS(length == 1 && rows[0].key[0] == 'a');
+    ANSWERS(COLA_OK, cola_info(&file->store, &info));
+    ANSWERS(COLA_OK, cola_level(&file->store, 0, &level));
+    ANSWERS(COLA_NONE, cola_level(&file->store, info.levels, &level));
+    HOLDS(info.count == number && info.bytes == file->length && level.room == 4);
 }
 
 /* Files that are read alone: many at once, beside no writer; one that dies leaves nothing, and no byte is ever written. */
@@ -735,17 +759,18 @@ int main(int count, char **words) {
     of_openings();
     of_damaged_stores();
     of_memory();
+    of_whole_stores();
     of_closed_handles();
     of_calls(1);
     of_calls(2);
     of_files();
-    for (int answer = 0; answer <= COLA_READ_ONLY_STORE; answer++) {
+    for (int answer = 0; answer < ANSWERS_IN_ALL; answer++) {
         HOLDS(cola_strerror(answer) != NULL);
         for (int other = 0; other < answer; other++) HOLDS(strcmp(cola_strerror(answer), cola_strerror(other)) != 0);
     }
-    HOLDS(strcmp(cola_strerror(-1), cola_strerror(COLA_READ_ONLY_STORE + 1)) == 0);
+    HOLDS(strcmp(cola_strerror(-1), cola_strerror(ANSWERS_IN_ALL)) == 0);
     printf("met");
-    for (int answer = 0; answer <= COLA_READ_ONLY_STORE; answer++) {
+    for (int answer = 0; answer < ANSWERS_IN_ALL; answer++) {
         if (met[answer]) printf(" %d", answer);
         else failed = 1;
     }

@@ -1,6 +1,7 @@
-/* Each call of the system that cola_file.h makes on a file, in a creation, the openings, a checkpoint and a closing, fails in
- * turn; and the process is killed in front of each, behind each, and within each write. What is left has to be whole or
- * refused, never another map; a refused call leaves nothing behind, and its errno is that of the call that failed; all else
+/* Each call of the system that cola_file.h makes on a file, in a creation, the openings, a checkpoint, a closing, a check, a
+ * growing and a load, of a mapped store and of a resident one, and as a journal is finished, fails in turn; and the process is
+ * killed in front of each, behind
+ * each, and within each write. What is left has to be whole or refused, never another map; a refused call leaves nothing behind, and its errno is that of the call that failed; all else
  * in the folder stays as it was.
  *
  *     failing FOLDER
@@ -18,7 +19,9 @@
 #include <sys/wait.h>
 #include <unistd.h>
 
+#include "cola_core.h"
 #include "cola_file.h"
+#include "cola_journal.h"
 #include "plain.h"
 
 #define HOLDS(is) ((is) ? (void)0 : fails(#is, __LINE__))
@@ -39,8 +42,11 @@ enum kind {
 static const char *const kinds[KINDS] = {"made", "refused", "as the disk fails", "killed before", "killed behind", "killed within", "half",
                                          "nothing", "interrupted"};
 
-enum operation { CREATE, CREATE_EMPTY, OPEN, READ, CHECKPOINT, CLOSE, OPERATIONS };
-static const char *const operations[OPERATIONS] = {"create", "create in an empty file", "open", "open to read", "checkpoint", "close"};
+enum operation {
+    CREATE, CREATE_EMPTY, OPEN, READ, CHECKPOINT, CLOSE, CHECK, GROW, LOAD, OPEN_RESIDENT, SAVE, CLOSE_RESIDENT, RECOVER, OPERATIONS
+};
+static const char *const operations[OPERATIONS] = {"create", "create in an empty file", "open", "open to read", "checkpoint", "close", "check",
+                                                   "grow", "load", "open resident", "save", "close resident", "recover"};
 
 enum { KEYS = 300, HEADER = 512 };
 
@@ -100,6 +106,33 @@ CALL(unlink, EROFS, (const char *path), (path))
 CALL(ftruncate, EFBIG, (int descriptor, off_t length), (descriptor, length))
 CALL(fchmod, EPERM, (int descriptor, mode_t mode), (descriptor, mode))
 CALL(mkostemp, EMFILE, (char *path, int how), (path, how))
+CALL(madvise, ENOMEM, (void *bytes, size_t length, int how), (bytes, length, how))
+CALL(fstatat, ELOOP, (int folder, const char *name, struct stat *about, int how), (folder, name, about, how))
+CALL(unlinkat, EROFS, (int folder, const char *name, int how), (folder, name, how))
+
+int __real_openat(int folder, const char *name, int how, ...);
+int __wrap_openat(int folder, const char *name, int how, ...);
+int __wrap_openat(int folder, const char *name, int how, ...) {
+    va_list more;
+    va_start(more, how);
+    mode_t mode = (how & O_CREAT) != 0 ? va_arg(more, mode_t) : 0;
+    va_end(more);
+    enum kind it = begins("openat", false, false);
+    if (it == REFUSED) return refuses(EMFILE);
+    int answer = __real_openat(folder, name, how, mode);
+    ends(it);
+    return answer;
+}
+
+char *__real_realpath(const char *path, char *into);
+char *__wrap_realpath(const char *path, char *into);
+char *__wrap_realpath(const char *path, char *into) {
+    enum kind it = begins("realpath", false, false);
+    if (it == REFUSED) return refuses(EACCES), NULL;
+    char *answer = __real_realpath(path, into);
+    ends(it);
+    return answer;
+}
 
 static const char *replaced, *replacing; /* the file that is replaced in front of the next lock, and by which one; NULL: by none */
 
@@ -309,8 +342,33 @@ static int32_t opens(const char *name, int steps) {
     return same ? COLA_OK : -1;
 }
 
-/* The files of a case: a closed store, an older copy, and two that only have names near theirs. */
-static image store, copy, beside = {"copy.new", 8, "is other"}, other = {"store.new", 5, "other"};
+/* Which of these maps the store has, opened once: an opening finishes the journal that stands beside. */
+static int map_left(const char *name) {
+    static cola_row rows[KEYS + 1];
+    static const int steps[] = {FIRST, SECOND, THIRD};
+    cola_file file = COLA_FILE_INIT;
+    cola_cursor cursor;
+    size_t given = 0;
+    int found = 0;
+    HOLDS(cola_file_open(&file, path_of(name)) == COLA_OK);
+    HOLDS(cola_seek(&cursor, NULL, 0, NULL, 0) == COLA_OK);
+    cola_next(&file.store, &cursor, rows, KEYS + 1, &given);
+    for (int it = 0; it < 3; it++) {
+        const plain *map = map_of(steps[it]);
+        bool same = given == map->count;
+        for (size_t row = 0; same && row < given; row++) {
+            const cola_row *mine = &map->pairs[row].row;
+            same = plain_order(mine->key, mine->key_len, rows[row].key, rows[row].key_len) == 0 &&
+                   plain_order(mine->value, mine->value_len, rows[row].value, rows[row].value_len) == 0;
+        }
+        if (same) found = steps[it];
+    }
+    HOLDS(cola_file_close(&file) == COLA_OK && !is_there("store-journal"));
+    return found;
+}
+
+/* The files of a case: a closed store, a journal of it, an older copy, and two that only have names near theirs. */
+static image store, journal, copy, beside = {"copy.new", 8, "is other"}, other = {"store.new", 5, "other"};
 
 static void make(const char *name, int steps, image *it) {
     cola_file file = COLA_FILE_INIT;
@@ -320,6 +378,27 @@ static void make(const char *name, int steps, image *it) {
     HOLDS(cola_file_close(&file) == COLA_OK);
     load(it, name);
 }
+
+/* The journal by which the store gets what another one has. */
+static void make_journal(const image *to) {
+    uint8_t marks[sizeof to->bytes / COLA_PAGE];
+    size_t pages = cola_pages_in(to->length);
+    uint8_t *end = journal.bytes + COLA_JOURNAL_HEAD;
+    HOLDS(to->length == store.length && to->length % COLA_PAGE == 0);
+    for (size_t page = 0; page < pages; page++) {
+        const uint8_t *bytes = to->bytes + page * COLA_PAGE;
+        marks[page] = page == 0 || memcmp(bytes, store.bytes + page * COLA_PAGE, COLA_PAGE) != 0;
+        if (marks[page] == 0) continue;
+        cola_core_journal_piece(page * COLA_PAGE, COLA_PAGE, end);
+        memcpy(end + COLA_JOURNAL_HEAD, bytes, COLA_PAGE);
+        end += COLA_JOURNAL_HEAD + COLA_PAGE;
+    }
+    cola_core_journal_frame(to->bytes, to->length, marks, pages, journal.bytes, end);
+    journal.name = "store-journal";
+    journal.length = (size_t)(end - journal.bytes) + COLA_JOURNAL_SUM;
+}
+
+#define ARMED(call) (armed = true, errno = 0, answer = (call), error = errno, armed = disk_fails = false)
 
 static void set_up(void) {
     const char *const none[] = {NULL};
@@ -331,16 +410,70 @@ static void set_up(void) {
     write_file("store.new", other.bytes, other.length);
     HOLDS(chmod(path_of("store"), 0640) == 0);
     if (operation == CREATE_EMPTY) write_file("made", "", 0);
+    if (operation == RECOVER) write_file("store-journal", journal.bytes, journal.length);
 }
 
-#define ARMED(call) (armed = true, errno = 0, answer = (call), error = errno, armed = disk_fails = false)
+/* Makes a file of the rows of a map, by rising keys. */
+static int32_t loads(const char *path, const plain *map) {
+    cola_file_load it = COLA_FILE_LOAD_INIT;
+    uint64_t rows = 0;
+    int32_t answer = cola_file_load_begin(&it, path, KEYS, 3, 1);
+    for (size_t row = 0; answer == COLA_OK && row < map->count; row++) {
+        const cola_row *mine = &map->pairs[row].row;
+        HOLDS(cola_load_row(&it.load, mine->key, mine->key_len, mine->value, mine->value_len) == COLA_OK);
+    }
+    if (answer == COLA_OK) answer = cola_file_load_end(&it, &rows);
+    HOLDS(it.bytes == NULL && it.name == NULL && it.descriptor == -1 && (answer != COLA_OK || rows == map->count));
+    return answer;
+}
+
+/* Tests, grows or loads a closed store. */
+static int32_t works_on_files(void) {
+    cola_verdict verdict = {0};
+    uint64_t rows = 0;
+    const plain *map = map_of(FIRST);
+    if (operation == LOAD) return loads(path_of("made"), map);
+    int32_t answer = operation == CHECK ? cola_file_check(path_of("store"), &verdict) : cola_file_grow(path_of("store"), KEYS + 200, 4, &rows);
+    if (answer == COLA_OK) HOLDS(operation == CHECK ? verdict.flaw == COLA_SOUND && verdict.count == map->count : rows == map->count);
+    return answer;
+}
+
+/* A case of a resident store: the map that the file is left with. */
+static int resident_session(cola_file *file, int32_t *answered, int *error_told) {
+    int32_t answer = COLA_OK;
+    int error = 0, left;
+    if (operation == OPEN_RESIDENT || operation == RECOVER) {
+        ARMED(cola_file_open_as(file, path_of("store"), COLA_RESIDENT));
+        if (answer == COLA_OK) HOLDS(cola_file_close(file) == COLA_OK);
+        left = operation == RECOVER ? SECOND : FIRST;
+    } else {
+        HOLDS(cola_file_open_as(file, path_of("store"), COLA_RESIDENT) == COLA_OK);
+        go(&file->store, FIRST, SECOND);
+        if (operation == CLOSE_RESIDENT) {
+            ARMED(cola_file_close(file));
+            left = answer == COLA_SYSTEM ? 0 : SECOND;
+        } else {
+            ARMED(cola_file_checkpoint(file, NULL));
+            if (answer == COLA_UNFINISHED) HOLDS(cola_put(&file->store, "k", 1, "v", 1, NULL) == COLA_UNFINISHED);
+            else go(&file->store, SECOND, THIRD);
+            HOLDS(cola_file_close(file) == COLA_OK);
+            left = answer == COLA_UNFINISHED ? SECOND : THIRD;
+        }
+    }
+    *answered = answer, *error_told = error;
+    return left;
+}
 
 /* The case, in a process of its own. It ends with how many calls of the system were counted. */
 static void session(void) {
     cola_file file = COLA_FILE_INIT;
     int32_t answer;
-    int error, before = descriptors();
-    if (operation == CREATE || operation == CREATE_EMPTY) {
+    int error, before = descriptors(), left;
+    if (operation >= OPEN_RESIDENT) {
+        left = resident_session(&file, &answer, &error);
+        int found = map_left("store");
+        HOLDS(left != 0 ? found == left : found == FIRST || found == SECOND);
+    } else if (operation == CREATE || operation == CREATE_EMPTY) {
         ARMED(cola_file_create(path_of("made"), KEYS, 3, 1));
     } else if (operation == OPEN) {
         ARMED(cola_file_open(&file, path_of("store")));
@@ -349,6 +482,9 @@ static void session(void) {
         ARMED(cola_file_open_as(&file, path_of("store"), COLA_READ_ONLY));
         if (answer == COLA_OK) HOLDS(cola_put(&file.store, "k", 1, "v", 1, NULL) == COLA_READ_ONLY_STORE && cola_file_close(&file) == COLA_OK);
         HOLDS(is_image(&store));
+    } else if (operation >= CHECK) {
+        map_of(FIRST);
+        ARMED(works_on_files());
     } else {
         HOLDS(cola_file_open(&file, path_of("store")) == COLA_OK);
         go(&file.store, FIRST, SECOND);
@@ -362,12 +498,16 @@ static void session(void) {
     }
     HOLDS(file.bytes == NULL && file.descriptor == -1 && descriptors() == before);
     if (answer != COLA_OK) {
-        HOLDS(answer == COLA_SYSTEM && error == refused_with && error != 0);
+        bool is_told = answer == COLA_SYSTEM || (operation >= SAVE && answer == COLA_UNFINISHED) ||
+                       ((operation == OPEN_RESIDENT || operation == RECOVER) && answer == COLA_MEMORY);
+        HOLDS(is_told && error == refused_with && error != 0);
         if (operation == OPEN && kind != DISK_FAILS) HOLDS(is_image(&store));
     } else {
         if (operation == CREATE || operation == CREATE_EMPTY) HOLDS(opens("made", EMPTY) == COLA_OK);
         if (operation == CHECKPOINT) HOLDS(opens("copy", SECOND) == COLA_OK);
         if (operation == CLOSE) HOLDS(opens("store", SECOND) == COLA_OK);
+        if (operation == GROW) HOLDS(!is_image(&store) && opens("store", FIRST) == COLA_OK);
+        if (operation == LOAD) HOLDS(opens("made", FIRST) == COLA_OK);
     }
     FILE *told = fopen(path_of(".told"), "w");
     HOLDS(told != NULL);
@@ -381,7 +521,7 @@ static void look(bool was_killed) {
     char name[256];
     struct stat about;
     int32_t answer;
-    const char *const known[] = {"store", "copy", "copy.new", "store.new", "made", NULL};
+    const char *const known[] = {"store", "copy", "copy.new", "store.new", "made", operation >= OPEN_RESIDENT ? "store-journal" : "store", NULL};
     int unknown = others(known, name);
     HOLDS(is_image(&beside) && is_image(&other));
     switch (operation) {
@@ -414,6 +554,32 @@ static void look(bool was_killed) {
         HOLDS(is_image(&copy) || opens("copy", SECOND) == COLA_OK);
         if (!is_image(&copy)) HOLDS(stat(path_of("copy"), &about) == 0 && (about.st_mode & 0777) == 0640);
         HOLDS(opens("store", THIRD) == (was_killed ? COLA_NOT_CLOSED : COLA_OK));
+        break;
+    case CHECK:
+        HOLDS(unknown == 0 && !is_there("made") && is_image(&copy) && is_image(&store));
+        break;
+    case GROW:
+    case LOAD:
+        HOLDS(is_image(&copy) && unknown <= (was_killed ? 1 : 0));
+        if (unknown > 0) {
+            HOLDS(strncmp(name, operation == GROW ? "store.new-" : "made.new-", operation == GROW ? 10 : 9) == 0);
+            answer = opens(name, FIRST);
+            HOLDS(answer == COLA_OK || answer == COLA_SMALL || answer == COLA_NOT_STORE);
+        }
+        if (operation == GROW) HOLDS(!is_there("made") && (is_image(&store) || opens("store", FIRST) == COLA_OK));
+        else HOLDS(is_image(&store) && (!is_there("made") || opens("made", FIRST) == COLA_OK));
+        HOLDS(operation == LOAD || (stat(path_of("store"), &about) == 0 && (about.st_mode & 0777) == 0640));
+        break;
+    case OPEN_RESIDENT:
+        HOLDS(unknown == 0 && is_image(&copy) && map_left("store") == FIRST);
+        break;
+    case RECOVER:
+        HOLDS(unknown == 0 && is_image(&copy) && map_left("store") == SECOND);
+        break;
+    case SAVE:
+    case CLOSE_RESIDENT:
+        HOLDS(unknown == 0 && is_image(&copy));
+        if (was_killed) answer = map_left("store"), HOLDS(answer == FIRST || answer == SECOND);
         break;
     default:
         HOLDS(unknown == 0 && !is_there("made") && is_image(&copy));
@@ -467,10 +633,13 @@ int main(int count, char **words) {
     char call[32];
     int32_t answer;
     long cases = 0;
+    static image made_once;
     if (count < 2) return fprintf(stderr, "failing FOLDER\n"), 2;
     snprintf(folder, sizeof folder, "%.2900s/failing.files", words[1]);
     mkdir(folder, 0777);
     make("store", FIRST, &store);
+    make("made", SECOND, &made_once);
+    make_journal(&made_once);
     make("copy", OLD, &copy);
     of_replaced_files(0);
     of_replaced_files(COLA_READ_ONLY);

@@ -61,6 +61,10 @@ int32_t cola_core_open(cola *store, cola_region *region) {
     HOLDS(is_bool(&store->is_open) && region->at != NULL);
     return writes(store, answer == COLA_OK), calls++, answer;
 }
+int32_t cola_core_open_marked(cola *store, cola_region *region, cola_region *marks) {
+    HOLDS(marks->at != NULL);
+    return cola_core_open(store, region);
+}
 int32_t cola_core_put(cola *store, const void *key, size_t key_len, const void *value, size_t value_len, bool *was) {
     takes(key, key_len, value, value_len);
     HOLDS(store != NULL && is_bool(was));
@@ -96,17 +100,61 @@ int32_t cola_core_seek(cola_cursor *cursor, const void *low, size_t low_len, con
     if (answer == COLA_OK) *cursor = (cola_cursor){.from_len = 3, .bounded = bounded};
     return answer;
 }
-int32_t cola_core_next(cola *store, cola_cursor *cursor, cola_row *rows, size_t most, size_t *given) {
+int32_t cola_core_seek_last(cola_cursor *cursor, const void *high, size_t high_len, bool bounded) {
+    takes(high, high_len, "", 0);
+    HOLDS(is_bool(&cursor->behind) && is_bool(&cursor->bounded));
+    if (answer == COLA_OK) *cursor = (cola_cursor){.from_len = 5, .bounded = bounded};
+    return answer;
+}
+static int32_t walks(cola *store, cola_cursor *cursor, cola_row *rows, size_t most, size_t *given, bool falls) {
     calls++;
     HOLDS(store != NULL && rows != NULL && is_bool(&cursor->behind) && is_bool(&cursor->bounded));
     handed = *cursor;
     if (answer != COLA_OK) return answer;
     *given = most;
-    *cursor = (cola_cursor){.from_len = 4, .behind = true};
+    *cursor = (cola_cursor){.from_len = falls ? 6 : 4, .behind = !falls};
     return answer;
 }
+int32_t cola_core_next(cola *store, cola_cursor *cursor, cola_row *rows, size_t most, size_t *given) {
+    return walks(store, cursor, rows, most, given, false);
+}
+int32_t cola_core_prev(cola *store, cola_cursor *cursor, cola_row *rows, size_t most, size_t *given) {
+    return walks(store, cursor, rows, most, given, true);
+}
+int32_t cola_core_info(cola *store, cola_store_info *info) { return HOLDS(store != NULL && info != NULL), calls++, answer; }
+int32_t cola_core_level(cola *store, uint8_t level, cola_level_info *info) {
+    return HOLDS(store != NULL && level == 9 && info != NULL), calls++, answer;
+}
+int32_t cola_core_check(const void *bytes, size_t len, cola_verdict *verdict) {
+    HOLDS(bytes != NULL && verdict != NULL);
+    return (void)len, calls++, answer;
+}
+int32_t cola_core_grow(const void *bytes, size_t len, cola_region *to, uint64_t keys, uint8_t block, uint64_t *rows) {
+    HOLDS(bytes != NULL && to->at != NULL && to->len == 3 && keys == 5 && block == 6 && rows != NULL);
+    if (answer == COLA_OK) *rows = 8;
+    return (void)len, calls++, answer;
+}
+/* The handle of a load as a proved call writes it, as a whole. */
+static void writes_load(cola_load *load, bool is_open) {
+    memset(load, 0xAB, sizeof *load);
+    load->is_open = is_open, load->at = NULL;
+}
+int32_t cola_core_load_begin(cola_load *load, cola_region *region, uint64_t keys, uint8_t block, uint8_t version) {
+    HOLDS(is_bool(&load->is_open) && region->at != NULL && keys == 5 && block == 6 && version == 2);
+    return writes_load(load, answer == COLA_OK), calls++, answer;
+}
+int32_t cola_core_load_row(cola_load *load, const void *key, size_t key_len, const void *value, size_t value_len) {
+    takes(key, key_len, value, value_len);
+    return writes_load(load, true), answer;
+}
+int32_t cola_core_load_end(cola_load *load, cola_region *region, uint64_t *rows) {
+    HOLDS(region->at == NULL && rows != NULL);
+    if (answer == COLA_OK) *rows = 9;
+    return writes_load(load, false), calls++, answer;
+}
 int32_t cola_core_checkpoint(cola *store, cola_region *region) { return HOLDS(store != NULL && region->at == NULL), calls++, answer; }
-int32_t cola_core_close(cola *store, cola_region *region) {
+int32_t cola_core_close(cola *store, cola_region *region, cola_region *marks) {
+    (void)marks;
     HOLDS(store != NULL && region->at == NULL);
     return writes(store, false), calls++, answer;
 }
@@ -154,6 +202,73 @@ static void of_cursors(cola *store) {
     HOLDS(cola_next(store, &unwritten, NULL, 0, &given) == COLA_OK && given == 0);
 }
 
+/* The same of the calls by falling keys. */
+static void of_cursors_that_fall(cola *store) {
+    cola_cursor cursor, unwritten;
+    cola_row row;
+    size_t given = 7;
+    SPOIL(cursor);
+    answer = COLA_LENGTH;
+    HOLDS(cola_seek_last(&cursor, "k", (size_t)-1) == COLA_LENGTH && is_spoiled(&cursor, sizeof cursor));
+    HOLDS(cola_prev(store, &cursor, &row, 1, &given) == COLA_LENGTH && is_spoiled(&cursor, sizeof cursor) && given == 7);
+    HOLDS(handed.behind && handed.bounded && handed.from_len == 0xAB);
+    answer = COLA_OK;
+    HOLDS(cola_seek_last(&unwritten, NULL, 0) == COLA_OK && unwritten.from_len == 5 && !unwritten.bounded);
+    HOLDS(cola_seek_last(&unwritten, "", 0) == COLA_OK && unwritten.bounded);
+    HOLDS(cola_prev(store, &unwritten, &row, 1, &given) == COLA_OK && given == 1 && unwritten.from_len == 6 && !unwritten.behind);
+    HOLDS(handed.from_len == 5 && handed.bounded && !handed.behind);
+    HOLDS(cola_prev(store, &unwritten, NULL, 0, &given) == COLA_OK && given == 0);
+    calls = 0;
+    HOLDS(cola_seek_last(NULL, "", 0) == COLA_NULL && cola_seek_last(&cursor, NULL, 1) == COLA_NULL);
+    HOLDS(cola_prev(NULL, &unwritten, &row, 1, &given) == COLA_NULL && cola_prev(store, NULL, &row, 1, &given) == COLA_NULL);
+    HOLDS(cola_prev(store, &unwritten, NULL, 1, &given) == COLA_NULL && cola_prev(store, &unwritten, &row, 1, NULL) == COLA_NULL);
+    HOLDS(calls == 0);
+}
+
+/* What a store says of itself goes into places of any bytes, which an answer other than COLA_OK leaves. */
+static void of_infos(cola *store) {
+    cola_store_info info;
+    cola_level_info level;
+    SPOIL(info), SPOIL(level);
+    for (answer = COLA_OK; answer <= COLA_NONE; answer++) HOLDS(cola_info(store, &info) == answer && cola_level(store, 9, &level) == answer);
+    HOLDS(is_spoiled(&info, sizeof info) && is_spoiled(&level, sizeof level));
+    calls = 0;
+    HOLDS(cola_info(NULL, &info) == COLA_NULL && cola_info(store, NULL) == COLA_NULL);
+    HOLDS(cola_level(NULL, 9, &level) == COLA_NULL && cola_level(store, 9, NULL) == COLA_NULL && calls == 0);
+}
+
+/* Whole stores: how many rows they are is told where it is asked for, and a load's handle is written byte by byte. */
+static void of_whole_stores(void) {
+    cola_load load = COLA_LOAD_INIT;
+    cola_verdict verdict;
+    cola_row *rows = calloc(2, sizeof *rows);
+    uint64_t count = 7;
+    size_t done = 7;
+    char bytes[3];
+    HOLDS(rows != NULL);
+    answer = COLA_FEWER;
+    HOLDS(cola_grow("", 0, bytes, 3, 5, 6, &count) == COLA_FEWER && cola_grow(NULL, 0, bytes, 3, 5, 6, NULL) == COLA_FEWER && count == 7);
+    HOLDS(cola_check(NULL, 0, &verdict) == COLA_FEWER && cola_load_begin(&load, bytes, 3, 5, 6, 2) == COLA_FEWER && !load.is_open);
+    answer = COLA_OK;
+    HOLDS(cola_grow("", 0, bytes, 3, 5, 6, &count) == COLA_OK && count == 8 && cola_grow("", 0, bytes, 3, 5, 6, NULL) == COLA_OK);
+    HOLDS(cola_load_begin(&load, bytes, 3, 5, 6, 2) == COLA_OK && load.is_open);
+    HOLDS(cola_load_row(&load, "k", (size_t)-1, NULL, 0) == COLA_OK && cola_load_row(&load, NULL, 0, "v", (size_t)-1) == COLA_OK);
+    rows[0].key_len = COLA_KEY_MAX, rows[0].value_len = COLA_VALUE_MAX, rows[1].key_len = rows[1].value_len = 255;
+    calls = 0, reads = true;
+    HOLDS(cola_load_many(&load, rows, 2, &done) == COLA_OK && done == 2 && calls == 2 && load.is_open);
+    reads = false, answer = COLA_ORDER;
+    HOLDS(cola_load_many(&load, rows, 2, &done) == COLA_ORDER && done == 0 && calls == 3);
+    HOLDS(cola_load_end(&load, &count) == COLA_ORDER && count == 8 && !load.is_open);
+    HOLDS(cola_load_many(&load, rows, 2, &done) == COLA_CLOSED && calls == 4);
+    answer = COLA_OK;
+    HOLDS(cola_load_end(&load, &count) == COLA_OK && count == 9 && cola_load_end(&load, NULL) == COLA_OK);
+    calls = 0;
+    HOLDS(cola_check(NULL, 1, &verdict) == COLA_NULL && cola_check("", 0, NULL) == COLA_NULL && cola_grow(NULL, 1, bytes, 3, 5, 6, NULL) == COLA_NULL);
+    HOLDS(cola_grow("", 0, NULL, 3, 5, 6, NULL) == COLA_NULL && cola_load_begin(&load, NULL, 3, 5, 6, 2) == COLA_NULL);
+    HOLDS(cola_load_begin(NULL, bytes, 3, 5, 6, 2) == COLA_NULL && cola_load_end(NULL, &count) == COLA_NULL && calls == 0);
+    free(rows);
+}
+
 /* A store is read alone where this file's own mark says so, and no other byte of a handle is one. */
 static void of_handles(void) {
     char value[COLA_VALUE_MAX];
@@ -171,11 +286,18 @@ static void of_handles(void) {
     HOLDS(cola_put_if(&store, "k", 1, 5, "v", 1, NULL) == COLA_READ_ONLY_STORE && cola_checkpoint(&store) == COLA_READ_ONLY_STORE);
     HOLDS(calls == 0 && cola_get(&store, "k", 1, value, &length) == COLA_OK && calls == 1);
     HOLDS(cola_close(&store) == COLA_OK && !store.is_open && cola_put(&store, "k", 1, "v", 1, NULL) == COLA_OK);
+    uint8_t marks[1];
+    HOLDS(cola_open_marked(&store, value, sizeof value, marks, 1) == COLA_OK && store.is_open && !store.is_read_only && !store.is_unfinished);
+    store.is_unfinished = true, calls = 0; /* and nothing is put where a checkpoint is not finished */
+    HOLDS(cola_put(&store, "k", 1, "v", 1, NULL) == COLA_UNFINISHED && cola_delete(&store, "k", 1) == COLA_UNFINISHED);
+    HOLDS(cola_put_if(&store, "k", 1, 5, "v", 1, NULL) == COLA_UNFINISHED && calls == 0);
+    HOLDS(cola_get(&store, "k", 1, value, &length) == COLA_OK && cola_close(&store) == COLA_OK);
 }
 
 /* Rows that are said to be longer than they are: nothing behind them is read, also behind the last one. */
 static void of_rows(void) {
-    cola store = {true, false, NULL};
+    cola store = COLA_INIT;
+    store.is_open = true;
     cola_row *rows = calloc(2, sizeof *rows);
     bool there[2];
     size_t done = 7;
@@ -198,7 +320,10 @@ int main(void) {
     char value[COLA_VALUE_MAX];
     of_bools(&store);
     of_cursors(&store);
+    of_cursors_that_fall(&store);
+    of_infos(&store);
     of_handles();
+    of_whole_stores();
     of_rows();
     answer = COLA_OK;
     HOLDS(cola_size(1, 5, 1, &number) == COLA_OK && number == 77);

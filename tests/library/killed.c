@@ -1,7 +1,8 @@
 /* A process that is killed in mid-session, at each of many moments: its file is refused from then on, and the copy of its
- * last checkpoint has the map of that moment. A copy that was not finished is refused, or has such a map too.
+ * last checkpoint has the map of that moment. A copy that was not finished is refused, or has such a map too. Of a resident
+ * store the file itself has the map of the last checkpoint, or of the one under way, once it is opened.
  *
- *     killed FOLDER TIMES
+ *     killed FOLDER TIMES [resident]
  */
 #include <glob.h>
 #include <signal.h>
@@ -15,6 +16,7 @@
 enum { KEYS = 5000, EVERY = 500 };
 
 static char path[4096], copy[4096], unfinished[5000];
+static bool is_resident;
 
 #define HOLDS(is) ((is) ? (void)0 : (fprintf(stderr, "killed: line %d: not so: %s\n", __LINE__, #is), exit(1)))
 
@@ -28,11 +30,11 @@ static void nth(long n, char key[32], char value[32]) {
 static void session(int told) {
     cola_file file = COLA_FILE_INIT;
     char key[32], value[32];
-    if (cola_file_open(&file, path) != COLA_OK) _exit(9);
+    if (cola_file_open_as(&file, path, is_resident ? COLA_RESIDENT : 0) != COLA_OK) _exit(9);
     for (long done = 1;; done++) {
         nth(done, key, value);
         if (cola_put(&file.store, key, 6, value, 10, NULL) != COLA_OK) _exit(9);
-        if (done % EVERY == 0 && cola_file_checkpoint(&file, copy) != COLA_OK) _exit(9);
+        if (done % EVERY == 0 && cola_file_checkpoint(&file, is_resident ? NULL : copy) != COLA_OK) _exit(9);
         if (done % EVERY == 0 && write(told, &done, sizeof done) != sizeof done) _exit(9);
     }
 }
@@ -69,6 +71,31 @@ static long puts_of(const char *where) {
     return most;
 }
 
+/* What is left of a mapped store, behind so many puts of its last checkpoint. */
+static void look(long last) {
+    cola_file file = COLA_FILE_INIT;
+    /* Killed between a checkpoint's closing and its opening, the file is in use all the same. */
+    HOLDS(cola_file_open(&file, path) == COLA_NOT_CLOSED);
+    long puts = puts_of(copy);
+    HOLDS(puts % EVERY == 0 && (puts == last || puts == last + EVERY));
+    glob_t left;
+    if (glob(unfinished, 0, NULL, &left) == 0) {
+        HOLDS(left.gl_pathc == 1);
+        int32_t answer = cola_file_open(&file, left.gl_pathv[0]);
+        HOLDS(answer == COLA_OK || answer == COLA_SMALL || answer == COLA_NOT_STORE);
+        if (answer == COLA_OK) HOLDS(cola_file_close(&file) == COLA_OK && puts_of(left.gl_pathv[0]) == last + EVERY);
+        HOLDS(unlink(left.gl_pathv[0]) == 0);
+        globfree(&left);
+    }
+    HOLDS(rename(copy, path) == 0); /* the copy takes the file's place */
+}
+
+/* And of a resident one. */
+static void look_at_resident(long last) {
+    long puts = puts_of(path);
+    HOLDS(puts % EVERY == 0 && (puts == last || puts == last + EVERY));
+}
+
 static void one_time(int time) {
     int told[2], status;
     long done = 0, last = 0;
@@ -86,28 +113,16 @@ static void one_time(int time) {
     HOLDS(WIFSIGNALED(status) && WTERMSIG(status) == SIGKILL);
     while (read(told[0], &done, sizeof done) == sizeof done) last = done;
     close(told[0]);
-    /* Killed between a checkpoint's closing and its opening, the file is in use all the same. */
-    HOLDS(cola_file_open(&file, path) == COLA_NOT_CLOSED);
-    long puts = puts_of(copy);
-    HOLDS(puts % EVERY == 0 && (puts == last || puts == last + EVERY));
-    glob_t left;
-    if (glob(unfinished, 0, NULL, &left) == 0) {
-        HOLDS(left.gl_pathc == 1);
-        int32_t answer = cola_file_open(&file, left.gl_pathv[0]);
-        HOLDS(answer == COLA_OK || answer == COLA_SMALL || answer == COLA_NOT_STORE);
-        if (answer == COLA_OK) HOLDS(cola_file_close(&file) == COLA_OK && puts_of(left.gl_pathv[0]) == last + EVERY);
-        HOLDS(unlink(left.gl_pathv[0]) == 0);
-        globfree(&left);
-    }
-    /* The copy takes the file's place, and the session goes on. */
-    HOLDS(rename(copy, path) == 0);
+    is_resident ? look_at_resident(last) : look(last);
+    /* The session goes on. */
     HOLDS(cola_file_open(&file, path) == COLA_OK);
     HOLDS(cola_put(&file.store, "zz", 2, "on", 2, NULL) == COLA_OK);
     HOLDS(cola_file_close(&file) == COLA_OK);
 }
 
 int main(int count, char **words) {
-    if (count < 3) return fprintf(stderr, "killed FOLDER TIMES\n"), 2;
+    if (count < 3) return fprintf(stderr, "killed FOLDER TIMES [resident]\n"), 2;
+    is_resident = count > 3;
     snprintf(path, sizeof path, "%.4000s/killed.store", words[1]);
     snprintf(copy, sizeof copy, "%.4000s/killed.copy", words[1]);
     snprintf(unfinished, sizeof unfinished, "%s.new-*", copy);

@@ -1,5 +1,6 @@
 /* Random calls on a store, each answer compared with that of a sorted array; after every so many calls a checkpoint, whose
- * copy the program opens and prints, and the rows are compared too.
+ * copy the program opens and prints, and the rows are compared too: of the copy, of a new file that is filled with them, and of the
+ * copy once it has grown.
  *
  *     random FOLDER CALLS EVERY [PROGRAM]
  *
@@ -20,7 +21,7 @@ extern char **environ;
 enum { MOST = 40 };
 
 static uint64_t state = 20261128;
-static char store_path[4096], copy_path[4096], lines_path[4096], wanted_path[4096], written_path[4096];
+static char store_path[4096], copy_path[4096], loaded_path[4096], lines_path[4096], wanted_path[4096], written_path[4096];
 static const char *program;
 static bool any_bytes; /* keys and values of any bytes, which the program's lines can't have */
 static long call;
@@ -147,6 +148,11 @@ static void prefixes(plain *it, cola *store) {
         }
 }
 
+static void same_row(const cola_row *mine, const cola_row *row) {
+    SAME("a key of a row", plain_order(mine->key, mine->key_len, row->key, row->key_len) == 0);
+    SAME("a value of a row", plain_order(mine->value, mine->value_len, row->value, row->value_len) == 0);
+}
+
 /* A range, with bounds of any lengths that a cursor takes, a few rows at a time, and now and then a put in between. */
 static void ranges(plain *it, cola *store) {
     uint8_t low[128], high[128];
@@ -162,16 +168,61 @@ static void ranges(plain *it, cola *store) {
         int32_t answer = cola_next(store, &cursor, rows, most, &given);
         SAME("the answer of a next", answer == (wanted == 0 ? COLA_NONE : COLA_OK));
         SAME("how many rows", given == wanted);
-        for (size_t row = 0; row < given; row++) {
-            const cola_row *mine = &it->pairs[at + row].row;
-            SAME("a key of a row", plain_order(mine->key, mine->key_len, rows[row].key, rows[row].key_len) == 0);
-            SAME("a value of a row", plain_order(mine->value, mine->value_len, rows[row].value, rows[row].value_len) == 0);
-        }
+        for (size_t row = 0; row < given; row++) same_row(&it->pairs[at + row].row, &rows[row]);
         if (given == 0) break;
         if (next(8) == 0) puts_one(it, store);
         at = plain_below(it, rows[given - 1].key, rows[given - 1].key_len, &there);
         at += there;
     }
+}
+
+/* A cursor that goes in either direction, a few rows at a time, from either end of a range, and now and then a put or a delete
+ * in between. Beside it stands its place: before a key, or behind it. */
+static void turns(plain *it, cola *store) {
+    uint8_t low[128], high[128], place[COLA_KEY_MAX];
+    size_t low_len = some_key(it, low) % (COLA_KEY_MAX + 1), high_len = some_key(it, high) % (COLA_KEY_MAX + 1), given;
+    bool bounded = next(4) != 0, from_end = next(2) == 0, there, behind = from_end && !bounded;
+    cola_cursor cursor;
+    cola_row rows[MOST];
+    size_t place_len = !from_end ? low_len : bounded ? high_len : COLA_KEY_MAX;
+    memset(place, 255, COLA_KEY_MAX);
+    if (!from_end || bounded) memcpy(place, from_end ? high : low, place_len);
+    int32_t seek = from_end ? cola_seek_last(&cursor, bounded ? high : NULL, bounded ? high_len : 0)
+                            : cola_seek(&cursor, low, low_len, bounded ? high : NULL, bounded ? high_len : 0);
+    SAME("the answer of a seek", seek == COLA_OK);
+    for (int steps = 0; steps < 20; steps++) {
+        bool falls = next(2) == 0;
+        size_t most = 1 + next(MOST), end = bounded ? plain_below(it, high, high_len, &there) : it->count;
+        size_t at = plain_below(it, place, place_len, &there);
+        at += there && behind;
+        size_t ahead = falls ? (at < end ? at : end) : at < end ? end - at : 0, wanted = ahead < most ? ahead : most;
+        int32_t answer = (falls ? cola_prev : cola_next)(store, &cursor, rows, most, &given);
+        SAME("the answer of a step", answer == (wanted == 0 ? COLA_NONE : COLA_OK));
+        SAME("how many rows", given == wanted);
+        for (size_t row = 0; row < given; row++) same_row(&it->pairs[falls ? ahead - 1 - row : at + row].row, &rows[row]);
+        if (given > 0) memcpy(place, rows[given - 1].key, place_len = rows[given - 1].key_len), behind = !falls;
+        if (next(8) == 0) puts_one(it, store);
+        if (next(8) != 0 || given == 0) continue;
+        const cola_row *gone = &rows[next(given)]; /* one of those that were given, be it the one at the place */
+        SAME("a delete of a row", cola_delete(store, gone->key, gone->key_len) == plain_delete(it, gone->key, gone->key_len));
+    }
+}
+
+/* What a store says of itself. */
+static void infos(const plain *it, cola *store, int version, uint8_t block) {
+    cola_store_info info;
+    cola_level_info level = {0};
+    uint64_t bytes, cells = 0;
+    SAME("the answer of an info", cola_info(store, &info) == COLA_OK);
+    SAME("an info", info.keys == it->limit && info.count == it->count && info.version == version && info.block == block);
+    SAME("the bytes of an info", cola_size(info.keys, info.block, info.version, &bytes) == COLA_OK && info.bytes == bytes);
+    SAME("the bounds of an info", info.write_bound == 40u * info.levels && info.get_bound == 8u * info.levels);
+    for (uint8_t at = 0; at < info.levels; at++, cells += level.visible) {
+        SAME("the answer of a level", cola_level(store, at, &level) == COLA_OK);
+        SAME("a level", level.room == (uint64_t)4 << at && level.visible <= level.room && level.shadow <= level.room);
+    }
+    SAME("the cells of all levels", cells >= it->count);
+    SAME("a level behind the last", cola_level(store, info.levels, &level) == COLA_NONE && cola_level(store, 255, &level) == COLA_NONE);
 }
 
 static void counts(plain *it, cola *store) {
@@ -222,24 +273,59 @@ static void program_opens(const plain *it) {
     SAME("what the program writes of a copy", same_files(wanted_path, written_path));
 }
 
-static void library_opens(const plain *it) {
+/* Whether the closed store in a file has these rows, also for its test. Stamps are compared where it has the old ones. */
+static void library_opens(const plain *it, const char *path, bool has_stamps) {
     cola_file copy = COLA_FILE_INIT;
     cola_cursor cursor;
     cola_row rows[MOST];
+    cola_verdict verdict;
     size_t given, at = 0;
-    SAME("the opening of a copy", cola_file_open(&copy, copy_path) == COLA_OK);
+    SAME("the test of a copy", cola_file_check(path, &verdict) == COLA_OK && verdict.flaw == COLA_SOUND && verdict.count == it->count);
+    SAME("the opening of a copy", cola_file_open(&copy, path) == COLA_OK);
     SAME("a seek in a copy", cola_seek(&cursor, NULL, 0, NULL, 0) == COLA_OK);
     while (cola_next(&copy.store, &cursor, rows, MOST, &given) == COLA_OK)
         for (size_t row = 0; row < given; row++, at++) {
             const plain_pair *mine = &it->pairs[at];
             uint64_t stamp;
             SAME("a row more in a copy", at < it->count);
-            SAME("a key of a copy", plain_order(mine->row.key, mine->row.key_len, rows[row].key, rows[row].key_len) == 0);
-            SAME("a value of a copy", plain_order(mine->row.value, mine->row.value_len, rows[row].value, rows[row].value_len) == 0);
-            SAME("a stamp of a copy", cola_stamp(&copy.store, rows[row].key, rows[row].key_len, &stamp) == COLA_OK && stamp == mine->stamp);
+            same_row(&mine->row, &rows[row]);
+            SAME("a stamp of a copy", cola_stamp(&copy.store, rows[row].key, rows[row].key_len, &stamp) == COLA_OK);
+            SAME("a stamp of a copy", stamp == mine->stamp || !has_stamps);
         }
     SAME("the rows of a copy", at == it->count);
     SAME("the closing of a copy", cola_file_close(&copy) == COLA_OK);
+}
+
+/* A new file of the rows, some at a time; now and then one that is out of order is refused, and left out. */
+static void loads(const plain *it, uint8_t version) {
+    cola_file_load load = COLA_FILE_LOAD_INIT;
+    cola_row rows[MOST];
+    size_t done;
+    uint64_t loaded;
+    unlink(loaded_path);
+    SAME("the beginning of a load", cola_file_load_begin(&load, loaded_path, limit + next(limit), 3, version) == COLA_OK);
+    for (size_t at = 0; at < it->count; at += done) {
+        size_t count = 1 + next(MOST);
+        if (count > it->count - at) count = it->count - at;
+        for (size_t row = 0; row < count; row++) rows[row] = it->pairs[at + row].row;
+        size_t wrong = at > 0 && next(5) == 0 ? next(count) : count;
+        bool is_long = next(3) == 0;
+        if (wrong < count) rows[wrong] = it->pairs[next(at + wrong)].row;
+        if (wrong < count && is_long) rows[wrong].key_len = (uint8_t)(it->key_max + 1 + next(100));
+        int32_t answer = cola_load_many(&load.load, rows, count, &done);
+        SAME("the answer of a load", answer == (wrong == count ? COLA_OK : is_long ? COLA_LENGTH : COLA_ORDER));
+        SAME("how many were loaded", done == wrong);
+    }
+    SAME("the end of a load", cola_file_load_end(&load, &loaded) == COLA_OK && loaded == it->count);
+    library_opens(it, loaded_path, false);
+}
+
+/* The copy grows, in its place, or gets smaller. */
+static void grows(const plain *it) {
+    uint64_t rows = 999, keys = it->count + next(2 * limit) + 1;
+    if (it->count > 1) SAME("a growing for fewer keys", cola_file_grow(copy_path, it->count - 1, 3, &rows) == COLA_FEWER && rows == 999);
+    SAME("a growing", cola_file_grow(copy_path, keys, 3, &rows) == COLA_OK && rows == it->count);
+    library_opens(it, copy_path, true);
 }
 
 static void calls_on(int version, uint8_t block, long calls, long every) {
@@ -258,6 +344,8 @@ static void calls_on(int version, uint8_t block, long calls, long every) {
         else if (which < 82) prefixes(&it, &file.store);
         else if (which < 83) puts_many(&it, &file.store);
         else if (which < 84) gets_many(&it, &file.store);
+        else if (which < 86) turns(&it, &file.store);
+        else if (which < 87) infos(&it, &file.store, version, block);
         else {
             uint8_t key[128];
             size_t length = some_key(&it, key);
@@ -271,7 +359,10 @@ static void calls_on(int version, uint8_t block, long calls, long every) {
         if ((done + 1) % every == 0) {
             SAME("a checkpoint", cola_file_checkpoint(&file, copy_path) == COLA_OK);
             if (program != NULL) program_opens(&it);
-            if (program == NULL || done % (10 * every) < every) library_opens(&it);
+            if (program != NULL && done % (10 * every) >= every) continue;
+            library_opens(&it, copy_path, true);
+            loads(&it, (uint8_t)version);
+            grows(&it);
         }
     }
     SAME("the last closing", cola_file_close(&file) == COLA_OK);
@@ -284,6 +375,7 @@ int main(int count, char **words) {
     program = count > 4 ? words[4] : NULL;
     snprintf(store_path, sizeof store_path, "%s/store", words[1]);
     snprintf(copy_path, sizeof copy_path, "%s/copy", words[1]);
+    snprintf(loaded_path, sizeof loaded_path, "%s/loaded", words[1]);
     snprintf(lines_path, sizeof lines_path, "%s/lines", words[1]);
     snprintf(wanted_path, sizeof wanted_path, "%s/wanted", words[1]);
     snprintf(written_path, sizeof written_path, "%s/written", words[1]);

@@ -26,11 +26,13 @@ import os
 import struct
 import threading
 import weakref
-from collections.abc import ItemsView, Mapping, MutableMapping, ValuesView
+from collections import namedtuple
+from collections.abc import ItemsView, KeysView, Mapping, MutableMapping, ValuesView
 from itertools import chain, islice
 
-__all__ = ["create", "open", "Store", "Error", "Full", "Worn", "Closed", "Length", "Options", "NotEmpty", "NotStore",
-           "Small", "NotClosed", "BadCell", "Overfull", "ReadOnly", "KEY_MAX", "VALUE_MAX", "KEYS_MAX"]
+__all__ = ["create", "open", "load", "check", "grow", "Store", "Info", "Level", "Verdict", "Error", "Full", "Worn", "Closed", "Length",
+           "Options", "NotEmpty", "NotStore", "Small", "NotClosed", "BadCell", "Overfull", "ReadOnly", "Order", "Fewer",
+           "KEY_MAX", "VALUE_MAX", "KEYS_MAX"]
 
 __version__ = "1.0"
 
@@ -38,15 +40,15 @@ KEY_MAX = 40  #: bytes of a key in a file of version 2; 24 in one of version 1
 VALUE_MAX = 72  #: bytes of a value in a file of version 2; 32 in one of version 1
 KEYS_MAX = 1 << 24  #: keys that a store may be for
 
-_OK, _NONE, _OTHER, _MEMORY, _SYSTEM = 0, 1, 2, 16, 17
-_READ_ONLY = 1
+_OK, _NONE, _OTHER, _MEMORY, _SYSTEM, _BROKEN = 0, 1, 2, 16, 17, 21
+_READ_ONLY, _RESIDENT = 1, 2
 _ROWS = 32  # how many rows an iteration asks for at once
 _MANY = 1024  # how many rows are put, or looked up, at once
 
 
 class Error(Exception):
-    """A call was refused; nothing changed. `answer` is its number in cola.h. `done` is set by Store.update: how many pairs were put
-    before the one that was refused."""
+    """A call was refused; nothing changed. `answer` is its number in cola.h. `done` is set by Store.update and load: how many pairs
+    were taken before the one that was refused."""
 
     answer = None
     done = 0
@@ -124,16 +126,35 @@ class ReadOnly(Error):
     answer = 18
 
 
+class Order(Error, ValueError):
+    """The key of a pair is not above that of the pair before (load)."""
+
+    answer = 19
+
+
+class Fewer(Error, ValueError):
+    """The new store is for fewer keys than there are (grow)."""
+
+    answer = 20
+
+
+class Unfinished(Error):
+    """A checkpoint holds in the journal beside the file, and not in the file: nothing is put before it is finished."""
+
+    answer = 22
+
+
 _errors = {kind.answer: kind for kind in Error.__subclasses__()}
 
 
 class _Cola(ctypes.Structure):
-    _fields_ = [("is_open", ctypes.c_bool), ("is_read_only", ctypes.c_bool), ("at", ctypes.c_void_p)]
+    _fields_ = [("is_open", ctypes.c_bool), ("is_read_only", ctypes.c_bool), ("is_unfinished", ctypes.c_bool),
+                ("at", ctypes.c_void_p)]
 
 
 class _File(ctypes.Structure):
     _fields_ = [("store", _Cola), ("bytes", ctypes.c_void_p), ("length", ctypes.c_size_t),
-                ("descriptor", ctypes.c_int), ("owner", ctypes.c_long)]
+                ("descriptor", ctypes.c_int), ("is_resident", ctypes.c_bool), ("owner", ctypes.c_long)]
 
 
 class _Row(ctypes.Structure):
@@ -144,6 +165,37 @@ class _Row(ctypes.Structure):
 class _Cursor(ctypes.Structure):
     _fields_ = [("from_len", ctypes.c_uint8), ("until_len", ctypes.c_uint8), ("behind", ctypes.c_bool),
                 ("bounded", ctypes.c_bool), ("from_", ctypes.c_uint8 * KEY_MAX), ("until", ctypes.c_uint8 * KEY_MAX)]
+
+
+class _StoreInfo(ctypes.Structure):
+    _fields_ = [(name, ctypes.c_uint64) for name in ("keys", "count", "bytes", "write_bound", "get_bound")] + \
+               [(name, ctypes.c_uint8) for name in ("version", "block", "levels")]
+
+
+class _LevelInfo(ctypes.Structure):
+    _fields_ = [(name, ctypes.c_uint64) for name in ("visible", "shadow", "room")]
+
+
+class _Verdict(ctypes.Structure):
+    _fields_ = [("count", ctypes.c_uint64), ("cell", ctypes.c_uint64), ("flaw", ctypes.c_uint32), ("level", ctypes.c_uint32)]
+
+
+class _FileLoad(ctypes.Structure):
+    _fields_ = [("is_open", ctypes.c_bool), ("at", ctypes.c_void_p), ("bytes", ctypes.c_void_p), ("length", ctypes.c_size_t),
+                ("name", ctypes.c_void_p), ("descriptor", ctypes.c_int), ("owner", ctypes.c_long)]
+
+
+Info = namedtuple("Info", "keys count bytes write_bound get_bound version block levels")
+Info.__doc__ = """What a store is, and how full: the keys that it is for, those that it has, its bytes, the cell accesses that a put or a
+delete, and a get, makes at most, its version and block, and its levels, each a Level, from the one that takes a put on."""
+Level = namedtuple("Level", "visible shadow room")
+Level.__doc__ = """How far a level is filled, in cells: of the run that searches read, of the run that it builds, and the room of either."""
+
+
+_FLAWS = (None, "cell", "order", "sample", "length", "shadow", "live", "count", "stamp")
+Verdict = namedtuple("Verdict", "is_sound count flaw level cell")
+Verdict.__doc__ = """What check says of a closed store: whether it stands for a map, and of how many keys; else its first flaw, by the word that the
+program cola has for it ("cell", "order", "sample", "length", "shadow", "live", "count", "stamp"), and the level and the cell where it shows."""
 
 
 def _declare(library, calls):
@@ -176,16 +228,26 @@ def _load():
         "cola_stamp": [at, text, size, number],
         "cola_delete": [at, text, size],
         "cola_count": [at, number],
-        "cola_seek": [ctypes.POINTER(_Cursor), text, size, text, size],
         "cola_seek_prefix": [ctypes.POINTER(_Cursor), text, size],
         "cola_next": [at, ctypes.POINTER(_Cursor), ctypes.POINTER(_Row), size, ctypes.POINTER(size)],
+        "cola_prev": [at, ctypes.POINTER(_Cursor), ctypes.POINTER(_Row), size, ctypes.POINTER(size)],
+        "cola_info": [at, ctypes.POINTER(_StoreInfo)],
+        "cola_level": [at, ctypes.c_uint8, ctypes.POINTER(_LevelInfo)],
         "cola_put_many": [at, text, size, at, ctypes.POINTER(size)],
         "cola_get_many": [at, at, size, at, ctypes.POINTER(size)],
+        "cola_load_many": [at, text, size, ctypes.POINTER(size)],
     }), _declare(slow, {
         "cola_file_create": [text, ctypes.c_uint64, ctypes.c_uint8, ctypes.c_uint8],
         "cola_file_open_as": [ctypes.POINTER(_File), text, ctypes.c_uint32],
         "cola_file_checkpoint": [ctypes.POINTER(_File), text],
         "cola_file_close": [ctypes.POINTER(_File)],
+        "cola_file_check_open": [ctypes.POINTER(_File), ctypes.POINTER(_Verdict)],
+        "cola_file_check": [text, ctypes.POINTER(_Verdict)],
+        "cola_file_grow": [text, ctypes.c_uint64, ctypes.c_uint8, number],
+        "cola_file_load_begin": [ctypes.POINTER(_FileLoad), text, ctypes.c_uint64, ctypes.c_uint8, ctypes.c_uint8],
+        "cola_file_load_end": [ctypes.POINTER(_FileLoad), number],
+        "cola_file_load_drop": [ctypes.POINTER(_FileLoad)],
+        "cola_file_discard": [ctypes.POINTER(_File)],
     })
 
 
@@ -231,12 +293,18 @@ def _path(path):
     return path
 
 
-def create(path, keys, block=5, version=1):
-    """Makes the file of a new, closed store for so many keys, with blocks of 2**block cells. A file that is there has to be
-    empty (NotEmpty)."""
+def _options(keys, block, version=1):
+    """The numbers of a new store, as the library can be given them."""
     keys, block, version = operator.index(keys), operator.index(block), operator.index(version)
     if not (0 <= keys < 1 << 64 and 0 <= block < 256 and 0 <= version < 256):
         raise Options("no store has these keys, this block or this version")
+    return keys, block, version
+
+
+def create(path, keys, block=5, version=1):
+    """Makes the file of a new, closed store for so many keys, with blocks of 2**block cells. A file that is there has to be
+    empty (NotEmpty)."""
+    keys, block, version = _options(keys, block, version)
     _check(_files.cola_file_create(_path(path), keys, block, version), path)
 
 
@@ -251,8 +319,9 @@ def _is_to_be_made(path):
         return True
 
 
-def open(path, *, keys=None, block=5, version=1, create=False, read_only=False):
-    """Opens the store in a file, for this process alone; with `read_only` to be read alone, beside others that read it. With
+def open(path, *, keys=None, block=5, version=1, create=False, read_only=False, resident=False):
+    """Opens the store in a file, for this process alone; with `read_only` to be read alone, beside others that read it; with
+    `resident` it is kept in memory, and the file has its last checkpoint. With
     `create` a file that is not there, or is empty, is made first, as by `create(path, keys, block, version)`; one that is there
     is opened as it is."""
     if create and keys is None:
@@ -264,7 +333,7 @@ def open(path, *, keys=None, block=5, version=1, create=False, read_only=False):
             _create(path, keys, block, version)
         except (NotEmpty, BlockingIOError):
             pass  # (another process makes it, or has made it)
-    return Store(path, read_only=read_only)
+    return Store(path, read_only=read_only, resident=resident)
 
 
 def _pairs(other, words):
@@ -276,6 +345,54 @@ def _pairs(other, words):
     else:
         pairs = other
     return chain(pairs, words.items())
+
+
+def _verdict(answer, verdict, path):
+    """The Verdict of a check that was not refused."""
+    if answer != _BROKEN:
+        _check(answer, path)
+        return Verdict(True, verdict.count, None, None, None)
+    flaw = _FLAWS[verdict.flaw] if verdict.flaw < len(_FLAWS) else f"flaw {verdict.flaw}"
+    return Verdict(False, None, flaw, verdict.level, verdict.cell)
+
+
+def check(path):
+    """Tests the closed store in a file, all of it, beside others that read it, and writes nothing: a Verdict."""
+    verdict = _Verdict()
+    return _verdict(_files.cola_file_check(_path(path), verdict), verdict, path)
+
+
+def grow(path, keys, block=5):
+    """Makes the closed store in a file one for so many keys, with blocks of 2**block cells, and says how many rows it has. The file
+    is replaced as a whole, and is on the disk then; a refusal leaves it as it was."""
+    rows = ctypes.c_uint64()
+    keys, block, _ = _options(keys, block)
+    _check(_files.cola_file_grow(_path(path), keys, block, rows), path)
+    return rows.value
+
+
+def load(path, pairs, keys, block=5, version=1):
+    """Makes the file of a new store of pairs by rising keys, and says how many they are. A file that is there has to be
+    empty (NotEmpty). A pair that is refused, as one whose key is not above the one before (Order), ends it: what is raised has in
+    `done` how many were before it. Where the pairs end by an error, nothing is left."""
+    loading, rows, done = _FileLoad(descriptor=-1), ctypes.c_uint64(), 0
+    name, (keys, block, version), pairs = _path(path), _options(keys, block, version), iter(_pairs(pairs, {}))
+    _check(_files.cola_file_load_begin(loading, name, keys, block, version), path)
+    try:
+        while batch := list(islice(pairs, _MANY)):
+            packed, loaded = _packed(batch), ctypes.c_size_t()
+            answer = _library.cola_load_many(ctypes.byref(loading), packed, len(batch), loaded)
+            done += loaded.value
+            if answer != _OK:
+                kind = _errors.get(answer, Error)
+                error = kind(f"{_library.cola_strerror(answer).decode()}: pair {done + 1}, {bytes(batch[loaded.value][0])!r}")
+                error.done = done
+                raise error
+        _check(_files.cola_file_load_end(loading, rows), path)
+    finally:
+        if loading.bytes:
+            _files.cola_file_load_drop(loading)
+    return rows.value
 
 
 _row = struct.Struct(f"BB{KEY_MAX}s{VALUE_MAX}s")  # a cola_row
@@ -303,32 +420,79 @@ def _packed_keys(keys):
         return b"".join([pack(min(len(key), 255), key) for key in keys])
 
 
+class _Place(namedtuple("_Place", "key is_behind")):
+    """A place between two keys, in the order of such: before a key that may be there, or behind it."""
+
+    __slots__ = ()
+
+    @classmethod
+    def of(cls, key, is_behind=False):
+        # No key is longer than KEY_MAX: the place of a longer one is behind its first KEY_MAX bytes.
+        return cls(key[:KEY_MAX], is_behind or len(key) > KEY_MAX)
+
+
+_FIRST, _LAST = _Place(b"", False), _Place(b"\xff" * KEY_MAX, True)  # before all keys, and behind them
+
+
+class _Rows:
+    """The pairs of a store between two places, one by one, by rising keys or by falling ones. Backwards they are those from the
+    other end on, also where some were given."""
+
+    def __init__(self, store, low, high, falls=False):
+        self._all = store, low, high, falls
+        self._pairs = store._rows(low, high, falls)
+
+    def __iter__(self):
+        return self._pairs
+
+    def __next__(self):
+        return next(self._pairs)
+
+    def __reversed__(self):
+        store, low, high, falls = self._all
+        return _Rows(store, low, high, not falls)
+
+
+class _Keys(KeysView):
+    def __reversed__(self):
+        return reversed(self._mapping)
+
+
 class _Items(ItemsView):
     def __iter__(self):
         return self._mapping[:]
+
+    def __reversed__(self):
+        return reversed(self._mapping[:])
 
 
 class _Values(ValuesView):
     def __iter__(self):
         return (value for _, value in self._mapping[:])
 
+    def __reversed__(self):
+        return (value for _, value in reversed(self._mapping[:]))
+
 
 class Store(MutableMapping):
     """An open store: a mapping, whose keys come in their order. Close it, or use it in a `with`.
 
-    A slice store[low:high] gives the pairs of the keys from low on and below high, one by one; either bound may be missing.
+    A slice store[low:high] gives the pairs of the keys from low on and below high, one by one; either bound may be missing. With
+    `reversed` around it they come from the last on, as store[high:low:-1] gives those of the keys from high on and above low.
     An iteration asks for some rows at once: what is put or deleted meanwhile may show in it or not.
     """
 
-    def __init__(self, path, *, read_only=False):
+    def __init__(self, path, *, read_only=False, resident=False):
+        if read_only and resident:
+            raise Options("a resident store is not read alone")
         self.path = os.fspath(path)
         self._lock = threading.RLock()  # (a signal's handler may call while a call of its own thread is made)
         self._file = _File(descriptor=-1)
         self._at = ctypes.byref(self._file)
-        _check(_files.cola_file_open_as(self._file, _path(path), _READ_ONLY if read_only else 0), path)
-        # What the header says of the store and never changes (docs/FORMAT.md).
-        version, block, keys = struct.unpack_from("<8xIB3xQ", ctypes.string_at(self._file.bytes, 24))
-        self.limits = {"keys": keys, "block": block, "version": version}
+        _check(_files.cola_file_open_as(self._file, _path(path), _READ_ONLY if read_only else _RESIDENT if resident else 0), path)
+        info = _StoreInfo()
+        _check(_library.cola_info(self._at, info))
+        self.limits = {"keys": info.keys, "block": info.block, "version": info.version}
         _open_stores[id(self)] = self
 
     def __repr__(self):
@@ -344,8 +508,11 @@ class Store(MutableMapping):
     def __enter__(self):
         return self
 
-    def __exit__(self, *what):
-        self.close()
+    def __exit__(self, kind, *what):
+        if kind is None:
+            self.close()
+        else:
+            self.discard()
 
     def __del__(self):
         file = getattr(self, "_file", None)
@@ -358,13 +525,28 @@ class Store(MutableMapping):
             if self._file.bytes:
                 _check(_files.cola_file_close(self._file))
 
-    def checkpoint(self, copy):
-        """Makes a copy of the store as it is now, a closed store, in a file that is replaced as a whole and is on the disk
+    def discard(self):
+        """Closes a resident store without a checkpoint: what changed since the last one is gone. Any other is closed. So does a
+        `with` that is left by an exception."""
+        with self._lock:
+            if self._file.bytes:
+                _check(_files.cola_file_discard(self._file))
+
+    def checkpoint(self, copy=None):
+        """Makes the file of a resident store have what the store has, and waits until it is on the disk. Or, of any store, makes a copy of the store as it is now, a closed store, in a file that is replaced as a whole and is on the disk
         then. It writes as many bytes as the store's file has; other threads run meanwhile, and wait where they call with
         this store."""
-        name = _path(copy)
+        name = None if copy is None else _path(copy)
+        if name is None and not self._file.is_resident:
+            raise TypeError("a store that is not resident is copied: name the file of the copy")
         with self._lock:
             _check(_files.cola_file_checkpoint(self._file, name), copy)
+
+    def check(self):
+        """Tests the store as it is now: it is closed, in memory, tested, and opened again. A Verdict."""
+        verdict = _Verdict()
+        with self._lock:
+            return _verdict(_files.cola_file_check_open(self._file, verdict), verdict, None)
 
     def __getitem__(self, key):
         if isinstance(key, slice):
@@ -401,6 +583,9 @@ class Store(MutableMapping):
     def __iter__(self):
         return (key for key, _ in self[:])
 
+    def __reversed__(self):
+        return (key for key, _ in reversed(self[:]))
+
     def update(self, pairs=(), /, **words):
         """Puts the pairs of a mapping, or of any iterable, in their order, some at once, up to the first that is refused: what that
         one raises has in `done` how many were put before it. Where the iterable itself raises, what it gave last may not be put.
@@ -433,6 +618,9 @@ class Store(MutableMapping):
                         values[first + at] = default
         return values
 
+    def keys(self):
+        return _Keys(self)
+
     def items(self):
         return _Items(self)
 
@@ -461,6 +649,16 @@ class Store(MutableMapping):
             _check(answer)
         return stamp.value
 
+    def info(self):
+        """What the store is, and how full: an Info."""
+        info, level, levels = _StoreInfo(), _LevelInfo(), []
+        with self._lock:
+            _check(_library.cola_info(self._at, info))
+            for number in range(info.levels):
+                _check(_library.cola_level(self._at, number, level))
+                levels.append(Level(level.visible, level.shadow, level.room))
+        return Info(info.keys, info.count, info.bytes, info.write_bound, info.get_bound, info.version, info.block, tuple(levels))
+
     def prefix(self, prefix):
         """The pairs of the keys that begin with these bytes, one by one."""
         prefix = _bytes(prefix)
@@ -468,35 +666,45 @@ class Store(MutableMapping):
         if not self._file.bytes:
             _check(Closed.answer)
         if len(prefix) > KEY_MAX:
-            return iter(())  # (no key is as long)
+            return _Rows(self, _FIRST, _FIRST)  # (no key is as long)
         _check(_library.cola_seek_prefix(cursor, prefix, len(prefix)))
-        return self._rows(cursor)
+        return _Rows(self, _Place(prefix, False), _Place(bytes(cursor.until[:cursor.until_len]), False) if cursor.bounded else _LAST)
 
-    def _range(self, bounds):
-        if bounds.step is not None:
-            raise ValueError("a range of keys has no step")
-        low = b"" if bounds.start is None else _bytes(bounds.start)
-        high = None if bounds.stop is None else _bytes(bounds.stop)
+    def last(self, count):
+        """The last `count` pairs, from the last one on, as a list."""
+        count = operator.index(count)
         if not self._file.bytes:
             _check(Closed.answer)
-        cursor = _Cursor()
-        # No key is longer than KEY_MAX: those from a longer bound on are those behind its first KEY_MAX bytes.
-        until = high if high is not None and len(high) <= KEY_MAX else None
-        _check(_library.cola_seek(cursor, low[:KEY_MAX], len(low[:KEY_MAX]), until, len(until or b"")))
-        cursor.behind = len(low) > KEY_MAX
-        return self._rows(cursor, high)
+        return list(islice(self._rows(_FIRST, _LAST, True, min(count, _ROWS)), count)) if count else []
 
-    def _rows(self, cursor, high=None):
-        rows = (_Row * _ROWS)()
-        given = ctypes.c_size_t()
-        while True:
+    def _range(self, bounds):
+        if bounds.step not in (None, 1, -1):
+            raise ValueError("a range of keys has the step 1 or -1")
+        if not self._file.bytes:
+            _check(Closed.answer)
+        falls = bounds.step == -1
+        start, stop = (None if key is None else _Place.of(_bytes(key), falls) for key in (bounds.start, bounds.stop))
+        low, high = (stop, start) if falls else (start, stop)
+        return _Rows(self, low or _FIRST, high or _LAST, falls)
+
+    def _rows(self, low, high, falls, most=_ROWS):
+        """The pairs between two places, of which so many are asked for at once."""
+        rows, given, cursor = (_Row * most)(), ctypes.c_size_t(), _Cursor()
+        call, begin = (_library.cola_prev, high) if falls else (_library.cola_next, low)
+        cursor.from_len, cursor.behind = len(begin.key), begin.is_behind
+        ctypes.memmove(cursor.from_, begin.key, len(begin.key))
+        if not high.is_behind:  # (the cursor's own end is one before a key, and saves the rows behind it)
+            cursor.bounded, cursor.until_len = True, len(high.key)
+            ctypes.memmove(cursor.until, high.key, len(high.key))
+        has_end = low != _FIRST if falls else high.is_behind and high != _LAST  # (where the keys have to be looked at)
+        while low < high:
             with self._lock:
-                answer = _library.cola_next(self._at, cursor, rows, _ROWS, given)
+                answer = call(self._at, cursor, rows, most, given)
             if answer == _NONE:
                 return
             _check(answer)
             for key_len, value_len, key, value in _row.iter_unpack(ctypes.string_at(rows, given.value * _row.size)):
                 key, value = key[:key_len], value[:value_len]
-                if high is not None and key >= high:
+                if has_end and ((key, False) < low if falls else (key, False) >= high):
                     return
                 yield key, value

@@ -35,8 +35,11 @@ COMMANDS = {  # the words, what the command does, and an example
     "range": ("LOW HIGH [COUNT]", "shows the rows from LOW on and below HIGH, or the first COUNT of them", "range user:1000 user:2000"),
     "scan": ("[LOW [COUNT]]", "shows all rows, or those from LOW on, or the first COUNT of them", "scan user:1001 10"),
     "prefix": ("BYTES [COUNT]", "shows the rows whose keys begin so, or the first COUNT of them", "prefix user: 10"),
+    "last": ("[COUNT]", "shows the last COUNT rows, 10 where it is not said, from the last one on", "last 100"),
     "count": ("", "shows how many keys there are", "count"),
     "info": ("", "shows what the file is and has", "info"),
+    "levels": ("", "draws how far each level is filled: the run that is searched, and the one that is built", "levels"),
+    "check": ("[PATH]", "tests the store as it is now, or the closed one in a file", "check notes.copy"),
     "checkpoint": ("PATH", "makes a copy of the store as it is now, a closed store, in the place of PATH", "checkpoint notes.copy"),
     "load": ("PATH [csv|jsonl]", "puts the rows of a file", "load users.csv"),
     "dump": ("PATH [csv|jsonl]", "writes all rows to a file, in the place of PATH", "dump users.jsonl"),
@@ -44,6 +47,8 @@ COMMANDS = {  # the words, what the command does, and an example
     "quit": ("", "closes the store and ends, as Ctrl-D does", "quit"),
 }
 _BATCH = 1000  # rows that are shown, or put, at once
+_LAST = 10  # rows that last shows
+_COLUMNS = 24  # of a bar
 _CANDIDATES = 100  # keys that are offered at most to complete one
 
 
@@ -104,6 +109,13 @@ def _path(word):
 
 def _rows(count):
     return f"{count:,} row{'s' if count != 1 else ''}"
+
+
+def _bar(cells, room):
+    """How far a run fills its room: empty or full only where it is."""
+    marks = cells * _COLUMNS // room
+    marks = max(marks, 1) if cells else 0
+    return f"[{'#' * marks}{'.' * (_COLUMNS - marks)}]"
 
 
 class _Progress:
@@ -242,19 +254,52 @@ class Shell(cmd.Cmd):
         words = self._words("prefix", line, 1, 2)
         self._show(self.store.prefix(words[0]), self._number(words, 1))
 
+    def do_last(self, line):
+        count = self._number(self._words("last", line, 0, 1), 0)
+        self._show(reversed(self.store[:]), _LAST if count is None else count)
+
     def do_count(self, line):
         self._words("count", line, 0, 0)
         print(len(self.store), file=self.stdout)
 
     def do_info(self, line):
         self._words("info", line, 0, 0)
-        limits, longest = self.store.limits, (40, 72) if self.store.limits["version"] == 2 else (24, 32)
-        rows = [("file", os.fsdecode(self.store.path)), ("bytes", f"{os.stat(self.store.path).st_size}"),
+        info = self.store.info()
+        longest = (40, 72) if info.version == 2 else (24, 32)
+        rows = [("file", os.fsdecode(self.store.path)), ("bytes", os.stat(self.store.path).st_size),
                 ("open", "to be read alone" if self.store.read_only else "to be read and written"),
-                ("keys", f"{len(self.store)}"), ("for at most", f"{limits['keys']}"), ("longest key", f"{longest[0]}"),
-                ("longest value", f"{longest[1]}"), ("version", f"{limits['version']}"), ("block", f"{limits['block']}")]
+                ("keys", info.count), ("for at most", info.keys), ("longest key", longest[0]), ("longest value", longest[1]),
+                ("version", info.version), ("block", info.block), ("levels", len(info.levels)),
+                ("cells a put", info.write_bound), ("cells a get", info.get_bound)]
         for name, value in rows:
             print(f"{name:<13}  {value}" if self.has_table else f"{name}\t{value}", file=self.stdout)
+
+    def do_levels(self, line):
+        self._words("levels", line, 0, 0)
+        levels = self.store.info().levels
+        digits = len(str(levels[-1].room))
+        if self.has_table:
+            print(f"{'level':<5}  {'room':>{digits}}  {'searched':<{_COLUMNS + 3 + digits}}  built", file=self.stdout)
+        for number, level in enumerate(levels):
+            if self.has_table:
+                runs = "  ".join(f"{_bar(cells, level.room)} {cells:>{digits}}" for cells in level[:2])
+                print(f"{number:>5}  {level.room:>{digits}}  {runs}", file=self.stdout)
+            else:
+                print(number, level.room, *level[:2], sep="\t", file=self.stdout)
+
+    def do_check(self, line):
+        words = self._words("check", line, 0, 1)
+        path = _path(words[0]) if words else self.store.path
+        try:
+            verdict = cola.check(path) if words else self.store.check()
+        except (cola.Error, OSError) as error:
+            raise Mistake(sentence(error, path)) from None
+        if not self.is_terminal:
+            print("sound" if verdict.is_sound else "broken", *(it for it in verdict[1:] if it is not None), sep="\t", file=self.stdout)
+        if not verdict.is_sound:
+            raise Mistake(f"{os.fsdecode(path)} is damaged ({verdict.flaw}, level {verdict.level}, cell {verdict.cell}): go back to a copy of it; "
+                          "cola help check says what that flaw is.")
+        self.remark(f"Sound: a map of {verdict.count:,} key{'s' if verdict.count != 1 else ''}.")
 
     def do_checkpoint(self, line):
         copy = _path(self._words("checkpoint", line, 1, 1)[0])
@@ -396,13 +441,13 @@ class Shell(cmd.Cmd):
     def _complete_path(self, text, line, begin, end):
         before, start, path, in_quotes = begun(line[:end])
         if before > 1:
-            return [name for name in files.FORMATS if name.startswith(text)] if not line.startswith("checkpoint") else []
+            return [name for name in files.FORMATS if name.startswith(text)] if not line.startswith("check") else []
         paths = sorted(glob.glob(glob.escape(os.fsdecode(path)) + "*"))[:_CANDIDATES]
         found = [shown(os.fsencode(it + os.sep), in_quotes).rstrip('"') if os.path.isdir(it) else shown(os.fsencode(it), in_quotes) for it in paths]
         found = _rest(found, line[start:begin], line[start:end])
         return [found[0] + " "] if len(found) == 1 and not found[0].endswith(os.sep) else found
 
-    complete_checkpoint = complete_load = complete_dump = _complete_path
+    complete_check = complete_checkpoint = complete_load = complete_dump = _complete_path
 
 
 class _History:

@@ -34,11 +34,18 @@
 
 use std::cell::UnsafeCell;
 use std::ffi::{CStr, CString};
-use std::ops::{Bound, RangeBounds};
 use std::os::raw::{c_char, c_int, c_long, c_void};
 use std::os::unix::ffi::OsStrExt;
 use std::path::Path;
-use std::{fmt, io, ptr, vec};
+use std::{fmt, io, ptr};
+
+mod info;
+mod range;
+mod tools;
+
+pub use info::{Info, Level};
+pub use range::Range;
+pub use tools::{Flaw, Loader, Verdict};
 
 /// The bytes that a key may have in a file of version 2; 24 in one of version 1.
 pub const KEY_MAX: usize = 40;
@@ -47,8 +54,6 @@ pub const VALUE_MAX: usize = 72;
 /// The keys that a store may be for.
 pub const KEYS_MAX: u64 = 1 << 24;
 
-/// How many rows an iterator asks for at once.
-const ROWS: usize = 32;
 /// How many rows are put, or looked up, at once.
 const MANY: usize = 512;
 
@@ -60,6 +65,7 @@ mod c {
     pub struct Cola {
         is_open: bool,
         is_read_only: bool,
+        is_unfinished: bool,
         at: *mut c_void,
     }
 
@@ -69,18 +75,21 @@ mod c {
         bytes: *mut c_void,
         length: usize,
         descriptor: c_int,
+        is_resident: bool,
         owner: c_long,
     }
 
     /// COLA_FILE_INIT.
     pub const CLOSED: File = File {
-        store: Cola { is_open: false, is_read_only: false, at: ptr::null_mut() },
+        store: Cola { is_open: false, is_read_only: false, is_unfinished: false, at: ptr::null_mut() },
         bytes: ptr::null_mut(),
         length: 0,
         descriptor: -1,
+        is_resident: false,
         owner: 0,
     };
     pub const READ_ONLY: u32 = 1;
+    pub const RESIDENT: u32 = 2;
 
     #[repr(C)]
     #[derive(Clone, Copy)]
@@ -94,13 +103,69 @@ mod c {
     #[repr(C)]
     #[derive(Clone, Copy)]
     pub struct Cursor {
-        from_len: u8,
-        until_len: u8,
+        pub from_len: u8,
+        pub until_len: u8,
         pub behind: bool,
-        bounded: bool,
-        from: [u8; KEY_MAX],
-        until: [u8; KEY_MAX],
+        pub bounded: bool,
+        pub from: [u8; KEY_MAX],
+        pub until: [u8; KEY_MAX],
     }
+
+    #[repr(C)]
+    #[derive(Default)]
+    pub struct StoreInfo {
+        pub keys: u64,
+        pub count: u64,
+        pub bytes: u64,
+        pub write_bound: u64,
+        pub get_bound: u64,
+        pub version: u8,
+        pub block: u8,
+        pub levels: u8,
+    }
+
+    #[repr(C)]
+    #[derive(Default)]
+    pub struct LevelInfo {
+        pub visible: u64,
+        pub shadow: u64,
+        pub room: u64,
+    }
+
+    #[repr(C)]
+    #[derive(Default)]
+    pub struct Verdict {
+        pub count: u64,
+        pub cell: u64,
+        pub flaw: u32,
+        pub level: u32,
+    }
+
+    #[repr(C)]
+    pub struct Load {
+        is_open: bool,
+        at: *mut c_void,
+    }
+
+    #[repr(C)]
+    pub struct FileLoad {
+        pub load: Load,
+        bytes: *mut c_void,
+        length: usize,
+        name: *mut c_char,
+        descriptor: c_int,
+        owner: c_long,
+    }
+
+    /// COLA_FILE_LOAD_INIT.
+    pub const NO_LOAD: FileLoad = FileLoad {
+        load: Load { is_open: false, at: ptr::null_mut() },
+        bytes: ptr::null_mut(),
+        length: 0,
+        name: ptr::null_mut(),
+        descriptor: -1,
+        owner: 0,
+    };
 
     pub const ROW: Row = Row { key_len: 0, value_len: 0, key: [0; KEY_MAX], value: [0; VALUE_MAX] };
     pub const CURSOR: Cursor =
@@ -116,21 +181,33 @@ mod c {
         pub fn cola_stamp(store: *mut Cola, key: *const u8, key_len: usize, stamp: *mut u64) -> i32;
         pub fn cola_delete(store: *mut Cola, key: *const u8, key_len: usize) -> i32;
         pub fn cola_count(store: *mut Cola, count: *mut u64) -> i32;
-        pub fn cola_seek(cursor: *mut Cursor, low: *const u8, low_len: usize, high: *const u8, high_len: usize) -> i32;
         pub fn cola_seek_prefix(cursor: *mut Cursor, prefix: *const u8, prefix_len: usize) -> i32;
+        pub fn cola_seek_last(cursor: *mut Cursor, high: *const u8, high_len: usize) -> i32;
         pub fn cola_put_many(store: *mut Cola, rows: *const Row, count: usize, was: *mut bool, done: *mut usize) -> i32;
         pub fn cola_get_many(store: *mut Cola, rows: *mut Row, count: usize, there: *mut bool, done: *mut usize) -> i32;
         pub fn cola_next(store: *mut Cola, cursor: *mut Cursor, rows: *mut Row, most: usize, given: *mut usize) -> i32;
+        pub fn cola_prev(store: *mut Cola, cursor: *mut Cursor, rows: *mut Row, most: usize, given: *mut usize) -> i32;
+        pub fn cola_info(store: *mut Cola, info: *mut StoreInfo) -> i32;
+        pub fn cola_level(store: *mut Cola, level: u8, info: *mut LevelInfo) -> i32;
         pub fn cola_strerror(answer: i32) -> *const c_char;
         pub fn cola_file_create(path: *const c_char, keys: u64, block: u8, version: u8) -> i32;
         pub fn cola_file_open_as(file: *mut File, path: *const c_char, flags: u32) -> i32;
         pub fn cola_file_checkpoint(file: *mut File, copy: *const c_char) -> i32;
         pub fn cola_file_close(file: *mut File) -> i32;
+        pub fn cola_file_check(path: *const c_char, verdict: *mut Verdict) -> i32;
+        pub fn cola_file_grow(path: *const c_char, keys: u64, block: u8, rows: *mut u64) -> i32;
+        pub fn cola_file_load_begin(load: *mut FileLoad, path: *const c_char, keys: u64, block: u8, version: u8) -> i32;
+        pub fn cola_load_row(load: *mut Load, key: *const u8, key_len: usize, value: *const u8, value_len: usize) -> i32;
+        pub fn cola_load_many(load: *mut Load, rows: *const Row, count: usize, done: *mut usize) -> i32;
+        pub fn cola_file_load_end(load: *mut FileLoad, rows: *mut u64) -> i32;
+        pub fn cola_file_load_drop(load: *mut FileLoad) -> i32;
+        pub fn cola_file_discard(file: *mut File) -> i32;
     }
 }
 
 const NONE: i32 = 1;
 const OTHER: i32 = 2;
+const BROKEN: i32 = 21;
 
 /// Why a call was refused. Nothing changed then, but where it is said.
 #[derive(Debug)]
@@ -164,6 +241,13 @@ pub enum Error {
     System(io::Error),
     /// The store is open to be read alone ([`Store::open_read_only`]).
     ReadOnly,
+    /// The key of a row is not above that of the row before ([`Loader`]).
+    Order,
+    /// The new store is for fewer keys than there are ([`Store::grow`]).
+    Fewer,
+    /// A checkpoint holds in the journal beside the file of a resident store, and not in the file: nothing is put until a
+    /// checkpoint or an opening has finished it.
+    Unfinished,
     /// An answer that this crate doesn't know.
     Unknown(i32),
 }
@@ -189,6 +273,9 @@ impl Error {
             16 => Error::Memory,
             17 => Error::System(io::Error::last_os_error()),
             18 => Error::ReadOnly,
+            19 => Error::Order,
+            20 => Error::Fewer,
+            22 => Error::Unfinished,
             _ => Error::Unknown(answer),
         }
     }
@@ -210,6 +297,9 @@ impl Error {
             Error::Memory => 16,
             Error::System(_) => 17,
             Error::ReadOnly => 18,
+            Error::Order => 19,
+            Error::Fewer => 20,
+            Error::Unfinished => 22,
             Error::Unknown(answer) => *answer,
         }
     }
@@ -241,7 +331,7 @@ impl From<io::Error> for Error {
     }
 }
 
-/// Why [`Store::update`] ended before its last pair. It is an [`Error`] where one is wanted, as behind `?`.
+/// Why [`Store::update`] or [`Loader::update`] ended before its last pair. It is an [`Error`] where one is wanted, as behind `?`.
 #[derive(Debug)]
 pub struct Stopped {
     /// How many pairs were put before the one that was refused.
@@ -278,6 +368,15 @@ fn done_or(answer: i32, other: i32) -> Result<bool> {
     if answer == other { Ok(false) } else { done(answer).map(|()| true) }
 }
 
+/// Whether a file is not there, or is empty.
+fn is_to_be_made(path: &Path) -> Result<bool> {
+    match path.metadata() {
+        Ok(about) => Ok(about.len() == 0),
+        Err(cause) if cause.kind() == io::ErrorKind::NotFound => Ok(true),
+        Err(cause) => Err(cause.into()),
+    }
+}
+
 fn text(path: &Path) -> Result<CString> {
     CString::new(path.as_os_str().as_bytes()).map_err(|_| Error::System(io::ErrorKind::InvalidInput.into()))
 }
@@ -293,7 +392,30 @@ fn row(key: &[u8], value: &[u8]) -> c::Row {
     row
 }
 
-/// What a new store is: for how many keys, with blocks of 2^`block` cells, and of which version.
+/// Calls with the rows of the pairs, some at once, up to the first that is refused, and says how many were before it.
+fn in_batches<K, V, I, F>(pairs: I, mut call: F) -> std::result::Result<usize, Stopped>
+where
+    K: AsRef<[u8]>,
+    V: AsRef<[u8]>,
+    I: IntoIterator<Item = (K, V)>,
+    F: FnMut(&[c::Row], &mut usize) -> i32,
+{
+    let (mut pairs, mut rows, mut all) = (pairs.into_iter(), Vec::with_capacity(MANY), 0);
+    loop {
+        rows.clear();
+        rows.extend(pairs.by_ref().take(MANY).map(|(key, value)| row(key.as_ref(), value.as_ref())));
+        let mut now = 0;
+        let answer = call(&rows, &mut now);
+        all += now;
+        done(answer).map_err(|error| Stopped { done: all, error })?;
+        if rows.len() < MANY {
+            return Ok(all);
+        }
+    }
+}
+
+/// What a new store is: for how many keys, with blocks of 2^`block` cells, and of which version; and how a file is opened
+/// ([`Options::open`]).
 #[derive(Clone, Copy, Debug, PartialEq, Eq)]
 pub struct Options {
     /// From 1 to [`KEYS_MAX`].
@@ -302,16 +424,40 @@ pub struct Options {
     pub block: u8,
     /// 1 or 2: cells of 64 or of 128 bytes. Stamps, longer keys and longer values are in version 2.
     pub version: u8,
+    /// Whether a file that is not there, or is empty, is made first.
+    pub create: bool,
+    /// Whether the store is open to be read alone, as by [`Store::open_read_only`].
+    pub read_only: bool,
 }
 
 impl Default for Options {
-    /// 65,536 keys, blocks of 32 cells, version 1.
+    /// 65,536 keys, blocks of 32 cells, version 1; no file is made, and the store is open to be read and written.
     fn default() -> Options {
-        Options { keys: 65_536, block: 5, version: 1 }
+        Options { keys: 65_536, block: 5, version: 1, create: false, read_only: false }
     }
 }
 
 impl Options {
+    /// Opens the store in a file, so. A file that is there is opened as it is, whatever it was made with.
+    ///
+    /// ```no_run
+    /// # fn main() -> cola::Result<()> {
+    /// let store = cola::Options { keys: 1000, create: true, ..Default::default() }.open("notes")?;
+    /// # Ok(())
+    /// # }
+    /// ```
+    pub fn open(&self, path: impl AsRef<Path>) -> Result<Store> {
+        let path = path.as_ref();
+        if self.create && is_to_be_made(path)? {
+            match Store::create(path, self) {
+                Err(Error::NotEmpty) => {} // (another process has made it, or makes it)
+                Err(Error::System(cause)) if cause.kind() == io::ErrorKind::WouldBlock => {}
+                other => other?,
+            }
+        }
+        Store::open_as(path, if self.read_only { c::READ_ONLY } else { 0 })
+    }
+
     /// The bytes of the file.
     pub fn size(&self) -> Result<u64> {
         let mut bytes = 0;
@@ -354,6 +500,13 @@ impl Store {
     /// change the store is [`Error::ReadOnly`]. The file may be one that this process may not write.
     pub fn open_read_only(path: impl AsRef<Path>) -> Result<Store> {
         Store::open_as(path.as_ref(), c::READ_ONLY)
+    }
+
+    /// Opens the store in a file and keeps it in memory, as much as the file has: no call on it waits for the disk. The file has
+    /// its last checkpoint ([`Store::save`]) whenever the process dies, once it is opened; the close is one too, but the drop
+    /// of a thread that panics is none.
+    pub fn open_resident(path: impl AsRef<Path>) -> Result<Store> {
+        Store::open_as(path.as_ref(), c::RESIDENT)
     }
 
     fn open_as(path: &Path, flags: u32) -> Result<Store> {
@@ -427,19 +580,8 @@ impl Store {
         V: AsRef<[u8]>,
         I: IntoIterator<Item = (K, V)>,
     {
-        let (mut pairs, mut rows, mut all) = (pairs.into_iter(), Vec::with_capacity(MANY), 0);
-        loop {
-            rows.clear();
-            rows.extend(pairs.by_ref().take(MANY).map(|(key, value)| row(key.as_ref(), value.as_ref())));
-            let mut put = 0;
-            // SAFETY: a pointer with the number of its rows.
-            let answer = unsafe { c::cola_put_many(self.handle(), rows.as_ptr(), rows.len(), ptr::null_mut(), &mut put) };
-            all += put;
-            done(answer).map_err(|error| Stopped { done: all, error })?;
-            if rows.len() < MANY {
-                return Ok(all);
-            }
-        }
+        // SAFETY: a pointer with the number of its rows.
+        in_batches(pairs, |rows, put| unsafe { c::cola_put_many(self.handle(), rows.as_ptr(), rows.len(), ptr::null_mut(), put) })
     }
 
     /// The values of the keys, in their order; `None` where a key is absent.
@@ -467,61 +609,25 @@ impl Store {
         Ok(count)
     }
 
-    /// All rows, by rising keys.
-    pub fn iter(&self) -> Range<'_> {
-        self.range::<&[u8], _>(..)
-    }
-
-    /// The rows whose keys lie in the range, by rising keys. The bounds may be of any length.
-    ///
-    /// ```no_run
-    /// # fn main() -> cola::Result<()> {
-    /// # let store = cola::Store::open("notes")?;
-    /// let below = store.range(.."b").collect::<cola::Result<Vec<_>>>()?;
-    /// let among = store.range([1, 2, 3]..=[1, 9, 9]).next();
-    /// # Ok(())
-    /// # }
-    /// ```
-    pub fn range<K: AsRef<[u8]>, R: RangeBounds<K>>(&self, range: R) -> Range<'_> {
-        let (low, is_behind) = match range.start_bound() {
-            Bound::Included(key) => (key.as_ref(), false),
-            Bound::Excluded(key) => (key.as_ref(), true),
-            Bound::Unbounded => (&[][..], false),
-        };
-        let end = match range.end_bound() {
-            Bound::Included(key) => Bound::Included(key.as_ref().to_vec()),
-            Bound::Excluded(key) => Bound::Excluded(key.as_ref().to_vec()),
-            Bound::Unbounded => Bound::Unbounded,
-        };
-        // No key is longer than KEY_MAX, so those from a longer bound on are those behind its first KEY_MAX bytes.
-        let from = &low[..low.len().min(KEY_MAX)];
-        let until = match &end {
-            Bound::Excluded(key) if key.len() <= KEY_MAX => Some(key),
-            _ => None,
-        };
-        let (at, length) = until.map_or((ptr::null(), 0), |key| (key.as_ptr(), key.len()));
-        let mut cursor = c::CURSOR;
-        // SAFETY: pointers with the lengths of their slices, of at most KEY_MAX bytes: the answer is 0.
-        unsafe { c::cola_seek(&mut cursor, from.as_ptr(), from.len(), at, length) };
-        cursor.behind = is_behind || low.len() > KEY_MAX;
-        Range { store: self, cursor, end, rows: Vec::new().into_iter(), is_over: false }
-    }
-
-    /// The rows whose keys begin with these bytes, by rising keys; all rows, where there is none.
-    pub fn prefix(&self, prefix: impl AsRef<[u8]>) -> Range<'_> {
-        let prefix = prefix.as_ref();
-        let mut cursor = c::CURSOR;
-        // SAFETY: a pointer with the length of its slice. One that is longer than any key is refused, and no key begins so.
-        let is_refused = unsafe { c::cola_seek_prefix(&mut cursor, prefix.as_ptr(), prefix.len()) } != 0;
-        Range { store: self, cursor, end: Bound::Unbounded, rows: Vec::new().into_iter(), is_over: is_refused }
-    }
-
     /// Makes a copy of the store as it is now, a closed store, in a file that is replaced as a whole, and waits until it is on
     /// the disk. It writes as many bytes as the file has.
     pub fn checkpoint(&mut self, copy: impl AsRef<Path>) -> Result<()> {
         let copy = text(copy.as_ref())?;
         // SAFETY: the path ends with a zero byte.
         done(unsafe { c::cola_file_checkpoint(self.file.get(), copy.as_ptr()) })
+    }
+
+    /// Makes the file of a resident store have what the store has, and waits until it is on the disk: what changed is written.
+    /// After [`Error::System`] the store goes on, and the file has its last checkpoint, or this one.
+    pub fn save(&mut self) -> Result<()> {
+        // SAFETY: no copy is asked for.
+        done(unsafe { c::cola_file_checkpoint(self.file.get(), ptr::null()) })
+    }
+
+    /// Closes a resident store without a checkpoint: what changed since the last one is gone. Any other is closed.
+    pub fn discard(self) -> Result<()> {
+        // SAFETY: as a close.
+        done(unsafe { c::cola_file_discard(self.file.get()) })
     }
 
     /// Closes the store; after `Ok` all is on the disk.
@@ -537,64 +643,10 @@ impl Store {
 
 impl Drop for Store {
     fn drop(&mut self) {
+        if std::thread::panicking() {
+            // SAFETY: as a close.
+            unsafe { c::cola_file_discard(self.file.get()) };
+        }
         let _ = self.shut();
-    }
-}
-
-impl<'a> IntoIterator for &'a Store {
-    type Item = Result<(Vec<u8>, Vec<u8>)>;
-    type IntoIter = Range<'a>;
-
-    fn into_iter(self) -> Range<'a> {
-        self.iter()
-    }
-}
-
-/// Rows of a store, each a key with its value, by rising keys. After an error it gives none.
-pub struct Range<'a> {
-    store: &'a Store,
-    cursor: c::Cursor,
-    end: Bound<Vec<u8>>,
-    rows: vec::IntoIter<c::Row>,
-    is_over: bool,
-}
-
-impl Range<'_> {
-    /// Asks for the next rows.
-    fn fill(&mut self) -> Result<()> {
-        let mut rows = vec![c::ROW; ROWS];
-        let mut given = 0;
-        // SAFETY: there is room for ROWS rows.
-        let answer = unsafe { c::cola_next(self.store.handle(), &mut self.cursor, rows.as_mut_ptr(), ROWS, &mut given) };
-        self.is_over = !done_or(answer, NONE)?;
-        rows.truncate(if self.is_over { 0 } else { given });
-        self.rows = rows.into_iter();
-        Ok(())
-    }
-}
-
-impl Iterator for Range<'_> {
-    type Item = Result<(Vec<u8>, Vec<u8>)>;
-
-    fn next(&mut self) -> Option<Self::Item> {
-        if self.rows.len() == 0 && !self.is_over {
-            if let Err(error) = self.fill() {
-                self.is_over = true;
-                return Some(Err(error));
-            }
-        }
-        let row = self.rows.next()?;
-        let key = &row.key[..usize::from(row.key_len)];
-        let is_within = match &self.end {
-            Bound::Included(end) => key <= end.as_slice(),
-            Bound::Excluded(end) => key < end.as_slice(),
-            Bound::Unbounded => true,
-        };
-        if !is_within {
-            self.is_over = true;
-            self.rows = Vec::new().into_iter();
-            return None;
-        }
-        Some(Ok((key.to_vec(), row.value[..usize::from(row.value_len)].to_vec())))
     }
 }

@@ -1,6 +1,6 @@
 //! What a store answers, beside a `BTreeMap`; each error that a file gives; that a dropped store is closed.
 
-use cola::{Error, Options, Store};
+use cola::{Error, Flaw, Loader, Options, Store, Verdict};
 use std::collections::BTreeMap;
 use std::fs;
 use std::ops::Bound;
@@ -83,12 +83,27 @@ fn it_answers_as_a_map() {
             ] {
                 let wanted: Rows = map.iter().filter(|(key, _)| within(key, bounds)).map(|(k, v)| (k.clone(), v.clone())).collect();
                 assert_eq!(rows(store.range::<&[u8], _>(bounds)), wanted);
+                from_both_ends(&mut store.range::<&[u8], _>(bounds), &wanted, &mut random);
             }
+            assert_eq!(store.last().unwrap(), map.clone().into_iter().next_back());
             store.close().unwrap();
             store = Store::open(folder.path("store")).unwrap();
         }
     }
     assert_eq!(store.count().unwrap(), map.len() as u64);
+}
+
+/// Takes rows from either end, in turns of some, until none is left.
+fn from_both_ends(range: &mut cola::Range, wanted: &Rows, random: &mut Random) {
+    let mut wanted = wanted.iter().cloned();
+    while wanted.len() > 0 {
+        let falls = random.below(2) == 1;
+        for _ in 0..1 + random.below(50) {
+            let (row, plain) = if falls { (range.next_back(), wanted.next_back()) } else { (range.next(), wanted.next()) };
+            assert_eq!(row.transpose().unwrap(), plain);
+        }
+    }
+    assert!(range.next_back().is_none() && range.next().is_none());
 }
 
 fn within(key: &[u8], bounds: (Bound<&[u8]>, Bound<&[u8]>)) -> bool {
@@ -119,6 +134,9 @@ fn bounds_may_be_longer_than_keys() {
             assert_eq!(rows(store.range(bound..)).len(), 1 + usize::from(has_longest));
             assert_eq!(rows(store.range(..bound)).len(), usize::from(length > longest.len()));
             assert_eq!(rows(store.range(..=bound)).len(), usize::from(length >= longest.len()));
+            assert_eq!(store.range(bound..).rev().count(), 1 + usize::from(has_longest));
+            assert_eq!(store.range(..bound).rev().count(), usize::from(length > longest.len()));
+            assert_eq!(store.range(..=bound).rev().count(), usize::from(length >= longest.len()));
         }
     }
 }
@@ -143,11 +161,36 @@ fn a_prefix_has_the_keys_that_begin_so() {
     for prefix in prefixes {
         let wanted: Rows = map.iter().filter(|(key, _)| key.starts_with(&prefix)).map(|(k, v)| (k.clone(), v.clone())).collect();
         assert_eq!(rows(store.prefix(&prefix)), wanted, "{prefix:?}");
+        from_both_ends(&mut store.prefix(&prefix), &wanted, &mut random);
+        let fallen = store.prefix(&prefix).rev().collect::<cola::Result<Rows>>().unwrap();
+        assert_eq!(fallen, wanted.into_iter().rev().collect::<Rows>(), "{prefix:?}");
     }
     store.put([9; 40], "longest").unwrap();
     assert_eq!(rows(store.prefix([9; 40])).len(), 1);
     assert_eq!(rows(store.prefix([9; 41])).len(), 0);
     assert_eq!(rows(store.prefix([9; 1000])).len(), 0);
+    assert_eq!(store.prefix([9; 41]).next_back().transpose().unwrap(), None);
+}
+
+#[test]
+fn a_store_says_what_it_is() {
+    let folder = Folder::new("info");
+    let options = Options { keys: 1000, block: 4, version: 2, ..Options::default() };
+    let mut store = folder.store(&options);
+    assert_eq!(store.last().unwrap(), None);
+    let empty = store.info().unwrap();
+    assert_eq!((empty.keys, empty.block, empty.version, empty.count), (1000, 4, 2, 0));
+    assert_eq!(empty.bytes, options.size().unwrap());
+    assert_eq!(empty.bytes, fs::metadata(folder.path("store")).unwrap().len());
+    store.update((0..700u32).map(|at| (at.to_be_bytes(), "value"))).unwrap();
+    let info = store.info().unwrap();
+    assert_eq!(info.count, 700);
+    let levels = info.levels.len() as u64;
+    assert_eq!((info.write_bound, info.get_bound), (40 * levels, 8 * levels));
+    assert!(info.levels.iter().zip(2..).all(|(level, power)| level.room == 1 << power && level.visible.max(level.shadow) <= level.room));
+    assert!(info.levels.iter().map(|level| level.visible).sum::<u64>() >= 700);
+    assert_eq!(store.last().unwrap(), Some((699u32.to_be_bytes().to_vec(), b"value".to_vec())));
+    assert_eq!(store.iter().rev().take(3).map(|row| row.unwrap().0[3]).collect::<Vec<_>>(), [187, 186, 185]);
 }
 
 #[test]
@@ -212,6 +255,33 @@ fn a_store_that_is_read_alone_is_read_by_many() {
 }
 
 #[test]
+fn a_store_is_made_where_there_is_none() {
+    let folder = Folder::new("made");
+    let path = folder.path("store");
+    let small = Options { keys: 1, version: 2, ..Options::default() };
+    let made = Options { create: true, ..small };
+    assert!(matches!(small.open(&path), Err(Error::System(cause)) if cause.kind() == std::io::ErrorKind::NotFound));
+    assert!(matches!(Options { keys: 0, ..made }.open(&path), Err(Error::Options)));
+    assert!(matches!(made.open(folder.path("none/store")), Err(Error::System(_))));
+    fs::write(&path, "").unwrap();
+    let mut store = made.open(&path).unwrap();
+    store.put("a", "1").unwrap();
+    assert!(matches!(made.open(&path), Err(Error::System(cause)) if cause.kind() == std::io::ErrorKind::WouldBlock));
+    drop(store);
+    let mut store = Options { keys: 9, read_only: true, ..made }.open(&path).unwrap();
+    assert!(matches!(store.put("a", "2"), Err(Error::ReadOnly)));
+    drop(store);
+    let mut store = small.open(&path).unwrap();
+    assert!(matches!(store.put("b", "2"), Err(Error::Full)));
+    assert_eq!(store.stamp("a").unwrap(), Some(1));
+    fs::remove_file(&path).unwrap();
+    drop(store);
+    assert!(matches!(Options { read_only: true, ..made }.open(&path).unwrap().put("a", "1"), Err(Error::ReadOnly)));
+    fs::write(&path, "no store").unwrap();
+    assert!(matches!(made.open(&path), Err(Error::Small)));
+}
+
+#[test]
 fn stamps_make_puts_conditional() {
     let folder = Folder::new("stamps");
     let mut store = folder.store(&Options { keys: 10, version: 2, ..Options::default() });
@@ -268,4 +338,84 @@ fn a_dropped_store_is_closed_and_a_leaked_one_is_not() {
     assert_eq!(Store::open(folder.path("copy")).unwrap().get("a").unwrap().unwrap(), b"1");
     std::thread::spawn(move || store.put("b", "3").unwrap()).join().unwrap();
     assert_eq!(Store::open(folder.path("store")).unwrap().count().unwrap(), 2);
+}
+
+#[test]
+fn a_store_is_loaded_checked_and_grown() {
+    let folder = Folder::new("tools");
+    let path = folder.path("store");
+    let options = Options { keys: 1500, version: 2, ..Options::default() };
+    let pairs = (0..1400u32).map(|at| (at.to_be_bytes(), at.to_string()));
+    let is_alone = || fs::read_dir(&folder.0).unwrap().count() == 1;
+    assert!(matches!(Loader::create(&path, &Options { keys: 0, ..options }), Err(Error::Options)));
+    assert!(matches!(Loader::create(folder.path("none/store"), &options), Err(Error::System(_))));
+    let mut loader = Loader::create(&path, &options).unwrap();
+    loader.row("a", "1").unwrap();
+    assert!(matches!(loader.row("a", "2"), Err(Error::Order)));
+    assert!(!path.exists());
+    drop(loader);
+    assert!(fs::read_dir(&folder.0).unwrap().next().is_none());
+    let mut loader = Loader::create(&path, &options).unwrap();
+    assert_eq!(loader.update(pairs.clone()).unwrap(), 1400);
+    assert!(matches!(loader.row([0, 0, 5, 119], "2"), Err(Error::Order)));
+    assert_eq!(loader.row("", "").unwrap_err().answer(), 7);
+    let stopped = loader.update([("x", "1"), ("z", "2"), ("y", "3")]).unwrap_err();
+    assert_eq!((stopped.done, stopped.error.answer()), (2, 19));
+    assert_eq!(loader.finish().unwrap(), 1402);
+    assert!(is_alone());
+    assert!(matches!(Loader::create(&path, &options), Err(Error::NotEmpty)));
+    assert_eq!(Store::check(&path).unwrap(), Verdict::Sound(1402));
+    assert!(matches!(Store::grow(&path, 1401, 5), Err(Error::Fewer)));
+    assert!(matches!(Store::grow(&path, 1500, 99), Err(Error::Options)));
+    assert_eq!(Store::grow(&path, 100_000, 6).unwrap(), 1402);
+    assert!(is_alone());
+    let mut store = Store::open(&path).unwrap();
+    assert!(matches!(Store::check(&path), Err(Error::System(cause)) if cause.kind() == std::io::ErrorKind::WouldBlock));
+    assert!(matches!(Store::grow(&path, 9999, 5), Err(Error::System(cause)) if cause.kind() == std::io::ErrorKind::WouldBlock));
+    let info = store.info().unwrap();
+    assert_eq!((info.keys, info.block, info.version, info.count), (100_000, 6, 2, 1402));
+    let mut wanted: Rows = pairs.map(|(key, value)| (key.to_vec(), value.into_bytes())).collect();
+    wanted.extend([(b"x".to_vec(), b"1".to_vec()), (b"z".to_vec(), b"2".to_vec())]);
+    assert_eq!(rows(store.iter()), wanted);
+    store.put("w", "3").unwrap();
+    store.close().unwrap();
+    let mut bytes = fs::read(&path).unwrap();
+    bytes[24] ^= 1; // (of the number of keys)
+    fs::write(&path, &bytes).unwrap();
+    assert!(matches!(Store::check(&path).unwrap(), Verdict::Broken(Flaw::Count, _, _)));
+    fs::write(&path, &bytes[..600]).unwrap();
+    assert!(matches!(Store::check(&path), Err(Error::Small)));
+    assert!(matches!(Store::grow(&path, 9999, 5), Err(Error::Small)));
+}
+
+#[test]
+fn the_file_of_a_resident_store_has_its_last_checkpoint() {
+    let folder = Folder::new("resident");
+    let path = folder.path("store");
+    drop(folder.store(&Options { keys: 100, ..Options::default() }));
+    let mut store = Store::open_resident(&path).unwrap();
+    let made = fs::read(&path).unwrap();
+    store.put("a", "1").unwrap();
+    assert_eq!(fs::read(&path).unwrap(), made);
+    store.save().unwrap();
+    let saved = fs::read(&path).unwrap();
+    assert_ne!(saved, made);
+    store.put("b", "2").unwrap();
+    store.discard().unwrap();
+    assert_eq!(fs::read(&path).unwrap(), saved);
+    let mut store = Store::open_resident(&path).unwrap();
+    store.put("c", "3").unwrap();
+    std::thread::spawn(move || {
+        let _store = store;
+        panic!("(a panic that is wanted)")
+    })
+    .join()
+    .unwrap_err();
+    assert_eq!(fs::read(&path).unwrap(), saved);
+    let mut store = Store::open_resident(&path).unwrap();
+    store.put("d", "4").unwrap();
+    drop(store);
+    assert_eq!(rows(Store::open(&path).unwrap().iter()), [(b"a".to_vec(), b"1".to_vec()), (b"d".to_vec(), b"4".to_vec())]);
+    assert!(!folder.path("store-journal").exists());
+    assert!(matches!(Store::open(&path).unwrap().save(), Err(Error::Unknown(8))));
 }

@@ -14,13 +14,13 @@ use Rattle.cola_handle.specs.Numbers.{number}
 use Rattle.cola_handle.specs.Open.{HoldsMap}
 use Rattle.cola_c.specs.Exports.{Nexts}
 
-none_given : (wanted given many : ℕ) → given ≡ min wanted many → number (gave wanted (Ok given)) ≡ 1 → (0 < wanted) × (many ≡ 0)
+pub none_given : (wanted given many : ℕ) → given ≡ min wanted many → number (gave wanted (Ok given)) ≡ 1 → (0 < wanted) × (many ≡ 0)
 none_given wanted given many is absent = grind (arith, nat_tests)
 
-absent_given : (wanted given many : ℕ) → given ≡ min wanted many → 0 < wanted → many ≡ 0 → number (gave wanted (Ok given)) ≡ 1
+pub absent_given : (wanted given many : ℕ) → given ≡ min wanted many → 0 < wanted → many ≡ 0 → number (gave wanted (Ok given)) ≡ 1
 absent_given wanted given many is some none = grind (arith, nat_tests)
 
-same_number : (a b : ℕ) → pos a ≡ pos b → a ≡ b
+pub same_number : (a b : ℕ) → pos a ≡ pos b → a ≡ b
 same_number a b same = cc
 
 -- a good cursor on a session that holds a map: absent exactly where rows were asked for and none is ahead

@@ -2,3 +2,11 @@ pub mod Inside
 pub mod Ended
 mod Unwritten
 pub mod Telling
+pub mod TellingRows
+pub mod TellingBytes
+pub mod ToolsTold
+mod Started
+pub mod ToldBack
+pub mod Pieces
+pub mod Staying
+pub mod Placing

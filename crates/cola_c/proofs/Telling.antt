@@ -1,18 +1,20 @@
 -- What each call tells of a session that held a map.
 use Rattle.std.proofs.Common.{◌≡◌, ◌∙◌, inl, inr, ℕ, ℤ, pos, false, Bool, List, Option, Some, None, Result, Ok, Err, refl, sym, ap, subst, arith}
 use Rattle.cola_outside.specs.Faults.{Rose}
-use Rattle.cola_spec.specs.Map.{Map, Shape, is_key, put_outcome}
+use Rattle.cola_spec.specs.Map.{Map, Shape, PutOutcome, is_key, put_outcome, put_if_outcome, with_value, settled}
 use Rattle.cola_table.specs.declared.Put.{Put}
 use Rattle.cola_table.specs.declared.Put.TheVariants as put
+use Rattle.cola_table.specs.declared.PutIf.{PutIf}
+use Rattle.cola_table.specs.declared.PutIf.TheVariants as put_if
 use Rattle.cola_kv.specs.declared.error.Error.{Error}
 use Rattle.cola_kv.specs.declared.error.Error.TheVariants as error
 use Rattle.cola_kv.specs.Calls as kv
 use Rattle.cola_kv.specs.Causes.{IsReadRefusal, IsPutRefusal, ReadCause, DeleteCause, PutCause}
 use Rattle.cola_handle.specs.declared.handle.Cola.{Cola}
 use Rattle.cola_handle.specs.declared.session.Session.{Session}
-use Rattle.cola_handle.specs.Numbers.{number, refused, found, made, was_told, value_told, length_told, stamp_told}
+use Rattle.cola_handle.specs.Numbers.{number, refused, found, made, made_if, was_told, other_told, value_told, length_told, stamp_told}
 use Rattle.cola_handle.specs.Open.{lent_device, HoldsMap, shape_of}
-use Rattle.cola_c.specs.Plain.{PlainGet, PlainStamp, PlainDelete, PlainPut, GetsAreTold, StampsAreTold, DeletesAreTold, PutsAreTold}
+use Rattle.cola_c.specs.Plain.{PlainGet, PlainStamp, PlainDelete, PlainPut, PlainPutIf, GetsAreTold, StampsAreTold, DeletesAreTold, PutsAreTold, PutsIfAreTold}
 
 no-rise : Rose 0 0 → ⊥
 no-rise rose = omega (arith, rose)
@@ -88,6 +90,30 @@ module _ (old new : Session) (m : Map) (key : List ℕ) (held : HoldsMap old m) 
     put-told value was was' (Ok (put.Old v)) is g w = inr (inl (v, sym (g.answer m held), is, w, (new, open_still, g.map_after m held)))
     put-told value was was' (Err e) is g w = put-refused value was was' e is w (g.map_stays m held) (g.refusal m held) g.cause
 
+    put-if-refused : (seen : ℕ) (value : List ℕ) (place place' : ℕ) (e : Error) → code ≡ pos (number (refused e)) → place' ≡ place → HoldsMap new m → IsPutRefusal (shape_of old) key value (put_if_outcome (shape_of old) m key seen) e →
+        PutCause (shape_of old) old.kv.store.count old.kv.store.last key value 0 0 e → PlainPutIf old m key seen value after code place place'
+    put-if-refused seen value place place' error.KeyLength is p keeps why cause = inr (inr (inr (inr (inr (inl why, is, p, (new, open_still, keeps))))))
+    put-if-refused seen value place place' error.ValueLength is p keeps why cause = inr (inr (inr (inr (inr (inr why.1, is, p, (new, open_still, keeps))))))
+    put-if-refused seen value place place' error.Full is p keeps why cause = inr (inr (inr (inl (why, is, p, (new, open_still, keeps)))))
+    put-if-refused seen value place place' error.Worn is p keeps why cause = inr (inr (inr (inr (inl (why, is, p, (new, open_still, keeps))))))
+    put-if-refused seen value place place' error.Device is p keeps why cause = absurd (no-rise cause)
+    put-if-refused seen value place place' error.Keys is p keeps why cause = absurd why
+    put-if-refused seen value place place' error.Block is p keeps why cause = absurd why
+    put-if-refused seen value place place' error.NotEmpty is p keeps why cause = absurd why
+    put-if-refused seen value place place' error.NotStore is p keeps why cause = absurd why
+    put-if-refused seen value place place' error.Small is p keeps why cause = absurd why
+    put-if-refused seen value place place' error.NotClosed is p keeps why cause = absurd why
+    put-if-refused seen value place place' (error.BadCell cell) is p keeps why cause = absurd why
+    put-if-refused seen value place place' error.OutOfMemory is p keeps why cause = absurd why
+    put-if-refused seen value place place' (error.Overfull level) is p keeps why cause = absurd why
+
+    put-if-told : (seen : ℕ) (value : List ℕ) (place place' : ℕ) (result : Result PutIf Error) → code ≡ pos (number (made_if result)) → kv.PutsIf lent_device old.kv new.kv key seen value result → place' ≡ other_told result place → PlainPutIf old m key seen value after code place place'
+    put-if-told seen value place place' (Ok put_if.New) is g p = inl (sym (g.answer m held), is, p, (new, open_still, g.map_after m held))
+    put-if-told seen value place place' (Ok (put_if.Old v)) is g p = inr (inl (v, sym (g.answer m held), is, p, (new, open_still, g.map_after m held)))
+    put-if-told seen value place place' (Ok (put_if.Other s)) is g p =
+        inr (inr (inl (s, sym (g.answer m held), is, p, (new, open_still, subst (λ (o : PutOutcome). HoldsMap new (settled o m (with_value (shape_of old) m key value))) (sym (g.answer m held)) (g.map_after m held)))))
+    put-if-told seen value place place' (Err e) is g p = put-if-refused seen value place place' e is p (g.map_stays m held) (g.refusal m held) g.cause
+
 pub gets-told : GetsAreTold
 gets-told old m key after code into into' len len' held told = (
   get-told old told.new m key held code into into' len len' told.answer told.number_is told.says.0 told.says.1 told.says.2,
@@ -105,3 +131,6 @@ deletes-told old m key after code held told = delete-told old told.new m key hel
 
 pub puts-told : PutsAreTold
 puts-told old m key value after code was was' held told = put-told old told.new m key held code after told.is_open value was was' told.answer told.number_is told.says.0 told.says.1
+
+pub puts-if-told : PutsIfAreTold
+puts-if-told old m key seen value after code place place' held told = put-if-told old told.new m key held code after told.is_open seen value place place' told.answer told.number_is told.says.0 told.says.1

@@ -8,7 +8,7 @@ use Rattle.cola_store.specs.Store.{terms_of}
 use Rattle.cola_table.specs.declared.Put.{Put}
 use Rattle.cola_table.specs.declared.PutIf.{PutIf}
 use Rattle.cola_mapped.specs.declared.region.Region.{Region}
-use Rattle.cola_mapped.specs.Mapped.{unused}
+use Rattle.cola_mapped.specs.declared.lent.Lent.{Lent}
 use Rattle.cola_mapped.specs.Region.{bytes_in}
 use Rattle.cola_handle.specs.declared.answer.Answer.{Answer}
 use Rattle.cola_handle.specs.declared.answer.Answer.TheVariants.{Done, Absent, Closed, Options, Memory}
@@ -21,11 +21,12 @@ use Rattle.cola_kv.specs.Calls as kv
 use Rattle.cola_kv.specs.Opened as opened
 use Rattle.cola_handle.specs.Cursors.{NextSays, ByLength, Writes, GaveSome, Moves, is_good, ahead, gave}
 use Rattle.cola_handle.specs.Numbers.{number, was_told, other_told, value_told, length_told, stamp_told}
-use Rattle.cola_handle.specs.Open.{lent_device, HoldsMap, levels_of, Stays, place_of, device_of}
+use Rattle.cola_handle.specs.Marks.{AreMarked, marks_in, place_in}
+use Rattle.cola_handle.specs.Open.{lent_device, lent_with, HoldsMap, levels_of, Stays, place_of, device_of, WereLent, first_of, first_marks_of, marks_place_of, SameFirst}
 use Rattle.cola_handle.specs.Walking.{RangeSays, Reads}
 use Rattle.cola_handle.specs.Created.{HasSize}
 use Rattle.cola_handle.specs.Stored.{StoredSays}
-use Rattle.cola_handle.specs.Lent.{StandsFor, HasTerms, OpenCause, AreLeft}
+use Rattle.cola_handle.specs.Lent.{StandsFor, HasTerms, HasClosed, OpenCause, AreLeft}
 
 -- this is said where the handle is closed
 abbrev pub IfClosed : Cola → Type 0 → Type 0
@@ -81,6 +82,7 @@ module _ (old : Session) (before : Cursor) (rows : List Row) where
     pub good : is_good before ≡ true → is_good after ≡ true
     pub reads : Reads old new (range_bound (levels_of old))
     pub stays : Stays old new
+    pub lent_stays : SameFirst old new
 
   -- the next rows are answered on an open handle, and it is told how many were given
   abbrev pub AnswersNext : (handle : Cola) → ℤ → (after : Cursor) → (filled : List Row) → (given given' : ℕ) → Type 0
@@ -110,9 +112,9 @@ SizesStored file before now Done = StoredSays file (Ok now)
 SizesStored file before now why = StoredSays file (Err why) × (now ≡ before)
 
 module _ (before : Region) where
-  -- an opening: the session has the bytes of the region, with the mark that the store is in use, and its geometry and cells are those of the bytes, also where these stand for no map
-  pub record Opens (new : Session) : Type 0 where
-    pub given : opened.IsOpen lent_device (unused before.at before.len (bytes_in before.bytes)) 0 new.kv
+  -- an opening: the session has the bytes of the region, with the mark that the store is in use, and its geometry and cells are those of the bytes, also where these stand for no map; its pages have these marks
+  pub record Opens (marks : Option Lent) (new : Session) : Type 0 where
+    pub given : opened.IsOpen lent_device (lent_with before.at before.len (bytes_in before.bytes) marks) 0 new.kv
     pub terms : HasTerms (terms_of new.kv.store) (bytes_in before.bytes)
     pub marked : (device_of new).bytes ≡ with_state 1 (bytes_in before.bytes)
     pub place : place_of new ≡ (before.at, before.len)
@@ -131,18 +133,25 @@ module _ (before : Region) where
 module _ (old : Session) where
   -- a closing: the region has the bytes of a closed store
   pub record Closes (region : Region) : Type 0 where
+    pub given : HasClosed old (bytes_in region.bytes)
     pub terms : HasTerms (terms_of old.kv.store) (bytes_in region.bytes)
     pub stands : (m : Map) → HoldsMap old m → StandsFor region.bytes m
     pub lent : IsSome region.bytes
     pub place : (region.at, region.len) ≡ place_of old
 
   -- a checkpoint: the session holds each map that it held, and its bytes are those of the store that was closed in between,
-  -- which stand for each such map, with the mark that it is in use
+  -- which stand for each such map, with the mark that it is in use. Of those each page with no mark is as it was when the store
+  -- was opened, and from these on pages are marked further
   pub record Checkpoints (new : Session) : Type 0 where
     pub closed : List ℕ
+    pub closes : HasClosed old closed
+    pub marks : Option Lent
+    pub pages : AreMarked (first_marks_of old) (first_of old) (marks_in marks) closed
+    pub were_lent : WereLent new closed (marks_in marks)
+    pub marks_place : marks_place_of new ≡ marks_place_of old
     pub stood : (m : Map) → HoldsMap old m → FileStandsFor closed m
     pub marked : (device_of new).bytes ≡ with_state 1 closed
-    pub again : opened.IsOpen lent_device (unused (place_of old).0 (place_of old).1 closed) 0 new.kv
+    pub again : opened.IsOpen lent_device (lent_with (place_of old).0 (place_of old).1 closed marks) 0 new.kv
     pub holds : (m : Map) → HoldsMap old m → HoldsMap new m
     pub stays : Stays old new
 
@@ -150,6 +159,7 @@ module _ (old : Session) where
   -- where want of memory is the only reason
   pub record Unfinished (region : Region) (why : Answer) : Type 0 where
     pub closed : List ℕ
+    pub closes : HasClosed old closed
     pub cause : OpenCause closed why
     pub only : (m : Map) → HoldsMap old m → why ≡ Memory
     pub left : AreLeft closed (bytes_in region.bytes) why

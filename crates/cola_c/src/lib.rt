@@ -10,21 +10,37 @@ ghost use Rattle.cola_handle.specs.Cursors.{are_short, IsSet, ahead, end_at, gav
 ghost use Rattle.cola_handle.specs.Numbers.{number, found, made, made_if};
 ghost use Rattle.cola_handle.specs.Open.{HoldsMap};
 ghost use Rattle.cola_c.specs.Exports.{IfClosed, IfOpen, AnswersClosed, Answered, TellsValue, TellsStamp, Deletes, TellsPut, TellsPutIf, Nexts, AnswersNext, IsAbsentAtEnd, Tells, Opens, IsRefused, Closes, Checkpoints, Unfinished, Sizes, SizesStored};
+ghost use Rattle.cola_c.specs.Marked.{GivesMarks};
 ghost use Rattle.cola_handle.specs.Created.{Creates};
 ghost use Rattle.cola_handle.specs.Stored.{Begins};
 
+mod journal;
 mod laws;
+mod laws_of_walks;
+mod log;
+mod marked;
+mod told;
+pub mod tool_laws;
+pub mod tools;
+mod walks;
 
 use cola_handle::{
-    Answer, Cola, Cursor, Row, Session, tell_delete, tell_put, tell_put_if, tell_stamp, tell_value,
+    Answer, Cola, Cursor, LentMarks, Row, Session, tell_delete, tell_put, tell_put_if, tell_stamp,
+    tell_value,
 };
 use cola_kv::Error;
 use cola_mapped::Region;
 use cola_outside::Steps;
-pub use laws::{deletes_are_told, gets_are_told, puts_are_told, stamps_are_told};
+pub use laws::{
+    deletes_are_told, gets_are_told, openings_are_told, puts_are_told, rows_are_told,
+    sizes_are_told, stamps_are_told, what_was_lent_stays,
+};
+pub use laws_of_walks::prevs_are_told;
 use std::alloc::Global;
 use std::marker::Brand;
 use std::sync::ledger::{Blank, Ledger};
+pub use told::{cola_core_info, cola_core_level};
+pub use walks::{cola_core_prev, cola_core_seek_last};
 
 /// How many bytes a store takes.
 #[unsafe(no_mangle)]
@@ -71,19 +87,19 @@ pub extern "C" fn cola_core_open(alloc: Global, cola: &mut Cola, region: &mut Re
     ensures in_use { IfOpen cola.old (λ _. (result ≡ pos (number answer.InUse)) × (cola.new ≡ cola.old)
         × (region.new ≡ region.old)) }
     ensures opened { IfClosed cola.old (IfOpen cola.new (λ session. (result ≡ pos (number answer.Done))
-        × (region.new.bytes ≡ None) × Opens region.old session)) }
+        × (region.new.bytes ≡ None) × Opens region.old None session)) }
     ensures refused { IfClosed cola.old (IfClosed cola.new (Tells result (IsRefused region.old region.new))) }
 {
     if cola.is_open() {
         return Answer::InUse.code();
     }
     let bytes = std::mem::replace(region, Region::none());
-    match cola_handle::open(alloc, bytes) {
+    match cola_handle::open(alloc, bytes, LentMarks::none()) {
         Ok(session) => {
             cola.put(alloc, session);
             Answer::Done.code()
         }
-        Err((bytes, answer)) => {
+        Err((bytes, _, answer)) => {
             *region = bytes;
             answer.code()
         }
@@ -243,7 +259,7 @@ fn next_on<L: Ledger>(
 }
 
 /// Of the next rows: how many they are.
-fn tell_next(next: Result<usize, Error>, wanted: usize, given: &mut usize) -> i32
+pub(crate) fn tell_next(next: Result<usize, Error>, wanted: usize, given: &mut usize) -> i32
     ensures number { result ≡ pos (number (gave wanted next)) }
     ensures given { given.new ≡ result_unwrap_or next given.old }
 {
@@ -293,29 +309,39 @@ pub extern "C" fn cola_core_checkpoint(alloc: Global, cola: &mut Cola, region: &
     let Some(session) = cola.take(alloc) else {
         return Answer::Closed.code();
     };
-    let bytes = cola_handle::close(Box::into_inner(session));
-    match cola_handle::open(alloc, bytes) {
+    let (bytes, marks) = cola_handle::close(Box::into_inner(session));
+    match cola_handle::open(alloc, bytes, marks) {
         Ok(session) => {
             cola.put(alloc, session);
             Answer::Done.code()
         }
-        Err((left, answer)) => {
+        Err((left, _, answer)) => {
             *region = left;
             answer.code()
         }
     }
 }
 
-/// Closes the store, and gives its bytes back in the region, where they were.
+/// Closes the store, and gives its bytes back in the region, where they were, and its marks: each page that has none is as it was
+/// when the store was opened. Of a store that was opened with no marks, an empty region.
 #[unsafe(no_mangle)]
-pub extern "C" fn cola_core_close(alloc: Global, cola: &mut Cola, region: &mut Region) -> i32
-    ensures closed { IfClosed cola.old ((result ≡ pos (number answer.Closed)) × (region.new ≡ region.old)) }
+pub extern "C" fn cola_core_close(
+    alloc: Global,
+    cola: &mut Cola,
+    region: &mut Region,
+    marks: &mut Region,
+) -> i32
+    ensures closed { IfClosed cola.old ((result ≡ pos (number answer.Closed)) × (region.new ≡ region.old)
+        × (marks.new ≡ marks.old)) }
     ensures left { cola.new.owned.session ≡ None }
     ensures done { IfOpen cola.old (λ session. (result ≡ pos (number answer.Done)) × Closes session region.new) }
+    ensures marked { IfOpen cola.old (λ session. GivesMarks session region.new marks.new) }
 {
     let Some(session) = cola.take(alloc) else {
         return Answer::Closed.code();
     };
-    *region = cola_handle::close(Box::into_inner(session));
+    let (bytes, lent) = cola_handle::close(Box::into_inner(session));
+    *region = bytes;
+    *marks = lent.into_region();
     Answer::Done.code()
 }

@@ -35,7 +35,7 @@ use Rattle.cola_command.proofs.Caching.{AllCaused, few-cached}
 use Rattle.cola_command.proofs.Carrying.{BeginsAt, StillOf, RunsSoFar, SoFar, lines-then, front-then, both-then, faults-append, faulted-append}
 use Rattle.cola_command.proofs.Counting.{table-means}
 use Rattle.cola_session.proofs.CutOff.{Safe, safe-run, safe-step, not-faulted, quiet-run}
-use Rattle.cola_command.proofs.HeadlineLaws.{by-count, faults-rise}
+use Rattle.cola_command.proofs.Rising.{by-count, faults-rise}
 use Rattle.cola_command.proofs.Moving.{kind-stays, closes-moves}
 use Rattle.cola_command.proofs.PlaceTurns.{StepsTo, TurnFacts, stands-now, close-facts}
 use Rattle.cola_command.proofs.Reopening.{open-facts}

@@ -1,4 +1,3 @@
-pub mod NewFiles
 pub mod StateByte
 pub mod PlaceCauses
 pub mod PlaceTurns
@@ -10,12 +9,6 @@ pub mod Moving
 pub mod Transferring
 pub mod Caching
 pub mod Carrying
-pub mod HeadlineLaws
+pub mod Rising
 pub mod Ending
-pub mod Completing
-pub mod Checking
-pub mod Mirroring
-pub mod Looks
-pub mod Known
-pub mod ModesSaid
-pub mod Occupied
+pub mod Judging

@@ -5,9 +5,4 @@ pub mod Turns
 pub mod Headline
 pub mod Mirrored
 pub mod Checked
-pub mod HeadlineLaws
-pub mod MirrorLaws
 pub mod Serves
-pub mod CheckLaws
-pub mod UpgradeLaws
-pub mod RebuildLaws

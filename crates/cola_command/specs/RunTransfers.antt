@@ -1,13 +1,11 @@
 -- How many blocks a session over a file may read and write: store by store, from each opening to the next.
 use Rattle.std.specs.Prelude.{ℕ, ◌+◌, ◌-◌, ◌*◌, ◌^◌, ◌≤◌, Bool, true, false, List, [], ◌∷◌, sum_by, Option, Some, None, ⊤}
-use Rattle.cola_cell.specs.declared.format.Format.TheVariants.{One}
 use Rattle.cola_device.specs.declared.counts.Counts.{Counts}
 use Rattle.cola_spec.specs.Map as map
-use Rattle.cola_spec.specs.Command.{Command, Put, Del, Get, Range, Scan, Close, Reopen}
+use Rattle.cola_spec.specs.Command.{Command, Range, Scan}
 use Rattle.cola_spec.specs.Reply as reply
 use Rattle.cola_spec.specs.Reply.{Reply}
 use Rattle.cola_spec.specs.Machine.{Turn, by_command}
-use Rattle.cola_table.specs.Replies.{turn_of}
 use Rattle.cola_transfers.specs.Credit.{parts}
 use Rattle.cola_command.specs.File.{Sizes}
 
@@ -125,21 +123,3 @@ module _ (sizes : Sizes) where
   -- the reads of turns on any file of these sizes, where the cache has room for it, are at most those of the stores, and of the openings that gave none
   abbrev pub FewCachedReads : ℕ → List Turn → Counts → Counts → Type 0
   FewCachedReads cache turns before now = file_blocks ≤ cache → now.reads ≤ before.reads + (sum_by (λ (store : List Turn). cached_reads) (by_store turns) + refused_reads levels turns)
-
--- An example
-
--- a put, a close, a put that is shut out, an opening, two deletes of which one finds its key, and a get
-abbrev pub example : List Turn
-example =
-    turn_of (Put (1 ∷ []) []) (reply.Put map.New) 0
-    ∷ turn_of Close reply.Closed 0
-    ∷ turn_of (Put (2 ∷ []) []) reply.Shut 0
-    ∷ turn_of Reopen (reply.Opened 1) 0
-    ∷ turn_of (Del (1 ∷ [])) (reply.Deleted (Some [])) 0
-    ∷ turn_of (Del (2 ∷ [])) (reply.Deleted None) 0
-    ∷ turn_of (Get (2 ∷ [])) (reply.Got None) 0
-    ∷ []
-
--- for 512 keys: 8 levels, and blocks of 8 cells
-abbrev pub example_sizes : Sizes
-example_sizes = record { format = One; keys = 512; bottom = 7; block_exp = 3 }

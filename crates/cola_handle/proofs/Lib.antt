@@ -5,3 +5,8 @@ pub mod Filling
 pub mod Making
 pub mod Turns
 mod Storing
+pub mod Dividing
+pub mod Turned
+pub mod Taking
+pub mod Marking
+pub mod Lending

@@ -4,8 +4,6 @@ use Rattle.cola_layout.specs.declared.geometry.Geometry.{Geometry}
 use Rattle.cola_layout.specs.Fields.{fields_of}
 use Rattle.cola_layout.specs.Header.{Fields}
 use Rattle.cola_layout.proofs.Refusing.{spelling-one}
-use Rattle.cola_mapped.specs.Mapped.{Mapped}
-use Rattle.cola_mapped.specs.contracts.device.MappedDeviceDevice.TheImpl.{ghosts}
 use Rattle.cola_outside.specs.Faults.{Rose}
 use Rattle.cola_image.specs.Standing.{FileStandsFor}
 use Rattle.cola_store.specs.Sessions.{IsStoreOpened, IsStoreClosed}
@@ -18,12 +16,12 @@ use Rattle.cola_handle.specs.declared.answer.Answer.{Answer}
 use Rattle.cola_handle.specs.declared.answer.Answer.TheVariants.{Memory}
 use Rattle.cola_handle.specs.Lent.{HasTerms, OpenCause, AreLeft}
 use Rattle.cola_handle.specs.Numbers.{refused}
-use Rattle.cola_handle.specs.Open.{lent_device}
+use Rattle.cola_handle.specs.Open.{LentDevice, lent_device}
 
 no-rise : Rose 0 0 → ⊥
 no-rise rose = omega (arith, rose)
 
-pub refusal-cause : (before now : Mapped) (e : Error) → kv.OpenCause lent_device before now e → OpenCause before.bytes (refused e)
+pub refusal-cause : (before now : LentDevice) (e : Error) → kv.OpenCause lent_device before now e → OpenCause before.device.bytes (refused e)
 refusal-cause before now error.NotStore seen = seen.why_is
 refusal-cause before now error.NotClosed seen = seen.why_is
 refusal-cause before now error.Small seen = seen.why_is
@@ -39,7 +37,7 @@ refusal-cause before now error.Full is = absurd is
 refusal-cause before now error.Worn is = absurd is
 refusal-cause before now (error.Overfull level) is = absurd is
 
-pub refusal-stays : (before now : Mapped) (e : Error) → kv.OpenCause lent_device before now e → Some now.bytes ≡ Some before.bytes
+pub refusal-stays : (before now : LentDevice) (e : Error) → kv.OpenCause lent_device before now e → Some now.device.bytes ≡ Some before.device.bytes
 refusal-stays before now error.NotStore seen = seen.bytes_stay
 refusal-stays before now error.NotClosed seen = seen.bytes_stay
 refusal-stays before now error.Small seen = seen.bytes_stay
@@ -56,7 +54,7 @@ refusal-stays before now error.Worn is = absurd is
 refusal-stays before now (error.Overfull level) is = absurd is
 
 -- bytes that stand for a map are refused for want of memory alone
-pub refusal-only : (before now : Mapped) (e : Error) → kv.IsOpenRefusal lent_device before now e → refused e ≡ Memory
+pub refusal-only : (before now : LentDevice) (e : Error) → kv.IsOpenRefusal lent_device before now e → refused e ≡ Memory
 refusal-only before now e (inl memory) = ap refused memory
 refusal-only before now e (inr met) = absurd (no-rise met.1)
 
@@ -71,14 +69,14 @@ left-same before now _ same = same
 abbrev terms_with : Geometry → Terms
 terms_with geometry = record { format = geometry.format; limit = geometry.keys; depth = geometry.bottom + 1 }
 
-pub opened-terms : (before : Mapped) (cache : ℕ) (store : Stored Mapped) → IsStoreOpened ghosts before cache store → HasTerms (terms_of store) before.bytes
+pub opened-terms : (before : LentDevice) (cache : ℕ) (store : Stored LentDevice) → IsStoreOpened lent_device before cache store → HasTerms (terms_of store) before.device.bytes
 opened-terms before cache store is = record {
   header = is.header;
   was = is.opened.was.was;
   terms_are = ap terms_with (sym is.header_is.geometry_is);
 }
 
-pub closed-terms : (store : Stored Mapped) (now : Mapped) → IsStoreClosed ghosts store now → HasTerms (terms_of store) now.bytes
+pub closed-terms : (store : Stored LentDevice) (now : LentDevice) → IsStoreClosed lent_device store now → HasTerms (terms_of store) now.device.bytes
 closed-terms store now is = record {
   header = is.header;
   was = record { has = is.closed.file.has; closed = is.header_is.closed_is };

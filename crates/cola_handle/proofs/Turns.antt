@@ -6,15 +6,14 @@ use Rattle.cola_spec.specs.Bounds.{range_bound}
 use Rattle.cola_store.specs.Calls.{ReadsWithin}
 use Rattle.cola_store.specs.Store.{Stored, spent_of, levels_of}
 use Rattle.cola_store.specs.Walks.{Begins, Goes, TurnsWithin, left_of}
-use Rattle.cola_mapped.specs.Mapped.{Mapped, counts_of}
 use Rattle.cola_handle.specs.declared.cursor.Cursor.{Cursor}
 use Rattle.cola_handle.specs.declared.cursor.Row.{Row}
 use Rattle.cola_handle.specs.Cursors.{Pair}
-use Rattle.cola_handle.specs.Open.{bytes_of}
+use Rattle.cola_handle.specs.Open.{LentDevice, bytes_of, counts_of}
 use Rattle.cola_handle.specs.Walking.{GoesOn, Stays, Then, Came, Fills}
 
 -- one call after another
-then_more : (old mid new : Spent) (left rest most : ℕ) → TurnsWithin old mid left most → TurnsWithin mid new rest left → TurnsWithin old new rest most
+pub then_more : (old mid new : Spent) (left rest most : ℕ) → TurnsWithin old mid left most → TurnsWithin mid new rest left → TurnsWithin old new rest most
 then_more old mid new left rest most first second = record {
   turned_stays = omega (arith, first.turned_stays, second.turned_stays);
   turned_rises = omega (arith, first.turned_rises, second.turned_rises);
@@ -22,7 +21,7 @@ then_more old mid new left rest most first second = record {
 }
 
 -- what is left is not needed
-within : (old new : Spent) (left most : ℕ) → TurnsWithin old new left most → ReadsWithin old new most
+pub within : (old new : Spent) (left most : ℕ) → TurnsWithin old new left most → ReadsWithin old new most
 within old new left most turns = record {
   turned_stays = turns.turned_stays;
   turned_rises = omega (arith, turns.turned_rises);
@@ -34,7 +33,7 @@ module _ {T W : Type 0} (spent : T → Spent) (left : W → ℕ) (most : T → �
     (refused_turns : (old : T) (low : List ℕ) (high : Option (List ℕ)) (fault : ReadFault) (new : T) → begins old low high (Err fault) new → TurnsWithin (spent old) (spent new) 0 (most old))
     (gone_turns : (old : T) (walk : W) (answer : Option Pair) (new : T) (after : W) → goes old walk (Ok answer) new after → TurnsWithin (spent old) (spent new) (left after) (left walk))
     (broken_turns : (old : T) (walk : W) (fault : ReadFault) (new : T) (after : W) → goes old walk (Err fault) new after → TurnsWithin (spent old) (spent new) 0 (left walk)) where
-  turns_on : (old new : T) (walk last : W) (pairs : List Pair) → GoesOn begins goes old walk pairs new last → TurnsWithin (spent old) (spent new) (left last) (left walk)
+  pub turns_on : (old new : T) (walk last : W) (pairs : List Pair) → GoesOn begins goes old walk pairs new last → TurnsWithin (spent old) (spent new) (left last) (left walk)
   turns_on old new walk last pairs Stays = record { turned_stays = omega arith; turned_rises = omega arith; written_is = refl }
   turns_on old new walk last pairs (Then {mid = mid} {after = after} {pairs = before} pair gone went) =
       then_more (spent old) (spent mid) (spent new) (left after) (left last) (left walk) (turns_on old mid walk after before gone) (gone_turns mid after (Some pair) new last went)
@@ -56,10 +55,10 @@ module _ {T W : Type 0} (spent : T → Spent) (left : W → ℕ) (most : T → �
         (then_more (spent old) (spent e.far) (spent new) (left e.walk) 0 (most old) (came_turns broken.0 e.far e.walk e.came) (broken_turns e.far e.walk fault new e.last e.ends))
 
 -- filling rows turns to at most one block for each tick of a range, and writes none
-pub fill_reads : (cursor : Cursor) (low : List ℕ) (high : Option (List ℕ)) (old new : Stored Mapped) (rows : List Row) (result : Result ℕ ReadFault)
+pub fill_reads : (cursor : Cursor) (low : List ℕ) (high : Option (List ℕ)) (old new : Stored LentDevice) (rows : List Row) (result : Result ℕ ReadFault)
     → Fills (Begins bytes_of counts_of) (Goes bytes_of counts_of) cursor low high old rows result new → ReadsWithin (spent_of counts_of old) (spent_of counts_of new) (range_bound (levels_of old))
 fill_reads cursor low high old new rows result fills =
-    fill_turns (spent_of counts_of) left_of (λ (store : Stored Mapped). range_bound (levels_of store)) (Begins bytes_of counts_of) (Goes bytes_of counts_of)
+    fill_turns (spent_of counts_of) left_of (λ (store : Stored LentDevice). range_bound (levels_of store)) (Begins bytes_of counts_of) (Goes bytes_of counts_of)
     (λ o l h w n b. b.turns) (λ o l h f n b. b.turns) (λ o w a n z b. b.turns) (λ o w f n z b. b.turns) cursor low high old rows result new fills
 
 -- nothing was turned to

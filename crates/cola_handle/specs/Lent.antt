@@ -6,9 +6,12 @@ use Rattle.cola_spec.specs.Map.{Map}
 use Rattle.cola_image.specs.Standing.{FileStandsFor}
 use Rattle.cola_mapped.specs.Region.{bytes_in}
 use Rattle.cola_store.specs.Open.{WasClosed, HasBadCell}
+use Rattle.cola_store.specs.Sessions.{IsStoreClosed}
 use Rattle.cola_table.specs.Terms.{Terms}
 use Rattle.cola_handle.specs.declared.answer.Answer.{Answer}
 use Rattle.cola_handle.specs.declared.answer.Answer.TheVariants.{NotStore, Small, NotClosed, BadCell, Memory}
+use Rattle.cola_handle.specs.declared.session.Session.{Session}
+use Rattle.cola_handle.specs.Open.{LentDevice, lent_device}
 
 -- the bytes of a region stand for this map
 abbrev pub StandsFor : Option (List ℕ) → Map → Type 0
@@ -42,3 +45,9 @@ pub record IsSameStore (before now : List ℕ) : Type 0 where
 abbrev pub AreLeft : (before now : List ℕ) → Answer → Type 0
 AreLeft before now Memory = IsSameStore before now
 AreLeft before now _ = now ≡ before
+
+-- these are the bytes that the closing of a store leaves, whether it holds a map or not: they have its header and its cells
+pub record HasClosed (old : Session) (bytes : List ℕ) : Type 0 where
+  pub device : LentDevice
+  pub closes : IsStoreClosed lent_device old.kv.store device
+  pub bytes_are : bytes ≡ device.device.bytes

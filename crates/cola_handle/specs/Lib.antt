@@ -1,8 +1,11 @@
 pub mod Handle
 pub mod Numbers
+pub mod Marks
 pub mod Open
 pub mod Cursors
 pub mod Lent
 pub mod Created
 pub mod Walking
 pub mod Stored
+pub mod Behind
+pub mod Falling

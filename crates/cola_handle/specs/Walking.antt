@@ -2,7 +2,6 @@
 use Rattle.std.specs.Prelude.{◌≡◌, ℕ, ◌⊎◌, true, List, [], ◌∷◌, ◌++◌, length, take, map, Option, Some, None, Result, Ok, Err}
 use Rattle.cola_cell.specs.declared.fault.ReadFault.{ReadFault}
 use Rattle.cola_cell.specs.declared.fault.ReadFault.TheVariants as fault
-use Rattle.cola_mapped.specs.Mapped.{counts_of}
 use Rattle.cola_spec.specs.Bounds.{range_bound}
 use Rattle.cola_spec.specs.Map.{Map, pairs_between}
 use Rattle.cola_store.specs.Calls.{ReadsWithin}
@@ -16,7 +15,7 @@ use Rattle.cola_handle.specs.declared.cursor.Cursor.{Cursor}
 use Rattle.cola_handle.specs.declared.cursor.Row.{Row}
 use Rattle.cola_handle.specs.declared.session.Session.{Session}
 use Rattle.cola_handle.specs.Cursors.{Pair, row_pair, not_given, HaveFirst, is_void, first_key, from_of, end_of}
-use Rattle.cola_handle.specs.Open.{bytes_of}
+use Rattle.cola_handle.specs.Open.{bytes_of, counts_of}
 
 -- of a table that holds a map: the rows have the first of its pairs from `low` on and below `high` that the cursor has not given,
 -- and the map stays; only the device refuses

@@ -31,7 +31,7 @@ impl Row {
 }
 
 /// These bytes, then zeros.
-fn padded(bytes: &[u8]) -> [u8; 40]
+pub(crate) fn padded(bytes: &[u8]) -> [u8; 40]
     requires { length bytes.now ≤ 40 }
     ensures { take (length bytes.now) result ≡ bytes.now }
 {
@@ -44,12 +44,12 @@ fn padded(bytes: &[u8]) -> [u8; 40]
 #[repr(C)]
 #[derive(Clone, Copy, Drop)]
 pub struct Cursor {
-    from_len: u8,
-    until_len: u8,
-    behind: bool,
-    bounded: bool,
-    from: [u8; 40],
-    until: [u8; 40],
+    pub(crate) from_len: u8,
+    pub(crate) until_len: u8,
+    pub(crate) behind: bool,
+    pub(crate) bounded: bool,
+    pub(crate) from: [u8; 40],
+    pub(crate) until: [u8; 40],
 }
 
 impl Cursor {

@@ -4,18 +4,24 @@
 mod answer;
 mod creating;
 mod cursor;
+mod falling;
 mod handle;
+pub mod laws;
 mod loose;
+mod marks;
 mod opening;
 mod session;
 mod stored;
 mod telling;
+mod turning;
 mod walking;
 
 pub use answer::Answer;
 pub use creating::{create, size};
 pub use cursor::{Cursor, Row};
+pub use falling::prev;
 pub use handle::Cola;
+pub use marks::{LentDevice, LentMarks};
 pub use opening::{close, open};
 pub use session::Session;
 pub use stored::stored_size;

@@ -1,9 +1,9 @@
 //! What lies behind an open handle.
+use crate::marks::LentDevice;
 use cola_kv::Kv;
-use cola_mapped::MappedDevice;
 
 /// An open store in lent bytes.
 #[derive(Drop)]
 pub struct Session {
-    pub kv: Kv<MappedDevice>,
+    pub kv: Kv<LentDevice>,
 }

@@ -5,7 +5,7 @@ ghost use Rattle.cola_spec.specs.Map.{Map};
 ghost use Rattle.cola_store.specs.Store.{terms_of};
 ghost use Rattle.cola_table.specs.Answers.{ReadFaults};
 ghost use Rattle.cola_handle.specs.Cursors.{row_pair, IsGoodRow, is_good, not_given, ByLength, GaveSome, Writes, Moves, NextSays};
-ghost use Rattle.cola_handle.specs.Open.{HoldsMap, levels_of, place_of};
+ghost use Rattle.cola_handle.specs.Open.{HoldsMap, levels_of, place_of, SameFirst};
 ghost use Rattle.cola_handle.specs.Walking.{Fills, FillSays, RangeCall, RangeSays, Reads};
 
 use crate::cursor::{Cursor, Row};
@@ -98,6 +98,7 @@ pub fn next<L: Ledger>(
     ensures cache { session.new.kv.cache ≡ session.old.kv.cache }
     ensures terms { terms_of session.new.kv.store ≡ terms_of session.old.kv.store }
     ensures place { place_of session.new ≡ place_of session.old }
+    ensures lent { SameFirst session.old session.new }
 {
     if !cursor.is_good() {
         return Err(Error::KeyLength);

@@ -3,7 +3,5 @@
 
 pub mod laws;
 mod stage;
-#[cfg(test)]
-mod tests;
 
 pub use stage::{Stage, Step};

@@ -3,8 +3,6 @@
 
 pub mod laws;
 mod reading;
-#[cfg(test)]
-mod tests;
 mod writing;
 
 pub use reading::{is_applied, next_piece, read_journal};

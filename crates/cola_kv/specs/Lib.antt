@@ -7,3 +7,4 @@ pub mod Listed
 pub mod Ranged
 pub mod Iterated
 pub mod Backward
+pub mod Told

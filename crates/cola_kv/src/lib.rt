@@ -13,9 +13,10 @@ mod listed;
 mod opened;
 mod options;
 mod range;
+mod told;
 
 pub use cola_cell::{Format, Key, Value};
-pub use cola_store::Closing;
+pub use cola_store::{Closing, LevelInfo};
 pub use cola_table::{Put, PutIf};
 pub use error::Error;
 pub use kv::{Kv, Unfinished};
@@ -23,3 +24,4 @@ pub use list::{Answer, Call};
 pub use opened::create;
 pub use options::Options;
 pub use range::Range;
+pub use told::Info;

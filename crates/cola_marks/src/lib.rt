@@ -5,8 +5,6 @@ pub mod laws;
 mod marked;
 mod marks;
 mod pages;
-#[cfg(test)]
-mod tests;
 
 pub use marked::MarkedDevice;
 pub use marks::Marks;

@@ -9,7 +9,7 @@ use Rattle.cola_device.specs.Bytes.{part, HasSize, HasRange, LaidOut}
 use Rattle.cola_device.proofs.BytesLemmas.{part-append}
 use Rattle.cola_opening.proofs.Spending.{spends-none, spends-then}
 use Rattle.cola_mirror.specs.Differ.{IfBoth}
-use Rattle.cola_mirror.specs.Rebuild.{IsSameBelow, IsBegun, OnlyMoves, IsMoved, Moves}
+use Rattle.cola_mirror.specs.Rebuild.{ready_calls, IsSameBelow, IsBegun, OnlyMoves, IsMoved, Moves}
 use Rattle.cola_mirror.proofs.ComparedLemmas.{both-any, rose-after}
 
 -- ---- a device that is ready
@@ -24,6 +24,17 @@ ready-laid E value size (Some (byte ∷ bytes)) (Some new) long none laid = absu
 pub ready-was : (size : ℕ) (before : Option (List ℕ)) → HasSize before 0 → IfSome before (λ bytes. (length bytes ≡ 0) ⊎ (length bytes ≡ size))
 ready-was size None none = tt
 ready-was size (Some bytes) none = inl (sym none)
+
+-- it is called once at least, and twice where it was empty
+pub one-ready : (told : Option (List ℕ)) → 1 ≤ ready_calls told
+one-ready None = omega arith
+one-ready (Some []) = omega arith
+one-ready (Some (byte ∷ bytes)) = omega arith
+
+pub two-ready : (told : Option (List ℕ)) → HasSize told 0 → 2 ≤ ready_calls told
+two-ready None none = omega arith
+two-ready (Some []) none = omega arith
+two-ready (Some (byte ∷ bytes)) none = absurd (omega (arith, none))
 
 -- ---- bytes that are copied
 

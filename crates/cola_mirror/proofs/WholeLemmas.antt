@@ -18,7 +18,7 @@ use Rattle.cola_opening.proofs.Sizes.{header_fits}
 use Rattle.cola_opening.proofs.Spending.{called-spends, spends-then}
 use Rattle.cola_mirror.specs.declared.fault.RebuildFault.TheVariants.{Device}
 use Rattle.cola_mirror.specs.Differ.{pieces_of, IfBoth}
-use Rattle.cola_mirror.specs.Rebuild.{IsSameBelow, first_bytes, IsBegun, OnlyMoves, IsMoved, Moves, IsReady, Rebuilds, OnlyCopied, CanBeRebuilt}
+use Rattle.cola_mirror.specs.Rebuild.{IsSameBelow, first_bytes, ready_calls, IsBegun, OnlyMoves, IsMoved, Moves, IsReady, Rebuilds, OnlyCopied, CanBeRebuilt}
 use Rattle.cola_mirror.proofs.ComparedLemmas.{rose-after}
 
 -- ---- the header that was found
@@ -211,7 +211,7 @@ module _ {D E : Type 0} (d : device.Ghosts D) (e : device.Ghosts E) (from mid no
       kept = only.kept ∙ keeps;
       spends = spends-then seen.spends only.spends (omega (arith, long)) (omega arith) (omega arith);
       other_kept = last_kept ∙ (only.other_kept ∙ ready.kept);
-      other_spends = spends-then (spends-then ready.spends only.other_spends (let e : 0 + 0 ≤ 0 = omega arith in e) (let e : 0 + (pieces_of found.size - 1) ≤ pieces_of found.size - 1 = omega arith in e) (let e : 2 + 0 ≤ 2 = omega arith in e)) (called-spends called) (omega arith) (omega (arith, long)) (omega arith);
+      other_spends = spends-then (spends-then ready.spends only.other_spends (let e : 0 + 0 ≤ 0 = omega arith in e) (let e : 0 + (pieces_of found.size - 1) ≤ pieces_of found.size - 1 = omega arith in e) (let e : ready_calls (e.bytes to) + 0 ≤ ready_calls (e.bytes to) = omega arith in e)) (called-spends called) (omega arith) (omega (arith, long)) (omega arith);
     }
 
   pub last-failed : (end : E) (fault : DeviceFault) → IsMoved d e mid now other last 512 (found.size - 512) → Wrote {T = Unit {0}} {E = DeviceFault} (Err fault) 0 head (e.bytes last) (e.bytes end) → Called {T = Unit {0}} {E = DeviceFault} (e.counts last) (e.counts end) 0 1 1 (Err fault) →

@@ -1,5 +1,5 @@
 -- What a rebuild answers, with the cause of each answer, and what both devices have then.
-use Rattle.std.specs.Prelude.{◌≡◌, ◌≢◌, ◌⊎◌, ℕ, ◌+◌, ◌≤◌, max, List, [], ◌∷◌, length, take, drop, replicate, Result, Ok, Err, IfSome, IsSomeAnd}
+use Rattle.std.specs.Prelude.{◌≡◌, ◌≢◌, ◌⊎◌, ℕ, ◌+◌, ◌≤◌, max, List, [], ◌∷◌, length, take, drop, replicate, Option, Some, None, Result, Ok, Err, IfSome, IsSomeAnd}
 use Rattle.cola_outside.specs.Faults.{Rose}
 use Rattle.cola_outside.specs.Told.{Both}
 use Rattle.cola_device.specs.declared.device.Device as device
@@ -21,6 +21,12 @@ pub record IsSameBelow (place : ℕ) (before now : List ℕ) : Type 0 where
 abbrev pub first_bytes : List ℕ → List ℕ
 first_bytes [] = replicate 512 0
 first_bytes (byte ∷ bytes) = take 512 (byte ∷ bytes)
+
+-- how often a device is called until it is ready for pieces: for its size, and where it may be empty for its layout
+abbrev pub ready_calls : Option (List ℕ) → ℕ
+ready_calls None = 2
+ready_calls (Some []) = 2
+ready_calls (Some (byte ∷ bytes)) = 1
 
 -- a device has so many bytes, and no new header yet
 pub record IsBegun (size : ℕ) (before now : List ℕ) : Type 0 where
@@ -55,7 +61,7 @@ module _ {E : Type 0} (e : device.Ghosts E) (size : ℕ) (before now : E) where
     pub begun : Both (e.bytes before) (e.bytes now) (IsBegun size)
     pub was : IfSome (e.bytes before) (λ bytes. (length bytes ≡ 0) ⊎ (length bytes ≡ size))
     pub kept : e.kept now ≡ e.kept before
-    pub spends : Spends (e.counts before) (e.counts now) 0 0 2
+    pub spends : Spends (e.counts before) (e.counts now) 0 0 (ready_calls (e.bytes before))
     pub no_fault : (e.counts now).faults ≡ (e.counts before).faults
 
   -- the device has another number of bytes; they stay, and it was asked for its size alone
@@ -73,7 +79,7 @@ module _ {E : Type 0} (e : device.Ghosts E) (size : ℕ) (before now : E) where
     pub cause : Rose (e.counts before).faults (e.counts now).faults
     pub left : (e.bytes now ≡ e.bytes before) ⊎ (IsEmpty (e.bytes before) × IfSome (e.bytes now) (λ new. length new ≤ size))
     pub kept : e.kept now ≡ e.kept before
-    pub spends : Spends (e.counts before) (e.counts now) 0 0 2
+    pub spends : Spends (e.counts before) (e.counts now) 0 0 (ready_calls (e.bytes before))
 
   -- what making a device ready for so many bytes answered
   abbrev pub MakesReady : Result (Unit {0}) RebuildFault → Type 0
@@ -111,7 +117,7 @@ module _ {D E : Type 0} (d : device.Ghosts D) (e : device.Ghosts E) (from from_n
   pub record FailedReady : Type 0 where
     pub source : IsSeen d from IsClosedFile 1 1 from_now
     pub cause : Rose (e.counts to).faults (e.counts to_now).faults
-    pub spends : Spends (e.counts to) (e.counts to_now) 0 0 2
+    pub spends : Spends (e.counts to) (e.counts to_now) 0 0 (ready_calls (e.bytes to))
     pub left : (e.bytes to_now ≡ e.bytes to) ⊎ (IsEmpty (e.bytes to) × IfBoth (d.bytes from) (e.bytes to_now) (λ bytes new. length new ≤ length bytes))
 
   -- the other device was empty or had as many bytes as the file, where both are told
@@ -119,14 +125,14 @@ module _ {D E : Type 0} (d : device.Ghosts D) (e : device.Ghosts E) (from from_n
   HadRoom = IfBoth (d.bytes from) (e.bytes to) (λ bytes old. (length old ≡ 0) ⊎ (length old ≡ length bytes))
 
   -- one of the two failed as the bytes behind the first 512 were copied: the other has all its bytes, and no new header; beside
-  -- pieces it was called for its size and its layout alone, and not to settle
+  -- pieces it was called for its size, and where it was empty for its layout, and so not to settle
   pub record FailedCopying : Type 0 where
     pub was : IfSome (d.bytes from) IsClosedFile
     pub had : HadRoom
     pub cause : Rose (d.counts from).faults (d.counts from_now).faults ⊎ Rose (e.counts to).faults (e.counts to_now).faults
     pub many : IfBoth (d.bytes from) (e.bytes to_now) (λ bytes new. length new ≡ length bytes)
     pub head : Both (e.bytes to) (e.bytes to_now) (λ old new. take 512 new ≡ first_bytes old)
-    pub few_others : (e.counts to_now).others ≤ (e.counts to).others + 2
+    pub few_others : (e.counts to_now).others ≤ (e.counts to).others + ready_calls (e.bytes to)
 
   -- the other failed as the first 512 bytes were written or as it settled: all behind them is copied
   pub record FailedLast : Type 0 where
@@ -156,7 +162,7 @@ module _ {D E : Type 0} (d : device.Ghosts D) (e : device.Ghosts E) (from from_n
 
   -- whatever was answered: the one device keeps its bytes and was not written, and the other was not read. Each piece of the
   -- file, which has at least one, was read once and written once at most; the one device was asked for its size, and the
-  -- other for its size, a layout and a settle
+  -- other was made ready and settled once
   pub record OnlyCopied : Type 0 where
     pub pieces : ℕ
     pub few : IfSome (d.bytes from) (λ bytes. pieces ≤ pieces_of (max 512 (length bytes)))
@@ -164,7 +170,7 @@ module _ {D E : Type 0} (d : device.Ghosts D) (e : device.Ghosts E) (from from_n
     pub kept : d.kept from_now ≡ d.kept from
     pub spends : Spends (d.counts from) (d.counts from_now) pieces 0 1
     pub other_kept : e.kept to_now ≡ e.kept to
-    pub other_spends : Spends (e.counts to) (e.counts to_now) 0 pieces 3
+    pub other_spends : Spends (e.counts to) (e.counts to_now) 0 pieces (ready_calls (e.bytes to) + 1)
 
   -- the file is told, has a header and all cells, and was closed; the other device tells that it is empty or has as many
   -- bytes; and no fault was met

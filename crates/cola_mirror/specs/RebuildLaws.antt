@@ -9,7 +9,7 @@ use Rattle.cola_opening.specs.Judged.{IsSmall, IsNoStore, IsSeen, FailedReading,
 use Rattle.cola_mirror.specs.declared.fault.RebuildFault.{RebuildFault}
 use Rattle.cola_mirror.specs.declared.fault.RebuildFault.TheVariants.{Small, NotStore, NotClosed, Other, Device}
 use Rattle.cola_mirror.specs.Differ.{IfBoth}
-use Rattle.cola_mirror.specs.Rebuild.{first_bytes}
+use Rattle.cola_mirror.specs.Rebuild.{first_bytes, ready_calls}
 
 module _ {D E : Type 0} (d : device.Ghosts D) (e : device.Ghosts E) (from from_now : D) (to to_now : E) where
   -- the one device met no fault; the other met none; the other met one
@@ -43,7 +43,7 @@ module _ {D E : Type 0} (d : device.Ghosts D) (e : device.Ghosts E) (from from_n
 
   -- it failed before it was written: it stays, or it was empty and has at most the bytes that were asked for
   abbrev pub IsNotReady : Type 0
-  IsNotReady = IsSeen d from IsClosedFile 1 1 from_now × (OtherFault × (Spends (e.counts to) (e.counts to_now) 0 0 2
+  IsNotReady = IsSeen d from IsClosedFile 1 1 from_now × (OtherFault × (Spends (e.counts to) (e.counts to_now) 0 0 (ready_calls (e.bytes to))
       × ((e.bytes to_now ≡ e.bytes to)
       ⊎ (IfSome (e.bytes to) (λ old. length old ≡ 0) × OfBoth (λ bytes new. length new ≤ length bytes)))))
 
@@ -51,7 +51,7 @@ module _ {D E : Type 0} (d : device.Ghosts D) (e : device.Ghosts E) (from from_n
   abbrev pub IsNotCopied : Type 0
   IsNotCopied = WasFitting × ((Rose (d.counts from).faults (d.counts from_now).faults ⊎ OtherFault)
       × (OfBoth (λ bytes new. length new ≡ length bytes) × (Both (e.bytes to) (e.bytes to_now) (λ old new. take 512 new ≡ first_bytes old)
-      × ((e.counts to_now).others ≤ (e.counts to).others + 2))))
+      × ((e.counts to_now).others ≤ (e.counts to).others + ready_calls (e.bytes to)))))
 
   -- the other device failed behind that: all but the first 512 bytes is that of the file
   abbrev pub IsNotEnded : Type 0

@@ -5,6 +5,8 @@
 #[cfg(test)]
 mod chains;
 #[cfg(test)]
+mod directions;
+#[cfg(test)]
 mod levels;
 #[cfg(test)]
 mod merges;

@@ -16,7 +16,6 @@ use std::alloc::{AllocError, Global};
 use std::marker::Brand;
 use std::process::Abort;
 use std::sync::ledger::{Blank, Ledger};
-use std::test::Fail;
 
 /// Puts the bottom's run into slot 1 of level 3 and the run above it into slot 0 of level 2, for the next run in slot 0.
 pub fn at_bottom<W: CellSink, L: Ledger>(
@@ -166,69 +165,87 @@ const NEWER: [Stretch; 5] = [
 
 const MERGED: [Stretch; 2] = [(1, 2, What::Old(33), 0), (3, 30, What::Old(3), 0)];
 
-fn stop_and_resume<W: CellSink, L: Ledger>(
-    rt: &impl Abort,
-    alloc: Global,
+/// Whether a first call and those that follow it do as the case says, over these rows of the bottom and of the run above, and
+/// build these.
+fn goes_as_said<W: CellSink, L: Ledger>(
     work: &mut W,
     case: &Case,
+    quotas: &[u32],
+    rows: (&[Row], &[Row], &[Row]),
     steps: &mut Steps<L>,
-) -> Result<(), Fail>
+) -> bool
     requires levels { 3 < (W.CellSource.state work.old).held.fixed.levels }
     requires format { (W.CellSource.state work.old).held.fixed.format ≡ One }
 {
-    let aim = at_bottom(
-        work,
-        &rows_of(alloc, &OLDER)?,
-        &rows_of(alloc, &NEWER)?,
-        steps,
-    )?;
+    let Ok(aim) = at_bottom(work, rows.0, rows.1, steps) else {
+        return false;
+    };
     let mut merger = Merger::begin();
     let first = merger.advance(work, &aim, case.quota, steps);
     let stand = (merger.own(), merger.incoming(), work.shadow_len(3));
-    assert!(rt; first == case.first && stand == case.stand && merger.sample() == 0);
-    let quotas = vec![in alloc; case.quota; case.calls]?;
-    let later = advance_all(work, &mut merger, &aim, &quotas, steps);
-    assert!(rt; later == case.later && merger.is_done(&aim));
-    assert!(rt; has_built(work, 3, &rows_of(alloc, &MERGED)?, steps)?);
-    Ok(())
+    let begun = first == case.first && stand == case.stand && merger.sample() == 0;
+    let later = advance_all(work, &mut merger, &aim, quotas, steps);
+    begun
+        && later == case.later
+        && merger.is_done(&aim)
+        && has_built(work, 3, rows.2, steps) == Ok(true)
 }
 
-/// A key that has a value in the bottom's run, and a tombstone in the run above: the bottom's next run is empty.
-fn delete_at_bottom<W: CellSink, L: Ledger>(
-    rt: &impl Abort,
+fn stop_and_resume<L: Ledger>(
     alloc: Global,
-    work: &mut W,
+    case: &Case,
     steps: &mut Steps<L>,
-) -> Result<(), Fail>
+) -> Result<bool, AllocError> {
+    let older = rows_of(alloc, &OLDER)?;
+    let newer = rows_of(alloc, &NEWER)?;
+    let merged = rows_of(alloc, &MERGED)?;
+    let quotas = vec![in alloc; case.quota; case.calls]?;
+    let mut cells = FlatCells::new(alloc, 4, vec![in alloc; case.failing]?)?;
+    let rows = (older.as_slice(), newer.as_slice(), merged.as_slice());
+    Ok(goes_as_said(&mut cells, case, &quotas, rows, steps))
+}
+
+/// Whether a key that has a value in the bottom's run, and a tombstone in the run above, is gone: the bottom's next run is
+/// empty.
+fn leaves_none<W: CellSink, L: Ledger>(
+    work: &mut W,
+    own: &[Row],
+    incoming: &[Row],
+    steps: &mut Steps<L>,
+) -> bool
     requires levels { 3 < (W.CellSource.state work.old).held.fixed.levels }
     requires format { (W.CellSource.state work.old).held.fixed.format ≡ One }
 {
-    let own = rows_of(alloc, &[(1, 1, What::Old(1), 0)])?;
-    let incoming = rows_of(alloc, &[(1, 1, What::Deleted, 0)])?;
-    let aim = at_bottom(work, &own, &incoming, steps)?;
+    let Ok(aim) = at_bottom(work, own, incoming, steps) else {
+        return false;
+    };
     let mut merger = Merger::begin();
     let calls = advance_all(work, &mut merger, &aim, &[1, 1], steps);
-    assert!(rt; calls == (1, 1, 0) && work.shadow_len(3) == 0);
-    Ok(())
+    calls == (1, 1, 0) && work.shadow_len(3) == 0
 }
 
-fn bottom_merges<L: Ledger>(rt: &impl Abort, alloc: Global, blank: Blank) -> Result<(), Fail>
+fn delete_at_bottom<L: Ledger>(alloc: Global, steps: &mut Steps<L>) -> Result<bool, AllocError> {
+    let own = rows_of(alloc, &[(1, 1, What::Old(1), 0)])?;
+    let incoming = rows_of(alloc, &[(1, 1, What::Deleted, 0)])?;
+    let mut cells = FlatCells::new(alloc, 4, Vec::new(alloc))?;
+    Ok(leaves_none(&mut cells, &own, &incoming, steps))
+}
+
+fn bottom_merges<L: Ledger>(rt: &impl Abort, alloc: Global, blank: Blank)
     requires name { blank.name ≡ L.name }
     requires parts { blank.parts ≡ L.parts }
     requires some { 0 < L.parts }
 {
     let mut steps = Steps::<L>::begin(blank);
     for case in &CASES {
-        let mut cells = FlatCells::new(alloc, 4, vec![in alloc; case.failing]?)?;
-        stop_and_resume(rt, alloc, &mut cells, case, &mut steps)?;
+        assert!(rt; stop_and_resume(alloc, case, &mut steps) == Ok(true));
     }
-    let mut cells = FlatCells::new(alloc, 4, Vec::new(alloc))?;
-    delete_at_bottom(rt, alloc, &mut cells, &mut steps)
+    assert!(rt; delete_at_bottom(alloc, &mut steps) == Ok(true));
 }
 
 #[test]
-fn a_bottom_merge_stops_and_resumes(rt: HostRuntime) -> Result<(), Fail> {
-    bottom_merges::<Brand>(&rt, rt.alloc(), Blank::new(1))
+fn a_bottom_merge_stops_and_resumes(rt: HostRuntime) {
+    bottom_merges::<Brand>(&rt, rt.alloc(), Blank::new(1));
 }
 
 const PARTS: [PlainPart; 3] = [
@@ -267,17 +284,14 @@ fn small_runs(alloc: Global) -> Result<Vec<Vec<Row>>, AllocError>
     Ok(runs)
 }
 
-/// What the plain slow program makes of the six cells.
-fn plain_weave(
-    rt: &impl Abort,
-    alloc: Global,
-    runs: &[Vec<Row>],
-    part: &PlainPart,
-) -> Result<Vec<Row>, AllocError>
+/// What the plain slow program makes of the six cells; nothing where they are not six.
+fn plain_weave(alloc: Global, runs: &[Vec<Row>], part: &PlainPart) -> Result<Vec<Row>, AllocError>
     requires { length runs.now ≡ 3 }
 {
     let keys = sample(alloc, &runs[2])?;
-    assert!(rt; runs[0].len() == 3 && runs[1].len() == 2 && keys.len() == 1);
+    if runs[0].len() != 3 || runs[1].len() != 2 || keys.len() != 1 {
+        return Ok(Vec::new(alloc));
+    }
     weave(alloc, part, &runs[0], &runs[1], &keys)
 }
 
@@ -295,33 +309,71 @@ fn quotas_of(alloc: Global, ends: u32) -> Result<Vec<u32>, AllocError> {
     Ok(quotas)
 }
 
-/// The cells of a build in these quotas are the plain program's. So many calls are refused, and the last one alone leaves
-/// no cell.
-fn build_small<W: CellSink, L: Ledger>(
-    rt: &impl Abort,
-    alloc: Global,
+/// Whether the cells of a build in these quotas are the plain program's, so many calls are refused, and the last one alone
+/// leaves no cell.
+fn builds<W: CellSink, L: Ledger>(
     work: &mut W,
+    runs: &[Vec<Row>],
+    wanted: &[Row],
     part: &PlainPart,
     quotas: &[u32],
     refused: u32,
     steps: &mut Steps<L>,
-) -> Result<(), Fail>
+) -> bool
+    requires three { length runs.now ≡ 3 }
     requires levels { 3 < (W.CellSource.state work.old).held.fixed.levels }
     requires format { (W.CellSource.state work.old).held.fixed.format ≡ One }
 {
-    let runs = small_runs(alloc)?;
-    let wanted = plain_weave(rt, alloc, &runs, part)?;
-    assert!(rt; 3 <= wanted.len() && wanted.len() <= 4);
-    let aim = at_level_2(work, &runs, part, steps)?;
+    let Ok(aim) = at_level_2(work, runs, part, steps) else {
+        return false;
+    };
     let mut merger = Merger::begin();
     let (more, done, faults) = advance_all(work, &mut merger, &aim, quotas, steps);
     let ended = more as u64 + done as u64 + faults as u64;
-    assert!(rt; ended == quotas.len() as u64 && done == 1 && faults == refused);
-    assert!(rt; has_built(work, 2, &wanted, steps)?);
-    Ok(())
+    ended == quotas.len() as u64
+        && done == 1
+        && faults == refused
+        && has_built(work, 2, wanted, steps) == Ok(true)
 }
 
-fn small_merges<L: Ledger>(rt: &impl Abort, alloc: Global, blank: Blank) -> Result<(), Fail>
+/// A build of the small runs in these quotas, in cells of which these accesses fail.
+fn build_small<L: Ledger>(
+    alloc: Global,
+    part: &PlainPart,
+    quotas: &[u32],
+    failing: Vec<u64>,
+    refused: u32,
+    steps: &mut Steps<L>,
+) -> Result<bool, AllocError> {
+    let runs = small_runs(alloc)?;
+    let wanted = plain_weave(alloc, &runs, part)?;
+    let mut cells = FlatCells::new(alloc, 4, failing)?;
+    let few = 3 <= wanted.len() && wanted.len() <= 4;
+    Ok(few && builds(&mut cells, &runs, &wanted, part, quotas, refused, steps))
+}
+
+/// One in the quotas that a number makes.
+fn build_whole<L: Ledger>(
+    alloc: Global,
+    part: &PlainPart,
+    ends: u32,
+    steps: &mut Steps<L>,
+) -> Result<bool, AllocError> {
+    let quotas = quotas_of(alloc, ends)?;
+    build_small(alloc, part, &quotas, Vec::new(alloc), 0, steps)
+}
+
+/// One in two calls, where this access is refused.
+fn build_refused<L: Ledger>(
+    alloc: Global,
+    number: u64,
+    steps: &mut Steps<L>,
+) -> Result<bool, AllocError> {
+    let failing = vec![in alloc; number]?;
+    build_small(alloc, &PARTS[0], &[6, 6], failing, 1, steps)
+}
+
+fn small_merges<L: Ledger>(rt: &impl Abort, alloc: Global, blank: Blank)
     requires name { blank.name ≡ L.name }
     requires parts { blank.parts ≡ L.parts }
     requires some { 0 < L.parts }
@@ -329,20 +381,16 @@ fn small_merges<L: Ledger>(rt: &impl Abort, alloc: Global, blank: Blank) -> Resu
     let mut steps = Steps::<L>::begin(blank);
     for part in &PARTS {
         for ends in 0..32u32 {
-            let quotas = quotas_of(alloc, ends)?;
-            let mut cells = FlatCells::new(alloc, 4, Vec::new(alloc))?;
-            build_small(rt, alloc, &mut cells, part, &quotas, 0, &mut steps)?;
+            assert!(rt; build_whole(alloc, part, ends, &mut steps) == Ok(true));
         }
     }
     // the runs are put into their slots by 13 accesses, and the merge makes 10
     for number in 14..24u64 {
-        let mut cells = FlatCells::new(alloc, 4, vec![in alloc; number]?)?;
-        build_small(rt, alloc, &mut cells, &PARTS[0], &[6, 6], 1, &mut steps)?;
+        assert!(rt; build_refused(alloc, number, &mut steps) == Ok(true));
     }
-    Ok(())
 }
 
 #[test]
-fn every_list_of_quotas_gives_the_plain_weave(rt: HostRuntime) -> Result<(), Fail> {
-    small_merges::<Brand>(&rt, rt.alloc(), Blank::new(1))
+fn every_list_of_quotas_gives_the_plain_weave(rt: HostRuntime) {
+    small_merges::<Brand>(&rt, rt.alloc(), Blank::new(1));
 }

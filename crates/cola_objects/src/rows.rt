@@ -35,6 +35,11 @@ pub fn key_of(byte: u8) -> Option<Key>
     Key::of(&[byte])
 }
 
+/// A pair of bytes as a key and its value.
+pub fn pair_of(pair: (u8, u8)) -> Option<(Key, Value)> {
+    Some((key_of(pair.0)?, Value::of(&[pair.1])?))
+}
+
 /// The item of a plain one, with stamp 0.
 pub fn item_of(item: &PlainItem<u8>) -> Option<Item>
     ensures { IfSome result (ItemFits One) }

@@ -9,3 +9,4 @@ pub mod Walking
 mod Whole
 pub mod OpenLaws
 pub mod Falling
+mod Filling

@@ -11,3 +11,4 @@ pub mod Table
 pub mod OnMaps
 pub mod Laws
 pub mod Backward
+pub mod Told

@@ -16,6 +16,7 @@ mod session;
 pub mod session_laws;
 mod store;
 mod table;
+mod told;
 mod transfers;
 pub mod walk_laws;
 
@@ -25,3 +26,4 @@ pub use fault::{CreateFault, OpenFault};
 pub use new_file::{create, create_as};
 pub use opening::open_runs;
 pub use store::Store;
+pub use told::LevelInfo;

@@ -1,12 +1,11 @@
 //! A device over a file of the system, and over one that is interrupted: what a file holds and gives back is the
 //! system's word, and that an interrupted call is made again no clause says.
-ghost use Rattle.std.specs.Prelude.{⊤};
+ghost use Rattle.std.specs.Prelude.{◌≤◌, length, ⊤};
 
-use cola_device::{Device, DeviceFault};
+use cola_device::{Device, DeviceFault, MAX_TRANSFER};
 use cola_filedev::{FileDevice, LockedDevice, Locks, OpenedFile, Opener, PathDevice};
 use std::fs::{self, OpenOptions};
 use std::io::{self, ErrorKind};
-use std::test::Fail;
 
 const WRITTEN: &str = "cola_tests_written";
 
@@ -93,98 +92,123 @@ impl OpenedFile for HaltingFile {
     }
 }
 
-#[test]
-fn asks_again_where_it_was_interrupted(rt: HostRuntime) -> Result<(), Fail> {
-    let mut device = PathDevice::new(Halting, "", false);
-    device.write(1, b"xy")?;
-    let mut found = [0; 4];
-    device.read(0, &mut found)?;
-    assert_eq!(rt; found, *b"axyd");
-    Ok(())
+/// Writes some bytes at a place, and reads four from another.
+fn write_and_read<O: Opener>(
+    device: &mut PathDevice<O>,
+    at: u64,
+    from: &[u8],
+    first: u64,
+) -> Option<[u8; 4]>
+    requires { length from.now ≤ MAX_TRANSFER }
+{
+    device.write(at, from).ok()?;
+    let mut found = [1; 4];
+    device.read(first, &mut found).ok()?;
+    Some(found)
 }
 
 #[test]
-fn keeps_bytes_in_a_file(rt: HostRuntime) -> Result<(), Fail> {
+fn asks_again_where_it_was_interrupted(rt: HostRuntime) {
+    let mut device = PathDevice::new(Halting, "", false);
+    assert!(rt; write_and_read(&mut device, 1, b"xy", 0) == Some(*b"axyd"));
+}
+
+#[test]
+fn keeps_bytes_in_a_file(rt: HostRuntime) {
     let _ = fs::remove_file(&rt, WRITTEN);
     let mut device = FileDevice::new(&rt, WRITTEN, true);
-    device.lay_out(64)?;
-    device.write(61, b"abc")?;
-    let mut found = [1; 4];
-    device.read(60, &mut found)?;
-    assert_eq!(rt; found, *b"\0abc");
+    let laid = device.lay_out(64).is_ok();
+    let found = write_and_read(&mut device, 61, b"abc", 60);
     // One byte past the end of the file.
-    assert_eq!(rt; device.read(61, &mut found), Err(DeviceFault));
-    fs::remove_file(&rt, WRITTEN)?;
-    Ok(())
+    let past = device.read(61, &mut [1; 4]);
+    let removed = fs::remove_file(&rt, WRITTEN).is_ok();
+    assert!(rt; laid && found == Some(*b"\0abc") && past.is_err() && removed);
 }
 
 #[test]
-fn keeps_the_refusal_of_a_missing_file(rt: HostRuntime) -> Result<(), Fail> {
+fn keeps_the_refusal_of_a_missing_file(rt: HostRuntime) {
     let _ = fs::remove_file(&rt, LATE);
     let mut device = FileDevice::new(&rt, LATE, false);
-    assert_eq!(rt; device.size(), Err(DeviceFault));
-    fs::write(&rt, LATE, b"abc".as_slice())?;
-    assert_eq!(rt; device.size(), Err(DeviceFault));
-    assert_eq!(rt; FileDevice::new(&rt, LATE, false).size(), Ok(3));
-    fs::remove_file(&rt, LATE)?;
-    Ok(())
+    let before = device.size();
+    let made = fs::write(&rt, LATE, b"abc".as_slice()).is_ok();
+    let after = device.size();
+    let other = FileDevice::new(&rt, LATE, false).size();
+    let removed = fs::remove_file(&rt, LATE).is_ok();
+    assert!(rt;
+        made && removed && [before, after, other] == [Err(DeviceFault), Err(DeviceFault), Ok(3)]
+    );
+}
+
+/// Whether the file has these bytes.
+fn holds(rt: &HostRuntime, path: &str, bytes: &[u8]) -> bool {
+    match fs::read(rt, path) {
+        Ok(found) => found.as_slice() == bytes,
+        Err(_) => false,
+    }
+}
+
+/// Whether the device takes the bytes, and settles with them.
+fn settles_with<O: Opener>(device: &mut PathDevice<O>, at: u64, from: [u8; 2]) -> bool {
+    device.write(at, &from).is_ok() && device.settle().is_ok()
 }
 
 /// A file that is there before keeps what it holds, at each opening.
 #[test]
-fn keeps_what_a_file_holds(rt: HostRuntime) -> Result<(), Fail> {
-    fs::write(&rt, HELD, b"abcdef".as_slice())?;
+fn keeps_what_a_file_holds(rt: HostRuntime) {
+    assert!(rt; fs::write(&rt, HELD, b"abcdef".as_slice()).is_ok());
     for make in [false, true] {
-        let mut device = FileDevice::new(&rt, HELD, make);
-        device.write(2, b"xy")?;
-        device.settle()?;
-        assert_eq!(rt; fs::read(&rt, HELD)?.as_slice(), b"abxyef".as_slice());
+        let wrote = settles_with(&mut FileDevice::new(&rt, HELD, make), 2, *b"xy");
+        assert!(rt; wrote && holds(&rt, HELD, b"abxyef"));
     }
-    let mut device = FileDevice::new(&rt, HELD, false);
-    device.lay_out(3)?;
-    assert_eq!(rt; fs::read(&rt, HELD)?.as_slice(), [0; 3].as_slice());
-    fs::remove_file(&rt, HELD)?;
-    Ok(())
+    let laid = FileDevice::new(&rt, HELD, false).lay_out(3).is_ok();
+    assert!(rt; laid && holds(&rt, HELD, &[0; 3]) && fs::remove_file(&rt, HELD).is_ok());
 }
 
 /// A device of the system that has no room for any byte, and that the system does not sync.
 #[test]
 fn is_refused_by_a_full_device(rt: HostRuntime) {
     let mut device = FileDevice::new(&rt, "/dev/full", false);
-    assert_eq!(rt; device.write(1, b"a"), Err(DeviceFault));
-    assert_eq!(rt; device.lay_out(1), Err(DeviceFault));
-    assert_eq!(rt; device.settle(), Err(DeviceFault));
-    assert_eq!(rt; device.read(0, &mut [1]), Ok(()));
-    assert_eq!(rt; device.faults(), 3);
+    let refused = [device.write(1, b"a"), device.lay_out(1), device.settle()];
+    let read = device.read(0, &mut [1]);
+    assert!(rt; refused == [Err(DeviceFault); 3] && read.is_ok() && device.faults() == 3);
 }
 
 #[test]
 fn is_refused_a_folder(rt: HostRuntime) {
-    let mut device = FileDevice::new(&rt, ".", true);
-    assert_eq!(rt; device.settle(), Err(DeviceFault));
-    assert_eq!(rt; FileDevice::none(&rt).settle(), Err(DeviceFault));
+    let folder = FileDevice::new(&rt, ".", true).settle();
+    let none = FileDevice::none(&rt).settle();
+    assert!(rt; folder.is_err() && none.is_err());
+}
+
+/// The file's bytes and size, and what a write of its third byte and a layout answer.
+fn tries<O: Opener>(device: &mut PathDevice<O>) -> ([u8; 3], [Option<u64>; 2], [bool; 2]) {
+    let mut found = [0; 3];
+    let read = device.read(0, &mut found).ok();
+    let size = device.size().ok();
+    let refused = [device.write(2, b"z").is_err(), device.lay_out(3).is_err()];
+    (found, [read.map(|_| 3), size], refused)
+}
+
+/// Writes the first byte by one device of a program and the second by another; then another program reads, and is refused.
+fn writes_alone(rt: &HostRuntime, locks: &Locks<HostRuntime>, others: &Locks<HostRuntime>) -> bool {
+    let mut device = LockedDevice::new(locks.opener(), LOCKED, false);
+    let first = device.write(0, b"x").is_ok();
+    let second = LockedDevice::new(locks.opener(), LOCKED, true).write(1, b"y");
+    let tried = tries(&mut LockedDevice::new(others.opener(), LOCKED, true));
+    first
+        && second.is_ok()
+        && tried == (*b"xyc", [Some(3); 2], [true; 2])
+        && holds(rt, LOCKED, b"xyc")
 }
 
 /// Who has the lock of a file writes it, by each of its devices, and another reads it, and writes it once the lock is given up.
 #[test]
-fn keeps_others_from_writing(rt: HostRuntime) -> Result<(), Fail> {
-    fs::write(&rt, LOCKED, b"abc".as_slice())?;
+fn keeps_others_from_writing(rt: HostRuntime) {
+    let made = fs::write(&rt, LOCKED, b"abc".as_slice()).is_ok();
     let (locks, others) = (Locks::new(&rt), Locks::new(&rt));
-    {
-        let mut device = LockedDevice::new(locks.opener(), LOCKED, false);
-        device.write(0, b"x")?;
-        LockedDevice::new(locks.opener(), LOCKED, true).write(1, b"y")?;
-        let mut other = LockedDevice::new(others.opener(), LOCKED, true);
-        let mut found = [0; 3];
-        other.read(0, &mut found)?;
-        assert_eq!(rt; found, *b"xyc");
-        assert_eq!(rt; other.size(), Ok(3));
-        assert_eq!(rt; other.write(2, b"z"), Err(DeviceFault));
-        assert_eq!(rt; other.lay_out(3), Err(DeviceFault));
-        assert_eq!(rt; fs::read(&rt, LOCKED)?.as_slice(), b"xyc".as_slice());
-    }
-    LockedDevice::new(others.opener(), LOCKED, false).write(2, b"z")?;
-    assert_eq!(rt; fs::read(&rt, LOCKED)?.as_slice(), b"xyz".as_slice());
-    fs::remove_file(&rt, LOCKED)?;
-    Ok(())
+    assert!(rt; made && writes_alone(&rt, &locks, &others));
+    let wrote = LockedDevice::new(others.opener(), LOCKED, false).write(2, b"z");
+    assert!(rt;
+        wrote.is_ok() && holds(&rt, LOCKED, b"xyz") && fs::remove_file(&rt, LOCKED).is_ok()
+    );
 }

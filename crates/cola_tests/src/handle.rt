@@ -7,9 +7,11 @@ use std::test::Fail;
 
 #[test]
 fn sizes(rt: HostRuntime) -> Result<(), Fail> {
-    assert_eq!(&rt; size(100, 5, 1), Some(32768));
     let mut bytes = Vec::from_elem(rt.alloc(), 0u8, 32768)?;
-    assert_eq!(&rt; create(&mut bytes, 100, 5, 1).code(), 0);
-    assert_eq!(&rt; create(&mut bytes, 100, 5, 1).code(), 10);
+    let codes = [
+        create(&mut bytes, 100, 5, 1).code(),
+        create(&mut bytes, 100, 5, 1).code(),
+    ];
+    assert!(rt; size(100, 5, 1) == Some(32768) && codes == [0, 10]);
     Ok(())
 }

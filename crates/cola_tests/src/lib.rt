@@ -21,6 +21,10 @@ mod image;
 #[cfg(test)]
 mod io;
 #[cfg(test)]
+mod journal;
+#[cfg(test)]
+mod journal_bytes;
+#[cfg(test)]
 mod kv;
 #[cfg(test)]
 mod layout;
@@ -28,6 +32,8 @@ mod layout;
 mod line;
 #[cfg(test)]
 mod made;
+#[cfg(test)]
+mod marks;
 #[cfg(test)]
 mod pairs;
 #[cfg(test)]

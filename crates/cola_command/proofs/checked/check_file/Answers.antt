@@ -1,5 +1,5 @@
 -- How the test of a file ends.
-use Rattle.cola_command.proofs.Checking.{ends-by}
+use Rattle.cola_command.proofs.Judging.{ends-by}
 use Rattle.cola_command.proofs.checked.check_file.Goals as goal
 
 pub returns-clause-ends : goal.returns-clause-ends

@@ -1,5 +1,6 @@
-use Rattle.std.proofs.Common.{◌∙◌, arith, List, sym, subst, inl, inr, refl}
+use Rattle.std.proofs.Common.{◌∙◌, arith, List, Ok, Err, sym, subst, inl, inr, refl}
 use Rattle.cola_handle.specs.Cursors.{Pair, ahead, HaveFirst, Moves}
+use Rattle.cola_handle.proofs.Turns.{fill_reads}
 use Rattle.cola_handle.proofs.Rows.{none_first, last_good, ahead-void, walked-ahead, next_given, moved, stayed}
 use Rattle.cola_handle.proofs.walking.next.Goals as goal
 use Rattle.cola_handle.proofs.walking.next.Goals.{then-rows-eq0-via-then-rows-eq0, then-rows-eq0-via-else-rows-eq0+then-is_void}
@@ -37,3 +38,13 @@ returns-else-given-gt0-clause-answer g c = λ m held.
     subst (λ (ps : List Pair). HaveFirst ps c.fill.new.rows c.in-Ok.given) (walked-ahead _ m c.args.cursor.now _ _ held.is_map c.low-low.ensures (c.as_ref.ensures.value ∙ c.high-high.ensures)) rows.0 in
     let moves : Moves c.args.cursor.now c.args.cursor.now c.fill.new.rows c.in-Ok.given = stayed c.args.cursor.now c.fill.new.rows c.in-Ok.given (omega arith) in
     (first, next_given m c.args.cursor.now c.args.cursor.now c.fill.new.rows c.in-Ok.given first moves, rows.1)
+
+-- what is read is read by the range
+pub returns-then-given-gt0-clause-reads : goal.returns-then-given-gt0-clause-reads
+returns-then-given-gt0-clause-reads g c = fill_reads c.args.cursor.now _ _ c.args.session.now.kv.store c.fill.new.table c.fill.new.rows (Ok c.in-Ok.given) c.in-Ok.ensures.fills
+
+pub returns-else-given-gt0-clause-reads : goal.returns-else-given-gt0-clause-reads
+returns-else-given-gt0-clause-reads g c = fill_reads c.args.cursor.now _ _ c.args.session.now.kv.store c.fill.new.table c.fill.new.rows (Ok c.in-Ok.given) c.in-Ok.ensures.fills
+
+pub returns-in-Err-BadCell-clause-reads : goal.returns-in-Err-BadCell-clause-reads
+returns-in-Err-BadCell-clause-reads g c = fill_reads c.args.cursor.now _ _ c.args.session.now.kv.store c.fill.new.table c.fill.new.rows (Err c.in-Err-BadCell.field-0) c.in-Err-BadCell.ensures.fills

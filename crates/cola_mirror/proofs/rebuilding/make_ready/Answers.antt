@@ -2,7 +2,7 @@ use Rattle.std.proofs.Common.{◌∙◌, ℕ, List, Option, Ok, subst, arith}
 use Rattle.cola_device.specs.declared.device.DeviceFault.{DeviceFault}
 use Rattle.cola_device.specs.Bytes.{HasSize, LaidOut}
 use Rattle.cola_opening.proofs.Spending.{called-spends, spends-then}
-use Rattle.cola_mirror.proofs.RebuildLemmas.{ready-laid, ready-was}
+use Rattle.cola_mirror.proofs.RebuildLemmas.{ready-laid, ready-was, two-ready}
 use Rattle.cola_mirror.proofs.rebuilding.make_ready.Goals as goal
 
 pub returns-in-Ok-lay_out : goal.returns-in-Ok-lay_out
@@ -15,6 +15,6 @@ returns-in-Ok-lay_out g c =
       begun = ready-laid DeviceFault c.in-Ok-lay_out.field-0 c.args.size before now c.requires none laid;
       was = ready-was c.args.size before none;
       kept = c.lay_out.ensures.kept ∙ c.size.ensures.kept;
-      spends = spends-then (called-spends c.in-Ok.ensures.counts) (called-spends c.in-Ok-lay_out.ensures.counts) (omega arith) (omega arith) (omega arith);
+      spends = spends-then (called-spends c.in-Ok.ensures.counts) (called-spends c.in-Ok-lay_out.ensures.counts) (omega arith) (omega arith) (two-ready before none);
       no_fault = c.in-Ok-lay_out.ensures.counts.none_hidden ∙ c.in-Ok.ensures.counts.none_hidden;
     }

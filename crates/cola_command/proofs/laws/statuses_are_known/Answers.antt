@@ -1,5 +1,0 @@
-use Rattle.cola_command.proofs.Known.{served-known}
-use Rattle.cola_command.proofs.laws.statuses_are_known.Goals as goal
-
-pub returns : goal.returns
-returns g c = served-known g.S.Source g.K.Sink g.D.Device

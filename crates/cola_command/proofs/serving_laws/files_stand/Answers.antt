@@ -1,4 +1,0 @@
-use Rattle.cola_command.proofs.serving_laws.files_stand.Goals as goal
-
-pub returns : goal.returns
-returns c = λ sizes m bytes s. (s.header, s.stands)

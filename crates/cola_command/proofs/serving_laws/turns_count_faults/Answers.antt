@@ -1,8 +1,0 @@
-use Rattle.cola_command.proofs.HeadlineLaws.{faults-rise, none-faulted}
-use Rattle.cola_command.proofs.serving_laws.turns_count_faults.Goals as goal
-
-pub returns-clause-at_most : goal.returns-clause-at_most
-returns-clause-at_most c = faults-rise
-
-pub returns-clause-none : goal.returns-clause-none
-returns-clause-none c = none-faulted

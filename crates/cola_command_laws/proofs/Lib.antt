@@ -1,0 +1,9 @@
+pub mod NewFiles
+pub mod HeadlineLaws
+pub mod Completing
+pub mod Checking
+pub mod Mirroring
+pub mod Looks
+pub mod Known
+pub mod ModesSaid
+pub mod Occupied

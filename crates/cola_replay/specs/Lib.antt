@@ -1,0 +1,4 @@
+pub mod Again
+pub mod Crash
+pub mod Made
+pub mod Replays

@@ -1,0 +1,4 @@
+pub mod Shown
+pub mod New
+pub mod Checking
+pub mod Growing
