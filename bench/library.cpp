@@ -1,23 +1,24 @@
 // Measures one store by its calls, in a process of its own, for bench/library.sh, which compiles it once for each store, with
-// COLA, RESIDENT (the same store, kept in memory) or what bench/peers.cpp takes.
+// COLA or what bench/peers.cpp takes.
 //
-//     library FILE COUNT ROUNDS ORDER BATCH WORK
+//     library FILE COUNT ROUNDS ORDER BATCH WORK [FLAGS]
 //
 // ROUNDS times: it makes the store anew, puts COUNT keys of 11 bytes in the order (random or rising) with values of up to 12
 // bytes, closes it, opens it, gets each key in another order, and closes it. A call's time is the least over the rounds, and
 // so are the seconds of a round's puts with their closing and of its gets with their opening and closing, and the seconds of
 // processor, of all threads. BATCH is a number of puts in one transaction, where the store has any, or the block of COLA.
 // WORK is what a put does: "blind" is a put alone, and with "looked" a peer looks the key up before, as a put of COLA does by
-// itself; "many" are calls of COLA with 1,000 rows, each timed as one.
+// itself; "many" are calls of COLA with 1,000 rows, each timed as one. FLAGS are those of cola_file_open_as, 0 where none are given.
 // It prints: seconds, of processor, median, 99.9th percentile and worst in nanoseconds, of puts and then of gets; the most memory in KiB above
 // that before the first store; and a sum over the values that were got.
 //
 // With WORK "rows" it puts the keys once, each alone, and then reads all rows ROUNDS times, forwards and backwards (COLA, LEVELDB
-// and LMDB). It prints the least seconds of each.
+// and LMDB). It prints the least seconds of each. With WORK "replay" it puts the keys in a COLA with a log, each alone, and opens that
+// anew without a checkpoint: the least seconds of the puts, and of the opening, which makes them again.
 #include <algorithm>
 #include <cstddef>
 enum : size_t { MANY = 1000 }; // rows that are put, got, or read in order, by one call of COLA
-#if defined(COLA) || defined(RESIDENT)
+#ifdef COLA
 #include <cstdio>
 #include <cstdlib>
 #include <cstring>
@@ -26,12 +27,8 @@ enum : size_t { MANY = 1000 }; // rows that are put, got, or read in order, by o
 #include "cola_file.h"
 using std::string;
 using std::string_view;
-#ifdef RESIDENT
-static const uint32_t flags = COLA_RESIDENT;
-#else
-static const uint32_t flags = 0;
-#endif
 static size_t keys_in_all;
+static uint32_t flags;
 struct Store {
     cola_file file = COLA_FILE_INIT;
 
@@ -263,7 +260,7 @@ static void read_rows(const char *file, unsigned batch, int rounds) {
 }
 
 static void remove_file(const string &file) {
-    for (const char *end : {"", "-wal", "-shm", "-lock"}) std::filesystem::remove_all(file + end);
+    for (const char *end : {"", "-wal", "-shm", "-lock", "-log", "-journal"}) std::filesystem::remove_all(file + end);
 }
 
 // Times what is done with a store that is opened for it, and then closed.
@@ -278,8 +275,31 @@ template <typename F> static void timed(Times &times, const char *file, unsigned
     times.processor_seconds = std::min(times.processor_seconds, processor() - used);
 }
 
+#ifdef COLA
+// The seconds of puts in a store with a log, and of an opening that makes them again.
+static void replay(const char *file, unsigned block, int rounds, const vector<uint32_t> &order) {
+    double least[2] = {1e9, 1e9};
+    for (int round = 0; round < rounds; round++) {
+        Times puts(order.size());
+        remove_file(file);
+        uint64_t begun;
+        {
+            Store store(file, block);
+            begun = now();
+            put_each(store, order, false, puts);
+            least[0] = std::min(least[0], double(now() - begun) / 1e9);
+            Store::check(cola_file_discard(&store.file));
+            begun = now();
+            Store::check(cola_file_open_as(&store.file, file, flags));
+            least[1] = std::min(least[1], double(now() - begun) / 1e9);
+        }
+    }
+    printf("%.6f %.6f\n", least[0], least[1]);
+}
+#endif
+
 int main(int count, char **words) {
-    if (count != 7) return fprintf(stderr, "library FILE COUNT ROUNDS ORDER BATCH WORK\n"), 2;
+    if (count != 7 && count != 8) return fprintf(stderr, "library FILE COUNT ROUNDS ORDER BATCH WORK [FLAGS]\n"), 2;
     const char *file = words[1];
     size_t keys = keys_in_all = size_t(atol(words[2]));
     unsigned batch = unsigned(atoi(words[5]));
@@ -289,6 +309,10 @@ int main(int count, char **words) {
         std::sort(put_order.begin(), put_order.end());
         std::sort(get_order.begin(), get_order.end());
     }
+#ifdef COLA
+    flags = count == 8 ? uint32_t(atoi(words[7])) : 0;
+    if (work == "replay") return replay(file, batch, atoi(words[3]), put_order), 0;
+#endif
     bool is_many = work == "many";
     size_t calls = is_many ? (keys + MANY - 1) / MANY : keys;
     Times puts(calls), gets(calls);

@@ -5,11 +5,11 @@
 #
 # Each store is one process for each text: COUNT keys in random order, and in rising order (bench/library.cpp). A put of cola
 # answers whether its key was there: so a peer looks the key up before it puts, and beside these rows are those of its puts
-# alone. With many rows at once a call is one of 1,000 rows; from Python it is update and get_many beside single calls
-# (bench/library.py). It prints a table with the seconds, passed and of processor, their ratios to those of LevelDB with look-ups,
-# the median, the 99.9th percentile and the worst call, and the peak memory; then what became of the aims, and how long all rows
-# take forwards and backwards; and what checkpoints of the resident store take (bench/checkpoints.c). It wants a C++ compiler and the library (make library builds it; LIBRARY names another folder that
-# has libcola.a, and libcola.so.1 for Python). The last row of a table is what the cells alone take that the calls of cola read
+# alone. A cola is mapped, and then resident, logged, and synced, which is by calls of 1,000 rows alone. With many rows at once a
+# call is one of 1,000 rows; from Python it is update and get_many beside single calls (bench/library.py). It prints a table with the seconds, passed and of processor, their ratios to those of LevelDB with look-ups,
+# the median, the 99.9th percentile and the worst call, and the peak memory; then what became of the aims, how long all rows
+# take forwards and backwards, how long an opening takes that makes a log again, and what checkpoints of the resident store take
+# (bench/checkpoints.c). It wants a C++ compiler and the library (make library builds it; LIBRARY names another folder that has libcola.a, and libcola.so.1 for Python). The last row of a table is what the cells alone take that the calls of cola read
 # and move, without its code (bench/accesses.c, the least of the rounds). A peer whose headers are not there is skipped and named
 # (Debian: libleveldb-dev liblmdb-dev libsqlite3-dev libtkrzw-dev). It takes minutes and a gigabyte below TMPDIR, and means
 # something on an idle machine alone.
@@ -39,8 +39,10 @@ peer() {
 }
 add cola-5 COLA cola_file.h "$library/libcola.a" 5 blind 'cola, block 5'
 add cola-9 COLA cola_file.h "$library/libcola.a" 9 blind 'cola, block 9'
-add cola-resident RESIDENT cola_file.h "$library/libcola.a" 5 blind 'cola, block 5, resident'
 add cola-many COLA cola_file.h "$library/libcola.a" 5 many 'cola, block 5, 1,000 rows a call'
+add cola-resident COLA cola_file.h "$library/libcola.a" 5 'blind 2' 'cola, block 5, resident'
+add cola-logged COLA cola_file.h "$library/libcola.a" 5 'blind 4' 'cola, block 5, logged'
+add cola-synced COLA cola_file.h "$library/libcola.a" 5 'many 8' 'cola, block 5, synced, 1,000 rows a call'
 peer leveldb LEVELDB leveldb/db.h -lleveldb 1 'LevelDB'
 peer lmdb LMDB lmdb.h -llmdb 1 'LMDB'
 peer lmdb-1000 LMDB lmdb.h -llmdb 1000 'LMDB, 1,000 puts a transaction'
@@ -54,7 +56,7 @@ cc -O2 -Iinclude -Ibindings/c -o "$room/checkpoints" bench/checkpoints.c "$libra
 for order in random rising; do
     for it in "${stores[@]}"; do
         IFS='|' read -r name define batch work title <<<"$it"
-        "$room/$define" "$room/$name.store" "$count" "$rounds" "$order" "$batch" "$work" >"$room/$order.$name"
+        "$room/$define" "$room/$name.store" "$count" "$rounds" "$order" "$batch" $work >"$room/$order.$name"
         rm -rf "$room/$name.store"*
         echo "$title|$(cat "$room/$order.$name")" >>"$room/$order"
     done
@@ -87,6 +89,9 @@ for order in random rising; do
             printf "By 1,000 rows a call it takes %s of the time of single calls in %s order.\n", part(it, "cola, block 5"), order
             if ("LMDB" in both) printf "The worst put in %s order takes %.2f of that of LMDB (the aim: 0.1).\n", order, worst["cola, block 5"] / worst["LMDB"]
             if ("Tkrzw" in both) printf "The worst put of a resident store in %s order takes %.2f of that of Tkrzw (the aim: 0.6).\n", order, worst["cola, block 5, resident"] / worst["Tkrzw"]
+            it = "cola, block 5, logged"
+            if ("LMDB" in both) printf "The worst logged put in %s order takes %.3f of that of LMDB (the aim: 0.02).\n", order, worst[it] / worst["LMDB"]
+            if ("LevelDB" in both) printf "The worst logged put in %s order takes %.2f of that of LevelDB (the aim: 0.5).\n", order, worst[it] / worst["LevelDB, puts alone"]
         }' "$room/$order"
 done
 printf '\n| all rows of %s keys, put in random order | forwards, seconds | backwards | beside forwards |\n|---|---:|---:|---:|\n' "$count"
@@ -97,7 +102,9 @@ for it in "${stores[@]}"; do
     rm -rf "$room/$name.store"*
     awk -v title="$title" '{ printf("| %s | %.3f | %.3f | %s |\n", title, $1, $2, $1 > 0 ? sprintf("%.2f", $2 / $1) : "") }' <<<"$rows"
 done
-echo
+read -r puts again < <("$room/COLA" "$room/again.store" "$count" "$rounds" random 5 replay 4)
+rm -rf "$room/again.store"*
+printf '\nLogged puts of %s keys in random order take %s seconds, and an opening that makes them again %s.\n\n' "$count" "$puts" "$again"
 if [ -e "$library/libcola.so.1" ] && command -v python3 >/dev/null; then
     for order in random rising; do
         COLA_LIBRARY=$library/libcola.so.1 PYTHONPATH=bindings/python PYTHONDONTWRITEBYTECODE=1 \

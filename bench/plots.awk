@@ -4,7 +4,7 @@
 #
 # times.svg: seconds of each store on each text. calls.svg: median, 99.9th percentile and worst of single calls. growth.svg:
 # cell accesses and microseconds against keys. amortized.svg: cell accesses of one put against keys, beside a lookahead array
-# that is amortized. Colours follow the viewer, light or dark, over a background of their own.
+# that is amortized. stall.svg, where bench/stall.sh was measured: waits under load. Colours follow the viewer, light or dark, over a background of their own.
 BEGIN { FS = " *\\| *" }
 
 # A drawing -------------------------------------------------------------------------------------------------------------
@@ -106,6 +106,12 @@ section ~ /^## Single calls/ {
     caller[callers] = $2
     for (at = 3; at <= 8; at++) call[callers, at - 2] = $at
 }
+section ~ /^## Waits under load/ && $3 == "all" {
+    waits++
+    kept[waits] = substr(section, 21)
+    waiting[waits] = $2
+    for (at = 5; at <= 8; at++) wait[waits, at] = $at
+}
 section ~ /^## Growth/ {
     sizes++
     for (at = 2; at <= 13; at++) growth[sizes, at] = $at
@@ -196,7 +202,29 @@ function amortized(    at) {
     curve(4, "this store: the mean", 1, "")
     end()
 }
+# A row for each store in each table: median, 99.9th and 99.99th percentile and worst of all its calls.
+function stalls(    at, y) {
+    begin("stall", 900, 210 + 24 * waits, "Waits under load, from the time that a call was due")
+    mark(270, 50, "circle", 1); write_text(280, 54, "start", "small", "median")
+    mark(350, 50, "bar", 5); write_text(360, 54, "start", "small", "99.9th percentile")
+    mark(490, 50, "bar", 4); write_text(500, 54, "start", "small", "99.99th")
+    mark(570, 50, "square", 2); write_text(580, 54, "start", "small", "worst")
+    panel(260, 70, 600, 24 * waits + 90, 0.1, 10000000, 0, 1, 1)
+    tens_below(1, 10000000, "microseconds")
+    for (at = 1; at <= waits; at++) {
+        if (kept[at] != kept[at - 1]) { y += 24; write_text(left + 6, top + y - 4, "start", "strong", kept[at]) }
+        y += 24
+        write_text(left - 10, top + y - 8, "end", waiting[at] ~ /^cola/ ? "strong" : "", waiting[at])
+        draw_line(at_x(wait[at, 5]), top + y - 12, at_x(wait[at, 8]), top + y - 12, "thin")
+        mark(at_x(wait[at, 5]), top + y - 12, "circle", 1)
+        mark(at_x(wait[at, 6]), top + y - 12, "bar", 5)
+        mark(at_x(wait[at, 7]), top + y - 12, "bar", 4)
+        mark(at_x(wait[at, 8]), top + y - 12, "square", 2)
+    }
+    end()
+}
 END {
+    if (waits) stalls()
     times()
     calls()
     grown()

@@ -63,7 +63,7 @@ enum {
     COLA_IN_USE = 6,        /* the handle is open already */
     COLA_LENGTH = 7,        /* a key is empty, or a key or a value is longer than the store's version allows */
     COLA_NULL = 8,          /* a pointer is NULL where there has to be one */
-    COLA_OPTIONS = 9,       /* keys, block or version is none that a store can have; cola_file_open_as: a flag is none */
+    COLA_OPTIONS = 9,       /* keys, block or version is none that a store can have; cola_file: a flag is none, there is no log */
     COLA_NOT_EMPTY = 10,    /* cola_create: the bytes are not all zero */
     COLA_NOT_STORE = 11,    /* the bytes have no store's header */
     COLA_SMALL = 12,        /* there are fewer bytes than the store has */
@@ -76,15 +76,16 @@ enum {
     COLA_ORDER = 19,        /* cola_load_row: the key is not above that of the row before; nothing changed */
     COLA_FEWER = 20,        /* cola_grow: the new store is for fewer keys than the old one has; nothing is written */
     COLA_BROKEN = 21,       /* cola_check: the store stands for no map; the verdict says why */
-    COLA_UNFINISHED = 22    /* cola_file: a checkpoint holds in the journal beside the file, and not in the file; nothing changed */
+    COLA_UNFINISHED = 22    /* cola_file: a checkpoint holds in the journal beside the file, and not in the file, or what the disk has of
+                             * the log is not known; nothing changed */
 };
 
 /* A handle. What is in it is the library's. */
 typedef struct cola {
-    bool is_open, is_read_only, is_unfinished;
+    bool is_open, is_read_only, is_unfinished, is_logged;
     void *at;
 } cola;
-#define COLA_INIT {false, false, false, NULL}
+#define COLA_INIT {false, false, false, false, NULL}
 
 /* A key with its value. */
 typedef struct cola_row {

@@ -95,9 +95,11 @@ def as_a_dictionary(room):
     for _ in range(5):
         low, high = sorted(b"key%07d" % random_.randrange(250_000) for _ in range(2))
         check("a range over shards", list(store.range(low, high)) == [it for it in pairs if low <= it[0] < high])
+        check("and backwards", list(store.reversed(low, high)) == [it for it in pairs[::-1] if low <= it[0] < high])
     check("a prefix", list(store.prefix(b"key00123")) == [it for it in pairs if it[0].startswith(b"key00123")])
     check("a prefix without an end", list(store.prefix(b"\xff")) == [] and list(store.prefix(b"")) == pairs)
-    check("an empty range", list(store.range(b"z", b"a")) == [])
+    check("all pairs backwards", list(store.reversed()) == pairs[::-1] and next(store.reversed(b"key")) == pairs[-1])
+    check("an empty range", list(store.range(b"z", b"a")) == list(store.reversed(b"z", b"a")) == [])
     size = os.path.getsize(journal)
     store.checkpoint()
     check("a checkpoint cuts the journal", os.path.getsize(journal) < 2000 < size)
@@ -131,9 +133,50 @@ def from_a_bag(room):
     store.close()
 
 
+def loaded(room):
+    random_ = random.Random(7)
+    rows = [(b"key%07d" % random_.randrange(40_000), b"%d" % number) for number in range(60_000)]
+    store, journal = room.create(keys=40_000, splits=[b"key0013000", b"key0027000"])
+    store.load(iter(rows), batch=7000)
+    check("rows in any order are loaded, the last one of a key is kept", same(store, dict(rows)))
+    check("a store that has keys is not loaded", refuses(ValueError, lambda: store.load([(b"a", b"1")])))
+    store.put_rows([(b"behind", b"the load")])
+    store.__exit__(RuntimeError, None, None)
+    with cola_cluster.open(room.client, journal) as store:
+        check("what was loaded is kept, and what was put behind it", same(store, dict(rows) | {b"behind": b"the load"}))
+    store, journal = room.create(keys=40_000, splits=[b"key0020000"])
+    store.checkpoint()
+    doomed = room.process(store, 1)
+    killed = (row if at != 30_000 else (os.kill(doomed, signal.SIGKILL), row)[1] for at, row in enumerate(rows))
+    check("a worker that is killed in a load", refuses(cola_cluster.Lost, lambda: store.load(killed, batch=5000)))
+    with cola_cluster.open(room.client, journal) as store:
+        check("leaves the store empty", same(store, {}))
+        store.load(rows)
+        check("and it is loaded then", same(store, dict(rows)))
+    store, journal = room.create(keys=1000)
+    check("a range with more keys than its shard is for", refuses(cola.Full, lambda: store.load(rows)))
+    with cola_cluster.open(room.client, journal) as store:
+        check("leaves it empty too", same(store, {}))
+
+
+def grown(room):
+    rows = [(b"key%07d" % number, b"%d" % number) for number in range(9000)]
+    random.Random(8).shuffle(rows)
+    store, journal = room.create(keys=1000, most=4000)
+    store.put_rows(rows[:4000], batch=300)
+    check("a full shard is made one for more keys", same(store, dict(rows[:4000])) and len(store._parts) == 1)
+    store.put_rows(rows[4000:], batch=300)
+    check("and is split where it may not have more", same(store, dict(rows)) and len(store._parts) > 1)
+    os.kill(room.process(store, 0), signal.SIGKILL)
+    check("one that is opened anew grows again", same(store, dict(rows)))
+    store.__exit__(RuntimeError, None, None)
+    with cola_cluster.open(room.client, journal) as store:
+        check("so does one that is opened from its journal", same(store, dict(rows)))
+
+
 def killed_between_batches(room):
     random_ = random.Random(2)
-    for journal in {}, {"journal": None}:
+    for journal in {}, {"journal": None}, {"resident": True, "log": True}:
         rows = list(rows_of(20_000, random_))
         store, _ = room.create(keys=20_000, splits=[b"key0010000"], **journal)
         store.put_rows(rows[:8000])
@@ -247,7 +290,8 @@ def none_left():
         check("the only worker is killed, and comes again", same(store, {b"a": b"1"}))
         store._patience = 1
         cluster.scale(0)
-        while client.scheduler_info()["workers"]:
+        until = time.monotonic() + 60
+        while client.scheduler_info()["workers"] and time.monotonic() < until:
             time.sleep(0.1)
         check("no worker is left", refuses(cola_cluster.Lost, lambda: store.put_rows([(b"b", b"2")])))
         cluster.scale(1)
@@ -262,7 +306,8 @@ def main():
             LocalCluster(n_workers=3, threads_per_worker=1, dashboard_address=None, silence_logs=logging.CRITICAL) as cluster, \
             Client(cluster, direct_to_workers=True) as client:
         room = Room(client, path)
-        for test in as_a_dictionary, from_a_bag, killed_between_batches, killed_in_a_checkpoint, stopped, split, client_killed:
+        for test in (as_a_dictionary, from_a_bag, loaded, grown, killed_between_batches, killed_in_a_checkpoint, stopped, split,
+                     client_killed):
             begun = time.monotonic()
             client.wait_for_workers(3)
             test(room)

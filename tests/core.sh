@@ -15,7 +15,9 @@ is_newer() {
 compile() {
     local kit words=() it
     kit=$(dirname "$(dirname "$(readlink -f "$(command -v rt)")")")
-    for it in $(sed -n 's/^cola_c staticlib: *//p' crates.txt); do words+=(--extern "$it=$root/crates/$it/out/rlib/$it.rlib"); done
+    for it in $(sed -n 's/^cola_c staticlib: *//p' crates.txt); do
+        if [ -d "crates/$it" ]; then words+=(--extern "$it=$root/crates/$it/out/rlib/$it.rlib"); else words+=(--extern "$it=$kit/rlibs/$it.rlib"); fi
+    done
     for it in "$root"/crates/*/out/rlib; do words+=(-L "dependency=$it"); done
     (cd crates/cola_c && "$kit/bin/rattle" build --crate-name cola_c src/lib.rt --extern "std=$kit/rlibs/std.rlib" -L "dependency=$kit/rlibs" "${words[@]}" \
         --antt-project "$kit/rattle/logic/antt-project.json" --logic-built "$kit/logic_built" --links cola_c= --crate-type staticlib --jobs 2 \

@@ -63,6 +63,16 @@ check 'with no rt on PATH it ends with 100' ended 100
 check 'with no rt on PATH it says so in one line' complained PATH
 check 'with no rt on PATH it writes nothing' wrote_text ''
 
+# A log that follows a file is told of, and another file of its name is not.
+"$root/cola" create kept --keys 10
+{ printf COLA-LOG && head -c 512 kept; } | sha256sum | cut -c 1-64 | perl -ne 'chomp; print pack "H*", $_' >kept-log
+run "$root/cola" check kept
+check 'a log beside a file is told of' complained 'kept: the log kept-log stands beside it: cola-recover kept makes its calls again'
+echo 'a text of that name, which is none' >kept-log
+run "$root/cola" check kept
+check 'a text of its name is not' is_silent
+rm kept kept-log
+
 # What the system says of the files of a status.
 causes() { tail -n +2 "$room/err" | sed 's/^cola: //'; }
 caused() { [ "$(causes)" = "$1" ] || { causes; false; }; }

@@ -34,7 +34,7 @@ program=$root/crates/cola/out/cola
 strict="-std=gnu11 -Wall -Wextra -Werror"
 folders="-Iinclude -Ibindings/c -Itests/library"
 fails="-Wl,--wrap=malloc,--wrap=realloc" # (two tests count allocations)
-calls="close fchmod flock fstat fstatat fsync ftruncate madvise mkostemp mmap msync munmap open openat posix_fallocate pread pwrite realpath
+calls="close fchmod fdatasync flock fstat fstatat fsync ftruncate madvise mkostemp mmap msync munmap open openat posix_fallocate pread pwrite realpath
     rename stat unlink unlinkat"
 wraps=$(printf -- '-Wl,--wrap=%s ' $calls) # (the test of failing calls counts these)
 
@@ -75,7 +75,7 @@ check 'the answers of the header are those of the crates' has_answers
 has_calls() {
     cat include/cola.h bindings/c/cola_file.h | sed -n 's/^[a-z].*[ *]\(cola_[a-z_]*\)(.*/\1/p' | sort >"$room/header"
     nm -D --defined-only "$library/libcola.so" | awk '$2 != "A" { if (!sub(/@@COLA_[0-9.]*$/, "", $3)) $3 = $3 " has no version"; print $3 }' | sort >"$room/calls"
-    [ "$(wc -l <"$room/header")" -eq 40 ] && diff "$room/header" "$room/calls"
+    [ "$(wc -l <"$room/header")" -eq 42 ] && diff "$room/header" "$room/calls"
 }
 check 'libcola.so has the calls of the headers, each with its version, and nothing else' has_calls
 
@@ -83,7 +83,7 @@ check 'libcola.so has the calls of the headers, each with its version, and nothi
 # here do not fail, or take memory alone.)
 has_wraps() {
     local it
-    for it in cola_disk cola_file cola_file_tools cola_journal cola_resident; do ar p "$library/libcola.a" "$it.o" >"$room/$it.o" && nm -u "$room/$it.o" || return; done |
+    for it in cola_disk cola_file cola_file_tools cola_journal cola_log cola_resident; do ar p "$library/libcola.a" "$it.o" >"$room/$it.o" && nm -u "$room/$it.o" || return; done |
         awk '{ print $2 }' | grep -vE '^(cola_|_)|^(getpid|sysconf|clock_gettime|malloc|free|snprintf|(mem|str)[a-z]*)$' | sort -u >"$room/calls"
     printf '%s\n' $calls | diff - "$room/calls"
 }
@@ -100,7 +100,9 @@ check 'the test of random calls compiles' compiles random '-O2 -g' tests/library
 check 'the test of killed processes compiles' compiles killed '-O2 -g' tests/library/killed.c
 check 'the test of failing calls compiles' compiles failing "-O2 -g $wraps" tests/library/failing.c
 check 'the test of resident stores compiles' compiles resident '-O2 -g -Wl,--wrap=pwrite,--wrap=fsync' tests/library/resident.c
-disk=-Wl,--wrap=pwrite,--wrap=fsync,--wrap=ftruncate,--wrap=open,--wrap=openat,--wrap=unlinkat
+disk=-Wl,--wrap=pwrite,--wrap=fsync,--wrap=fdatasync,--wrap=ftruncate,--wrap=posix_fallocate
+check 'the test of logged stores compiles' compiles logged "-O2 -g $disk" tests/library/logged.c
+disk=$disk,--wrap=open,--wrap=openat,--wrap=unlinkat
 check 'the test of what a disk may be left as compiles' compiles states "-O2 -g $disk" tests/library/states.c
 check 'the example in C compiles' compiles words '-O2 -g' examples/words.c
 check 'each answer is met' quietly "$room/errors" "$room"
@@ -114,8 +116,11 @@ check 'a call of the system that fails, or is the last, leaves a file that is wh
 memory=$room # (a folder in memory, where there is one)
 [ ! -w /dev/shm ] || memory=$(mktemp -d /dev/shm/cola.XXXXXX) && trap 'rm -rf "$room" "$memory"' EXIT
 check 'resident stores, on disks that are full or fail, with journals of all kinds' quietly "$room/resident" "$memory"
-check 'processes with resident stores that are killed leave the last checkpoint' quietly "$room/killed" "$memory" 300 resident
-check 'from 100,000 states of a disk a recovery makes a checkpoint, byte for byte' quietly "$room/states" "$memory" 100000
+check 'logged stores, on disks that are full or fail, with logs of all kinds' quietly "$room/logged" "$memory"
+for it in resident logged synced; do
+    check "processes with $it stores that are killed leave what they were promised" quietly "$room/killed" "$memory" 300 $it
+done
+check 'from 100,000 states of a disk a recovery makes a checkpoint, byte for byte, and the calls of a log' quietly "$room/states" "$memory" 100000
 
 # are_sound: whether the program finds each of the files sound that a recovery may make.
 are_sound() {
@@ -158,6 +163,8 @@ if cc $sanitizers "$room/empty.c" -o "$room/empty" 2>/dev/null && "$room/empty";
     check 'many rows, with sanitizers' quietly "$room/many_sane"
     check 'rows backwards, with sanitizers' quietly "$room/backward_sane"
     check 'whole stores, with sanitizers' quietly "$room/tools_sane" "$room"
+    check 'logged stores compile with sanitizers' compiles logged_sane "$sanitizers ${disk%%,--wrap=open,*}" tests/library/logged.c bindings/c/*.c
+    check 'logged stores, with sanitizers' quietly "$room/logged_sane" "$memory"
     check 'random calls, with sanitizers' quietly "$room/random_sane" "$room" 10000 500
     check 'an index of words in C, with sanitizers' is_index "$room/words_sane"
 else

@@ -5,10 +5,13 @@
  * cursor, of this file's own, and the caller's is written behind the call.
  *
  * A handle too is handed on as one of this file's own: the proved calls know that it is open and where, and write it whole. That
- * a store is read alone is known here, and nothing that would write to it goes on. */
+ * a store is read alone is known here, and nothing that would write to it goes on; and that it has a log, to which a call is
+ * appended before it goes on. */
 #include "cola.h"
 
 #include <string.h>
+
+#include "cola_log.h"
 
 /* The bytes of a store, lent from an opening to a closing. */
 typedef struct cola_region {
@@ -69,6 +72,13 @@ static int32_t refusal(const cola *store) {
 /* Whether the store is open, to be read alone. */
 static bool is_read_only(const cola *store) { return refusal(store) == COLA_READ_ONLY_STORE; }
 
+/* Why a call is not to be made that would write to the store; else it is in the log, where the store has one. */
+static int32_t refusal_of(cola *store, cola_call call) {
+    int32_t refused = refusal(store);
+    if (refused != COLA_OK || !is_true(&store->is_open) || !is_true(&store->is_logged)) return refused;
+    return cola_log_call(store, &call);
+}
+
 /* Takes back the handle that a call had, and gives its answer. */
 static int32_t back(cola *store, const cola *own, int32_t answer) {
     store->is_open = own->is_open;
@@ -96,7 +106,7 @@ int32_t cola_open(cola *store, void *bytes, size_t len) {
     cola_region region = {bytes, len};
     cola own = *store;
     int32_t answer = back(store, &own, cola_core_open(&own, &region));
-    if (answer == COLA_OK) store->is_read_only = store->is_unfinished = false;
+    if (answer == COLA_OK) store->is_read_only = store->is_unfinished = store->is_logged = false;
     return answer;
 }
 
@@ -105,25 +115,29 @@ int32_t cola_open_marked(cola *store, void *bytes, size_t len, uint8_t *marks, s
     cola_region region = {bytes, len}, lent = {marks, pages};
     cola own = *store;
     int32_t answer = back(store, &own, cola_core_open_marked(&own, &region, &lent));
-    if (answer == COLA_OK) store->is_read_only = store->is_unfinished = false;
+    if (answer == COLA_OK) store->is_read_only = store->is_unfinished = store->is_logged = false;
     return answer;
 }
 
-int32_t cola_put(cola *store, const void *key, size_t key_len, const void *value, size_t value_len, bool *was) {
+/* A put that is in the log, where the store has one. */
+static int32_t put(cola *store, const void *key, size_t key_len, const void *value, size_t value_len, bool *was) {
     bool told = false;
-    if (store == NULL || is_null(key, key_len) || is_null(value, value_len)) return COLA_NULL;
-    int32_t refused = refusal(store);
-    if (refused != COLA_OK) return refused;
     cola own = *store;
     int32_t answer = back(store, &own, cola_core_put(&own, some(key), of_key(key_len), some(value), of_value(value_len), &told));
     if (answer == COLA_OK && was != NULL) *was = told;
     return answer;
 }
 
+int32_t cola_put(cola *store, const void *key, size_t key_len, const void *value, size_t value_len, bool *was) {
+    if (store == NULL || is_null(key, key_len) || is_null(value, value_len)) return COLA_NULL;
+    int32_t refused = refusal_of(store, (cola_call){COLA_CALL_PUT, key, value, key_len, value_len, 0});
+    return refused != COLA_OK ? refused : put(store, key, key_len, value, value_len, was);
+}
+
 int32_t cola_put_if(cola *store, const void *key, size_t key_len, uint64_t seen, const void *value, size_t value_len, uint64_t *stamp) {
     uint64_t unasked = 0;
     if (store == NULL || is_null(key, key_len) || is_null(value, value_len)) return COLA_NULL;
-    int32_t refused = refusal(store);
+    int32_t refused = refusal_of(store, (cola_call){COLA_CALL_PUT_IF, key, value, key_len, value_len, seen});
     if (refused != COLA_OK) return refused;
     cola own = *store;
     return back(store, &own, cola_core_put_if(&own, some(key), of_key(key_len), seen, some(value), of_value(value_len),
@@ -144,7 +158,7 @@ int32_t cola_stamp(cola *store, const void *key, size_t key_len, uint64_t *stamp
 
 int32_t cola_delete(cola *store, const void *key, size_t key_len) {
     if (store == NULL || is_null(key, key_len)) return COLA_NULL;
-    int32_t refused = refusal(store);
+    int32_t refused = refusal_of(store, (cola_call){COLA_CALL_DELETE, key, "", key_len, 0, 0});
     if (refused != COLA_OK) return refused;
     cola own = *store;
     return back(store, &own, cola_core_delete(&own, some(key), of_key(key_len)));
@@ -155,14 +169,28 @@ static const uint8_t too_long[COLA_VALUE_MAX + 1];
 static const void *key_of(const cola_row *row) { return row->key_len > COLA_KEY_MAX ? too_long : row->key; }
 static const void *value_of(const cola_row *row) { return row->value_len > COLA_VALUE_MAX ? too_long : row->value; }
 
+/* Puts some rows that are in the log, where the store has one, up to the first that is refused. */
+static int32_t put_rows(cola *store, const cola_row *rows, size_t count, bool *was, size_t *done) {
+    int32_t answer = COLA_OK;
+    for (*done = 0; *done < count && answer == COLA_OK; *done += answer == COLA_OK) {
+        const cola_row *row = &rows[*done];
+        answer = put(store, key_of(row), row->key_len, value_of(row), row->value_len, was == NULL ? NULL : &was[*done]);
+    }
+    return answer;
+}
+
 int32_t cola_put_many(cola *store, const cola_row *rows, size_t count, bool *was, size_t *done) {
     if (store == NULL || (rows == NULL && count > 0) || done == NULL) return COLA_NULL;
     int32_t answer = !is_true(&store->is_open) ? COLA_CLOSED : refusal(store);
+    bool is_logged = is_true(&store->is_logged);
     size_t at = 0;
     while (at < count && answer == COLA_OK) {
-        const cola_row *row = &rows[at];
-        answer = cola_put(store, key_of(row), row->key_len, value_of(row), row->value_len, was == NULL ? NULL : &was[at]);
-        at += answer == COLA_OK;
+        size_t some = count - at, put = 0;
+        if (is_logged) answer = cola_log_rows(store, &rows[at], count - at, &some);
+        if (answer != COLA_OK) break;
+        answer = put_rows(store, &rows[at], some, was == NULL ? NULL : &was[at], &put);
+        if (is_logged && answer != COLA_OK) cola_log_keep(store, &rows[at], put + 1);
+        at += put;
     }
     *done = at;
     return answer;

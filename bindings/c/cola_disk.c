@@ -41,8 +41,8 @@ ssize_t cola_disk_read(int descriptor, void *bytes, size_t length) {
     return (ssize_t)had;
 }
 
-bool cola_disk_take_room(int descriptor, size_t length) {
-    int error = posix_fallocate(descriptor, 0, (off_t)length);
+bool cola_disk_take_room(int descriptor, size_t place, size_t length) {
+    int error = posix_fallocate(descriptor, (off_t)place, (off_t)length);
     errno = error;
     return error == 0;
 }
@@ -57,6 +57,14 @@ bool cola_disk_sync_name(const char *path) {
     bool synced = fsync(descriptor) == 0;
     cola_disk_close(descriptor);
     return synced;
+}
+
+bool cola_disk_sync_folder(int folder) {
+    int descriptor = openat(folder, ".", O_RDONLY | O_DIRECTORY | O_CLOEXEC);
+    if (descriptor < 0) return false;
+    bool is_synced = fsync(descriptor) == 0;
+    cola_disk_close(descriptor);
+    return is_synced;
 }
 
 void cola_disk_let_go(int descriptor) {

@@ -18,11 +18,14 @@ bool cola_disk_store(int descriptor, const void *bytes, size_t length, size_t pl
 /* Reads the first bytes of the file, and answers how many it gave, fewer at its end alone. */
 ssize_t cola_disk_read(int descriptor, void *bytes, size_t length);
 
-/* Takes room on the disk for the first bytes of the file. */
-bool cola_disk_take_room(int descriptor, size_t length);
+/* Takes room on the disk for bytes of the file from a place on. */
+bool cola_disk_take_room(int descriptor, size_t place, size_t length);
 
 /* Waits until a name in a folder is on the disk. */
 bool cola_disk_sync_name(const char *path);
+
+/* Waits until the names in this folder are on the disk. */
+bool cola_disk_sync_folder(int folder);
 
 /* Gives up the lock, which a child or a mapping may have too, and closes the file. errno stays. */
 void cola_disk_let_go(int descriptor);

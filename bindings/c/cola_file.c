@@ -1,6 +1,7 @@
 /* The file of a store, mapped: see cola_file.h. */
 #define _GNU_SOURCE
 #include "cola_file.h"
+#include "cola_opening.h"
 
 #include <errno.h>
 #include <fcntl.h>
@@ -14,6 +15,7 @@
 
 #include "cola_disk.h"
 #include "cola_journal.h"
+#include "cola_log.h"
 #include "cola_resident.h"
 
 /* The bytes that are mapped for this process alone, and written to the file by cola_disk_store: the first page, or all of a file
@@ -25,7 +27,7 @@ static size_t first_of(size_t length) {
 
 /* Makes the new store in an empty file. */
 static int32_t lay_out(int descriptor, size_t length, uint64_t keys, uint8_t block, uint8_t version) {
-    if (!cola_disk_take_room(descriptor, length)) return COLA_SYSTEM;
+    if (!cola_disk_take_room(descriptor, 0, length)) return COLA_SYSTEM;
     void *bytes = mmap(NULL, length, PROT_READ | PROT_WRITE, MAP_SHARED, descriptor, 0);
     if (bytes == MAP_FAILED) return COLA_SYSTEM;
     int32_t answer = cola_create(bytes, length, keys, block, version);
@@ -53,6 +55,7 @@ int32_t cola_file_create(const char *path, uint64_t keys, uint8_t block, uint8_t
         removes = is_new && about.st_size == 0;
         empties = !is_new && about.st_size == 0;
         answer = about.st_size != 0 ? COLA_NOT_EMPTY : lay_out(descriptor, (size_t)length, keys, block, version);
+        if (answer == COLA_OK) cola_log_drop(path, descriptor);
         if (answer == COLA_OK && !cola_disk_sync_name(path)) answer = COLA_SYSTEM;
     }
     int error = errno;
@@ -122,35 +125,55 @@ static int32_t judge_and_open(cola_file *file, const char *path, int descriptor,
     int32_t answer = cola_stored_size(head, (size_t)had, (uint64_t)about.st_size, &length);
     if (answer != COLA_OK) return answer;
     if (flags == COLA_READ_ONLY) return map_and_read(file, descriptor, (size_t)length);
-    if (!cola_disk_take_room(descriptor, (size_t)length)) return COLA_SYSTEM;
-    if (flags == COLA_RESIDENT) return cola_resident_open(file, path, descriptor, (size_t)length);
+    if (!cola_disk_take_room(descriptor, 0, (size_t)length)) return COLA_SYSTEM;
+    if (flags != 0) return cola_resident_open(file, path, descriptor, (size_t)length, flags);
     return map_and_open(file, descriptor, (size_t)length, head);
 }
 
-/* Opens the file and locks it, alone or as one of those that read it, when the journal that may stand beside was finished or
- * dropped. One that is only read is opened anew behind that. */
-static int32_t open_settled(const char *path, bool reads, int *descriptor) {
-    bool beside = true;
-    while (beside) {
-        *descriptor = cola_disk_open_locked(path, reads);
+/* Whether a locked file waits for what stands beside it: its log, and, where it is to be read alone, its journal, which is
+ * finished or dropped else. */
+static int32_t waits(const char *path, int descriptor, uint32_t flags, bool *journal, bool *log) {
+    bool reads = flags == COLA_READ_ONLY, is_logged = (flags & (COLA_LOGGED | COLA_SYNCED)) != 0;
+    *journal = *log = false;
+    int32_t answer = !reads ? cola_journal_settle(path, descriptor, NULL)
+                   : cola_journal_is_beside(path, descriptor, journal) ? COLA_OK : COLA_SYSTEM;
+    if (answer != COLA_OK || *journal || is_logged) return answer;
+    return cola_log_is_beside(path, descriptor, log) ? COLA_OK : COLA_SYSTEM;
+}
+
+int32_t cola_file_open_settled(const char *path, uint32_t flags, int *descriptor) {
+    bool journal, log, was_log = false;
+    for (;;) {
+        *descriptor = cola_disk_open_locked(path, flags == COLA_READ_ONLY);
         if (*descriptor < 0) return COLA_SYSTEM;
-        int32_t answer = !reads ? cola_journal_settle(path, *descriptor, NULL)
-                       : cola_journal_is_beside(path, *descriptor, &beside) ? COLA_OK : COLA_SYSTEM;
-        if (answer == COLA_OK && !(reads && beside)) return COLA_OK;
+        int32_t answer = waits(path, *descriptor, flags, &journal, &log);
+        if (answer == COLA_OK && !journal && !log) return COLA_OK;
         cola_disk_let_go(*descriptor);
-        if (answer == COLA_OK) answer = cola_journal_recover(path, &beside);
+        if (answer == COLA_OK && log && was_log) return errno = EEXIST, COLA_UNFINISHED; /* (its checkpoint could not be made) */
+        if (answer == COLA_OK) answer = cola_file_settle(path, &journal, &was_log);
         if (answer != COLA_OK) return answer;
-        beside = true;
     }
-    return COLA_OK;
+}
+
+int32_t cola_file_settle(const char *path, bool *journal, bool *log) {
+    cola_file file = COLA_FILE_INIT;
+    *log = false;
+    int32_t answer = cola_journal_recover(path, journal);
+    if (answer != COLA_OK) return answer;
+    int descriptor = cola_disk_open_locked(path, true);
+    if (descriptor < 0) return COLA_SYSTEM;
+    if (!cola_log_is_beside(path, descriptor, log)) answer = COLA_SYSTEM;
+    cola_disk_let_go(descriptor);
+    if (answer == COLA_OK && *log) answer = cola_file_open_as(&file, path, COLA_LOGGED);
+    return answer == COLA_OK && *log ? cola_file_close(&file) : answer;
 }
 
 int32_t cola_file_open_as(cola_file *file, const char *path, uint32_t flags) {
     int descriptor;
     if (file == NULL || path == NULL) return COLA_NULL;
-    if (flags > COLA_RESIDENT) return COLA_OPTIONS; /* (both flags at once are none) */
+    if (flags > COLA_READ_ONLY && (flags & ~(uint32_t)(COLA_RESIDENT | COLA_LOGGED | COLA_SYNCED)) != 0) return COLA_OPTIONS;
     if (file->bytes != NULL) return COLA_IN_USE;
-    int32_t answer = open_settled(path, flags == COLA_READ_ONLY, &descriptor);
+    int32_t answer = cola_file_open_settled(path, flags, &descriptor);
     if (answer != COLA_OK) return answer;
     answer = judge_and_open(file, path, descriptor, flags);
     if (answer != COLA_OK) cola_disk_let_go(descriptor);
@@ -188,9 +211,12 @@ static bool write_copy(const cola_file *file, const char *copy) {
     return is_copied && cola_disk_sync_name(copy);
 }
 
-/* Opens the store again, which was closed in memory. */
-static int32_t reopen(cola_file *file) {
-    return file->is_resident ? cola_resident_reopen(file) : cola_open(&file->store, file->bytes, file->length);
+int32_t cola_file_reopen(cola_file *file) {
+    bool reads = file->store.is_read_only;
+    if (file->is_resident) return cola_resident_reopen(file);
+    int32_t answer = cola_open(&file->store, file->bytes, file->length);
+    if (answer == COLA_OK) file->store.is_read_only = reads;
+    return answer;
 }
 
 int32_t cola_file_checkpoint(cola_file *file, const char *copy) {
@@ -202,9 +228,19 @@ int32_t cola_file_checkpoint(cola_file *file, const char *copy) {
     if (answer != COLA_OK) return answer;
     bool is_copied = write_copy(file, copy);
     int error = errno;
-    answer = reopen(file);
+    answer = cola_file_reopen(file);
     errno = error;
     return answer != COLA_OK ? answer : is_copied ? COLA_OK : COLA_SYSTEM;
+}
+
+int32_t cola_file_sync(cola_file *file) {
+    if (file == NULL) return COLA_NULL;
+    if (file->bytes == NULL || file->owner != (long)getpid()) return COLA_CLOSED;
+    if (!file->store.is_logged) return COLA_OPTIONS;
+    cola_log *log = cola_resident_log(&file->store);
+    int32_t answer = cola_log_sync(log);
+    file->store.is_unfinished = file->store.is_unfinished || log->is_stuck;
+    return answer;
 }
 
 /* Closes the store in a mapped file, and unmaps it: all that lies behind the header is written, and then the header, which says

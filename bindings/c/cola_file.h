@@ -18,6 +18,19 @@
  * process dies or the machine stops, the file has the last checkpoint, at whatever moment, once an opening of any kind, or the
  * program cola-recover, has finished a whole journal or dropped another. Journal and file are kept, moved and put back together.
  *
+ * A logged store (COLA_LOGGED) is a resident one that goes back to its last call: each put, put_if and delete whose lengths are right
+ * is appended to NAME-log beside the file, by one write, before it is made; cola_put_many by one for each 128 KiB of records, as
+ * long as the store has room for as many new keys. An opening makes these calls again on the last checkpoint, and goes on behind
+ * them; a checkpoint begins a new log, and the close, which is one, removes it. So where the process dies, no call is lost that was
+ * answered; where the machine stops, none that was answered before the last cola_file_sync that came to its end, or, of a synced
+ * store (COLA_SYNCED), none at all; and those that are there are the first ones, without a gap. A call that was answered COLA_SYSTEM
+ * as the last one may be there after that too. A log is kept, moved and put back with its file; one that does not follow the file,
+ * as behind a session of the program cola, is passed over.
+ *
+ * Room on the disk is taken for the log 1 MiB at a time. A call whose record finds none is answered COLA_SYSTEM (ENOSPC) and not made,
+ * and the store goes on. Where what was written of it cannot be cut off, and where a sync failed, what the disk has of the log is not
+ * known: then puts and deletes are answered COLA_UNFINISHED until a checkpoint has succeeded.
+ *
  * A store in use has all its bytes on the disk: a full disk is told by cola_file_open, not by a put.
  *
  * A file is open in one process that writes it, or in any number of them that only read it (COLA_READ_ONLY): the system's lock
@@ -26,6 +39,7 @@
  * What a call takes: cola_file_create and cola_file_checkpoint write as many bytes as the store has; cola_file_open asks the
  * system for room for as many, and reads and syncs few; cola_file_close syncs what was written since. A file that is read alone
  * is opened with neither. A resident store is read whole as it opens, and takes as much memory; its checkpoints take what changed.
+ * A logged one is opened with a call for each that was logged since the last checkpoint, and memory for the log meanwhile.
  * cola_file_check reads the store; cola_file_grow and a load write as many bytes as the new one has.
  *
  * Asked of the caller: no other program makes the file shorter while it is open, which would end the process by a signal;
@@ -54,12 +68,14 @@ typedef struct cola_file {
 } cola_file;
 #define COLA_FILE_INIT {COLA_INIT, NULL, 0, -1, false, 0}
 
-/* The flags of cola_file_open_as, of which one may be given. */
+/* The flags of cola_file_open_as. The first stands alone; each of the others has in it those above. */
 #define COLA_READ_ONLY 1 /* the store is read alone */
 #define COLA_RESIDENT 2  /* the store is kept in memory, and the file has its last checkpoint */
+#define COLA_LOGGED 4    /* and each call since is in a log beside the file */
+#define COLA_SYNCED 8    /* and on the disk, before it is answered */
 
 /* Makes the file of a new, closed store for so many keys, with blocks of 2^block cells, of version 1 or 2. A file that is
- * there has to be empty (COLA_NOT_EMPTY). Where it is not made, the folder and the file are as before; a process that dies
+ * there has to be empty (COLA_NOT_EMPTY). A log of a removed store that would follow the new one is removed. Where it is not made, the folder and the file are as before; a process that dies
  * meanwhile leaves a file that is refused, or the whole one. */
 int32_t cola_file_create(const char *path, uint64_t keys, uint8_t block, uint8_t version);
 
@@ -71,13 +87,17 @@ int32_t cola_file_create(const char *path, uint64_t keys, uint8_t block, uint8_t
  * the lock is taken, as a copy that is renamed does, it is that one that is opened. */
 int32_t cola_file_open(cola_file *file, const char *path);
 
-/* cola_file_open, where flags is 0. With COLA_RESIDENT the store is kept in memory. With COLA_READ_ONLY it is open to be read
- * alone, beside others that read it, and no byte of the file is written, which may be one that this process may not write: a put,
- * a delete and a checkpoint are answered COLA_READ_ONLY_STORE. EWOULDBLOCK is that a process has it open for writing.
- * COLA_OPTIONS: there are no such flags.
+/* cola_file_open, where flags is 0. With COLA_RESIDENT the store is kept in memory; of a logged one COLA_SYSTEM with EEXIST is that
+ * NAME-log is no log, and COLA_BAD_CELL or COLA_OVERFULL that a damaged store refuses a call that is made again. With COLA_READ_ONLY
+ * it is open to be read alone, beside others that read it, and no byte of the file is written, which may be one that this process may
+ * not write: a put, a delete and a checkpoint are answered COLA_READ_ONLY_STORE. EWOULDBLOCK is that a process has it open for
+ * writing. COLA_OPTIONS: there are no such flags.
  *
  * Each opening finishes or drops a journal that stands beside the file; one that reads alone has to write for that, where the
- * journal is whole. COLA_UNFINISHED: it is whole, and could not be finished (errno), or is none of this store (EINVAL): it stays. */
+ * journal is whole. COLA_UNFINISHED: it is whole, and could not be finished (errno), or is none of this store (EINVAL): it stays.
+ * An opening without a log beside one that follows the file, a check and a growing make its calls again first, as one with COLA_LOGGED and
+ * its close do, with their answers, the memory and the right to write. COLA_UNFINISHED with EEXIST: the log stays, since the file
+ * of version 1 that its calls give has the header that it follows already; open it with COLA_LOGGED. */
 int32_t cola_file_open_as(cola_file *file, const char *path, uint32_t flags);
 
 /* Makes a copy of the store as it is now, in the file named copy, which is replaced as a whole and is on the disk when this
@@ -90,13 +110,18 @@ int32_t cola_file_open_as(cola_file *file, const char *path, uint32_t flags);
  * Of a resident store copy may be NULL: then the file itself is made to have what the store has. COLA_SYSTEM: the disk was full,
  * or failed; the store is open as before, and the file has its last checkpoint, or this one. COLA_UNFINISHED: the disk failed
  * (errno) behind the sync of the journal, in which this checkpoint holds; puts and deletes have that answer too, until a
- * checkpoint or an opening has finished it. */
+ * checkpoint or an opening has finished it. Of a logged store COLA_SYSTEM may be that the new log could not be begun: then they have
+ * it as well. */
 int32_t cola_file_checkpoint(cola_file *file, const char *copy);
+
+/* Waits until each call on a logged store that was answered is on the disk. COLA_SYSTEM: that failed (errno), and puts and deletes are
+ * answered COLA_UNFINISHED, as this is, until a checkpoint has succeeded. COLA_OPTIONS: the store has no log. */
+int32_t cola_file_sync(cola_file *file);
 
 /* Closes the store and the file; when it answers COLA_OK all is on the disk. Whatever it answers, *file is closed then:
  * after COLA_SYSTEM (a disk that fails) the file may be refused, as after a process that died. A resident store's has its last
  * checkpoint then, or, after COLA_UNFINISHED, the journal has this one: a checkpoint before the close leaves it open where it
- * is refused. */
+ * is refused. A logged store's log is kept then, and with it each call that was answered. */
 int32_t cola_file_close(cola_file *file);
 
 /* Tests the closed store in the file, beside others that read it, and writes nothing: as cola_check answers of its bytes. */
@@ -133,7 +158,9 @@ int32_t cola_file_load_end(cola_file_load *load, uint64_t *rows);
 
 /* Gives it up: nothing of it is left. */
 int32_t cola_file_load_drop(cola_file_load *load);
-/* Closes the file of a resident store without a checkpoint: what changed since the last one is gone. Any other is closed. */
+
+/* Closes the file of a resident store without a checkpoint: what changed since the last one is gone, but not from a logged store, whose
+ * log is kept: what was answered stays, and the next opening makes it again. Any other store is closed. */
 int32_t cola_file_discard(cola_file *file);
 
 #ifdef __cplusplus

@@ -1,7 +1,7 @@
 /* What is done to whole files of stores: see cola_file.h. */
 #define _GNU_SOURCE
-#include "cola_disk.h"
 #include "cola_file.h"
+#include "cola_opening.h"
 
 #include <errno.h>
 #include <fcntl.h>
@@ -13,18 +13,14 @@
 #include <time.h>
 #include <unistd.h>
 
+#include "cola_disk.h"
+
 /* Frees a name, and unmaps bytes. errno stays. */
 static void give_up(char *name, void *bytes, size_t length) {
     int error = errno;
     free(name);
     if (bytes != NULL) munmap(bytes, length);
     errno = error;
-}
-
-/* Opens and locks a file, alone or as one of those that read it. */
-static int32_t open_locked(const char *path, bool reads, int *descriptor) {
-    *descriptor = cola_disk_open_locked(path, reads);
-    return *descriptor < 0 ? COLA_SYSTEM : COLA_OK;
 }
 
 /* A closed store of a locked file, to be read alone. */
@@ -47,7 +43,7 @@ int32_t cola_file_check(const char *path, cola_verdict *verdict) {
     size_t length;
     int descriptor;
     if (path == NULL || verdict == NULL) return COLA_NULL;
-    int32_t answer = open_locked(path, true, &descriptor);
+    int32_t answer = cola_file_open_settled(path, COLA_READ_ONLY, &descriptor);
     if (answer != COLA_OK) return answer;
     answer = show(descriptor, &bytes, &length);
     if (answer == COLA_OK) {
@@ -58,21 +54,13 @@ int32_t cola_file_check(const char *path, cola_verdict *verdict) {
     return answer;
 }
 
-/* Opens the store again, which was closed in memory. */
-static int32_t reopen(cola_file *file, bool reads) {
-    int32_t answer = cola_open(&file->store, file->bytes, file->length);
-    if (answer == COLA_OK) file->store.is_read_only = reads;
-    return answer;
-}
-
 int32_t cola_file_check_open(cola_file *file, cola_verdict *verdict) {
     if (file == NULL || verdict == NULL) return COLA_NULL;
     if (file->bytes == NULL || file->owner != (long)getpid()) return COLA_CLOSED;
-    bool reads = file->store.is_read_only;
     int32_t answer = cola_close(&file->store);
     if (answer != COLA_OK) return answer;
     answer = cola_check(file->bytes, file->length, verdict);
-    int32_t opened = reopen(file, reads);
+    int32_t opened = cola_file_reopen(file);
     return opened == COLA_OK ? answer : opened;
 }
 
@@ -119,7 +107,7 @@ static void drop_fresh(fresh *it) {
 
 /* Takes room for the file, and maps it. */
 static bool map_fresh(fresh *it, size_t length) {
-    if (!cola_disk_take_room(it->descriptor, length)) return false;
+    if (!cola_disk_take_room(it->descriptor, 0, length)) return false;
     void *bytes = mmap(NULL, length, PROT_READ | PROT_WRITE, MAP_SHARED, it->descriptor, 0);
     if (bytes == MAP_FAILED) return false;
     it->bytes = bytes, it->length = length;
@@ -174,7 +162,7 @@ int32_t cola_file_grow(const char *path, uint64_t keys, uint8_t block, uint64_t 
     if (path == NULL) return COLA_NULL;
     char *name = realpath(path, NULL); /* (a link keeps its place) */
     if (name == NULL) return COLA_SYSTEM;
-    int32_t answer = open_locked(name, false, &descriptor);
+    int32_t answer = cola_file_open_settled(name, 0, &descriptor);
     if (answer == COLA_OK) {
         answer = grow_locked(descriptor, name, keys, block, rows);
         cola_disk_let_go(descriptor);

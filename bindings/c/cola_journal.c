@@ -120,20 +120,11 @@ static bool write_journal(cola_journal *journal, const pieces *of) {
     return is_well;
 }
 
-/* Waits until the names in the folder are on the disk. */
-static bool sync_folder(const cola_journal *journal) {
-    int folder = openat(journal->folder, ".", O_RDONLY | O_DIRECTORY | O_CLOEXEC);
-    if (folder < 0) return false;
-    bool is_synced = fsync(folder) == 0;
-    cola_disk_close(folder);
-    return is_synced;
-}
-
 /* Waits until the journal is on the disk, and its name. */
 static bool sync_journal(cola_journal *journal) {
     if (journal->descriptor < 0) return true;
     if (fsync(journal->descriptor) != 0) return false;
-    if (!journal->is_named) journal->is_named = sync_folder(journal);
+    if (!journal->is_named) journal->is_named = cola_disk_sync_folder(journal->folder);
     return journal->is_named;
 }
 
@@ -293,11 +284,15 @@ static bool open_folder(cola_journal *journal, const char *path) {
     return fits && journal->folder >= 0;
 }
 
+void cola_journal_beside(const cola_journal *journal, const char *other, char name[NAME_MAX + 1]) {
+    snprintf(name, NAME_MAX + 1, "%.*s%s", (int)(strlen(journal->name) - strlen(suffix)), journal->name, other);
+}
+
 /* Whether the folder has the open file by the name to which the journal's belongs. */
 static bool is_in_folder(const cola_journal *journal) {
-    char name[sizeof journal->name];
+    char name[NAME_MAX + 1];
     struct stat own, named;
-    snprintf(name, sizeof name, "%.*s", (int)(strlen(journal->name) - strlen(suffix)), journal->name);
+    cola_journal_beside(journal, "", name);
     if (fstat(journal->file, &own) != 0 || fstatat(journal->folder, name, &named, AT_SYMLINK_NOFOLLOW) != 0) return false;
     bool same = own.st_dev == named.st_dev && own.st_ino == named.st_ino;
     if (!same) errno = ESTALE;
@@ -315,7 +310,8 @@ bool cola_journal_of(cola_journal *journal, const char *path, int file) {
 /* (One that cannot be removed is empty, and no harm.) */
 void cola_journal_remove(cola_journal *journal) {
     int error = errno;
-    if (journal->descriptor >= 0 && journal->stage == COLA_STAGE_REST && unlinkat(journal->folder, journal->name, 0) == 0) sync_folder(journal);
+    if (journal->descriptor >= 0 && journal->stage == COLA_STAGE_REST && unlinkat(journal->folder, journal->name, 0) == 0)
+        cola_disk_sync_folder(journal->folder);
     errno = error;
     cola_journal_leave(journal);
 }

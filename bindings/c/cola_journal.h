@@ -32,6 +32,10 @@ size_t cola_pages_in(size_t length);
 /* The journal of the file that is open here and has this path: none is under way. False on failure. */
 bool cola_journal_of(cola_journal *journal, const char *path, int file);
 
+/* The name of another file that belongs to the journal's, in the same folder: the file's, and a suffix that is no longer than
+ * the journal's. */
+void cola_journal_beside(const cola_journal *journal, const char *suffix, char name[NAME_MAX + 1]);
+
 /* Makes the file have the marked pages: COLA_OK, and the journal is empty. COLA_SYSTEM: a call of the system failed (errno), and
  * the file has what it had, or, where *holds says so, the pages. COLA_UNFINISHED: it failed behind the sync of the journal, which
  * holds the pages from then on: no other checkpoint is made before it is finished, as the next call tries. COLA_MEMORY, where

@@ -19,6 +19,7 @@ typedef struct resident {
     void *memory;  /* all that was taken */
     size_t taken;
     cola_journal journal;
+    cola_log log;
     uint8_t marks[]; /* one for each page */
 } resident;
 
@@ -29,6 +30,11 @@ static size_t in_front(size_t length) { return rounded(sizeof(resident) + cola_p
 
 static resident *resident_of(const cola_file *file) { return (resident *)((char *)file->bytes - in_front(file->length)); }
 
+/* (The store of a file is its first member.) */
+cola_log *cola_resident_log(const cola *store) { return &resident_of((const cola_file *)(const void *)store)->log; }
+
+static bool is_logged(const resident *it) { return it->log.descriptor >= 0; }
+
 /* Takes memory for a store of so many bytes, on huge pages where the system gives them: NULL where there is none. What is not
  * read into later is touched here, so that no later call meets a page that is not there. */
 static char *take_memory(size_t length) {
@@ -37,8 +43,10 @@ static char *take_memory(size_t length) {
     if (memory == MAP_FAILED) return NULL;
     char *begin = (char *)rounded((size_t)memory);
     madvise(begin, front + rounded(length), MADV_HUGEPAGE); /* (a system that gives none is served without) */
-    memset(begin, 0, front);
-    *(resident *)begin = (resident){.memory = memory, .taken = taken};
+    memset(begin, 0, sizeof(resident) + cola_pages_in(length));
+    resident *it = (resident *)begin;
+    it->memory = memory, it->taken = taken;
+    cola_log_none(&it->log);
     return begin + front;
 }
 
@@ -57,12 +65,27 @@ static int32_t read_store(const cola_file *file) {
 int32_t cola_resident_reopen(cola_file *file) {
     resident *it = resident_of(file);
     int32_t answer = cola_open_marked(&file->store, file->bytes, file->length, it->marks, cola_pages_in(file->length));
-    if (answer == COLA_OK) file->store.is_unfinished = cola_journal_is_stuck(&it->journal);
+    if (answer != COLA_OK) return answer;
+    file->store.is_logged = is_logged(it);
+    file->store.is_unfinished = cola_journal_is_stuck(&it->journal) || (is_logged(it) && it->log.is_stuck);
+    return COLA_OK;
+}
+
+/* Opens the store that was read, and its log where there is to be one. */
+static int32_t open_read(cola_file *file, uint32_t flags) {
+    resident *it = resident_of(file);
+    char header[COLA_HEADER];
+    memcpy(header, file->bytes, sizeof header); /* (the opening writes to it) */
+    int32_t answer = cola_resident_reopen(file);
+    if (answer != COLA_OK || (flags & (COLA_LOGGED | COLA_SYNCED)) == 0) return answer;
+    answer = cola_log_open(&it->log, &it->journal, &file->store, header, (flags & COLA_SYNCED) != 0);
+    file->store.is_logged = answer == COLA_OK;
+    if (answer != COLA_OK) cola_close(&file->store); /* (in memory alone) */
     return answer;
 }
 
-int32_t cola_resident_open(cola_file *file, const char *path, int descriptor, size_t length) {
-    if (!cola_disk_take_room(descriptor, length)) return COLA_SYSTEM;
+int32_t cola_resident_open(cola_file *file, const char *path, int descriptor, size_t length, uint32_t flags) {
+    if (!cola_disk_take_room(descriptor, 0, length)) return COLA_SYSTEM;
     char *bytes = take_memory(length);
     if (bytes == NULL) return COLA_MEMORY;
     cola_file opened = *file;
@@ -70,7 +93,7 @@ int32_t cola_resident_open(cola_file *file, const char *path, int descriptor, si
     opened.owner = (long)getpid(), opened.is_resident = true;
     resident *it = resident_of(&opened);
     int32_t answer = cola_journal_of(&it->journal, path, descriptor) ? read_store(&opened) : COLA_SYSTEM;
-    if (answer == COLA_OK) answer = cola_resident_reopen(&opened);
+    if (answer == COLA_OK) answer = open_read(&opened, flags);
     if (answer == COLA_OK) {
         *file = opened;
     } else {
@@ -89,22 +112,30 @@ static bool is_in_file(const cola_file *file, const resident *it) {
     return cola_disk_read(file->descriptor, first, length) == (ssize_t)length && memcmp(first, file->bytes, length) == 0;
 }
 
-/* Makes the file have the closed store. Pages that a checkpoint holds have no mark then. */
+/* Makes the file have the closed store. Pages that a checkpoint holds have no mark then. Where the log would follow the new file as
+ * it follows the old one, which a header of version 1 may tell by nothing, the log is kept in the place of a checkpoint. Behind a
+ * checkpoint that may hold, and is not done, the log may follow no file: then nothing is appended to it. */
 static int32_t make_checkpoint(cola_file *file) {
     resident *it = resident_of(file);
     cola_pages pages = {file->bytes, file->length, it->marks};
     bool holds = false;
-    if (it->journal.stage == COLA_STAGE_REST && is_in_file(file, it)) return COLA_OK;
+    it->log.is_done = it->journal.stage == COLA_STAGE_REST && is_in_file(file, it);
+    if (it->log.is_done) return COLA_OK;
+    if (is_logged(it) && cola_log_follows(&it->log, file->bytes)) return cola_log_sync(&it->log);
     it->marks[0] = 1; /* (a journal has the header) */
     int32_t answer = cola_journal_checkpoint(&it->journal, &pages, &holds);
     if (holds) memset(it->marks, 0, cola_pages_in(file->length));
+    it->log.is_done = answer == COLA_OK;
+    if (it->journal.stage != COLA_STAGE_REST) it->log.is_stuck = true;
     return answer;
 }
 
 int32_t cola_resident_checkpoint(cola_file *file) {
     int32_t answer = cola_close(&file->store);
     if (answer != COLA_OK) return answer;
+    resident *it = resident_of(file);
     answer = make_checkpoint(file);
+    if (is_logged(it) && it->log.is_done && !cola_log_begin(&it->log, file->bytes)) answer = COLA_SYSTEM;
     int error = errno;
     int32_t opened = cola_resident_reopen(file);
     errno = error;
@@ -118,8 +149,10 @@ int32_t cola_resident_close(cola_file *file, bool discards, bool is_owner) {
         answer = cola_close(&file->store);
         if (answer == COLA_CLOSED) answer = COLA_OK; /* (a checkpoint had no memory to open it again) */
         if (answer == COLA_OK && !discards) answer = make_checkpoint(file);
+        cola_log_close(&it->log);
         cola_journal_remove(&it->journal);
     } else {
+        cola_log_leave(&it->log);
         cola_journal_leave(&it->journal);
     }
     give_memory(it);

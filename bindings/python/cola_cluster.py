@@ -23,8 +23,10 @@ One client at a time has a store. What is promised, and what is not, stands in d
 import asyncio
 import bisect
 import collections
+import heapq
 import io
 import itertools
+import operator
 import os
 import pickle
 import shutil
@@ -40,6 +42,7 @@ import cola
 __all__ = ["create", "open", "splits_of", "Cluster", "Lost"]
 
 _PAGE = 4096  # rows that a range asks of a shard at once
+_key = operator.itemgetter(0)
 _GONE = (OSError, ValueError, asyncio.CancelledError, distributed.TimeoutError,
          distributed.KilledWorker)  # what Dask raises of a worker that is gone, or does not answer in time
 
@@ -52,14 +55,14 @@ class _Shard:
     """The actor: an open store in a file of its own. Rows cross as one pickled string, since Dask is slow with lists of bytes.
     Each call gives the exception that it met, or None, and what it answers: what Dask raises is of the worker then."""
 
-    def __init__(self, path, base, options):
+    def __init__(self, path, base, options, how):
         os.makedirs(os.path.dirname(path), exist_ok=True)
         if base is None:
             cola.create(path, *options)
         else:
             shutil.copyfile(base, path)
-        self._path, self._options = path, options
-        self._store = cola.open(path)
+        self._path, self._options, self._how, self._spilled = path, options, how, []
+        self._store = cola.open(path, **how)
 
     def call(self, name, *words):
         try:
@@ -87,8 +90,9 @@ class _Shard:
     def get_many(self, keys):
         return pickle.dumps(self._store.get_many(pickle.loads(keys)))
 
-    def rows(self, low, high):
-        return pickle.dumps(list(itertools.islice(self._store[low:high], _PAGE)))
+    def rows(self, low, high, backwards):
+        rows = self._store[low:high]
+        return pickle.dumps(list(itertools.islice(reversed(rows) if backwards else rows, _PAGE)))
 
     def count(self):
         return len(self._store)
@@ -96,21 +100,62 @@ class _Shard:
     def checkpoint(self, copy):
         self._store.checkpoint(copy)
 
+    def spill(self, rows):
+        """Keeps rows of a load on this worker's disk, in the order of their keys; of rows of one key the last one stands last."""
+        path = f"{self._path}-{len(self._spilled)}"
+        with io.open(path, "wb") as file:
+            for row in sorted(pickle.loads(rows), key=_key):
+                pickle.dump(row, file)
+        self._spilled.append(path)
+
+    def fill(self):
+        """Fills the store, which is empty, with the rows that were kept, by rising keys."""
+        rows = heapq.merge(*map(_unspilled, self._spilled), key=_key)  # (of equal keys, those that were kept first come first)
+        last = (tuple(some)[-1] for _, some in itertools.groupby(rows, _key))
+        self._store.close()
+        os.remove(self._path)
+        cola.load(self._path, last, *self._options)
+        for path in self._spilled:
+            os.remove(path)
+        self._spilled = []
+        self._store = cola.open(self._path, **self._how)
+
+    def grow(self, most):
+        """Makes the store one for twice as many keys, if that is no more than so many. Whether it did."""
+        limits = self._store.limits
+        if 2 * limits["keys"] > most:
+            return False
+        self._store.close()
+        try:
+            cola.grow(self._path, 2 * limits["keys"], limits["block"])
+        finally:
+            self._store = cola.open(self._path, **self._how)
+        return True
+
     def split(self, lower, upper):
         """Makes a closed store of each half of the rows, and gives the least key of the upper one."""
         rows = self._store[:]
+        limits = self._store.limits
         for path, part in (lower, itertools.islice(rows, len(self._store) // 2)), (upper, rows):
             if os.path.exists(path):
                 os.remove(path)  # (of a split that was not finished)
-            cola.create(path, *self._options)
-            with cola.open(path) as store:
-                store.update(part)
+            cola.load(path, part, limits["keys"], limits["block"], limits["version"])
         with cola.open(upper) as store:
             return next(iter(store))
 
     def close(self):
         self._store.close()
         os.remove(self._path)
+
+
+def _unspilled(path):
+    """The rows that a shard kept in a file."""
+    with io.open(path, "rb") as file:
+        while True:
+            try:
+                yield pickle.load(file)
+            except EOFError:
+                return
 
 
 class _Part:
@@ -196,16 +241,18 @@ def splits_of(sample, shards):
     return sorted({keys[len(keys) * at // shards] for at in range(1, shards)} - {keys[0]}) if keys else []
 
 
-def create(client, name, *, keys, folder, shared, journal, splits=(), block=5, version=1, patience=60):
-    """Makes a new, empty store: a shard below the first of the splits, and one from each split on, for so many keys each. Where
-    the journal is None, what came behind the last checkpoint is lost with this client, though not with a worker. A worker
-    that has not answered within so many seconds is taken for dead: more than a checkpoint of a shard takes."""
+def create(client, name, *, keys, folder, shared, journal, splits=(), block=5, version=1, most=None, patience=60, **how):
+    """Makes a new, empty store: a shard below the first of the splits, and one from each split on, for so many keys each. A
+    shard that is full is made one for twice as many keys while that is at most `most`, and else split in two. Where the
+    journal is None, what came behind the last checkpoint is lost with this client, though not with a worker. A worker
+    that has not answered within so many seconds is taken for dead: more than a checkpoint of a shard takes. Other words are
+    those of cola.open, by which the workers open their files: resident=True, log=True."""
     splits = list(splits)
     if sorted(set(splits)) != splits or b"" in splits:
         raise ValueError("splits are keys, each greater than the one before")
     if keys < 2:
         raise ValueError("a shard that is to be split is for two keys at least")
-    map_ = {"name": name, "folder": folder, "shared": shared, "options": (keys, block, version),
+    map_ = {"name": name, "folder": folder, "shared": shared, "options": (keys, block, version), "how": how, "most": most or keys,
             "parts": [(low, None, None, 0) for low in (b"", *splits)]}
     if journal is None:
         return Cluster(client, _Journal(None), map_, 0, patience)
@@ -299,7 +346,7 @@ class Cluster:
             at = self._index(low)
             until = self._parts[at + 1].low if at + 1 < len(self._parts) else None
             end = min((bound for bound in (until, high) if bound is not None), default=None)
-            rows = pickle.loads(self._ask(low, "rows", low, end))
+            rows = pickle.loads(self._ask(low, "rows", low, end, False))
             yield from rows
             if len(rows) == _PAGE:
                 low = rows[-1][0] + b"\0"
@@ -307,6 +354,19 @@ class Cluster:
                 return
             else:
                 low = end
+
+    def reversed(self, low=b"", high=None):
+        """The pairs of range(low, high), the last one first, streamed as those are."""
+        while high is None or low < high:
+            least = self._parts[-1 if high is None else bisect.bisect_left([part.low for part in self._parts], high) - 1].low
+            rows = pickle.loads(self._ask(least, "rows", max(low, least), high, True))
+            yield from rows
+            if len(rows) == _PAGE:
+                high = rows[-1][0]
+            elif least <= low:
+                return
+            else:
+                high = least
 
     def prefix(self, begin):
         """The pairs of the keys that begin so, in order."""
@@ -325,18 +385,35 @@ class Cluster:
     def checkpoint(self):
         """Copies each shard's file into the shared folder, and begins a new journal: what it had is in the copies, on the
         disk."""
-        before = {part.base for part in self._parts} - {None}
+        before = self._bases()
         while late := [part for part in self._parts if part.base is None or part.position < self._position]:
-            copies = [(part, self._copy(part)) for part in late]
-            calls = [(part, copy, self._call(part, "checkpoint", copy)) for part, copy in copies]
-            for part, copy, call in calls:
-                if self._answer(call) is None:
-                    self._replace(part)
-                else:
-                    part.base, part.position = copy, self._position
-        self._journal.begin(self._noted(), self._position)
-        for base in before - {part.base for part in self._parts}:
-            _remove(base)
+            for part in self._copied(late):
+                self._replace(part)
+        self._begin_behind(before)
+
+    def load(self, rows, batch=5000):
+        """Fills the store, which has no key, with pairs in any order, of an iterable or a dask.bag; of pairs of one key the last
+        one is kept. Each worker sorts its shards' rows on its disk, and fills their files by rising keys. It ends with a
+        checkpoint, and has nothing in the journal: where it raises, as Lost where a worker was lost or cola.Full where a
+        range has more keys than its shard is for, the store is closed, and an opening finds it empty."""
+        if self.count():
+            raise ValueError("the store has keys: put_rows adds to it")
+        try:
+            under_way = []
+            for some in self._batches(rows, batch):
+                self._check((key, 0 if value is None else value) for key, value in some)
+                sent, under_way = under_way, [self._call(part, "spill", pickle.dumps(its)) for part, its in self._routed(some, _key)]
+                self._all_answer(sent)
+            self._all_answer(under_way)
+            self._all_answer([self._call(part, "fill") for part in self._parts])
+            self._position += 1  # (it has a batch's number, so that a checkpoint from before it is behind)
+            before = self._bases()
+            if self._copied(self._parts):
+                raise Lost("a worker was lost while its shard was copied")
+            self._begin_behind(before)
+        except BaseException:
+            self._release()
+            raise
 
     def close(self):
         """Makes a checkpoint, and closes and removes the workers' files. A store that is closed stays so."""
@@ -346,6 +423,27 @@ class Cluster:
         for call in [self._call(part, "close") for part in self._parts]:
             self._answer(call)
         self._release()
+
+    # -- Checkpoints
+
+    def _bases(self):
+        return {part.base for part in self._parts} - {None}
+
+    def _copied(self, parts):
+        """Copies the files of shards into the shared folder; those are given whose workers are gone."""
+        calls, lost = [(part, self._call(part, "checkpoint", self._copy(part))) for part in parts], []
+        for part, call in calls:
+            if self._answer(call) is None:
+                lost.append(part)
+            else:
+                part.base, part.position = self._copy(part), self._position
+        return lost
+
+    def _begin_behind(self, before):
+        """Begins a journal behind the copies, and removes those of before that are of no use now."""
+        self._journal.begin(self._noted(), self._position)
+        for base in before - self._bases():
+            _remove(base)
 
     # -- Where keys go
 
@@ -398,6 +496,11 @@ class Cluster:
             raise error
         return answer,
 
+    def _all_answer(self, calls):
+        """Sees that all of these calls are made."""
+        if None in [self._answer(call) for call in calls]:
+            raise Lost("a worker was lost while rows were loaded")
+
     def _ask(self, key, name, *words):
         """Asks the shard of a key, or the one that comes in its place."""
         while True:
@@ -417,7 +520,7 @@ class Cluster:
             answer = self._answer(call)
             if answer is None:
                 self._replace(part)  # (the journal has these rows)
-            elif answer[0] < len(rows) and self._split(part, number - 1):
+            elif answer[0] < len(rows) and (self._grow(part) or self._split(part, number - 1)):
                 self._finish(self._send(rows[answer[0]:], number))
 
     # -- Shards that come and go
@@ -446,7 +549,7 @@ class Cluster:
         workers = self._workers(avoided)
         part.worker, part.name = min(workers, key=lambda it: used[it]), self._name()
         path = os.path.join(self._map["folder"], part.name)
-        part.future = self._client.submit(_Shard, path, part.base, self._map["options"], actor=True, pure=False,
+        part.future = self._client.submit(_Shard, path, part.base, self._map["options"], self._map["how"], actor=True, pure=False,
                                           workers=[part.worker], allow_other_workers=False)
 
     def _workers(self, avoided):
@@ -484,6 +587,12 @@ class Cluster:
             rows = [row for row in rows if row[0] >= low and (high is None or row[0] < high)
                     and self._parts[self._index(row[0])].position < number]
             self._finish(self._send(rows, number))
+
+    def _grow(self, part):
+        """Has a shard that is full made one for more keys, where it may have them. (One that is opened from an older checkpoint grows
+        again as its batches are made again.)"""
+        answer = self._answer(self._call(part, "grow", self._map["most"]))
+        return answer is not None and answer[0]
 
     def _split(self, part, position):
         """Splits a shard that is full in two, each opened from a file in the shared folder, that has the batches up to a position

@@ -505,6 +505,37 @@ class Stores(unittest.TestCase):
         with cola.open(self.path) as store:
             self.assertEqual(dict(store), {b"a": b"1", b"b": b"2"})
 
+    def test_a_store_with_a_log_keeps_what_it_answered(self):
+        cola.create(self.path, 1000, version=2)
+        for flags in {"resident": True, "log": True}, {"sync": True}:
+            child = os.fork()
+            if child == 0:
+                store = cola.open(self.path, **flags)
+                store[b"a"] = b"1"
+                store.update({b"b": b"2", b"c": b"3"})
+                del store[b"a"]
+                store.put_if(b"c", store.stamp(b"c"), b"4")
+                store.sync()
+                os.kill(os.getpid(), signal.SIGKILL)
+            self.assertTrue(os.WIFSIGNALED(os.waitpid(child, 0)[1]))
+            self.assertTrue(os.path.exists(self.path + "-log"))
+            with self.assertRaises(ZeroDivisionError):
+                with cola.open(self.path, log=True) as store:
+                    self.assertEqual(dict(store), {b"b": b"2", b"c": b"4"})
+                    store[b"d"] = b"5"
+                    1 / 0
+            with cola.open(self.path, read_only=True) as store:  # (makes the calls again, by a checkpoint)
+                self.assertEqual(dict(store), {b"b": b"2", b"c": b"4", b"d": b"5"})
+            self.assertFalse(os.path.exists(self.path + "-log"))
+            with cola.open(self.path, log=True) as store:
+                store.clear()
+                store.checkpoint()
+        with self.assertRaises(cola.Options):
+            cola.open(self.path, log=True, read_only=True)
+        with cola.open(self.path, resident=True) as store:
+            with self.assertRaises(cola.Options):
+                store.sync()
+
     def test_a_process_that_dies_leaves_its_checkpoint(self):
         cola.create(self.path, 1000)
         child = os.fork()

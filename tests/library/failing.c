@@ -1,8 +1,9 @@
 /* Each call of the system that cola_file.h makes on a file, in a creation, the openings, a checkpoint, a closing, a check, a
- * growing and a load, of a mapped store and of a resident one, and as a journal is finished, fails in turn; and the process is
- * killed in front of each, behind
- * each, and within each write. What is left has to be whole or refused, never another map; a refused call leaves nothing behind, and its errno is that of the call that failed; all else
- * in the folder stays as it was.
+ * growing and a load, of a mapped store and of a resident one, and as a journal is finished, fails in turn; and of a logged and a
+ * synced store in its puts, a sync, a checkpoint and the openings that make its calls again; and the process is killed in front of
+ * each, behind each, and within each write. What is left has to be whole or refused, never another map, and of a logged store each
+ * call that was answered; a refused call leaves nothing behind, and its errno is that of the call that failed; all else in the
+ * folder stays as it was.
  *
  *     failing FOLDER
  *
@@ -43,12 +44,15 @@ static const char *const kinds[KINDS] = {"made", "refused", "as the disk fails",
                                          "nothing", "interrupted"};
 
 enum operation {
-    CREATE, CREATE_EMPTY, OPEN, READ, CHECKPOINT, CLOSE, CHECK, GROW, LOAD, OPEN_RESIDENT, SAVE, CLOSE_RESIDENT, RECOVER, OPERATIONS
+    CREATE, CREATE_EMPTY, OPEN, READ, CHECKPOINT, CLOSE, CHECK, GROW, LOAD, OPEN_RESIDENT, SAVE, CLOSE_RESIDENT, RECOVER,
+    PUT_LOGGED, PUT_SYNCED, OPEN_LOGGED, OPEN_BESIDE, READ_BESIDE, SAVE_LOGGED, CLOSE_LOGGED, OPERATIONS
 };
 static const char *const operations[OPERATIONS] = {"create", "create in an empty file", "open", "open to read", "checkpoint", "close", "check",
-                                                   "grow", "load", "open resident", "save", "close resident", "recover"};
+                                                   "grow", "load", "open resident", "save", "close resident", "recover",
+                                                   "put logged", "put synced", "open logged", "open beside a log", "read beside a log",
+                                                   "save logged", "close logged"};
 
-enum { KEYS = 300, HEADER = 512 };
+enum { KEYS = 300, HEADER = 512, SOME = 12 };
 
 static enum kind kind;
 static long at, made;      /* the call that is not made as it is, and how many were made so far */
@@ -99,6 +103,7 @@ static void ends(enum kind it) {
 CALL(fstat, EOVERFLOW, (int descriptor, struct stat *about), (descriptor, about))
 CALL(stat, ELOOP, (const char *path, struct stat *about), (path, about))
 CALL(fsync, EIO, (int descriptor), (descriptor))
+CALL(fdatasync, EIO, (int descriptor), (descriptor))
 CALL(msync, EIO, (void *bytes, size_t length, int how), (bytes, length, how))
 CALL(munmap, EINVAL, (void *bytes, size_t length), (bytes, length))
 CALL(rename, EXDEV, (const char *from, const char *to), (from, to))
@@ -211,13 +216,14 @@ ssize_t __wrap_pwrite(int descriptor, const void *bytes, size_t length, off_t pl
     if (it == REFUSED) return refuses(EIO);
     if (it == NOTHING) return refuses(EIO), errno = 0, 0;
     if (it == INTERRUPTED) return errno = EINTR, -1;
-    bool is_half = (it == HALF || it == KILLED_WITHIN) && length > HEADER; /* (a header is written as a whole) */
+    bool is_half = (it == HALF || it == KILLED_WITHIN) && length != HEADER && length > 1; /* (a header is written as a whole) */
     ssize_t answer = __real_pwrite(descriptor, bytes, is_half ? length / 2 : length, place);
     ends(it == KILLED_WITHIN ? KILLED_BEHIND : it);
     return answer;
 }
 
 static char folder[3000];
+static volatile long *answered; /* the steps whose calls were answered, in memory that parent and child have */
 
 /* The path of a name in the folder. One call's result stands until the fourth one behind it. */
 static const char *path_of(const char *name) {
@@ -342,33 +348,38 @@ static int32_t opens(const char *name, int steps) {
     return same ? COLA_OK : -1;
 }
 
-/* Which of these maps the store has, opened once: an opening finishes the journal that stands beside. */
-static int map_left(const char *name) {
-    static cola_row rows[KEYS + 1];
-    static const int steps[] = {FIRST, SECOND, THIRD};
+static cola_row rows_left[KEYS + 1]; /* of the store that is left */
+static size_t count_left;
+
+/* Reads these, by one opening, which finishes the journal that stands beside, and makes the calls of a log again. A mapped store that
+ * was in use is refused. */
+static bool read_left(void) {
     cola_file file = COLA_FILE_INIT;
     cola_cursor cursor;
-    size_t given = 0;
-    int found = 0;
-    HOLDS(cola_file_open(&file, path_of(name)) == COLA_OK);
+    int32_t answer = cola_file_open_as(&file, path_of("store"), operation >= PUT_LOGGED ? COLA_LOGGED : 0);
+    if (answer == COLA_NOT_CLOSED && operation == OPEN_BESIDE) return false;
+    HOLDS(answer == COLA_OK);
     HOLDS(cola_seek(&cursor, NULL, 0, NULL, 0) == COLA_OK);
-    cola_next(&file.store, &cursor, rows, KEYS + 1, &given);
-    for (int it = 0; it < 3; it++) {
-        const plain *map = map_of(steps[it]);
-        bool same = given == map->count;
-        for (size_t row = 0; same && row < given; row++) {
-            const cola_row *mine = &map->pairs[row].row;
-            same = plain_order(mine->key, mine->key_len, rows[row].key, rows[row].key_len) == 0 &&
-                   plain_order(mine->value, mine->value_len, rows[row].value, rows[row].value_len) == 0;
-        }
-        if (same) found = steps[it];
+    count_left = 0;
+    cola_next(&file.store, &cursor, rows_left, KEYS + 1, &count_left);
+    HOLDS(cola_file_close(&file) == COLA_OK && !is_there("store-journal") && !is_there("store-log"));
+    return true;
+}
+
+/* Whether they are the map behind so many steps. */
+static bool is_left(int steps) {
+    const plain *map = map_of(steps);
+    bool same = count_left == map->count;
+    for (size_t row = 0; same && row < count_left; row++) {
+        const cola_row *mine = &map->pairs[row].row, *theirs = &rows_left[row];
+        same = plain_order(mine->key, mine->key_len, theirs->key, theirs->key_len) == 0 &&
+               plain_order(mine->value, mine->value_len, theirs->value, theirs->value_len) == 0;
     }
-    HOLDS(cola_file_close(&file) == COLA_OK && !is_there("store-journal"));
-    return found;
+    return same;
 }
 
 /* The files of a case: a closed store, a journal of it, an older copy, and two that only have names near theirs. */
-static image store, journal, copy, beside = {"copy.new", 8, "is other"}, other = {"store.new", 5, "other"};
+static image store, journal, record, copy, beside = {"copy.new", 8, "is other"}, other = {"store.new", 5, "other"};
 
 static void make(const char *name, int steps, image *it) {
     cola_file file = COLA_FILE_INIT;
@@ -398,6 +409,17 @@ static void make_journal(const image *to) {
     journal.length = (size_t)(end - journal.bytes) + COLA_JOURNAL_SUM;
 }
 
+/* The log by which the store's calls go on to the second map. */
+static void make_log(void) {
+    cola_file file = COLA_FILE_INIT;
+    HOLDS(cola_file_open_as(&file, path_of("store"), COLA_LOGGED) == COLA_OK);
+    go(&file.store, FIRST, SECOND);
+    HOLDS(cola_file_discard(&file) == COLA_OK && is_image(&store));
+    HOLDS(truncate(path_of("store-log"), 1 << 16) == 0); /* (the room behind its calls) */
+    load(&record, "store-log");
+    HOLDS(unlink(path_of("store-log")) == 0);
+}
+
 #define ARMED(call) (armed = true, errno = 0, answer = (call), error = errno, armed = disk_fails = false)
 
 static void set_up(void) {
@@ -411,6 +433,8 @@ static void set_up(void) {
     HOLDS(chmod(path_of("store"), 0640) == 0);
     if (operation == CREATE_EMPTY) write_file("made", "", 0);
     if (operation == RECOVER) write_file("store-journal", journal.bytes, journal.length);
+    if (operation >= OPEN_LOGGED && operation <= READ_BESIDE) write_file("store-log", record.bytes, record.length);
+    *answered = FIRST;
 }
 
 /* Makes a file of the rows of a map, by rising keys. */
@@ -464,15 +488,56 @@ static int resident_session(cola_file *file, int32_t *answered, int *error_told)
     return left;
 }
 
+/* Steps of a logged store, up to the first that is refused, and behind them a batch and a sync. */
+static int32_t steps_logged(cola_file *file) {
+    char key[16], value[16];
+    bool puts;
+    int32_t answer = COLA_OK;
+    for (int number = FIRST; number < FIRST + SOME; number++) {
+        step(number, key, value, &puts);
+        answer = puts ? cola_put(&file->store, key, 6, value, 9, NULL) : cola_delete(&file->store, key, 6);
+        if (answer != COLA_OK && answer != COLA_NONE) return answer;
+        *answered = number + 1;
+    }
+    return cola_file_sync(file);
+}
+
+/* A case of a logged store: the map that it is left with, or, behind a sync that failed, one call more. */
+static int logged_session(cola_file *file, int32_t *told, int *error_told) {
+    int32_t answer = COLA_OK;
+    int error = 0, left = SECOND;
+    if (operation >= OPEN_LOGGED && operation <= READ_BESIDE) {
+        ARMED(cola_file_open_as(file, path_of("store"), operation == OPEN_LOGGED ? COLA_LOGGED : operation == OPEN_BESIDE ? 0 : COLA_READ_ONLY));
+        if (answer == COLA_OK) HOLDS(cola_file_discard(file) == COLA_OK);
+    } else {
+        HOLDS(cola_file_open_as(file, path_of("store"), operation == PUT_SYNCED ? COLA_SYNCED : COLA_LOGGED) == COLA_OK);
+        if (operation <= PUT_SYNCED) {
+            ARMED(steps_logged(file));
+            left = (int)*answered;
+            HOLDS(cola_file_discard(file) == COLA_OK);
+        } else {
+            go(&file->store, FIRST, SECOND);
+            if (operation == CLOSE_LOGGED) ARMED(cola_file_close(file));
+            else ARMED(cola_file_checkpoint(file, NULL));
+            if (operation == SAVE_LOGGED && cola_put(&file->store, "", 0, "", 0, NULL) == COLA_LENGTH) go(&file->store, SECOND, left = THIRD);
+            if (operation == SAVE_LOGGED) HOLDS(cola_file_discard(file) == COLA_OK);
+        }
+    }
+    *told = answer, *error_told = error;
+    return left;
+}
+
 /* The case, in a process of its own. It ends with how many calls of the system were counted. */
 static void session(void) {
     cola_file file = COLA_FILE_INIT;
     int32_t answer;
     int error, before = descriptors(), left;
     if (operation >= OPEN_RESIDENT) {
-        left = resident_session(&file, &answer, &error);
-        int found = map_left("store");
-        HOLDS(left != 0 ? found == left : found == FIRST || found == SECOND);
+        left = operation >= PUT_LOGGED ? logged_session(&file, &answer, &error) : resident_session(&file, &answer, &error);
+        bool reads = read_left() || kind == DISK_FAILS, is_behind = operation == PUT_SYNCED && answer != COLA_OK;
+        if (operation == OPEN_BESIDE) HOLDS(reads && (kind == DISK_FAILS || is_left(SECOND)));
+        else if (left == 0) HOLDS(is_left(FIRST) || is_left(SECOND));
+        else HOLDS(is_left(left) || (is_behind && is_left(left + 1)));
     } else if (operation == CREATE || operation == CREATE_EMPTY) {
         ARMED(cola_file_create(path_of("made"), KEYS, 3, 1));
     } else if (operation == OPEN) {
@@ -499,7 +564,8 @@ static void session(void) {
     HOLDS(file.bytes == NULL && file.descriptor == -1 && descriptors() == before);
     if (answer != COLA_OK) {
         bool is_told = answer == COLA_SYSTEM || (operation >= SAVE && answer == COLA_UNFINISHED) ||
-                       ((operation == OPEN_RESIDENT || operation == RECOVER) && answer == COLA_MEMORY);
+                       ((operation == OPEN_RESIDENT || operation == RECOVER || (operation >= OPEN_LOGGED && operation <= READ_BESIDE)) &&
+                        answer == COLA_MEMORY);
         HOLDS(is_told && error == refused_with && error != 0);
         if (operation == OPEN && kind != DISK_FAILS) HOLDS(is_image(&store));
     } else {
@@ -521,7 +587,8 @@ static void look(bool was_killed) {
     char name[256];
     struct stat about;
     int32_t answer;
-    const char *const known[] = {"store", "copy", "copy.new", "store.new", "made", operation >= OPEN_RESIDENT ? "store-journal" : "store", NULL};
+    const char *const known[] = {"store", "copy", "copy.new", "store.new", "made", operation >= OPEN_RESIDENT ? "store-journal" : "store",
+                                 operation >= PUT_LOGGED ? "store-log" : "store", NULL};
     int unknown = others(known, name);
     HOLDS(is_image(&beside) && is_image(&other));
     switch (operation) {
@@ -571,15 +638,33 @@ static void look(bool was_killed) {
         HOLDS(operation == LOAD || (stat(path_of("store"), &about) == 0 && (about.st_mode & 0777) == 0640));
         break;
     case OPEN_RESIDENT:
-        HOLDS(unknown == 0 && is_image(&copy) && map_left("store") == FIRST);
+        HOLDS(unknown == 0 && is_image(&copy));
+        read_left(), HOLDS(is_left(FIRST));
         break;
     case RECOVER:
-        HOLDS(unknown == 0 && is_image(&copy) && map_left("store") == SECOND);
+        HOLDS(unknown == 0 && is_image(&copy));
+        read_left(), HOLDS(is_left(SECOND));
         break;
     case SAVE:
     case CLOSE_RESIDENT:
         HOLDS(unknown == 0 && is_image(&copy));
-        if (was_killed) answer = map_left("store"), HOLDS(answer == FIRST || answer == SECOND);
+        if (was_killed) read_left(), HOLDS(is_left(FIRST) || is_left(SECOND));
+        break;
+    case PUT_LOGGED:
+    case PUT_SYNCED:
+        HOLDS(unknown == 0 && is_image(&copy));
+        if (was_killed) read_left(), HOLDS(is_left((int)*answered) || is_left((int)*answered + 1));
+        break;
+    case OPEN_BESIDE:
+        HOLDS(unknown == 0 && is_image(&copy));
+        if (was_killed && read_left()) HOLDS(is_left(SECOND));
+        break;
+    case OPEN_LOGGED:
+    case READ_BESIDE:
+    case SAVE_LOGGED:
+    case CLOSE_LOGGED:
+        HOLDS(unknown == 0 && is_image(&copy));
+        if (was_killed) read_left(), HOLDS(is_left(SECOND));
         break;
     default:
         HOLDS(unknown == 0 && !is_there("made") && is_image(&copy));
@@ -637,9 +722,12 @@ int main(int count, char **words) {
     if (count < 2) return fprintf(stderr, "failing FOLDER\n"), 2;
     snprintf(folder, sizeof folder, "%.2900s/failing.files", words[1]);
     mkdir(folder, 0777);
+    answered = mmap(NULL, sizeof *answered, PROT_READ | PROT_WRITE, MAP_SHARED | MAP_ANONYMOUS, -1, 0);
+    HOLDS(answered != MAP_FAILED);
     make("store", FIRST, &store);
     make("made", SECOND, &made_once);
     make_journal(&made_once);
+    make_log();
     make("copy", OLD, &copy);
     of_replaced_files(0);
     of_replaced_files(COLA_READ_ONLY);

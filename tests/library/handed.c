@@ -4,12 +4,12 @@
  *
  *     handed
  *
- * Link with cola.c alone. Under valgrind it tells bytes that were never written. */
+ * Link with cola.c alone: for the log of a store too there is a stand-in. Under valgrind it tells bytes that were never written. */
 #include <stdio.h>
 #include <stdlib.h>
 #include <string.h>
 
-#include "cola.h"
+#include "cola_log.h"
 
 #define HOLDS(is) ((is) ? (void)0 : (fprintf(stderr, "handed: line %d: not so: %s\n", __LINE__, #is), exit(1)))
 
@@ -45,6 +45,25 @@ static void takes(const void *key, size_t key_len, const void *value, size_t val
     calls++;
     if (reads) read_all(key, key_len), read_all(value, value_len);
     HOLDS(key != NULL && key_len <= COLA_KEY_MAX + 1 && value != NULL && value_len <= COLA_VALUE_MAX + 1);
+}
+
+/* The log: what it answers, how many calls were appended, and how many rows one write takes. */
+static int32_t log_answer;
+static int appended, row_writes, taken_back;
+static size_t rows_at_once = 2;
+static cola_call appended_last;
+
+int32_t cola_log_call(cola *store, const cola_call *call) {
+    HOLDS(store->is_logged && is_bool(&store->is_logged));
+    return appended_last = *call, appended++, log_answer;
+}
+int32_t cola_log_rows(cola *store, const cola_row *rows, size_t count, size_t *logged) {
+    HOLDS(store->is_logged && rows != NULL && count > 0);
+    return *logged = count < rows_at_once ? count : rows_at_once, row_writes++, log_answer;
+}
+void cola_log_keep(cola *store, const cola_row *rows, size_t count) {
+    HOLDS(store->is_logged && rows != NULL);
+    taken_back = (int)count;
 }
 
 int32_t cola_core_size(uint64_t keys, uint8_t block, uint8_t version, uint64_t *bytes) {
@@ -294,6 +313,35 @@ static void of_handles(void) {
     HOLDS(cola_get(&store, "k", 1, value, &length) == COLA_OK && cola_close(&store) == COLA_OK);
 }
 
+/* A call that changes a store with a log is appended before it is made, and not made where that is refused; of a batch what one write
+ * takes, and what was not made of it is taken back. Where nothing may be written, and on a closed store, nothing is appended. */
+static void of_logs(void) {
+    cola store = COLA_INIT;
+    cola_row *rows = calloc(5, sizeof *rows);
+    size_t done = 7;
+    uint64_t stamp;
+    HOLDS(rows != NULL);
+    store.is_open = store.is_logged = true;
+    answer = COLA_OK, calls = 0;
+    HOLDS(cola_put(&store, "k", 1, "v", 1, NULL) == COLA_OK && appended == 1 && calls == 1 && appended_last.kind == COLA_CALL_PUT);
+    HOLDS(cola_put_if(&store, "k", 1, 5, "v", 1, &stamp) == COLA_OK && appended == 2 && appended_last.kind == COLA_CALL_PUT_IF && appended_last.seen == 5);
+    HOLDS(cola_delete(&store, "k", 1) == COLA_OK && appended == 3 && calls == 3 && appended_last.kind == COLA_CALL_DELETE);
+    HOLDS(cola_put_many(&store, rows, 5, NULL, &done) == COLA_OK && done == 5 && row_writes == 3 && appended == 3 && calls == 8);
+    answer = COLA_FULL;
+    HOLDS(cola_put_many(&store, rows, 5, NULL, &done) == COLA_FULL && done == 0 && row_writes == 4 && taken_back == 1);
+    answer = COLA_OK, log_answer = COLA_SYSTEM, calls = 0;
+    HOLDS(cola_put(&store, "k", 1, "v", 1, NULL) == COLA_SYSTEM && cola_delete(&store, "k", 1) == COLA_SYSTEM && appended == 5);
+    HOLDS(cola_put_if(&store, "k", 1, 5, "v", 1, NULL) == COLA_SYSTEM && cola_put_many(&store, rows, 5, NULL, &done) == COLA_SYSTEM && done == 0);
+    HOLDS(calls == 0 && store.is_logged);
+    log_answer = COLA_OK, store.is_unfinished = true, appended = row_writes = 0;
+    HOLDS(cola_put(&store, "k", 1, "v", 1, NULL) == COLA_UNFINISHED && cola_put_many(&store, rows, 5, NULL, &done) == COLA_UNFINISHED);
+    store.is_unfinished = store.is_open = false;
+    cola_put(&store, "k", 1, "v", 1, NULL), cola_put_many(&store, rows, 5, NULL, &done);
+    HOLDS(appended == 0 && row_writes == 0);
+    HOLDS(cola_open(&store, rows, sizeof *rows) == COLA_OK && !store.is_logged);
+    free(rows);
+}
+
 /* Rows that are said to be longer than they are: nothing behind them is read, also behind the last one. */
 static void of_rows(void) {
     cola store = COLA_INIT;
@@ -323,6 +371,7 @@ int main(void) {
     of_cursors_that_fall(&store);
     of_infos(&store);
     of_handles();
+    of_logs();
     of_whole_stores();
     of_rows();
     answer = COLA_OK;

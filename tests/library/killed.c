@@ -1,12 +1,15 @@
 /* A process that is killed in mid-session, at each of many moments: its file is refused from then on, and the copy of its
  * last checkpoint has the map of that moment. A copy that was not finished is refused, or has such a map too. Of a resident
- * store the file itself has the map of the last checkpoint, or of the one under way, once it is opened.
+ * store the file itself has the map of the last checkpoint, or of the one under way, once it is opened; of a logged or synced one
+ * it has each put that was answered, and at most the one behind it.
  *
- *     killed FOLDER TIMES [resident]
+ *     killed FOLDER TIMES [resident | logged | synced]
  */
+#define _GNU_SOURCE
 #include <glob.h>
 #include <signal.h>
 #include <stdio.h>
+#include <sys/mman.h>
 #include <sys/wait.h>
 #include <unistd.h>
 
@@ -16,7 +19,8 @@
 enum { KEYS = 5000, EVERY = 500 };
 
 static char path[4096], copy[4096], unfinished[5000];
-static bool is_resident;
+static uint32_t degree; /* the flags that the store is opened with */
+static volatile long *answered;  /* how many puts were answered, in memory that parent and child have */
 
 #define HOLDS(is) ((is) ? (void)0 : (fprintf(stderr, "killed: line %d: not so: %s\n", __LINE__, #is), exit(1)))
 
@@ -30,11 +34,12 @@ static void nth(long n, char key[32], char value[32]) {
 static void session(int told) {
     cola_file file = COLA_FILE_INIT;
     char key[32], value[32];
-    if (cola_file_open_as(&file, path, is_resident ? COLA_RESIDENT : 0) != COLA_OK) _exit(9);
+    if (cola_file_open_as(&file, path, degree) != COLA_OK) _exit(9);
     for (long done = 1;; done++) {
         nth(done, key, value);
         if (cola_put(&file.store, key, 6, value, 10, NULL) != COLA_OK) _exit(9);
-        if (done % EVERY == 0 && cola_file_checkpoint(&file, is_resident ? NULL : copy) != COLA_OK) _exit(9);
+        *answered = done;
+        if (done % EVERY == 0 && cola_file_checkpoint(&file, degree != 0 ? NULL : copy) != COLA_OK) _exit(9);
         if (done % EVERY == 0 && write(told, &done, sizeof done) != sizeof done) _exit(9);
     }
 }
@@ -96,11 +101,18 @@ static void look_at_resident(long last) {
     HOLDS(puts % EVERY == 0 && (puts == last || puts == last + EVERY));
 }
 
+/* And of a logged one. */
+static void look_at_logged(void) {
+    long puts = puts_of(path);
+    HOLDS(puts == *answered || puts == *answered + 1);
+}
+
 static void one_time(int time) {
     int told[2], status;
     long done = 0, last = 0;
     cola_file file = COLA_FILE_INIT;
     unlink(path), unlink(copy);
+    *answered = 0;
     HOLDS(cola_file_create(path, KEYS, 5, 1) == COLA_OK);
     HOLDS(pipe(told) == 0);
     pid_t child = fork();
@@ -113,7 +125,7 @@ static void one_time(int time) {
     HOLDS(WIFSIGNALED(status) && WTERMSIG(status) == SIGKILL);
     while (read(told[0], &done, sizeof done) == sizeof done) last = done;
     close(told[0]);
-    is_resident ? look_at_resident(last) : look(last);
+    degree >= COLA_LOGGED ? look_at_logged() : degree == COLA_RESIDENT ? look_at_resident(last) : look(last);
     /* The session goes on. */
     HOLDS(cola_file_open(&file, path) == COLA_OK);
     HOLDS(cola_put(&file.store, "zz", 2, "on", 2, NULL) == COLA_OK);
@@ -121,8 +133,10 @@ static void one_time(int time) {
 }
 
 int main(int count, char **words) {
-    if (count < 3) return fprintf(stderr, "killed FOLDER TIMES [resident]\n"), 2;
-    is_resident = count > 3;
+    if (count < 3) return fprintf(stderr, "killed FOLDER TIMES [resident | logged | synced]\n"), 2;
+    degree = count == 3 ? 0 : words[3][0] == 'r' ? COLA_RESIDENT : words[3][0] == 'l' ? COLA_LOGGED : COLA_SYNCED;
+    answered = mmap(NULL, sizeof *answered, PROT_READ | PROT_WRITE, MAP_SHARED | MAP_ANONYMOUS, -1, 0);
+    HOLDS(answered != MAP_FAILED);
     snprintf(path, sizeof path, "%.4000s/killed.store", words[1]);
     snprintf(copy, sizeof copy, "%.4000s/killed.copy", words[1]);
     snprintf(unfinished, sizeof unfinished, "%s.new-*", copy);

@@ -130,7 +130,7 @@ static void of_sessions(void) {
     HOLDS(cola_file_close(&file) == COLA_OK && !is_there(journal) && count_of(path, 0) == 150);
     load(&was, path);
     HOLDS(count_of(path, COLA_RESIDENT) == 150 && is_file(path, &was) && !is_there(journal));
-    HOLDS(cola_file_open_as(&file, path, COLA_READ_ONLY | COLA_RESIDENT) == COLA_OPTIONS && cola_file_open_as(&file, path, 4) == COLA_OPTIONS);
+    HOLDS(cola_file_open_as(&file, path, COLA_READ_ONLY | COLA_RESIDENT) == COLA_OPTIONS && cola_file_open_as(&file, path, 16) == COLA_OPTIONS);
     HOLDS(cola_file_open(&file, path) == COLA_OK);
     HOLDS(cola_file_checkpoint(&file, NULL) == COLA_NULL && cola_file_discard(&file) == COLA_OK);
 }

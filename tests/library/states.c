@@ -1,13 +1,15 @@
-/* What a failure of the power, or of the process, may leave of a resident store's file and its journal, enumerated: sessions of
- * random puts, deletes, checkpoints and deaths of the process are recorded, and at each write, sync, cut and name the disk is
- * left as it was synced, with each part of what was done to it since. From each of these states a recovery makes, byte for byte,
+/* What a failure of the power, or of the process, may leave of a resident store's file, its journal and its log, enumerated: sessions
+ * of random puts, deletes, syncs, checkpoints and deaths of the process are recorded, and at each write, sync, cut and name the disk
+ * is left as it was synced, with each part of what was done to it since. From each of these states a recovery makes, byte for byte,
  * the file of the last promised checkpoint, or of the one under way; and so it does where it is cut short itself, at each of its
  * own steps. The files that it makes are opened and have the map of their checkpoint; those that differ are kept, for the
- * program's check.
+ * program's check. Two fifths of the states are those of sessions with logs: from each of them an opening makes the map of the first so many
+ * calls on that checkpoint, at least of all that were synced, or answered, where the process alone died.
  *
  *     states FOLDER STATES    (FOLDER is best in memory)
  *
- * Link with -Wl,--wrap=CALL for pwrite, fsync, ftruncate, open, openat and unlinkat. The last line counts the states. */
+ * Link with -Wl,--wrap=CALL for pwrite, fsync, fdatasync, ftruncate, posix_fallocate, open, openat and unlinkat. The last line counts
+ * the states. */
 #define _GNU_SOURCE
 #include <errno.h>
 #include <fcntl.h>
@@ -22,12 +24,12 @@
 #include "cola_journal.h"
 #include "plain.h"
 
-enum { KEYS = 90, MOST = 1 << 16, STATE = 14, HEADER = 512, PAGE = 4096, SECTOR = 512, PARTS = 40, IMAGES = 1 << 14 };
+enum { MANY = 90, FEW = 12, MOST = 1 << 16, STATE = 14, HEADER = 512, PAGE = 4096, SECTOR = 512, PARTS = 40, IMAGES = 1 << 14, CALLS = 64, BYTES = 24 };
 
 #define HOLDS(is) ((is) ? (void)0 : fails(#is, __LINE__))
 
 /* The file of the sessions, and those of the states that are looked at, of a session and of a recovery; each in a folder. */
-static char folder[3000], paths[3][3100], journals[3][3200];
+static char folder[3000], paths[3][3100], journals[3][3200], logs[3][3200];
 static long states, distinct, recoveries;
 static unsigned long long seed = 1;
 
@@ -43,7 +45,7 @@ static unsigned below(unsigned most) {
 
 /* The disk: each file as it was synced, and what was done to it since, in parts that a disk makes as a whole or not. */
 
-enum { STORE, JOURNAL, FILES, FOLDER };
+enum { STORE, JOURNAL, LOG, FILES, FOLDER };
 
 typedef struct image {
     size_t length;
@@ -60,7 +62,7 @@ typedef struct disk {
     image synced[FILES];
     int parts[FILES];
     part since[FILES][PARTS];
-    bool was_named, is_named; /* the journal's name, on the disk and as it is seen */
+    bool was_named[FILES], is_named[FILES]; /* the names of journal and log, on the disk and as they are seen */
 } disk;
 
 static disk now;
@@ -82,15 +84,31 @@ static void make(image *it, const part *what, size_t length) {
 
 static image checkpoints[2]; /* the file of the last promised checkpoint, and of the one under way */
 static bool is_coming;       /* there is one under way */
-static void consider(const image files[FILES], bool is_named, int depth);
+static uint32_t degree;      /* the flags of the sessions */
+static unsigned keys;        /* that their store is for */
+static int synced_calls, made_calls, coming_calls; /* of the log: on the disk, answered, and being made */
+
+/* A state: what the files have, which of them have a name, and how many calls at least are to be found. */
+typedef struct state {
+    image files[FILES];
+    bool is_named[FILES];
+    int least;
+} state;
+
+static void consider(const state *it, int depth);
+
+static bool is_logged(void) { return degree >= COLA_LOGGED; }
+static int files_now(void) { return is_logged() ? FILES : LOG; }
 
 /* A state is looked at once. */
-static bool is_new(const image files[FILES], bool is_named) {
+static bool is_new(const state *of) {
     static uint64_t seen[1 << 22];
-    uint64_t hash = 1469598103934665603u + is_named + 2 * is_coming;
+    uint64_t hash = 1469598103934665603u + of->is_named[JOURNAL] + 2 * is_coming;
+    if (is_logged()) hash += 4u * ((unsigned)of->is_named[LOG] + 2u * ((unsigned)of->least + 64u * (unsigned)(made_calls + coming_calls)));
     for (int file = 0; file < FILES + 1 + is_coming; file++) {
-        const image *it = file < FILES ? &files[file] : &checkpoints[file - FILES];
-        if (file == JOURNAL && !is_named) continue;
+        const image *it = file < FILES ? &of->files[file] : &checkpoints[file - FILES];
+        if (file == JOURNAL && !of->is_named[JOURNAL]) continue;
+        if (file == LOG && !(is_logged() && of->is_named[LOG])) continue;
         for (size_t at = 0; at + 8 <= it->length; at += 8) {
             uint64_t word;
             memcpy(&word, it->bytes + at, 8);
@@ -129,23 +147,41 @@ static unsigned long long choice(int parts, unsigned number, unsigned count) {
 
 static unsigned choices(int parts) { return parts <= 5 ? 1u << parts : 2 * (unsigned)parts + 18; }
 
-/* Each choice of the parts of one file, with the other as it was synced, and as it is seen. */
+static int least_before; /* what a recovery that is recorded has to find */
+
+/* This choice of one file's parts, with each of the others as it was synced, and as it is seen, and so the names. */
+static void with_others(state *it, int file, bool is_all, int depth) {
+    int others[2] = {file == STORE ? JOURNAL : STORE, file == LOG ? JOURNAL : LOG};
+    for (int sees = 0; sees < (is_logged() ? 4 : 2); sees++) {
+        for (int other = 0; other < (is_logged() ? 2 : 1); other++)
+            with_parts(&it->files[others[other]], others[other], (sees >> other & 1) != 0 ? ~0ull : 0, SIZE_MAX);
+        for (int names = 0; names < 4; names++) {
+            bool is_same = true;
+            for (int named = JOURNAL; named <= LOG; named++) {
+                bool is_old = (names >> (named - JOURNAL) & 1) != 0;
+                it->is_named[named] = is_old ? now.was_named[named] : now.is_named[named];
+                is_same = is_same && !(is_old && now.was_named[named] == now.is_named[named]);
+            }
+            if (!is_same) continue; /* (it was there before) */
+            it->least = depth > 0 ? least_before : is_all && sees == 3 && names == 0 ? made_calls : synced_calls;
+            consider(it, depth);
+        }
+    }
+}
+
+/* Each choice of the parts of one file. A log's last part is torn anywhere, for a disk may have had some of its sector before. */
 static void enumerate(int depth) {
-    static image files[3][FILES];
-    for (int file = 0; file < FILES; file++) {
-        int parts = now.parts[file], other = FILES - 1 - file;
-        size_t last = parts > 0 ? now.since[file][parts - 1].length : 0;
+    static state states_of[3];
+    for (int file = 0; file < files_now(); file++) {
+        int parts = now.parts[file];
+        size_t last = parts > 0 ? now.since[file][parts - 1].length : 0, step = file == LOG ? BYTES : SECTOR;
         for (unsigned number = 0; number < choices(parts); number++) {
-            unsigned long long chosen = choice(parts, number, choices(parts));
+            unsigned long long chosen = choice(parts, number, choices(parts)), all = (1ull << parts) - 1;
             bool tears = parts > 0 && (chosen >> (parts - 1) & 1) != 0 && !(file == STORE && now.since[file][parts - 1].place == 0);
-            for (size_t torn = tears ? SECTOR : last; torn <= last || torn == last; torn += SECTOR) {
-                with_parts(&files[depth][file], file, chosen, torn < last ? torn : last);
-                for (int sees = 0; sees < 2; sees++) {
-                    with_parts(&files[depth][other], other, sees ? ~0ull : 0, SIZE_MAX);
-                    consider(files[depth], now.is_named, depth);
-                    if (now.is_named != now.was_named) consider(files[depth], now.was_named, depth);
-                }
-                if (!tears) break;
+            for (size_t torn = tears ? step : last; torn <= last || torn < last + step; torn += step) {
+                with_parts(&states_of[depth].files[file], file, chosen, torn < last ? torn : last);
+                with_others(&states_of[depth], file, chosen == all && (torn >= last || !tears), depth);
+                if (!tears || torn >= last) break;
             }
         }
     }
@@ -201,10 +237,21 @@ int __wrap_fsync(int descriptor);
 int __wrap_fsync(int descriptor) { /* (nothing is waited for: the disk is the one above) */
     if (!is_made() || !records || file_of[descriptor] == 0) return 0;
     int file = file_of[descriptor] - 1;
-    if (file == FOLDER) now.was_named = now.is_named;
+    if (file == FOLDER) memcpy(now.was_named, now.is_named, sizeof now.was_named);
     else synced(file);
     enumerate(depth_now);
     return 0;
+}
+
+int __real_fdatasync(int descriptor);
+int __wrap_fdatasync(int descriptor);
+int __wrap_fdatasync(int descriptor) { return __wrap_fsync(descriptor); }
+
+/* (A log's room is its length here.) */
+int __real_posix_fallocate(int descriptor, off_t place, off_t length);
+int __wrap_posix_fallocate(int descriptor, off_t place, off_t length);
+int __wrap_posix_fallocate(int descriptor, off_t place, off_t length) {
+    return file_of[descriptor] == LOG + 1 ? 0 : __real_posix_fallocate(descriptor, place, length);
 }
 
 int __real_ftruncate(int descriptor, off_t length);
@@ -232,6 +279,8 @@ int __wrap_open(const char *where, int how, ...) {
     return descriptor;
 }
 
+static int file_named(const char *name) { return strcmp(strrchr(name, '-'), "-log") == 0 ? LOG : JOURNAL; }
+
 int __real_openat(int at, const char *name, int how, ...);
 int __wrap_openat(int at, const char *name, int how, ...);
 int __wrap_openat(int at, const char *name, int how, ...) {
@@ -242,10 +291,11 @@ int __wrap_openat(int at, const char *name, int how, ...) {
     int descriptor = __real_openat(at, name, how, mode_of(how, more));
     va_end(more);
     if (descriptor < 0 || descriptor >= 256) return descriptor;
-    file_of[descriptor] = strcmp(name, ".") == 0 ? FOLDER + 1 : JOURNAL + 1;
-    if (records && creates && !now.is_named) {
-        now.is_named = true;
-        now.synced[JOURNAL].length = 0, now.parts[JOURNAL] = 0;
+    int file = strcmp(name, ".") == 0 ? FOLDER : file_named(name);
+    file_of[descriptor] = file + 1;
+    if (records && creates && !now.is_named[file]) {
+        now.is_named[file] = true;
+        now.synced[file].length = 0, now.parts[file] = 0;
         enumerate(depth_now);
     }
     return descriptor;
@@ -257,7 +307,7 @@ int __wrap_unlinkat(int at, const char *name, int how) {
     if (!is_made()) return 0;
     int answer = __real_unlinkat(at, name, how);
     if (records && answer == 0) {
-        now.is_named = false;
+        now.is_named[file_named(name)] = false;
         enumerate(depth_now);
     }
     return answer;
@@ -282,12 +332,25 @@ static void read_image(const char *where, image *it) {
 
 static bool is_same(const image *it, const image *other) { return it->length == other->length && memcmp(it->bytes, other->bytes, it->length) == 0; }
 
+static void opens_behind(const char *path, bool is_first, bool is_second, int least);
+
+/* The disk of this state, of which a recovery is recorded. */
+static void begin_recording(const state *it) {
+    memset(now.parts, 0, sizeof now.parts);
+    memcpy(now.synced, it->files, sizeof now.synced);
+    memcpy(now.was_named, it->is_named, sizeof now.was_named);
+    memcpy(now.is_named, it->is_named, sizeof now.is_named);
+    least_before = it->least;
+    records = true;
+    recoveries++;
+}
+
 /* The file of the last promised checkpoint, or of the one under way. */
 static bool is_checkpoint(const image *it) { return is_same(it, &checkpoints[0]) || (is_coming && is_same(it, &checkpoints[1])); }
 
-/* A recovery of this state makes the file of a checkpoint; one that is recorded is cut short in its turn. To those who know of no
- * journal the file is a checkpoint's, or says that it is in use. */
-static void consider(const image files[FILES], bool is_named, int depth) {
+/* A recovery of this state makes the file of a checkpoint, and an opening the map; one that is recorded is cut short in its turn. To
+ * those who know of no journal the file is a checkpoint's, or says that it is in use. */
+static void consider(const state *it, int depth) {
     static image made;
     static disk kept[2];
     const char *path = paths[depth + 1], *journal = journals[depth + 1];
@@ -295,25 +358,22 @@ static void consider(const image files[FILES], bool is_named, int depth) {
     long dies = dies_in;
     int own_files[256];
     states++;
-    if (!is_new(files, is_named)) return;
+    if (!is_new(it)) return;
     distinct++;
-    HOLDS(files[STORE].bytes[STATE] == 1 || is_checkpoint(&files[STORE]));
+    HOLDS(it->files[STORE].bytes[STATE] == 1 || is_checkpoint(&it->files[STORE]));
     memcpy(own_files, file_of, sizeof own_files);
     kept[depth] = now;
     records = false, dies_in = -1, depth_now = depth + 1;
-    write_image(path, &files[STORE]);
-    if (is_named) write_image(journal, &files[JOURNAL]);
-    if (goes_deeper) {
-        memset(now.parts, 0, sizeof now.parts);
-        memcpy(now.synced, files, sizeof now.synced);
-        now.was_named = now.is_named = is_named;
-        records = true;
-        recoveries++;
-    }
+    write_image(path, &it->files[STORE]);
+    if (it->is_named[JOURNAL]) write_image(journal, &it->files[JOURNAL]);
+    unlink(logs[depth + 1]);
+    if (is_logged() && it->is_named[LOG]) write_image(logs[depth + 1], &it->files[LOG]);
+    if (goes_deeper) begin_recording(it);
     HOLDS(cola_journal_recover(path, &found) == COLA_OK);
     read_image(path, &made);
-    HOLDS(is_checkpoint(&made));
-    HOLDS(access(journal, F_OK) != 0);
+    bool is_first = is_same(&made, &checkpoints[0]), is_second = is_coming && is_same(&made, &checkpoints[1]);
+    HOLDS((is_first || is_second) && access(journal, F_OK) != 0);
+    if (is_logged()) opens_behind(path, is_first, is_second, it->least);
     now = kept[depth], records = recorded, dies_in = dies, depth_now = depth;
     memcpy(file_of, own_files, sizeof own_files);
 }
@@ -321,10 +381,43 @@ static void consider(const image files[FILES], bool is_named, int depth) {
 /* Sessions. */
 
 static plain maps[2]; /* of these checkpoints */
+static plain after[CALLS + 1]; /* and behind so many calls on the first of them */
 
 static void copy_map(plain *to, const plain *from) {
     to->count = from->count, to->last = from->last;
     memcpy(to->pairs, from->pairs, (from->limit + 1) * sizeof *from->pairs);
+}
+
+/* Whether the store has this map. */
+static bool has(cola_file *file, const plain *map) {
+    cola_cursor cursor;
+    cola_row rows[MANY + 1];
+    size_t given = 0;
+    HOLDS(cola_seek(&cursor, NULL, 0, NULL, 0) == COLA_OK);
+    cola_next(&file->store, &cursor, rows, MANY + 1, &given);
+    bool same = given == map->count;
+    for (size_t row = 0; same && row < given; row++) {
+        const cola_row *mine = &map->pairs[row].row;
+        same = plain_order(mine->key, mine->key_len, rows[row].key, rows[row].key_len) == 0 &&
+               plain_order(mine->value, mine->value_len, rows[row].value, rows[row].value_len) == 0;
+    }
+    return same;
+}
+
+/* How many calls on the first checkpoint the store has, from so many on; -1: none of these. */
+static int calls_of(cola_file *file, int least) {
+    for (int calls = made_calls + coming_calls; calls >= least; calls--)
+        if (has(file, &after[calls])) return calls;
+    return -1;
+}
+
+/* The store behind a recovery opens with its log, to one of the maps that it may have. */
+static void opens_behind(const char *path, bool is_first, bool is_second, int least) {
+    cola_file file = COLA_FILE_INIT;
+    HOLDS(cola_file_open_as(&file, path, COLA_LOGGED) == COLA_OK);
+    records = false;
+    HOLDS((is_second && has(&file, &maps[1])) || (is_first && calls_of(&file, least) >= 0));
+    HOLDS(cola_file_discard(&file) == COLA_OK);
 }
 
 /* The file opens to this map, and is kept for the program's check where it is another than before. */
@@ -332,20 +425,9 @@ static void opens_to(const image *it, const plain *map) {
     static int kept;
     char name[3200];
     cola_file file = COLA_FILE_INIT;
-    cola_cursor cursor;
-    cola_row rows[KEYS + 1];
-    size_t given = 0;
     snprintf(name, sizeof name, "%.3000s/checkpoint-%d", folder, kept++ % IMAGES);
     write_image(name, it);
-    HOLDS(cola_file_open_as(&file, name, COLA_READ_ONLY) == COLA_OK);
-    HOLDS(cola_seek(&cursor, NULL, 0, NULL, 0) == COLA_OK);
-    cola_next(&file.store, &cursor, rows, KEYS + 1, &given);
-    HOLDS(given == map->count);
-    for (size_t row = 0; row < given; row++) {
-        const cola_row *mine = &map->pairs[row].row;
-        HOLDS(plain_order(mine->key, mine->key_len, rows[row].key, rows[row].key_len) == 0);
-        HOLDS(plain_order(mine->value, mine->value_len, rows[row].value, rows[row].value_len) == 0);
-    }
+    HOLDS(cola_file_open_as(&file, name, COLA_READ_ONLY) == COLA_OK && has(&file, map));
     HOLDS(cola_file_close(&file) == COLA_OK);
 }
 
@@ -362,17 +444,51 @@ static void image_of(cola_file *file, image *it) {
     records = recorded, dies_in = dies;
 }
 
-static void change(cola *store, plain *map) {
-    char key[8], value[16];
-    bool was, there;
-    snprintf(key, sizeof key, "k%03u", below(2 * KEYS));
-    if (below(4) == 0) {
-        HOLDS(cola_delete(store, key, 4) == plain_delete(map, key, 4));
-        return;
+/* One call, or a batch of some puts; the process may die meanwhile: then it is said so. */
+static bool change(cola *store, plain *map) {
+    cola_row rows[3];
+    size_t count = 1 + (is_logged() && below(8) == 0 ? below(3) : 0), done = 0;
+    bool was, deletes = count == 1 && below(4) == 0;
+    int32_t answer = COLA_OK, mine = COLA_OK;
+    for (size_t row = 0; row < count; row++) {
+        snprintf((char *)rows[row].key, sizeof rows[row].key, "k%03u", below(2 * keys));
+        snprintf((char *)rows[row].value, sizeof rows[row].value, "%u", below(1000000));
+        rows[row].key_len = 4, rows[row].value_len = (uint8_t)strlen((char *)rows[row].value);
     }
-    snprintf(value, sizeof value, "%u", below(1000000));
-    int32_t answer = cola_put(store, key, 4, value, strlen(value), &there);
-    HOLDS(answer == plain_put(map, key, 4, value, strlen(value), &was));
+    for (size_t row = 0; row < count && mine == COLA_OK; row++) {
+        mine = deletes ? plain_delete(map, rows[row].key, 4) : plain_put(map, rows[row].key, 4, rows[row].value, rows[row].value_len, &was);
+        if (is_logged()) copy_map(&after[made_calls + ++coming_calls], map);
+    }
+    dies_in = is_logged() && below(16) == 0 ? (long)below(2) : -1;
+    if (deletes) answer = cola_delete(store, rows[0].key, 4);
+    else answer = cola_put_many(store, rows, count, NULL, &done);
+    if (dies_in == 0) return false;
+    dies_in = -1;
+    HOLDS(answer == mine && made_calls + coming_calls < CALLS - 3);
+    if (is_logged()) made_calls += coming_calls, coming_calls = 0;
+    if (degree == COLA_SYNCED) synced_calls = made_calls;
+    return true;
+}
+
+/* Waits for the log. */
+static void sync_log(cola_file *file) {
+    HOLDS(cola_file_sync(file) == COLA_OK);
+    synced_calls = made_calls;
+    enumerate(0);
+}
+
+/* The second checkpoint is the last promised one. */
+static void has_come(void) {
+    checkpoints[0] = checkpoints[1];
+    copy_map(&maps[0], &maps[1]);
+    copy_map(&after[0], &maps[1]);
+    made_calls = synced_calls = coming_calls = 0;
+    is_coming = false;
+}
+
+/* Whether a log would follow the second checkpoint as it follows the first: then it is kept in its place. */
+static bool is_kept_by_log(void) {
+    return is_logged() && memcmp(checkpoints[0].bytes, checkpoints[1].bytes, HEADER) == 0 && !is_same(&checkpoints[0], &checkpoints[1]);
 }
 
 /* A checkpoint, or the close, of which the process may die. */
@@ -386,7 +502,8 @@ static void promise(cola_file *file, const plain *map, bool closes) {
     bool died = dies_in == 0;
     HOLDS(died || answer == COLA_OK);
     if (died && !closes) cola_file_discard(file);
-    if (!died) checkpoints[0] = checkpoints[1], copy_map(&maps[0], map), is_coming = false;
+    if (!died && is_kept_by_log()) synced_calls = made_calls, is_coming = false;
+    else if (!died) has_come();
     dies_in = -1;
     enumerate(0);
 }
@@ -394,31 +511,66 @@ static void promise(cola_file *file, const plain *map, bool closes) {
 /* Opens the store as a process does that comes behind one that died: then it has the one map or the other. */
 static void open_again(cola_file *file, plain *map) {
     static image made;
-    dies_in = is_coming && below(3) == 0 ? (long)below(12) : -1;
-    int32_t answer = cola_file_open_as(file, paths[0], COLA_RESIDENT);
+    dies_in = (is_coming || is_logged()) && below(3) == 0 ? (long)below(12) : -1;
+    int32_t answer = cola_file_open_as(file, paths[0], degree);
     if (dies_in == 0) { /* (it died in its turn) */
         cola_file_discard(file);
         dies_in = -1;
-        answer = cola_file_open_as(file, paths[0], COLA_RESIDENT);
+        answer = cola_file_open_as(file, paths[0], degree);
     }
     dies_in = -1;
     HOLDS(answer == COLA_OK);
-    image_of(file, &made);
+    is_logged() ? read_image(paths[0], &made) : image_of(file, &made);
     bool is_first = is_same(&made, &checkpoints[0]);
     HOLDS(is_checkpoint(&made));
-    if (!is_first) checkpoints[0] = checkpoints[1], copy_map(&maps[0], &maps[1]);
-    is_coming = false;
-    copy_map(map, &maps[0]);
+    if (is_logged() && is_first && (!is_coming || !is_same(&made, &checkpoints[1]))) {
+        made_calls = synced_calls = calls_of(file, made_calls);
+        HOLDS(made_calls >= 0);
+    } else if (is_coming && is_same(&made, &checkpoints[1])) {
+        has_come();
+        HOLDS(has(file, &maps[0]));
+    }
+    is_coming = false, coming_calls = 0;
+    copy_map(map, &after[made_calls]);
 }
 
 static void session(plain *map) {
     cola_file file = COLA_FILE_INIT;
     open_again(&file, map);
     for (unsigned rounds = 1 + below(4); rounds > 0 && file.bytes != NULL; rounds--) {
-        for (unsigned changes = below(40); changes > 0; changes--) change(&file.store, map);
-        if (below(8) == 0) HOLDS(cola_file_discard(&file) == COLA_OK);
-        else promise(&file, map, rounds == 1);
+        bool lives = true;
+        for (unsigned changes = below(is_logged() ? 9 : 40); changes > 0 && lives; changes--) {
+            lives = change(&file.store, map);
+            if (lives && is_logged() && below(6) == 0) sync_log(&file);
+        }
+        if (!lives || below(8) == 0 || made_calls > CALLS / 2) {
+            bool is_done = lives && made_calls <= CALLS / 2;
+            int32_t answer = cola_file_discard(&file);
+            HOLDS(!is_done || answer == COLA_OK);
+            dies_in = -1;
+        } else {
+            promise(&file, map, rounds == 1);
+        }
     }
+}
+
+/* Sessions of one degree on a new store, up to so many states. */
+static void sessions(uint32_t flags, long until) {
+    plain map = plain_new(MANY, 1);
+    degree = flags;
+    keys = map.limit = is_logged() ? FEW : MANY;
+    records = false;
+    memset(&now, 0, sizeof now);
+    memset(file_of, 0, sizeof file_of);
+    unlink(paths[0]), unlink(journals[0]), unlink(logs[0]);
+    maps[0].count = 0, made_calls = synced_calls = coming_calls = 0, is_coming = false;
+    copy_map(&after[0], &maps[0]);
+    HOLDS(cola_file_create(paths[0], keys, 3, 1) == COLA_OK);
+    read_image(paths[0], &checkpoints[0]);
+    now.synced[STORE] = checkpoints[0];
+    records = true;
+    while (distinct < until) session(&map);
+    free(map.pairs);
 }
 
 int main(int count, char **words) {
@@ -430,15 +582,15 @@ int main(int count, char **words) {
         mkdir(paths[depth], 0777);
         snprintf(paths[depth], sizeof paths[0], "%s/%d/store", folder, depth);
         snprintf(journals[depth], sizeof journals[0], "%s/%d/store-journal", folder, depth);
-        unlink(paths[depth]), unlink(journals[depth]);
+        snprintf(logs[depth], sizeof logs[0], "%s/%d/store-log", folder, depth);
+        unlink(paths[depth]), unlink(journals[depth]), unlink(logs[depth]);
     }
-    plain map = plain_new(KEYS, 1);
-    maps[0] = plain_new(KEYS, 1), maps[1] = plain_new(KEYS, 1);
-    HOLDS(cola_file_create(paths[0], KEYS, 3, 1) == COLA_OK);
-    read_image(paths[0], &checkpoints[0]);
-    now.synced[STORE] = checkpoints[0];
-    records = true;
-    while (distinct < atol(words[2])) session(&map);
+    maps[0] = plain_new(MANY, 1), maps[1] = plain_new(MANY, 1);
+    for (int calls = 0; calls <= CALLS; calls++) after[calls] = plain_new(MANY, 1);
+    long most = atol(words[2]);
+    sessions(COLA_RESIDENT, most * 3 / 5);
+    sessions(COLA_LOGGED, most * 17 / 20);
+    sessions(COLA_SYNCED, most);
     printf("%ld states of a disk, %ld of them distinct, %ld recoveries cut short\n", states, distinct, recoveries);
     return 0;
 }

@@ -383,6 +383,10 @@ static void of_grown_files(uint8_t version) {
     HOLDS(cola_file_grow(path, 500, 3, &rows) == COLA_SYSTEM && errno == EWOULDBLOCK && cola_file_check(path, &verdict) == COLA_OK);
     HOLDS(cola_file_check_open(&file, &verdict) == COLA_OK && cola_put(&file.store, "a", 1, "", 0, NULL) == COLA_READ_ONLY_STORE);
     HOLDS(cola_file_close(&file) == COLA_OK && cola_file_check_open(&file, &verdict) == COLA_CLOSED);
+    HOLDS(cola_file_open_as(&file, path, COLA_RESIDENT) == COLA_OK && cola_put(&file.store, "k0000", 5, "z", 1, NULL) == COLA_OK);
+    HOLDS(cola_file_check_open(&file, &verdict) == COLA_OK && verdict.count == 50 && cola_file_checkpoint(&file, NULL) == COLA_OK);
+    HOLDS(cola_put(&file.store, "k0000", 5, "", 0, NULL) == COLA_OK && cola_file_check_open(&file, &verdict) == COLA_OK);
+    HOLDS(cola_file_close(&file) == COLA_OK && is_file_of(path, 50, 50, version)); /* (what was marked before is written) */
     struct rlimit before, less = {4096, 4096};
     getrlimit(RLIMIT_FSIZE, &before);
     less.rlim_max = before.rlim_max;

@@ -41,7 +41,7 @@ VALUE_MAX = 72  #: bytes of a value in a file of version 2; 32 in one of version
 KEYS_MAX = 1 << 24  #: keys that a store may be for
 
 _OK, _NONE, _OTHER, _MEMORY, _SYSTEM, _BROKEN = 0, 1, 2, 16, 17, 21
-_READ_ONLY, _RESIDENT = 1, 2
+_READ_ONLY, _RESIDENT, _LOGGED, _SYNCED = 1, 2, 4, 8
 _ROWS = 32  # how many rows an iteration asks for at once
 _MANY = 1024  # how many rows are put, or looked up, at once
 
@@ -139,7 +139,8 @@ class Fewer(Error, ValueError):
 
 
 class Unfinished(Error):
-    """A checkpoint holds in the journal beside the file, and not in the file: nothing is put before it is finished."""
+    """A checkpoint holds in the journal beside the file, and not in the file, or what the disk has of the log is not known: nothing is
+    put before a checkpoint has succeeded."""
 
     answer = 22
 
@@ -149,7 +150,7 @@ _errors = {kind.answer: kind for kind in Error.__subclasses__()}
 
 class _Cola(ctypes.Structure):
     _fields_ = [("is_open", ctypes.c_bool), ("is_read_only", ctypes.c_bool), ("is_unfinished", ctypes.c_bool),
-                ("at", ctypes.c_void_p)]
+                ("is_logged", ctypes.c_bool), ("at", ctypes.c_void_p)]
 
 
 class _File(ctypes.Structure):
@@ -221,22 +222,27 @@ def _load():
     at, size, text, number = ctypes.c_void_p, ctypes.c_size_t, ctypes.c_char_p, ctypes.POINTER(ctypes.c_uint64)
     quick.cola_strerror.argtypes = [ctypes.c_int32]
     quick.cola_strerror.restype = ctypes.c_char_p
-    return _declare(quick, {
+    puts = {
         "cola_put": [at, text, size, text, size, at],
         "cola_put_if": [at, text, size, ctypes.c_uint64, text, size, number],
+        "cola_delete": [at, text, size],
+        "cola_put_many": [at, text, size, at, ctypes.POINTER(size)],
+    }
+    return _declare(quick, {
+        **puts,
         "cola_get": [at, text, size, text, ctypes.POINTER(size)],
         "cola_stamp": [at, text, size, number],
-        "cola_delete": [at, text, size],
         "cola_count": [at, number],
         "cola_seek_prefix": [ctypes.POINTER(_Cursor), text, size],
         "cola_next": [at, ctypes.POINTER(_Cursor), ctypes.POINTER(_Row), size, ctypes.POINTER(size)],
         "cola_prev": [at, ctypes.POINTER(_Cursor), ctypes.POINTER(_Row), size, ctypes.POINTER(size)],
         "cola_info": [at, ctypes.POINTER(_StoreInfo)],
         "cola_level": [at, ctypes.c_uint8, ctypes.POINTER(_LevelInfo)],
-        "cola_put_many": [at, text, size, at, ctypes.POINTER(size)],
         "cola_get_many": [at, at, size, at, ctypes.POINTER(size)],
         "cola_load_many": [at, text, size, ctypes.POINTER(size)],
     }), _declare(slow, {
+        **puts,
+        "cola_file_sync": [ctypes.POINTER(_File)],
         "cola_file_create": [text, ctypes.c_uint64, ctypes.c_uint8, ctypes.c_uint8],
         "cola_file_open_as": [ctypes.POINTER(_File), text, ctypes.c_uint32],
         "cola_file_checkpoint": [ctypes.POINTER(_File), text],
@@ -319,9 +325,10 @@ def _is_to_be_made(path):
         return True
 
 
-def open(path, *, keys=None, block=5, version=1, create=False, read_only=False, resident=False):
+def open(path, *, keys=None, block=5, version=1, create=False, read_only=False, resident=False, log=False, sync=False):
     """Opens the store in a file, for this process alone; with `read_only` to be read alone, beside others that read it; with
-    `resident` it is kept in memory, and the file has its last checkpoint. With
+    `resident` it is kept in memory, and the file has its last checkpoint; with `log`, which is resident too, what was answered since is
+    in a log beside the file, and outlives the process; with `sync`, which has a log too, it is on the disk, and outlives the machine. With
     `create` a file that is not there, or is empty, is made first, as by `create(path, keys, block, version)`; one that is there
     is opened as it is."""
     if create and keys is None:
@@ -333,7 +340,7 @@ def open(path, *, keys=None, block=5, version=1, create=False, read_only=False, 
             _create(path, keys, block, version)
         except (NotEmpty, BlockingIOError):
             pass  # (another process makes it, or has made it)
-    return Store(path, read_only=read_only, resident=resident)
+    return Store(path, read_only=read_only, resident=resident, log=log, sync=sync)
 
 
 def _pairs(other, words):
@@ -482,14 +489,16 @@ class Store(MutableMapping):
     An iteration asks for some rows at once: what is put or deleted meanwhile may show in it or not.
     """
 
-    def __init__(self, path, *, read_only=False, resident=False):
-        if read_only and resident:
+    def __init__(self, path, *, read_only=False, resident=False, log=False, sync=False):
+        if read_only and (resident or log or sync):
             raise Options("a resident store is not read alone")
+        flags = _SYNCED if sync else _LOGGED if log else _RESIDENT if resident else _READ_ONLY if read_only else 0
+        self._puts = _files if sync else _library  # (other threads run while a put waits for the disk)
         self.path = os.fspath(path)
         self._lock = threading.RLock()  # (a signal's handler may call while a call of its own thread is made)
         self._file = _File(descriptor=-1)
         self._at = ctypes.byref(self._file)
-        _check(_files.cola_file_open_as(self._file, _path(path), _READ_ONLY if read_only else _RESIDENT if resident else 0), path)
+        _check(_files.cola_file_open_as(self._file, _path(path), flags), path)
         info = _StoreInfo()
         _check(_library.cola_info(self._at, info))
         self.limits = {"keys": info.keys, "block": info.block, "version": info.version}
@@ -526,15 +535,20 @@ class Store(MutableMapping):
                 _check(_files.cola_file_close(self._file))
 
     def discard(self):
-        """Closes a resident store without a checkpoint: what changed since the last one is gone. Any other is closed. So does a
-        `with` that is left by an exception."""
+        """Closes a resident store without a checkpoint: what changed since the last one is gone, but stays in the log of a store that
+        has one. Any other is closed. So does a `with` that is left by an exception."""
         with self._lock:
             if self._file.bytes:
                 _check(_files.cola_file_discard(self._file))
 
+    def sync(self):
+        """Waits until what was answered by a store with a log is on the disk; other threads run meanwhile. A store without one: Options."""
+        with self._lock:
+            _check(_files.cola_file_sync(self._file))
+
     def checkpoint(self, copy=None):
-        """Makes the file of a resident store have what the store has, and waits until it is on the disk. Or, of any store, makes a copy of the store as it is now, a closed store, in a file that is replaced as a whole and is on the disk
-        then. It writes as many bytes as the store's file has; other threads run meanwhile, and wait where they call with
+        """Makes the file of a resident store have what the store has, and waits until it is on the disk. Or, of any store, makes a
+        copy of the store as it is now, a closed store, in a file that is replaced as a whole and is on the disk then. It writes as many bytes as the store's file has; other threads run meanwhile, and wait where they call with
         this store."""
         name = None if copy is None else _path(copy)
         if name is None and not self._file.is_resident:
@@ -564,12 +578,12 @@ class Store(MutableMapping):
     def __setitem__(self, key, value):
         key, value = _bytes(key), _bytes(value)
         with self._lock:
-            _check(_library.cola_put(self._at, key, len(key), value, len(value), None))
+            _check(self._puts.cola_put(self._at, key, len(key), value, len(value), None))
 
     def __delitem__(self, key):
         key = _bytes(key)
         with self._lock:
-            answer = _library.cola_delete(self._at, key, len(key))
+            answer = self._puts.cola_delete(self._at, key, len(key))
         if answer == _NONE:
             raise KeyError(key)
         _check(answer)
@@ -594,7 +608,7 @@ class Store(MutableMapping):
         while batch := list(islice(pairs, _MANY)):
             rows, put = _packed(batch), ctypes.c_size_t()
             with self._lock:
-                answer = _library.cola_put_many(self._at, rows, len(batch), None, put)
+                answer = self._puts.cola_put_many(self._at, rows, len(batch), None, put)
             done += put.value
             try:
                 _check(answer)
@@ -634,7 +648,7 @@ class Store(MutableMapping):
             raise ValueError("a stamp is a number from 0 to 2**64 - 1")
         stamp = ctypes.c_uint64()
         with self._lock:
-            answer = _library.cola_put_if(self._at, key, len(key), seen, value, len(value), stamp)
+            answer = self._puts.cola_put_if(self._at, key, len(key), seen, value, len(value), stamp)
         if answer != _OTHER:
             _check(answer)
         return answer == _OK

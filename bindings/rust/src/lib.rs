@@ -66,6 +66,7 @@ mod c {
         is_open: bool,
         is_read_only: bool,
         is_unfinished: bool,
+        is_logged: bool,
         at: *mut c_void,
     }
 
@@ -81,7 +82,7 @@ mod c {
 
     /// COLA_FILE_INIT.
     pub const CLOSED: File = File {
-        store: Cola { is_open: false, is_read_only: false, is_unfinished: false, at: ptr::null_mut() },
+        store: Cola { is_open: false, is_read_only: false, is_unfinished: false, is_logged: false, at: ptr::null_mut() },
         bytes: ptr::null_mut(),
         length: 0,
         descriptor: -1,
@@ -90,6 +91,8 @@ mod c {
     };
     pub const READ_ONLY: u32 = 1;
     pub const RESIDENT: u32 = 2;
+    pub const LOGGED: u32 = 4;
+    pub const SYNCED: u32 = 8;
 
     #[repr(C)]
     #[derive(Clone, Copy)]
@@ -202,6 +205,7 @@ mod c {
         pub fn cola_file_load_end(load: *mut FileLoad, rows: *mut u64) -> i32;
         pub fn cola_file_load_drop(load: *mut FileLoad) -> i32;
         pub fn cola_file_discard(file: *mut File) -> i32;
+        pub fn cola_file_sync(file: *mut File) -> i32;
     }
 }
 
@@ -245,8 +249,8 @@ pub enum Error {
     Order,
     /// The new store is for fewer keys than there are ([`Store::grow`]).
     Fewer,
-    /// A checkpoint holds in the journal beside the file of a resident store, and not in the file: nothing is put until a
-    /// checkpoint or an opening has finished it.
+    /// A checkpoint holds in the journal beside the file of a resident store, and not in the file, or what the disk has of its log is
+    /// not known: nothing is put until a checkpoint has succeeded.
     Unfinished,
     /// An answer that this crate doesn't know.
     Unknown(i32),
@@ -428,16 +432,38 @@ pub struct Options {
     pub create: bool,
     /// Whether the store is open to be read alone, as by [`Store::open_read_only`].
     pub read_only: bool,
+    /// Whether the store is kept in memory, as by [`Store::open_resident`]. One that is read alone is not ([`Error::Options`]).
+    pub resident: bool,
+    /// Whether it is, and what was answered since its last checkpoint is in a log beside the file, and outlives the process.
+    pub logged: bool,
+    /// Whether it has a log, and what was answered is on the disk, and outlives the machine.
+    pub synced: bool,
 }
 
 impl Default for Options {
     /// 65,536 keys, blocks of 32 cells, version 1; no file is made, and the store is open to be read and written.
     fn default() -> Options {
-        Options { keys: 65_536, block: 5, version: 1, create: false, read_only: false }
+        Options { keys: 65_536, block: 5, version: 1, create: false, read_only: false, resident: false, logged: false, synced: false }
     }
 }
 
 impl Options {
+    /// These, with a log or not.
+    pub fn logged(self, logged: bool) -> Options {
+        Options { logged, ..self }
+    }
+
+    /// These, with each call on the disk or not.
+    pub fn synced(self, synced: bool) -> Options {
+        Options { synced, ..self }
+    }
+
+    /// The flags of cola_file_open_as. The library refuses a store that is read alone and is to be more.
+    fn flags(&self) -> u32 {
+        let asked = [(self.read_only, c::READ_ONLY), (self.resident, c::RESIDENT), (self.logged, c::LOGGED), (self.synced, c::SYNCED)];
+        asked.iter().map(|&(is_asked, flag)| if is_asked { flag } else { 0 }).sum()
+    }
+
     /// Opens the store in a file, so. A file that is there is opened as it is, whatever it was made with.
     ///
     /// ```no_run
@@ -455,7 +481,7 @@ impl Options {
                 other => other?,
             }
         }
-        Store::open_as(path, if self.read_only { c::READ_ONLY } else { 0 })
+        Store::open_as(path, self.flags())
     }
 
     /// The bytes of the file.
@@ -624,7 +650,14 @@ impl Store {
         done(unsafe { c::cola_file_checkpoint(self.file.get(), ptr::null()) })
     }
 
-    /// Closes a resident store without a checkpoint: what changed since the last one is gone. Any other is closed.
+    /// Waits until what was answered by a store with a log is on the disk. A store without one: [`Error::Options`].
+    pub fn sync(&mut self) -> Result<()> {
+        // SAFETY: the handle is that of a store here.
+        done(unsafe { c::cola_file_sync(self.file.get()) })
+    }
+
+    /// Closes a resident store without a checkpoint: what changed since the last one is gone, but stays in the log of a store that
+    /// has one. Any other is closed.
     pub fn discard(self) -> Result<()> {
         // SAFETY: as a close.
         done(unsafe { c::cola_file_discard(self.file.get()) })

@@ -398,6 +398,7 @@ fn the_file_of_a_resident_store_has_its_last_checkpoint() {
     store.put("a", "1").unwrap();
     assert_eq!(fs::read(&path).unwrap(), made);
     store.save().unwrap();
+    assert!(matches!(Options { read_only: true, resident: true, ..Options::default() }.open(&path), Err(Error::Options)));
     let saved = fs::read(&path).unwrap();
     assert_ne!(saved, made);
     store.put("b", "2").unwrap();
@@ -418,4 +419,39 @@ fn the_file_of_a_resident_store_has_its_last_checkpoint() {
     assert_eq!(rows(Store::open(&path).unwrap().iter()), [(b"a".to_vec(), b"1".to_vec()), (b"d".to_vec(), b"4".to_vec())]);
     assert!(!folder.path("store-journal").exists());
     assert!(matches!(Store::open(&path).unwrap().save(), Err(Error::Unknown(8))));
+}
+
+#[test]
+fn a_store_with_a_log_keeps_what_it_answered() {
+    let folder = Folder::new("logged");
+    let path = folder.path("store");
+    drop(folder.store(&Options { keys: 100, version: 2, ..Options::default() }));
+    let options = Options::default();
+    for logged in [options.logged(true), options.synced(true)] {
+        let mut store = logged.open(&path).unwrap();
+        store.put("a", "1").unwrap();
+        store.update([("b", "2"), ("c", "3")]).unwrap();
+        assert!(store.delete("a").unwrap());
+        let stamp = store.stamp("c").unwrap().unwrap();
+        assert_eq!(store.put_if("c", stamp, "4").unwrap(), None);
+        store.sync().unwrap();
+        let made = fs::read(&path).unwrap();
+        store.discard().unwrap();
+        assert_eq!(fs::read(&path).unwrap(), made);
+        assert!(folder.path("store-log").exists());
+        let mut store = logged.open(&path).unwrap();
+        assert_eq!(rows(store.iter()), [(b"b".to_vec(), b"2".to_vec()), (b"c".to_vec(), b"4".to_vec())]);
+        store.put("d", "5").unwrap();
+        store.discard().unwrap();
+        assert_eq!(Store::open_read_only(&path).unwrap().count().unwrap(), 3);
+        assert!(!folder.path("store-log").exists());
+        let mut store = logged.open(&path).unwrap();
+        for key in ["b", "c", "d"] {
+            store.delete(key).unwrap();
+        }
+        store.save().unwrap();
+        store.close().unwrap();
+    }
+    assert!(matches!(Options { read_only: true, ..options.logged(true) }.open(&path), Err(Error::Options)));
+    assert!(matches!(Store::open_resident(&path).unwrap().sync(), Err(Error::Options)));
 }
