@@ -113,3 +113,5 @@ if [ -e "$library/libcola.so.1" ] && command -v python3 >/dev/null; then
 else
     echo 'skipped: many rows at once from Python (there is no python3, or no libcola.so.1)'
 fi
+printf '\n| Checkpoints of %s keys, resident, behind so many puts | pages | ms | of a copy |\n|---:|---:|---:|---:|\n' "$count"
+"$room/checkpoints" "$room/resident" "$count"

@@ -124,7 +124,8 @@ ends() { begin "$1" && change "$1" && is_right "$1" && [ "$whole" -gt 0 ]; }
 # tries_of WAY: how often it is killed, all rebuilds together as often as each of the others.
 tries_of() { case $1 in rebuild*) echo $(((tries + 2) / 3)) ;; *) echo "$tries" ;; esac; }
 
-# dies WAY: whether the file is right after each kill at a moment that is drawn.
+# dies WAY: whether the file is right after each kill at a moment that is drawn. (In the foreground timeout outlives the program, so
+# that the file is looked at when the system has given up the lock.)
 dies() {
     local begun took try tries=$(tries_of "$1")
     refused=0 whole=0
@@ -134,7 +135,7 @@ dies() {
     took=$((($(date +%s%N) - begun) / 1000))
     for ((try = 1; try <= tries; try++)); do
         begin "$1"
-        change "$1" timeout -s KILL "$(printf '0.%06d' $(((RANDOM * 32768 + RANDOM) % took + 1)))"
+        change "$1" timeout --foreground -s KILL "$(printf '0.%06d' $(((RANDOM * 32768 + RANDOM) % took + 1)))"
         is_right "$1" || { echo "$1, kill $try"; return 1; }
     done
     echo "$1: killed $tries times at any moment: $refused refused, $whole whole"
