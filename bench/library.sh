@@ -5,14 +5,16 @@
 #
 # Each store is one process for each text: COUNT keys in random order, and in rising order (bench/library.cpp). A put of cola
 # answers whether its key was there: so a peer looks the key up before it puts, and beside these rows are those of its puts
-# alone. A cola is mapped, and then resident, logged, and synced, which is by calls of 1,000 rows alone. With many rows at once a
-# call is one of 1,000 rows; from Python it is update and get_many beside single calls (bench/library.py). It prints a table with the seconds, passed and of processor, their ratios to those of LevelDB with look-ups,
-# the median, the 99.9th percentile and the worst call, and the peak memory; then what became of the aims, how long all rows
-# take forwards and backwards, how long an opening takes that makes a log again, and what checkpoints of the resident store take
-# (bench/checkpoints.c). It wants a C++ compiler and the library (make library builds it; LIBRARY names another folder that has libcola.a, and libcola.so.1 for Python). The last row of a table is what the cells alone take that the calls of cola read
-# and move, without its code (bench/accesses.c, the least of the rounds). A peer whose headers are not there is skipped and named
-# (Debian: libleveldb-dev liblmdb-dev libsqlite3-dev libtkrzw-dev). It takes minutes and a gigabyte below TMPDIR, and means
-# something on an idle machine alone.
+# alone. A cola is mapped, and then resident, logged, and synced, which is by calls of 1,000 rows alone. With many rows at once
+# a call is one of 1,000 rows; from Python it is update and get_many beside single calls (bench/library.py). It prints a table
+# with the seconds, passed and of processor, their ratios to those of LevelDB with look-ups, the median, the 99.9th percentile
+# and the worst call, and the peak memory; then what became of the aims, how long all rows take forwards and backwards, how long
+# an opening takes that makes a log again, and what checkpoints of the resident store take (bench/checkpoints.c). It wants a C++
+# compiler and the library (make library builds it; LIBRARY names another folder that has libcola.a, and libcola.so.1 for
+# Python). The last row of a table is what the cells alone take that the calls of cola read and move, without its code
+# (bench/accesses.c, the least of the rounds). A peer whose headers are not there is skipped and named (Debian: libleveldb-dev
+# liblmdb-dev libsqlite3-dev libtkrzw-dev). It takes minutes and a gigabyte below TMPDIR, and means something on an idle machine
+# alone.
 set -euo pipefail
 root=$(cd "$(dirname "$0")/.." && pwd -P)
 count=${1:-1000000} rounds=${2:-3}

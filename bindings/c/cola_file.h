@@ -34,7 +34,8 @@
  * A store in use has all its bytes on the disk: a full disk is told by cola_file_open, not by a put.
  *
  * A file is open in one process that writes it, or in any number of them that only read it (COLA_READ_ONLY): the system's lock
- * refuses a writer beside readers and a reader beside a writer. A reader writes nothing, and leaves nothing where it dies.
+ * refuses a writer beside readers and a reader beside a writer. A reader writes nothing but what a journal or a log
+ * beside the file has, as each opening does, and leaves nothing where it dies.
  *
  * What a call takes: cola_file_create and cola_file_checkpoint write as many bytes as the store has; cola_file_open asks the
  * system for room for as many, and reads and syncs few; cola_file_close syncs what was written since. A file that is read alone
@@ -75,8 +76,8 @@ typedef struct cola_file {
 #define COLA_SYNCED 8    /* and on the disk, before it is answered */
 
 /* Makes the file of a new, closed store for so many keys, with blocks of 2^block cells, of version 1 or 2. A file that is
- * there has to be empty (COLA_NOT_EMPTY). A log of a removed store that would follow the new one is removed. Where it is not made, the folder and the file are as before; a process that dies
- * meanwhile leaves a file that is refused, or the whole one. */
+ * there has to be empty (COLA_NOT_EMPTY). A log of a removed store that would follow the new one is removed. Where it is not made,
+ * the folder and the file are as before; a process that dies meanwhile leaves a file that is refused, or the whole one. */
 int32_t cola_file_create(const char *path, uint64_t keys, uint8_t block, uint8_t version);
 
 /* Opens the store in the file, for this process alone. The file may be longer than its store. As cola_open answers; COLA_SYSTEM
@@ -124,7 +125,8 @@ int32_t cola_file_sync(cola_file *file);
  * is refused. A logged store's log is kept then, and with it each call that was answered. */
 int32_t cola_file_close(cola_file *file);
 
-/* Tests the closed store in the file, beside others that read it, and writes nothing: as cola_check answers of its bytes. */
+/* Tests the closed store in the file, beside others that read it: as cola_check answers of its bytes. What a journal or a log beside
+ * the file has is written to it first, as an opening does; else nothing is. */
 int32_t cola_file_check(const char *path, cola_verdict *verdict);
 
 /* Tests the store of an open file as it is now: it is closed in memory, tested, and opened again. COLA_MEMORY: as

@@ -364,7 +364,8 @@ def _verdict(answer, verdict, path):
 
 
 def check(path):
-    """Tests the closed store in a file, all of it, beside others that read it, and writes nothing: a Verdict."""
+    """Tests the closed store in a file, all of it, beside others that read it: a Verdict. It writes nothing but what a journal or
+    a log beside the file has, as an opening does."""
     verdict = _Verdict()
     return _verdict(_files.cola_file_check(_path(path), verdict), verdict, path)
 
@@ -548,8 +549,8 @@ class Store(MutableMapping):
 
     def checkpoint(self, copy=None):
         """Makes the file of a resident store have what the store has, and waits until it is on the disk. Or, of any store, makes a
-        copy of the store as it is now, a closed store, in a file that is replaced as a whole and is on the disk then. It writes as many bytes as the store's file has; other threads run meanwhile, and wait where they call with
-        this store."""
+        copy of the store as it is now, a closed store, in a file that is replaced as a whole and is on the disk then. It writes as
+        many bytes as the store's file has; other threads run meanwhile, and wait where they call with this store."""
         name = None if copy is None else _path(copy)
         if name is None and not self._file.is_resident:
             raise TypeError("a store that is not resident is copied: name the file of the copy")

@@ -53,7 +53,8 @@ impl Flaw {
 }
 
 impl Store {
-    /// Tests the closed store in a file, all of it, beside others that read it, and writes nothing.
+    /// Tests the closed store in a file, all of it, beside others that read it. It writes nothing but what a journal or a log beside
+    /// the file has, as an opening does.
     pub fn check(path: impl AsRef<Path>) -> Result<Verdict> {
         let (path, mut verdict) = (text(path.as_ref())?, c::Verdict::default());
         // SAFETY: the path ends with a zero byte.
