@@ -8,7 +8,7 @@
 // so are the seconds of a round's puts with their closing and of its gets with their opening and closing, and the seconds of
 // processor, of all threads. BATCH is a number of puts in one transaction, where the store has any, or the block of COLA.
 // WORK is what a put does: "blind" is a put alone, and with "looked" a peer looks the key up before, as a put of COLA does by
-// itself; "many" are calls of COLA with 1,000 rows, each timed as one. FLAGS are those of cola_file_open_as, 0 where none are given.
+// itself; "many" are calls of COLA with ROWS rows (1,000), each timed as one. FLAGS are those of cola_file_open_as, 0 where none are given.
 // It prints: seconds, of processor, median, 99.9th percentile and worst in nanoseconds, of puts and then of gets; the most memory in KiB above
 // that before the first store; and a sum over the values that were got.
 //
@@ -17,7 +17,10 @@
 // anew without a checkpoint: the least seconds of the puts, and of the opening, which makes them again.
 #include <algorithm>
 #include <cstddef>
-enum : size_t { MANY = 1000 }; // rows that are put, got, or read in order, by one call of COLA
+#ifndef ROWS
+#define ROWS 1000
+#endif
+enum : size_t { MANY = ROWS }; // rows that are put, got, or read in order, by one call of COLA
 #ifdef COLA
 #include <cstdio>
 #include <cstdlib>

@@ -1,5 +1,5 @@
 #!/usr/bin/env bash
-# Times puts and gets by calls of the library beside LMDB, LevelDB, SQLite and Tkrzw by theirs, in one run:
+# Times puts and gets by calls of the library beside LMDB, LevelDB, RocksDB, SQLite and Tkrzw by theirs, in one run:
 #
 #     bench/library.sh [COUNT [ROUNDS]]        (1000000 keys, 3 rounds)
 #
@@ -8,12 +8,13 @@
 # alone. A cola is mapped, and then resident, logged, and synced, which is by calls of 1,000 rows alone. With many rows at once
 # a call is one of 1,000 rows; from Python it is update and get_many beside single calls (bench/library.py). It prints a table
 # with the seconds, passed and of processor, their ratios to those of LevelDB with look-ups, the median, the 99.9th percentile
-# and the worst call, and the peak memory; then what became of the aims, how long all rows take forwards and backwards, how long
+# and the worst call, and the peak memory; then what became of the aims, the rate of puts that are on the disk when their call ends,
+# alone and by 100 (fewer keys; LevelDB by a batch, LMDB and SQLite by a transaction), how long all rows take both ways, how long
 # an opening takes that makes a log again, and what checkpoints of the resident store take (bench/checkpoints.c). It wants a C++
 # compiler and the library (make library builds it; LIBRARY names another folder that has libcola.a, and libcola.so.1 for
 # Python). The last row of a table is what the cells alone take that the calls of cola read and move, without its code
 # (bench/accesses.c, the least of the rounds). A peer whose headers are not there is skipped and named (Debian: libleveldb-dev
-# liblmdb-dev libsqlite3-dev libtkrzw-dev). It takes minutes and a gigabyte below TMPDIR, and means something on an idle machine
+# liblmdb-dev librocksdb-dev libsqlite3-dev libtkrzw-dev). It takes minutes and a gigabyte below TMPDIR, and means something on an idle machine
 # alone.
 set -euo pipefail
 root=$(cd "$(dirname "$0")/.." && pwd -P)
@@ -34,6 +35,12 @@ add() {
     [ -e "$room/$2" ] || c++ -O2 -std=c++17 -Iinclude -Ibindings/c -D"$2" -o "$room/$2" bench/library.cpp $4 -lpthread
     stores+=("$1|$2|$5|$6|$7")
 }
+# on_disk NAME DEFINE LIBRARIES BATCH WORK PART TITLE: the driver for a store that is synced at each call of BATCH rows, with one key in PART.
+on_disk() {
+    [ -e "$room/$2" ] || return 0
+    c++ -O2 -std=c++17 -Iinclude -Ibindings/c -D"$2" -DSYNCED=1 -DROWS="${4##* }" -o "$room/$1" bench/library.cpp $3 -lpthread
+    synced+=("$1|${4%% *}|$5|$6|$7")
+}
 # peer NAME DEFINE HEADER LIBRARIES BATCH TITLE: the same, with look-ups and without.
 peer() {
     add "$1" "$2" "$3" "$4" "$5" looked "$6"
@@ -50,7 +57,17 @@ peer lmdb LMDB lmdb.h -llmdb 1 'LMDB'
 peer lmdb-1000 LMDB lmdb.h -llmdb 1000 'LMDB, 1,000 puts a transaction'
 peer sqlite SQLITE sqlite3.h -lsqlite3 1 'SQLite'
 peer sqlite-1000 SQLITE sqlite3.h -lsqlite3 1000 'SQLite, 1,000 puts a transaction'
+peer rocksdb ROCKSDB rocksdb/db.h -lrocksdb 1 'RocksDB'
 peer tkrzw TKRZW tkrzw_dbm_tree.h -ltkrzw 1 'Tkrzw'
+synced=()
+for rows in 1 100; do
+    part=$((rows == 1 ? 500 : 10)) each=$([ "$rows" -eq 1 ] && echo 'each' || echo "by $rows")
+    on_disk "cola-disk-$rows" COLA "$library/libcola.a" "5 $rows" 'many 8' "$part" "cola, $each"
+    on_disk "leveldb-disk-$rows" LEVELDB -lleveldb "$rows" blind "$part" "LevelDB, $each"
+    on_disk "rocksdb-disk-$rows" ROCKSDB -lrocksdb "$rows" blind "$part" "RocksDB, $each"
+    on_disk "lmdb-disk-$rows" LMDB -llmdb "$rows" blind "$part" "LMDB, $each"
+    on_disk "sqlite-disk-$rows" SQLITE -lsqlite3 "$rows" blind "$part" "SQLite, $each"
+done
 
 cc -O2 -o "$room/accesses" bench/accesses.c
 cc -O2 -Iinclude -Ibindings/c -o "$room/checkpoints" bench/checkpoints.c "$library/libcola.a"
@@ -95,6 +112,14 @@ for order in random rising; do
             if ("LMDB" in both) printf "The worst logged put in %s order takes %.3f of that of LMDB (the aim: 0.02).\n", order, worst[it] / worst["LMDB"]
             if ("LevelDB" in both) printf "The worst logged put in %s order takes %.2f of that of LevelDB (the aim: 0.5).\n", order, worst[it] / worst["LevelDB, puts alone"]
         }' "$room/$order"
+done
+printf '\n| Puts that are on the disk when a call ends, keys in random order | puts | a second | worst call, ms |\n|---|---:|---:|---:|\n'
+for it in "${synced[@]}"; do
+    IFS='|' read -r name batch work part title <<<"$it"
+    keys=$((count / part))
+    "$room/$name" "$room/$name.store" "$keys" 1 random "$batch" $work | awk -v keys="$keys" -v title="$title" \
+        '{ printf("| %s | %d | %.0f | %.1f |\n", title, keys, keys / $1, $5 / 1e6) }'
+    rm -rf "$room/$name.store"*
 done
 printf '\n| all rows of %s keys, put in random order | forwards, seconds | backwards | beside forwards |\n|---|---:|---:|---:|\n' "$count"
 for it in "${stores[@]}"; do

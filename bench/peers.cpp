@@ -5,13 +5,17 @@
 //     peer FILE [BATCH]        FILE is a file or a folder that the library makes; BATCH puts are one transaction (LMDB, SQLite)
 //
 // Lines are put, get, del, range and scan, with the limits of format One. Replies wait together and are written before more is
-// read, as those of cola. No put is synced: a closed store may need the system to write its pages still.
+// read, as those of cola. No put is synced, unless SYNCED is 1: a closed store may need the system to write its pages still.
 #include <cstdio>
 #include <cstdlib>
 #include <cstring>
 #include <string>
 #include <string_view>
 #include <unistd.h>
+
+#ifndef SYNCED
+#define SYNCED 0 // with 1 a put, or a transaction of puts, is on the disk when it ends
+#endif
 
 using std::string;
 using std::string_view;
@@ -35,19 +39,23 @@ static string replies;
 #ifdef LEVELDB
 #include <leveldb/db.h>
 #include <leveldb/filter_policy.h>
+#include <leveldb/write_batch.h>
 namespace lib = leveldb;
 #else
 #include <rocksdb/db.h>
 #include <rocksdb/filter_policy.h>
 #include <rocksdb/table.h>
+#include <rocksdb/write_batch.h>
 namespace lib = rocksdb;
 #endif
-// The library's defaults, with a Bloom filter of 10 bits a key, as a put looks its key up. The log is on and not synced.
+// The library's defaults, with a Bloom filter of 10 bits a key, as a put looks its key up. The log is on. BATCH puts are written at once.
 struct Store {
     lib::DB *db = nullptr;
     lib::Iterator *at = nullptr;
+    lib::WriteBatch puts;
+    unsigned batch, pending = 0;
 
-    Store(const char *file, unsigned) {
+    Store(const char *file, unsigned batch) : batch(batch) {
         lib::Options options;
         options.create_if_missing = true;
 #ifdef LEVELDB
@@ -59,7 +67,20 @@ struct Store {
 #endif
         check(lib::DB::Open(options, file, &db));
     }
-    ~Store() { delete db; }
+    ~Store() {
+        if (pending) write();
+        delete db;
+    }
+    static lib::WriteOptions kept() {
+        lib::WriteOptions options;
+        options.sync = SYNCED;
+        return options;
+    }
+    void write() {
+        check(db->Write(kept(), &puts));
+        puts.Clear();
+        pending = 0;
+    }
     static void check(const lib::Status &status) {
         if (!status.ok()) fail(status.ToString());
     }
@@ -69,8 +90,12 @@ struct Store {
         if (!status.IsNotFound()) check(status);
         return status.ok();
     }
-    void put(string_view key, string_view value) { check(db->Put(lib::WriteOptions(), slice(key), slice(value))); }
-    void remove(string_view key) { check(db->Delete(lib::WriteOptions(), slice(key))); }
+    void put(string_view key, string_view value) {
+        if (batch <= 1) return check(db->Put(kept(), slice(key), slice(value)));
+        puts.Put(slice(key), slice(value));
+        if (++pending >= batch) write();
+    }
+    void remove(string_view key) { check(db->Delete(kept(), slice(key))); }
     // Writes the rows from `low` on, below `high` where it is given, and at most `most`.
     unsigned long rows(string_view low, const string_view *high, unsigned long most) {
         unsigned long count = 0;
@@ -88,7 +113,7 @@ struct Store {
 
 #elif defined(LMDB)
 #include <lmdb.h>
-// A file of its own, mapped for writing too, with no sync at a commit. BATCH puts and deletes are one transaction.
+// A file of its own, mapped for writing too; a commit is synced only with SYNCED. BATCH puts and deletes are one transaction.
 struct Store {
     MDB_env *env;
     MDB_txn *writing = nullptr, *reading = nullptr;
@@ -98,7 +123,7 @@ struct Store {
     Store(const char *file, unsigned batch) : batch(batch) {
         check(mdb_env_create(&env));
         check(mdb_env_set_mapsize(env, size_t(4) << 30));
-        check(mdb_env_open(env, file, MDB_NOSUBDIR | MDB_NOSYNC | MDB_WRITEMAP, 0666));
+        check(mdb_env_open(env, file, MDB_NOSUBDIR | (SYNCED ? 0 : MDB_NOSYNC) | MDB_WRITEMAP, 0666));
         begin();
         check(mdb_dbi_open(writing, nullptr, 0, &dbi));
         commit();
@@ -180,7 +205,7 @@ struct Store {
 
 #elif defined(SQLITE)
 #include <sqlite3.h>
-// A table without rowids, a write-ahead log, no sync. BATCH puts and deletes are one transaction.
+// A table without rowids, a write-ahead log; a commit is synced only with SYNCED. BATCH puts and deletes are one transaction.
 struct Store {
     sqlite3 *db;
     sqlite3_stmt *find, *insert, *erase, *some, *most_of;
@@ -189,7 +214,7 @@ struct Store {
     Store(const char *file, unsigned batch) : batch(batch) {
         check(sqlite3_open(file, &db));
         run("pragma journal_mode=wal");
-        run("pragma synchronous=off");
+        run(SYNCED ? "pragma synchronous=full" : "pragma synchronous=off");
         run("create table if not exists pairs (k blob primary key, v blob) without rowid");
         find = made("select v from pairs where k = ?1");
         insert = made("insert into pairs values (?1, ?2) on conflict (k) do update set v = excluded.v");

@@ -20,7 +20,8 @@
  *   - the same for every store: cola_size, cola_stored_size, cola_count, cola_info, cola_level, cola_seek, cola_seek_prefix, cola_seek_last;
  *   - by the levels: cola_put, cola_put_if and cola_delete make at most 40 cell accesses for each, cola_get and cola_stamp 8;
  *     cola_put_many and cola_get_many take as much as so many calls of cola_put and cola_get;
- *     cola_open reads and cola_close writes at most a block for each and three more; cola_checkpoint does both;
+ *     cola_load_row adds at most one cell for each, and of many rows eight for seven;
+ *     cola_open reads, cola_close and cola_load_end write at most a block for each and three more; cola_checkpoint does both;
  *   - by the keys: cola_create looks at each byte; cola_next and cola_prev pass over deleted keys that still have a cell, and
  *     before one row there may be nearly as many of them as the store has cells; where there are few, a row takes some cell
  *     accesses;
@@ -238,11 +239,12 @@ int32_t cola_check(const void *bytes, size_t len, cola_verdict *verdict);
  * COLA_FEWER: nothing is written. COLA_BAD_CELL, COLA_MEMORY: the new bytes are no store. */
 int32_t cola_grow(const void *bytes, size_t len, void *to, size_t to_len, uint64_t keys, uint8_t block, uint64_t *rows);
 
-/* Begins a new store in zero bytes, as many as cola_size says, which is filled with rows by rising keys: a row takes what a put
- * takes. The bytes are the library's until cola_load_end, and no closed store before. */
+/* Begins a new store in zero bytes, as many as cola_size says, which is filled with rows by rising keys in one pass. The bytes are
+ * the library's until cola_load_end, and no closed store before. COLA_OPTIONS, COLA_SMALL, COLA_NOT_EMPTY, COLA_MEMORY: they stay. */
 int32_t cola_load_begin(cola_load *load, void *bytes, size_t len, uint64_t keys, uint8_t block, uint8_t version);
 
-/* The next row. COLA_ORDER, COLA_LENGTH, COLA_FULL: it is left out, and others may follow. */
+/* The next row. COLA_LENGTH, COLA_ORDER, COLA_FULL: it is left out, and others may follow. In version 2 its stamp is its number, from
+ * 1 on, and a put behind the load begins with one above the keys that the store is for. */
 int32_t cola_load_row(cola_load *load, const void *key, size_t key_len, const void *value, size_t value_len);
 
 /* So many next rows, up to the first that is refused: the answer is that one's, and *done is how many were taken before it. */

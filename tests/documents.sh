@@ -96,6 +96,11 @@ done < <(awk '
     }
 ' crates.txt docs/MAP.md)
 
+# README names the toolchain's crates that are built over.
+kit=$(sed -n 's/#.*//; s/^[a-z][a-z0-9_]*[^:]*://p' crates.txt | tr ' ' '\n' | grep -v '^cola_\|^core$\|^std' | sort -u | tr -d '\n')
+[ "$(sed -n 's/^Proved with .* over its crates //p' README.md | grep -o '`[a-z0-9]*`' | tr -d '`\n')" = "$kit" ]
+count 'README names the crates of the toolchain that crates.txt has' $?
+
 # What a page says to be of a crate, as `shape_of` of `cola_shapes`, is declared there.
 for page in $pages; do
     while read -r name crate; do

@@ -101,8 +101,9 @@ check 'the test of killed processes compiles' compiles killed '-O2 -g' tests/lib
 check 'the test of failing calls compiles' compiles failing "-O2 -g $wraps" tests/library/failing.c
 check 'the test of resident stores compiles' compiles resident '-O2 -g -Wl,--wrap=pwrite,--wrap=fsync' tests/library/resident.c
 disk=-Wl,--wrap=pwrite,--wrap=fsync,--wrap=fdatasync,--wrap=ftruncate,--wrap=posix_fallocate
+hostile=$disk,--wrap=madvise
 check 'the test of logged stores compiles' compiles logged "-O2 -g $disk" tests/library/logged.c
-disk=$disk,--wrap=open,--wrap=openat,--wrap=unlinkat
+disk=$disk,--wrap=open,--wrap=openat,--wrap=unlinkat,--wrap=madvise
 check 'the test of what a disk may be left as compiles' compiles states "-O2 -g $disk" tests/library/states.c
 check 'the example in C compiles' compiles words '-O2 -g' examples/words.c
 check 'each answer is met' quietly "$room/errors" "$room"
@@ -120,7 +121,14 @@ check 'logged stores, on disks that are full or fail, with logs of all kinds' qu
 for it in resident logged synced; do
     check "processes with $it stores that are killed leave what they were promised" quietly "$room/killed" "$memory" 300 $it
 done
-check 'from 100,000 states of a disk a recovery makes a checkpoint, byte for byte, and the calls of a log' quietly "$room/states" "$memory" 100000
+# Hostile journals and logs, each input by itself: tests/fuzz/fuzz.sh found them.
+for it in journal log; do
+    check "the test of a hostile $it compiles" compiles "hostile_$it" "-O2 -g $hostile" "tests/fuzz/$it.c" tests/fuzz/main.c
+    for input in tests/fuzz/corpus/"$it"/*; do
+        check "a hostile $it, ${input##*/}" quietly env HOSTILE="$memory" "$room/hostile_$it" "$input"
+    done
+done
+check 'from 200,000 states of a disk a recovery makes a checkpoint, byte for byte, and the calls of a log' quietly "$room/states" "$memory" 200000
 
 # are_sound: whether the program finds each of the files sound that a recovery may make.
 are_sound() {
@@ -165,6 +173,10 @@ if cc $sanitizers "$room/empty.c" -o "$room/empty" 2>/dev/null && "$room/empty";
     check 'whole stores, with sanitizers' quietly "$room/tools_sane" "$room"
     check 'logged stores compile with sanitizers' compiles logged_sane "$sanitizers ${disk%%,--wrap=open,*}" tests/library/logged.c bindings/c/*.c
     check 'logged stores, with sanitizers' quietly "$room/logged_sane" "$memory"
+    for it in journal log; do
+        check "a hostile $it compiles with sanitizers" compiles "hostile_sane_$it" "$sanitizers $hostile" "tests/fuzz/$it.c" tests/fuzz/main.c bindings/c/*.c
+        check "each hostile $it, with sanitizers" quietly env HOSTILE="$memory" "$room/hostile_sane_$it" tests/fuzz/corpus/"$it"/*
+    done
     check 'random calls, with sanitizers' quietly "$room/random_sane" "$room" 10000 500
     check 'an index of words in C, with sanitizers' is_index "$room/words_sane"
 else

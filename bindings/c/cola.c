@@ -1,5 +1,4 @@
-/* The calls of cola.h: they test pointers for NULL, and leave all else to the proved calls of crates/cola_c, which take none, and
- * those of a load to cola_load.c.
+/* The calls of cola.h: they test pointers for NULL, and leave all else to the proved calls of crates/cola_c, which take none.
  *
  * A length above every limit goes on as one above the limit, so that no more bytes are looked at than a key or a value has.
  * Of a place that is to be written any bytes make a number, but not any byte is a bool: so what is handed on is a bool, or a

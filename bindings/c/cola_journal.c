@@ -130,7 +130,7 @@ static bool sync_journal(cola_journal *journal) {
 
 /* Writes what lies in these bytes of the file, of each piece; pieces that lie side by side in one call. */
 static bool write_pieces(const cola_journal *journal, const pieces *of, size_t from, size_t until) {
-    piece run = {0, 0, NULL}, it;
+    piece run = {0, 0, ""}, it;
     bool is_well = true, is_more = true;
     for (size_t at = 0; is_well && is_more;) {
         is_more = next_piece(of, &at, &it);
@@ -216,18 +216,20 @@ static bool is_same_store(const char *header, const char *other) {
     return memcmp(header, other, STATE) == 0 && memcmp(header + BEHIND, other + BEHIND, KEYS_END - BEHIND) == 0;
 }
 
-/* Whether the pieces are those of a closed store in the file, and lie in it. False on failure too: then *told is false. */
+/* Whether the pieces are those of a closed store in the file, and lie in it, each behind the one before. False on failure too: then
+ * *told is false. */
 static bool is_of_file(const cola_journal *journal, const pieces *of, bool *told) {
     char header[COLA_HEADER];
     struct stat own;
     uint64_t stored;
     piece it;
-    size_t at = 0;
+    size_t at = 0, from = 0;
     *told = fstat(journal->file, &own) == 0 && cola_disk_read(journal->file, header, sizeof header) >= 0;
     if (!*told || own.st_size < COLA_HEADER || !next_piece(of, &at, &it)) return false;
     if (!is_same_store(header, it.bytes) || cola_stored_size(it.bytes, it.length, (uint64_t)own.st_size, &stored) != COLA_OK) return false;
     do {
-        if (it.place > stored || it.length > stored - it.place) return false;
+        if (it.place < from || it.place > stored || it.length > stored - it.place) return false;
+        from = it.place + it.length;
     } while (next_piece(of, &at, &it));
     return true;
 }

@@ -19,6 +19,7 @@ enum {
     STEP = 1 << 20,    /* the bytes of room that are taken at once */
     RECORD = 43,       /* the bytes of a record beside key and value */
     LONGEST = RECORD + COLA_KEY_MAX + COLA_VALUE_MAX,
+    LONGEST_READ = RECORD + 2 * UINT8_MAX, /* of those that the library does not write, and reads */
     VERSION = 8, KEYS = 16 /* places in a header */
 };
 
@@ -273,7 +274,7 @@ static int open_beside(cola_journal *journal, const char *path, int file, char n
 
 /* Whether the log has a call, and follows the file; false on failure too, which *told says. */
 static bool has_calls_of(int descriptor, int file, bool *told) {
-    uint8_t header[COLA_HEADER], bytes[sizeof(cola_core_log) + LONGEST];
+    uint8_t header[COLA_HEADER], bytes[sizeof(cola_core_log) + LONGEST_READ];
     cola_core_log sum;
     struct stat about;
     *told = fstat(descriptor, &about) == 0;

@@ -377,6 +377,34 @@ static void of_failing_checkpoints(void) {
     HOLDS(unfinished > 6);
 }
 
+/* The syncs of a log as it is opened, and behind a checkpoint: one that fails is answered, and nothing is lost. */
+static void of_failing_syncs(void) {
+    cola_file file = COLA_FILE_INIT;
+    for (int calls = 0; calls <= 30; calls += 30) {
+        for (int at = 0; at < 2; at++) { /* (that of its name, and its own) */
+            make_store(KEYS, 2);
+            if (calls > 0) dies_behind(0, calls, false);
+            refuse(SYNCS, at, EIO);
+            HOLDS(cola_file_open_as(&file, path, COLA_LOGGED) == COLA_SYSTEM && errno == EIO && file.bytes == NULL);
+            mend();
+            HOLDS(has(path, COLA_LOGGED, KEYS, calls));
+        }
+    }
+    make_store(KEYS, 2);
+    open_logged(&file, COLA_LOGGED);
+    for (int calls = 0; calls < 30; calls += 15) { /* (the first one syncs the journal's name too) */
+        make_all(&file.store, calls, calls + 15);
+        made[SYNCS] = 0;
+        HOLDS(cola_file_checkpoint(&file, NULL) == COLA_OK);
+    }
+    make_all(&file.store, 30, 45);
+    refuse(SYNCS, made[SYNCS] - 1, EIO);
+    HOLDS(cola_file_checkpoint(&file, NULL) == COLA_SYSTEM && errno == EIO);
+    mend();
+    HOLDS(cola_delete(&file.store, "k", 1) == COLA_UNFINISHED && cola_file_checkpoint(&file, NULL) == COLA_OK);
+    HOLDS(cola_file_discard(&file) == COLA_OK && has(path, COLA_LOGGED, KEYS, 45));
+}
+
 /* A limit on the length of files, as a disk that is full: calls are answered until there is room again. */
 static void of_a_full_disk(void) {
     cola_file file;
@@ -464,6 +492,7 @@ int main(int count, char **words) {
     of_batches();
     of_a_failing_disk();
     of_failing_checkpoints();
+    of_failing_syncs();
     of_a_full_disk();
     of_two_processes();
     of_the_same_header();

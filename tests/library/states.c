@@ -3,13 +3,13 @@
  * is left as it was synced, with each part of what was done to it since. From each of these states a recovery makes, byte for byte,
  * the file of the last promised checkpoint, or of the one under way; and so it does where it is cut short itself, at each of its
  * own steps. The files that it makes are opened and have the map of their checkpoint; those that differ are kept, for the
- * program's check. Two fifths of the states are those of sessions with logs: from each of them an opening makes the map of the first so many
+ * program's check. Half of the states are those of sessions with logs: from each of them an opening makes the map of the first so many
  * calls on that checkpoint, at least of all that were synced, or answered, where the process alone died.
  *
  *     states FOLDER STATES    (FOLDER is best in memory)
  *
- * Link with -Wl,--wrap=CALL for pwrite, fsync, fdatasync, ftruncate, posix_fallocate, open, openat and unlinkat. The last line counts
- * the states. */
+ * Link with -Wl,--wrap=CALL for pwrite, fsync, fdatasync, ftruncate, posix_fallocate, madvise, open, openat and unlinkat. The last line
+ * counts the states. */
 #define _GNU_SOURCE
 #include <errno.h>
 #include <fcntl.h>
@@ -100,6 +100,19 @@ static void consider(const state *it, int depth);
 static bool is_logged(void) { return degree >= COLA_LOGGED; }
 static int files_now(void) { return is_logged() ? FILES : LOG; }
 
+/* A hash of bytes behind another one, of four that run beside each other. */
+static uint64_t hash_of(uint64_t hash, const uint8_t *bytes, size_t length) {
+    uint64_t word[4], sum[4] = {hash, 2, 3, 4};
+    size_t at = 0;
+    for (; at + sizeof word <= length; at += sizeof word) {
+        memcpy(word, bytes + at, sizeof word);
+        for (int lane = 0; lane < 4; lane++) sum[lane] = (sum[lane] ^ word[lane]) * 1099511628211u, sum[lane] ^= sum[lane] >> 29;
+    }
+    for (; at < length; at++) sum[0] = (sum[0] ^ bytes[at]) * 1099511628211u;
+    for (int lane = 1; lane < 4; lane++) sum[0] = (sum[0] ^ sum[lane]) * 1099511628211u, sum[0] ^= sum[0] >> 29;
+    return sum[0];
+}
+
 /* A state is looked at once. */
 static bool is_new(const state *of) {
     static uint64_t seen[1 << 22];
@@ -109,13 +122,7 @@ static bool is_new(const state *of) {
         const image *it = file < FILES ? &of->files[file] : &checkpoints[file - FILES];
         if (file == JOURNAL && !of->is_named[JOURNAL]) continue;
         if (file == LOG && !(is_logged() && of->is_named[LOG])) continue;
-        for (size_t at = 0; at + 8 <= it->length; at += 8) {
-            uint64_t word;
-            memcpy(&word, it->bytes + at, 8);
-            hash = (hash ^ word) * 1099511628211u;
-            hash ^= hash >> 29;
-        }
-        for (size_t at = it->length / 8 * 8; at < it->length; at++) hash = (hash ^ it->bytes[at]) * 1099511628211u;
+        hash = hash_of(hash, it->bytes, it->length);
         hash = (hash ^ it->length) * 1099511628211u;
     }
     for (size_t at = hash % (1 << 22);; at = (at + 1) % (1 << 22)) {
@@ -254,6 +261,9 @@ int __wrap_posix_fallocate(int descriptor, off_t place, off_t length) {
     return file_of[descriptor] == LOG + 1 ? 0 : __real_posix_fallocate(descriptor, place, length);
 }
 
+int __wrap_madvise(void *at, size_t length, int advice);
+int __wrap_madvise(void *at, size_t length, int advice) { return (void)at, (void)length, (void)advice, 0; } /* (huge pages take time to clear) */
+
 int __real_ftruncate(int descriptor, off_t length);
 int __wrap_ftruncate(int descriptor, off_t length);
 int __wrap_ftruncate(int descriptor, off_t length) {
@@ -352,7 +362,7 @@ static bool is_checkpoint(const image *it) { return is_same(it, &checkpoints[0])
  * those who know of no journal the file is a checkpoint's, or says that it is in use. */
 static void consider(const state *it, int depth) {
     static image made;
-    static disk kept[2];
+    static disk kept; /* (a recovery that is recorded has a disk of its own) */
     const char *path = paths[depth + 1], *journal = journals[depth + 1];
     bool found, recorded = records, goes_deeper = depth == 0 && below(16) == 0;
     long dies = dies_in;
@@ -362,7 +372,7 @@ static void consider(const state *it, int depth) {
     distinct++;
     HOLDS(it->files[STORE].bytes[STATE] == 1 || is_checkpoint(&it->files[STORE]));
     memcpy(own_files, file_of, sizeof own_files);
-    kept[depth] = now;
+    if (goes_deeper) kept = now;
     records = false, dies_in = -1, depth_now = depth + 1;
     write_image(path, &it->files[STORE]);
     if (it->is_named[JOURNAL]) write_image(journal, &it->files[JOURNAL]);
@@ -374,7 +384,8 @@ static void consider(const state *it, int depth) {
     bool is_first = is_same(&made, &checkpoints[0]), is_second = is_coming && is_same(&made, &checkpoints[1]);
     HOLDS((is_first || is_second) && access(journal, F_OK) != 0);
     if (is_logged()) opens_behind(path, is_first, is_second, it->least);
-    now = kept[depth], records = recorded, dies_in = dies, depth_now = depth;
+    if (goes_deeper) now = kept;
+    records = recorded, dies_in = dies, depth_now = depth;
     memcpy(file_of, own_files, sizeof own_files);
 }
 
@@ -543,10 +554,9 @@ static void session(plain *map) {
             lives = change(&file.store, map);
             if (lives && is_logged() && below(6) == 0) sync_log(&file);
         }
-        if (!lives || below(8) == 0 || made_calls > CALLS / 2) {
-            bool is_done = lives && made_calls <= CALLS / 2;
+        if (!lives || (below(8) == 0 && made_calls <= CALLS / 2)) {
             int32_t answer = cola_file_discard(&file);
-            HOLDS(!is_done || answer == COLA_OK);
+            HOLDS(!lives || answer == COLA_OK);
             dies_in = -1;
         } else {
             promise(&file, map, rounds == 1);
@@ -588,8 +598,8 @@ int main(int count, char **words) {
     maps[0] = plain_new(MANY, 1), maps[1] = plain_new(MANY, 1);
     for (int calls = 0; calls <= CALLS; calls++) after[calls] = plain_new(MANY, 1);
     long most = atol(words[2]);
-    sessions(COLA_RESIDENT, most * 3 / 5);
-    sessions(COLA_LOGGED, most * 17 / 20);
+    sessions(COLA_RESIDENT, most / 2);
+    sessions(COLA_LOGGED, most * 3 / 4);
     sessions(COLA_SYNCED, most);
     printf("%ld states of a disk, %ld of them distinct, %ld recoveries cut short\n", states, distinct, recoveries);
     return 0;

@@ -182,8 +182,9 @@ static void of_growing(uint8_t version) {
 static void of_loading(uint8_t version) {
     static const char longest[COLA_VALUE_MAX + 1];
     size_t key_max = version == 1 ? COLA_KEY_MAX_1 : COLA_KEY_MAX, value_max = version == 1 ? COLA_VALUE_MAX_1 : COLA_VALUE_MAX, done = 7;
-    uint64_t length = size_of(50, version), rows = 7;
+    uint64_t length = size_of(50, version), rows = 7, stamp = 7;
     cola_load load = COLA_LOAD_INIT;
+    cola store = COLA_INIT;
     uint8_t *bytes = zeros(length);
     cola_row many[20];
     HOLDS(cola_load_row(&load, "a", 1, "", 0) == COLA_CLOSED && cola_load_end(&load, &rows) == COLA_CLOSED && rows == 7);
@@ -218,6 +219,16 @@ static void of_loading(uint8_t version) {
     HOLDS(cola_load_many(&load, many + 7, 13, &done) == COLA_OK && done == 13);
     HOLDS(cola_load_row(&load, "z", 1, "", 0) == COLA_FULL && cola_load_many(&load, NULL, 0, &done) == COLA_OK);
     HOLDS(cola_load_end(&load, &rows) == COLA_OK && rows == 50 && !load.is_open && is_store_of(bytes, length, 50, version));
+    HOLDS(cola_open(&store, bytes, (size_t)length) == COLA_OK); /* a stamp is the number of the row, so that no row seems absent */
+    for (int n = 0; n < 50; n++) {
+        cola_row row = nth(n, version);
+        HOLDS(cola_stamp(&store, row.key, row.key_len, &stamp) == COLA_OK && stamp == (version == 2 ? (uint64_t)n + 1 : 0));
+        HOLDS(version == 1 || cola_put_if(&store, row.key, row.key_len, 0, "", 0, NULL) == COLA_OTHER);
+    }
+    many[0] = nth(0, version);
+    HOLDS(cola_put(&store, many[0].key, many[0].key_len, "", 0, NULL) == COLA_OK);
+    HOLDS(cola_stamp(&store, many[0].key, many[0].key_len, &stamp) == COLA_OK && stamp == (version == 2 ? 51 : 0));
+    HOLDS(cola_close(&store) == COLA_OK);
     memset(bytes, 0, (size_t)length); /* and one with no row */
     HOLDS(cola_load_begin(&load, bytes, (size_t)length, 50, 3, version) == COLA_OK && cola_load_end(&load, NULL) == COLA_OK);
     HOLDS(is_store_of(bytes, length, 0, version));

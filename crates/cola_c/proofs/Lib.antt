@@ -10,3 +10,8 @@ pub mod ToldBack
 pub mod Pieces
 pub mod Staying
 pub mod Placing
+pub mod LoadValues
+pub mod LoadsTold
+pub mod LoadInside
+mod Saved
+mod SavedRuns

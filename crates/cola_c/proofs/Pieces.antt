@@ -1,6 +1,6 @@
 -- The marked pages of a store as pieces, one by one, and a piece that was read.
-use Rattle.std.proofs.Common.{◌≡◌, ◌≢◌, ◌∙◌, ℕ, ◌+◌, ◌*◌, ◌<◌, ◌≤◌, Bool, true, false, List, [], ◌∷◌, ◌++◌, length, take, drop, slice_index, Option, Some, None, refl, sym, ap, subst, arith, append_assoc, length-drop, eqb}
-use Rattle.std.specs.Prelude.{nat_lt, if◌then◌else◌}
+use Rattle.std.proofs.Common.{◌≡◌, ◌≢◌, ◌∙◌, ℕ, ◌+◌, ◌*◌, ◌<◌, ◌≤◌, false, List, [], ◌∷◌, ◌++◌, length, take, drop, slice_index, Some, None, refl, sym, ap, subst, append_assoc, eqb}
+use Rattle.std.specs.Prelude.{nat_lt}
 use Rattle.std.proofs.lemmas.Bool.{ltb-false, ne_eqb}
 use Rattle.std.proofs.lemmas.List.{drop_more, drop_all, length-take-le}
 use Rattle.byteorder.specs.Endian.{little_number}
@@ -12,10 +12,10 @@ use Rattle.cola_c.specs.Journal.{pieces_from, FindsPiece}
 abbrev pub piece_from : List ℕ → ℕ → Piece
 piece_from bytes page = record { at = 4096 * page; bytes = page_of bytes page }
 
-by_mark : (mark page : ℕ) (marks bytes : List ℕ) → mark ≢ 0 → pieces_from page (mark ∷ marks) bytes ≡ piece_from bytes page ∷ pieces_from (page + 1) marks bytes
+pub by_mark : (mark page : ℕ) (marks bytes : List ℕ) → mark ≢ 0 → pieces_from page (mark ∷ marks) bytes ≡ piece_from bytes page ∷ pieces_from (page + 1) marks bytes
 by_mark mark page marks bytes is = let test : eqb mark 0 ≡ false = ne_eqb mark 0 is in rw test refl
 
-by_none : (mark page : ℕ) (marks bytes : List ℕ) → mark ≡ 0 → pieces_from page (mark ∷ marks) bytes ≡ pieces_from (page + 1) marks bytes
+pub by_none : (mark page : ℕ) (marks bytes : List ℕ) → mark ≡ 0 → pieces_from page (mark ∷ marks) bytes ≡ pieces_from (page + 1) marks bytes
 by_none mark page marks bytes is = rw is refl
 
 -- a page with no mark is no piece, and one with a mark is the next one

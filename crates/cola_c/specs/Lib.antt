@@ -6,3 +6,6 @@ pub mod Plain
 pub mod Tools
 pub mod Walks
 pub mod Told
+pub mod LoadHandle
+pub mod Loads
+pub mod Checkpoints

@@ -7,7 +7,7 @@ use Rattle.cola_kv.specs.Kv as kv
 use Rattle.cola_handle.specs.declared.answer.Answer.{Answer}
 use Rattle.cola_handle.specs.declared.session.Session.{Session}
 use Rattle.cola_handle.specs.Marks.{AreMarked, marks_in, place_in}
-use Rattle.cola_handle.specs.Open.{lent_device, WereLent, first_of, first_marks_of, marks_place_of, SameFirst}
+use Rattle.cola_handle.specs.Open.{lent_device, WereLent, first_of, first_marks_of, place_of, marks_place_of, SameFirst}
 use Rattle.cola_c.specs.Exports.{Opens, IsRefused}
 
 module _ (before marks : Region) where
@@ -33,6 +33,6 @@ pub record GivesMarks (old : Session) (region marks : Region) : Type 0 where
   pub marked : AreMarked (first_marks_of old) (first_of old) (bytes_in marks.bytes) (bytes_in region.bytes)
   pub place : IfSome (marks_place_of old) (λ place. (marks.at, marks.len) ≡ place)
 
--- Law: what was lent to a session is the same behind each call of its store
+-- Law: what was lent to a session is the same behind each call of its store, and its bytes lie where they did
 abbrev pub LentStays : Type 0
-LentStays = (old new : Session) → kv.Stays lent_device old.kv new.kv → SameFirst old new
+LentStays = (old new : Session) → kv.Stays lent_device old.kv new.kv → SameFirst old new × (place_of new ≡ place_of old)

@@ -45,7 +45,8 @@ pub fn openings_are_told()
     ensures closings { ClosingsAreTold }
 {}
 
-/// What was lent to a session, bytes and marks, is what a closing speaks of: no call of its store in between changes it.
+/// What was lent to a session, bytes and marks, is what a closing speaks of: no call of its store in between changes it, nor where
+/// the bytes lie.
 pub fn what_was_lent_stays()
     ensures { LentStays }
 {}

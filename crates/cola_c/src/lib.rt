@@ -14,9 +14,13 @@ ghost use Rattle.cola_c.specs.Marked.{GivesMarks};
 ghost use Rattle.cola_handle.specs.Created.{Creates};
 ghost use Rattle.cola_handle.specs.Stored.{Begins};
 
+pub mod checkpoint_laws;
 mod journal;
 mod laws;
 mod laws_of_walks;
+mod load_handle;
+pub mod load_laws;
+mod loads;
 mod log;
 mod marked;
 mod told;

@@ -30,7 +30,7 @@ pub struct Found {
 }
 
 /// The number of a refusal.
-fn fault_code(fault: ToolFault) -> i32
+pub(crate) fn fault_code(fault: ToolFault) -> i32
     ensures { result ≡ pos (fault_number fault) }
 {
     match fault {

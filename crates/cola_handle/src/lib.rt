@@ -21,6 +21,7 @@ pub use creating::{create, size};
 pub use cursor::{Cursor, Row};
 pub use falling::prev;
 pub use handle::Cola;
+pub use loose::Loose;
 pub use marks::{LentDevice, LentMarks};
 pub use opening::{close, open};
 pub use session::Session;

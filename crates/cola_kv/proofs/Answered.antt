@@ -19,9 +19,8 @@ use Rattle.cola_cell.specs.Spent.{Spent}
 use Rattle.cola_spec.specs.Bounds.{get_bound, put_bound}
 use Rattle.cola_spec.specs.Command as command
 use Rattle.cola_spec.specs.Command.{Command}
-use Rattle.cola_spec.specs.Map as map
 use Rattle.cola_spec.specs.Reply as reply
-use Rattle.cola_store.specs.Calls.{AnswersRequest, ReadsWithin, Searches, worn_at}
+use Rattle.cola_store.specs.Calls.{ReadsWithin, Searches, worn_at}
 use Rattle.cola_store.specs.Store.{kept_of}
 use Rattle.cola_kv.specs.declared.error.Error.{Error}
 use Rattle.cola_kv.specs.declared.error.Error.TheVariants.{KeyLength, ValueLength}
@@ -30,7 +29,7 @@ use Rattle.cola_kv.specs.Errors.{of_read, of_step, of_put}
 use Rattle.cola_kv.specs.Kv.{Holds, Stays, shape_of, levels_of, faults_of}
 use Rattle.cola_kv.specs.Causes.{ReadCause, DeleteCause, PutCause, IsReadRefusal, IsPutRefusal, IsStepRefusal}
 use Rattle.cola_kv.specs.Calls.{Gets, Stamps, Deletes, Puts, PutsIf, Replies, StoreRefuses, Ticks, ReadsFew, TransfersFew, unticked}
-use Rattle.cola_kv.proofs.Moved.{Moved, Searched, searched, put-moved, put-if-moved, delete-moved}
+use Rattle.cola_kv.proofs.Moved.{searched, put-moved, put-if-moved, delete-moved}
 use Rattle.cola_kv.proofs.Refusing.{put-full, put-worn, put-if-full, put-if-worn}
 
 -- the answer of a call below, as one of the store's

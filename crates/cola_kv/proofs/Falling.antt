@@ -1,8 +1,9 @@
 -- What a falling range of a store, and its greatest key, say, as the records of an open store.
-use Rattle.std.proofs.Common.{◌≡◌, ◌&&◌, ℕ, ◌≤◌, Bool, true, false, List, Option, Some, None, Result, Ok, Err, refl, sym, ap, subst, ◌∙◌, arith}
+use Rattle.std.proofs.Common.{◌≡◌, ◌&&◌, ℕ, ◌+◌, ◌≤◌, Bool, true, false, List, Option, None, Result, Ok, Err, refl, sym, ap, subst, ◌∙◌, arith}
 use Rattle.std.specs.Result.{IsErrAnd}
-use Rattle.std.specs.Prelude.{IfOk, IfErr, IsOk}
+use Rattle.std.specs.Prelude.{IfOk, OnOk, OnErr}
 use Rattle.std.specs.declared.ops.Bound.{Bound}
+use Rattle.std.specs.declared.ops.Bound.TheVariants.{Unbounded}
 use Rattle.cola_cell.specs.declared.fault.ReadFault.{ReadFault}
 use Rattle.cola_cell.specs.declared.fault.ReadFault.TheVariants as read
 use Rattle.cola_cursor.specs.declared.cursor.Cursor.{Cursor}
@@ -10,19 +11,22 @@ use Rattle.cola_device.specs.declared.device.Device as device
 use Rattle.cola_spec.specs.Map.{Map, Shape}
 use Rattle.cola_spec.specs.Bounds.{range_bound}
 use Rattle.cola_cell.specs.Spent.{Spent}
-use Rattle.cola_table.specs.Answers.{ReadFaults, OnlyDeviceRead}
+use Rattle.cola_table.specs.Answers.{NextAnswers, ReadFaults, OnlyDeviceRead}
 use Rattle.cola_store.specs.declared.account.Account.{Account}
 use Rattle.cola_store.specs.Backward as store
-use Rattle.cola_store.specs.Backward.{RangeBackAnswers, LastAnswers, AsksLast}
+use Rattle.cola_store.specs.Backward.{RangeBackAnswers, LastAnswers, AsksLast, pairs_back}
+use Rattle.cola_store.specs.Store as opened
 use Rattle.cola_store.specs.Store.{Stored, kept_of, spent_of}
-use Rattle.cola_store.specs.Walks.{TurnsWithin, left_of}
+use Rattle.cola_store.specs.Walks as walks
+use Rattle.cola_store.specs.Walks.{TurnsWithin, left_of, left_after}
+use Rattle.cola_store.proofs.Falling.{last-answers}
 use Rattle.cola_kv.specs.declared.error.Error.{Error}
 use Rattle.cola_kv.specs.declared.error.Error.TheVariants.{KeyLength}
 use Rattle.cola_kv.specs.declared.kv.Kv.{Kv}
 use Rattle.cola_kv.specs.Errors.{of_read}
 use Rattle.cola_kv.specs.Kv.{Holds, shape_of, levels_of, faults_of}
 use Rattle.cola_kv.specs.Backward.{BackCause, IsBackRefusal, BeginsBack, Lasts, StoreBeginsBack, StoreLasts, are_ends, is_low, is_high}
-use Rattle.cola_kv.specs.Ranged.{Stands, Ahead, TurnsFew, left_behind}
+use Rattle.cola_kv.specs.Ranged.{Stands, Ahead, TurnsFew}
 use Rattle.cola_kv.proofs.Answered.{stays-of, stays-same, read-step-refusal, differ}
 use Rattle.cola_kv.proofs.Ranging.{result_of, step-cause, left-few, no-turns}
 
@@ -71,10 +75,6 @@ module _ {D : Type 0} (d : device.Ghosts D) where
     back-refused low high read.Device given = given
     back-refused low high (read.BadCell cell) given = given
 
-    last-refused : (from to : ℕ) (f : ReadFault) → AsksLast d.bytes d.counts old.store (Err f) new.store from to → StoreLasts d old new from to (Err (of_read f))
-    last-refused from to read.Device given = given
-    last-refused from to (read.BadCell cell) given = given
-
     pub begins-back : (low : Option (List ℕ)) (high : Bound (List ℕ)) → is_low (shape_of old) low ≡ true → is_high (shape_of old) high ≡ true → (result : Result Cursor ReadFault) →
         ((m : Map) → Holds d old m → RangeBackAnswers m low high (Holds d new) (Ahead d new) result) → store.BeginsBack d.bytes d.counts old.store low high result new.store → IfOk result (Stands d new) →
         ReadFaults result (faults_of d old) (faults_of d new) → BeginsBack d old new low high (result_of result)
@@ -107,6 +107,12 @@ module _ {D : Type 0} (d : device.Ghosts D) where
       stays = stays-of d old new kept cache (ap (λ (a : Account). a.opened) given.account_is) faults_stay;
     }
 
+  module _ (old new : Kv D d) (cache : new.cache ≡ old.cache) (kept : kept_of d.bytes d.counts d.kept new.store ≡ kept_of d.bytes d.counts d.kept old.store)
+      (faults_stay : faults_of d old ≤ faults_of d new) where
+    last-refused : (from to : ℕ) (f : ReadFault) → AsksLast d.bytes d.counts old.store (Err f) new.store from to → StoreLasts d old new from to (Err (of_read f))
+    last-refused from to read.Device given = given
+    last-refused from to (read.BadCell cell) given = given
+
     -- the walk that is begun at the end, and asked once, turns to no more than a range may
     asked-turns : (one two three : Spent) (left rest most : ℕ) → TurnsWithin one two left most → TurnsWithin two three rest left → TurnsWithin one three 0 most
     asked-turns one two three left rest most first second = record {
@@ -125,31 +131,53 @@ module _ {D : Type 0} (d : device.Ghosts D) where
     asked-opened from to result a = ap (λ (x : Account). x.opened) (a.goes.account_is ∙ a.begins.account_is)
 
     pub lasts : {from to : ℕ} (result : Result (Option (List ℕ × List ℕ)) ReadFault) → ((m : Map) → Holds d old m → LastAnswers m (Holds d new) result) →
-        AsksLast d.bytes d.counts old.store result new.store from to →
+        (a : AsksLast d.bytes d.counts old.store result new.store from to) → IfOk result (λ pair. new.ticks + left_of a.after ≡ left_of a.walk) → OnErr result (new.ticks ≡ old.ticks) →
         ReadFaults result (faults_of d old) (faults_of d new) → Lasts d old new (result_of result)
-    lasts {from} {to} (Ok pair) answers given faults = record {
+    lasts {from} {to} (Ok pair) answers a told stays faults = record {
       ticks = from;
       ticks_now = to;
-      given = given;
+      given = record { asks = a; told = told };
       answer = λ m holds. (answers m holds).0;
       map_stays = λ m holds. (answers m holds).1;
       refusal = λ m holds. tt;
       cause = tt;
-      no_step = asked-steps from to (Ok pair) given;
-      blocks = asked from to (Ok pair) given;
-      no_ticks = ticks;
-      stays = stays-of d old new kept cache (asked-opened from to (Ok pair) given) faults_stay;
+      no_step = asked-steps from to (Ok pair) a;
+      blocks = asked from to (Ok pair) a;
+      told = let few = left-few _ _ _ _ a.begins.turns in omega (arith, told, few);
+      stays = stays-of d old new kept cache (asked-opened from to (Ok pair) a) faults_stay;
     }
-    lasts {from} {to} (Err f) answers given faults = record {
+    lasts {from} {to} (Err f) answers a told stays faults = record {
       ticks = from;
       ticks_now = to;
-      given = last-refused from to f given;
+      given = last-refused from to f a;
       answer = λ m holds. tt;
       map_stays = λ m holds. (answers m holds).1;
       refusal = λ m holds. read-step-refusal f (answers m holds).0;
       cause = step-cause (Option (List ℕ × List ℕ)) (faults_of d old) (faults_of d new) f faults;
-      no_step = asked-steps from to (Err f) given;
-      blocks = asked from to (Err f) given;
-      no_ticks = ticks;
-      stays = stays-of d old new kept cache (asked-opened from to (Err f) given) faults_stay;
+      no_step = asked-steps from to (Err f) a;
+      blocks = asked from to (Err f) a;
+      told = stays;
+      stays = stays-of d old new kept cache (asked-opened from to (Err f) a) faults_stay;
     }
+
+  -- the greatest key, by a walk of the store's that was begun at the end, which read nothing, and asked once
+  module _ (old new : Kv D d) (mid : Stored D) (cache : new.cache ≡ old.cache) (kept : kept_of d.bytes d.counts d.kept mid ≡ kept_of d.bytes d.counts d.kept old.store)
+      (still : kept_of d.bytes d.counts d.kept new.store ≡ kept_of d.bytes d.counts d.kept mid) (more : (spent_of d.counts mid).faults ≤ faults_of d new) (walk after : Cursor) (ticks between now : ℕ)
+      (begins : store.BeginsBack d.bytes d.counts old.store None Unbounded (Ok walk) mid) (unread : between ≡ ticks)
+      (begun : (m : Map) → Holds d old m → RangeBackAnswers m None Unbounded (opened.Holds d.bytes mid) (walks.Ahead d.bytes mid) (Ok walk)) (sound : (m : Map) → opened.Holds d.bytes mid m → Holds d new m) where
+    no-fault : (spent_of d.counts mid).faults ≡ faults_of d old
+    no-fault = ap (λ (s : Spent). s.faults) (begins.unread refl).1
+
+    few-read : (result : Result (Option (List ℕ × List ℕ)) ReadFault) → now ≤ between + left_of walk → OnOk result (now + left_of after ≤ between + left_of walk) → now + left_after after result ≤ ticks + left_of walk
+    few-read (Ok pair) within left = omega (arith, unread, left)
+    few-read (Err f) within left = omega (arith, unread, within)
+
+    pub lasts-asked : (result : Result (Option (List ℕ × List ℕ)) ReadFault) → walks.Goes d.bytes d.counts mid walk result new.store after →
+        ((m : Map) (pairs : List (List ℕ × List ℕ)) → opened.Holds d.bytes mid m → walks.Ahead d.bytes mid walk pairs → NextAnswers (walks.Ahead d.bytes new.store after) pairs result) →
+        now ≤ between + left_of walk → OnOk result (now + left_of after ≤ between + left_of walk) → ReadFaults result (spent_of d.counts mid).faults (faults_of d new) →
+        IfOk result (λ pair. new.ticks + left_of after ≡ left_of walk) → OnErr result (new.ticks ≡ old.ticks) → Lasts d old new (result_of result)
+    lasts-asked result goes answers within left faults told stays =
+        let a : AsksLast d.bytes d.counts old.store result new.store ticks now = record { mid = mid; walk = walk; after = after; begins = begins; goes = goes; reads = few-read result within left } in
+        lasts old new cache (still ∙ kept) (omega (arith, no-fault, more)) result
+        (λ m holds. let b = begun m holds in last-answers m (walks.Ahead d.bytes new.store after) (Holds d new) result (answers m (pairs_back m None Unbounded) b.1 b.0) (sound m b.1))
+        a told stays (subst (λ (n : ℕ). ReadFaults result n (faults_of d new)) no-fault faults)

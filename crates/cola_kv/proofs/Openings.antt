@@ -1,5 +1,5 @@
 -- What making, opening and closing a file say, in the words of an open store.
-use Rattle.std.proofs.Common.{◌≡◌, ◌∙◌, ◌⊎◌, inl, inr, ℕ, ◌<◌, min, true, List, length, take, Option, Some, None, Result, Ok, Err, refl, sym, ap, subst}
+use Rattle.std.proofs.Common.{◌≡◌, ◌∙◌, ◌⊎◌, inl, inr, ℕ, min, true, List, take, Option, Some, None, Result, Ok, Err, refl, sym, ap, subst}
 use Rattle.std.specs.Prelude.{IfSome, IfOk, IfErr}
 use Rattle.cola_outside.specs.Told.{Both}
 use Rattle.cola_cell.specs.declared.format.Format.{Format}
@@ -12,7 +12,7 @@ use Rattle.cola_store.specs.declared.fault.CreateFault.{CreateFault}
 use Rattle.cola_store.specs.declared.fault.CreateFault.TheVariants as create
 use Rattle.cola_store.specs.declared.fault.OpenFault.{OpenFault}
 use Rattle.cola_store.specs.declared.fault.OpenFault.TheVariants as opening
-use Rattle.cola_store.specs.Create.{Created, IsNewFile, PartlyMade, new_header}
+use Rattle.cola_store.specs.Create.{Created, IsNewFile, new_header}
 use Rattle.cola_store.specs.Open.{Opens, FailedAtHeader, FailedAtCells, FailedAtMark}
 use Rattle.cola_store.specs.declared.closing.Closing.{Closing}
 use Rattle.cola_store.specs.Sessions.{IsStoreOpened, OpensStore, ClosesStore, OpensTo, MetFault, Owes}

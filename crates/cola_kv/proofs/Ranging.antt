@@ -1,13 +1,12 @@
 -- What a range of a store as a table says, as the records of a range of an open store.
 use Rattle.std.proofs.Common.{◌≡◌, ◌⊎◌, inl, inr, ℕ, ◌<◌, ◌≤◌, true, false, List, Option, Some, None, Result, Ok, Err, refl, sym, ap, subst, arith}
 use Rattle.std.specs.Option.{IsSomeAnd}
-use Rattle.std.specs.Prelude.{IfSome, IfOk, IfErr, OnErr, OnSome}
+use Rattle.std.specs.Prelude.{IfSome, IfOk, OnErr, OnSome}
 use Rattle.cola_cell.specs.declared.fault.ReadFault.{ReadFault}
 use Rattle.cola_cell.specs.declared.fault.ReadFault.TheVariants as read
 use Rattle.cola_cell.specs.Spent.{Spent}
 use Rattle.cola_cursor.specs.declared.cursor.Cursor.{Cursor}
 use Rattle.cola_device.specs.declared.device.Device as device
-use Rattle.cola_spec.specs.Bounds.{range_bound}
 use Rattle.cola_spec.specs.Map.{Map, Shape, is_key}
 use Rattle.cola_table.specs.Answers.{RangeAnswers, NextAnswers, ReadFaults, OnlyDeviceRead}
 use Rattle.cola_store.specs.declared.account.Account.{Account}
@@ -18,9 +17,9 @@ use Rattle.cola_kv.specs.declared.error.Error.{Error}
 use Rattle.cola_kv.specs.declared.error.Error.TheVariants.{KeyLength}
 use Rattle.cola_kv.specs.declared.kv.Kv.{Kv}
 use Rattle.cola_kv.specs.Errors.{of_read}
-use Rattle.cola_kv.specs.Kv.{Holds, shape_of, levels_of, faults_of}
+use Rattle.cola_kv.specs.Kv.{Holds, shape_of, faults_of}
 use Rattle.cola_kv.specs.Causes.{RangeCause, StepCause, IsRangeRefusal}
-use Rattle.cola_kv.specs.Ranged.{Stands, Ahead, IsNext, Begins, Nexts, TurnsFew, StoreBegins, StoreGoes, left_behind}
+use Rattle.cola_kv.specs.Ranged.{Stands, Ahead, IsNext, Begins, Nexts, StoreBegins, StoreGoes}
 use Rattle.cola_kv.proofs.Answered.{stays-of, stays-same, read-step-refusal, differ}
 
 -- the result of a call below, as one of the store's

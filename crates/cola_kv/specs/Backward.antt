@@ -1,5 +1,5 @@
 -- A store by falling keys: how such a range begins, and what the greatest key is.
-use Rattle.std.specs.Prelude.{◌≡◌, ◌&&◌, ◌≤◌, ℕ, true, false, Bool, List, None, Option, Some, Result, Ok, Err, IfOk, IfErr, ⊤}
+use Rattle.std.specs.Prelude.{◌≡◌, ◌&&◌, ◌+◌, ◌≤◌, ℕ, true, false, Bool, List, None, Option, Some, Result, Ok, Err, IfOk, IfErr, ⊤}
 use Rattle.std.specs.declared.ops.Bound.{Bound}
 use Rattle.std.specs.declared.ops.Bound.TheVariants.{Included, Excluded, Unbounded}
 use Rattle.cola_cell.specs.declared.fault.ReadFault.TheVariants as read
@@ -10,9 +10,11 @@ use Rattle.cola_spec.specs.Bounds.{range_bound}
 use Rattle.cola_spec.specs.Map.{Map, Shape, is_key}
 use Rattle.cola_store.specs.Backward as store
 use Rattle.cola_store.specs.Backward.{pairs_back, last_pair}
+use Rattle.cola_store.specs.Walks.{left_of}
 use Rattle.cola_kv.specs.declared.error.Error.{Error}
 use Rattle.cola_kv.specs.declared.error.Error.TheVariants.{KeyLength, BadCell, Device}
 use Rattle.cola_kv.specs.declared.kv.Kv.{Kv}
+use Rattle.cola_kv.specs.Calls.{Ticks}
 use Rattle.cola_kv.specs.Causes.{StepCause, IsStepRefusal}
 use Rattle.cola_kv.specs.Kv.{Holds, Stays, shape_of, levels_of, faults_of, steps_of}
 use Rattle.cola_kv.specs.Ranged.{Stands, Ahead, TurnsFew, left_begun}
@@ -53,9 +55,14 @@ module _ {D : Type 0} (d : device.Ghosts D) (old new : Kv D d) where
   StoreBeginsBack low high (Err (BadCell cell)) = store.BeginsBack d.bytes d.counts old.store low high (Err (read.BadCell cell)) new.store
   StoreBeginsBack low high (Err _) = ⊥
 
+  -- the greatest key was answered by a walk of the store's, and the ticks that are told are the cells that the walk read
+  pub record TellsLast (pair : Option (List ℕ × List ℕ)) (ticks ticks_now : ℕ) : Type 0 where
+    pub asks : store.AsksLast d.bytes d.counts old.store (Ok pair) new.store ticks ticks_now
+    pub told : new.ticks + left_of asks.after ≡ left_of asks.walk
+
   -- the same of the greatest key, with the ticks of a ledger before and behind the call
   abbrev pub StoreLasts : (ticks ticks_now : ℕ) → Result (Option (List ℕ × List ℕ)) Error → Type 0
-  StoreLasts ticks ticks_now (Ok pair) = store.AsksLast d.bytes d.counts old.store (Ok pair) new.store ticks ticks_now
+  StoreLasts ticks ticks_now (Ok pair) = TellsLast pair ticks ticks_now
   StoreLasts ticks ticks_now (Err Device) = store.AsksLast d.bytes d.counts old.store (Err read.Device) new.store ticks ticks_now
   StoreLasts ticks ticks_now (Err (BadCell cell)) = store.AsksLast d.bytes d.counts old.store (Err (read.BadCell cell)) new.store ticks ticks_now
   StoreLasts ticks ticks_now (Err _) = ⊥
@@ -86,5 +93,5 @@ module _ {D : Type 0} (d : device.Ghosts D) (old new : Kv D d) where
     pub cause : IfErr result (StepCause (faults_of d old) (faults_of d new))
     pub no_step : steps_of new ≡ steps_of old
     pub blocks : TurnsFew d old new 0 (range_bound (levels_of old))
-    pub no_ticks : new.ticks ≡ old.ticks
+    pub told : Ticks d old new (range_bound (levels_of old)) result
     pub stays : Stays d old new

@@ -1,5 +1,5 @@
 -- How a store is made, opened, closed and kept safe in between: what each answer says, and what it leaves.
-use Rattle.std.specs.Prelude.{◌≡◌, ◌⊎◌, ℕ, ◌<◌, min, List, length, IfSome}
+use Rattle.std.specs.Prelude.{◌≡◌, ◌⊎◌, ℕ, min, List, IfSome}
 use Rattle.std.specs.Option.{IsSomeAnd}
 use Rattle.cola_outside.specs.Faults.{Rose}
 use Rattle.cola_outside.specs.Told.{Both}

@@ -1,7 +1,8 @@
 //! An open store by falling keys.
-ghost use Rattle.std.specs.Prelude.{◌≡◌, ◌<◌, true, false, IfOk, MatchResult, option_copied};
+ghost use Rattle.std.specs.Prelude.{◌≡◌, ◌<◌, ◌≤◌, length, true, false, IfOk, MatchResult, option_copied};
 ghost use Rattle.std.specs.Borrow.{sem, RestsIfErr};
 ghost use Rattle.std.specs.Bound.{bound_map};
+ghost use Rattle.cola_cursor.specs.Lines.{all_left, left_of};
 ghost use Rattle.cola_kv.specs.contracts.kv.Kv.{the_row};
 ghost use Rattle.cola_kv.specs.declared.error.Error.TheVariants.{KeyLength};
 ghost use Rattle.cola_kv.specs.Backward.{BeginsBack, Lasts, is_high, is_low};
@@ -12,9 +13,10 @@ use crate::error::Error;
 use crate::kv::Kv;
 use crate::range::Range;
 use cola_cell::{Key, Value};
-use cola_cursor::Cursor;
+use cola_cursor::{Cursor, Line};
 use cola_device::Device;
 use cola_outside::Steps;
+use cola_table::Table;
 use std::marker::Brand;
 use std::ops::Bound;
 use std::sync::ledger::{Blank, Ledger};
@@ -41,7 +43,30 @@ fn range_back_on<D: Device, L: Ledger>(
     )
 }
 
-/// Asks for the greatest key on a ledger that the blank opens.
+/// How many cells of its run a line has still to read.
+fn left_in(line: &Line) -> u32
+    ensures { result ≡ left_of line.now }
+{
+    let ahead = line.run.len.saturating_sub(line.place);
+    match &line.head {
+        Some(_) => ahead.saturating_sub(1),
+        None => ahead,
+    }
+}
+
+/// How many cells the lines of a walk have still to read.
+fn cells_left(lines: &[Line]) -> u64
+    requires { length lines.now ≤ 23 }
+    ensures { result ≡ all_left lines.now }
+{
+    let mut left: u64 = 0;
+    for line in lines {
+        left += left_in(line) as u64;
+    }
+    left
+}
+
+/// Asks for the greatest key on a ledger that the blank opens. A tick is made for each cell that the walk reads.
 fn last_on<D: Device, L: Ledger>(
     blank: Blank,
     kv: &mut Kv<D>,
@@ -52,7 +77,11 @@ fn last_on<D: Device, L: Ledger>(
     ensures { Lasts D.Device kv.old kv.new result }
 {
     let mut steps = Steps::<L>::begin(blank);
-    Ok(kv.store.last(&mut steps)?)
+    let mut walk = kv.store.range_back(None, Bound::Unbounded, &mut steps)?;
+    let left = cells_left(walk.lines.as_slice());
+    let pair = kv.store.next(&mut walk, &mut steps)?;
+    kv.ticks = (left - cells_left(walk.lines.as_slice())) as u32;
+    Ok(pair)
 }
 
 impl<D: Device> Kv<D> {

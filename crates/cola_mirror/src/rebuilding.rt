@@ -106,8 +106,8 @@ fn write_first<E: Device>(to: &mut E, head: &[u8; 512]) -> Result<(), DeviceFaul
 /// `NotStore` where they spell no header; `Small` where it has fewer bytes than the cells of the store; `NotClosed` where its
 /// state byte is 1; the size of `to` is asked, and `Other` where it is neither 0 nor that of `from`; an empty `to` is laid out;
 /// the bytes behind the first 512 are copied in pieces of 512; the first 512 are written; `to` settles. `Device` where one of
-/// the two refused a call. After a `Device` before the last write the first 512 bytes of `to` are 0 where it was empty, and
-/// else those that it had.
+/// the two refused a call. After a `Device` before the last write the first 512 bytes of `to` are 0 where it was laid out, and
+/// else those that it had; where it refused to be laid out it has any bytes, at most as many as `from`.
 pub fn rebuild<D: Device, E: Device>(from: &mut D, to: &mut E) -> Result<(), RebuildFault>
     ensures rebuilds { Rebuilds D.Device E.Device from.old from.new to.old to.new result }
     ensures only_copied { OnlyCopied D.Device E.Device from.old from.new to.old to.new }

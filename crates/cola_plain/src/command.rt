@@ -15,7 +15,7 @@ use crate::shape::Shape;
 use std::alloc::{AllocError, Global};
 
 /// What a line may ask for. Keys and values are the bytes of the line.
-#[derive(Clone, Copy, Debug, Drop)]
+#[derive(Clone, Copy, Drop)]
 pub enum Command<'a> {
     Put(&'a [u8], &'a [u8]),
     PutIf(&'a [u8], u64, &'a [u8]),
@@ -31,7 +31,7 @@ pub enum Command<'a> {
 
 /// What a word after a verb may be: a key, a value, a stamp of at most 19 digits or a number of pairs of at
 /// most 10.
-#[derive(Clone, Copy, Debug, Drop)]
+#[derive(Clone, Copy, Drop)]
 enum Kind {
     Key,
     Value,
@@ -40,7 +40,7 @@ enum Kind {
 }
 
 /// What a line's first word asks for.
-#[derive(Clone, Copy, Debug, Drop)]
+#[derive(Clone, Copy, Drop)]
 enum Verb {
     Put,
     PutIf,
@@ -56,7 +56,7 @@ enum Verb {
 
 /// A verb with its name and the kinds of the words after it; where it is `stamped`, in a shape with stamps
 /// alone.
-#[derive(Clone, Copy, Debug, Drop)]
+#[derive(Clone, Copy, Drop)]
 struct Grammar {
     name: &'static [u8],
     verb: Verb,

@@ -9,7 +9,7 @@ use std::alloc::{AllocError, Global};
 use std::cmp::Ordering;
 
 /// A key, its value, and the number of the put that gave it.
-#[derive(Debug, Drop)]
+#[derive(Drop)]
 pub struct Entry {
     key: Vec<u8>,
     value: Vec<u8>,
@@ -17,21 +17,21 @@ pub struct Entry {
 }
 
 /// Entries by rising keys, and the last stamp that was given.
-#[derive(Debug, Drop)]
+#[derive(Drop)]
 pub struct Map {
     entries: Vec<Entry>,
     last: u64,
 }
 
 /// A key with its value.
-#[derive(Debug, Drop)]
+#[derive(Drop)]
 pub struct Row {
     pub key: Vec<u8>,
     pub value: Vec<u8>,
 }
 
 /// What a put answers.
-#[derive(Debug, Drop)]
+#[derive(Drop)]
 pub enum PutOutcome {
     New,
     Old(Vec<u8>),

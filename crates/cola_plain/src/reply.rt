@@ -10,7 +10,7 @@ use std::alloc::{AllocError, Global};
 
 /// Why a table could not answer: the device failed, a cell's bytes are no spelling, or a level's next
 /// run is full.
-#[derive(Clone, Copy, Debug, Drop)]
+#[derive(Clone, Copy, Drop)]
 pub enum Failure {
     Fault,
     Damaged(u64),
@@ -18,7 +18,7 @@ pub enum Failure {
 }
 
 /// Why a store was not opened again.
-#[derive(Clone, Copy, Debug, Drop)]
+#[derive(Clone, Copy, Drop)]
 pub enum Refusal {
     NotStore,
     NotClosed,
@@ -27,7 +27,7 @@ pub enum Refusal {
 }
 
 /// The reply to a line.
-#[derive(Debug, Drop)]
+#[derive(Drop)]
 pub enum Reply {
     Put(PutOutcome),
     Deleted(Option<Vec<u8>>),

@@ -20,7 +20,7 @@ use std::alloc::{AllocError, Global};
 /// How a step goes: plainly, with a fault of the device, or finding no memory. A fault comes after so many
 /// rows, where the request is a range or a scan, and leaves such a state byte in the file, where it is an
 /// opening.
-#[derive(Clone, Copy, Debug, Drop)]
+#[derive(Clone, Copy, Drop)]
 pub enum Choice {
     Plain,
     Faulted(usize, u8),
@@ -28,7 +28,7 @@ pub enum Choice {
 }
 
 /// How a step goes, and how many cell accesses are made for it.
-#[derive(Clone, Copy, Debug, Drop)]
+#[derive(Clone, Copy, Drop)]
 pub struct Move {
     pub choice: Choice,
     pub ticks: u64,

@@ -20,7 +20,7 @@ use crate::shape::Shape;
 use std::alloc::{AllocError, Global};
 
 /// Whether a session is open, met a fault at its closing, or is closed, with the state byte of its file.
-#[derive(Clone, Copy, Debug, Drop)]
+#[derive(Clone, Copy, Drop)]
 enum Stage {
     Open,
     Closing,
@@ -28,7 +28,7 @@ enum Stage {
 }
 
 /// A map, and whether it is open, about to be closed, or closed.
-#[derive(Debug, Drop)]
+#[derive(Drop)]
 pub struct Session {
     map: Map,
     stage: Stage,

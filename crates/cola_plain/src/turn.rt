@@ -10,7 +10,7 @@ use crate::reply::{Failure, Refusal, Reply, reply_text};
 use std::alloc::{AllocError, Global};
 
 /// A request, its reply, and the cell accesses that were made for it.
-#[derive(Debug, Drop)]
+#[derive(Drop)]
 pub struct Turn<'a> {
     pub request: Option<Command<'a>>,
     pub answer: Reply,

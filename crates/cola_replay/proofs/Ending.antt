@@ -1,11 +1,7 @@
 -- Where the calls of a store lead, and those of its log.
-use Rattle.std.proofs.Common.{◌≡◌, ◌≢◌, ℕ, List, [], ◌∷◌, ◌++◌, Option, Some, None, Result, Ok, Err, refl, sym, ◌∙◌, ap, subst, arith}
-use Rattle.std.specs.Prelude.{⊤}
-use Rattle.std.specs.Borrow.{Bor}
+use Rattle.std.proofs.Common.{◌≡◌, ◌≢◌, List, [], ◌∷◌, ◌++◌, Option, Some, None, Result, Ok, Err, refl, sym, ◌∙◌, ap, subst}
 use Rattle.cola_device.specs.declared.device.Device as device
 use Rattle.cola_spec.specs.Map.{Shape, Map}
-use Rattle.cola_table.specs.declared.Put.{Put}
-use Rattle.cola_table.specs.declared.PutIf.{PutIf}
 use Rattle.cola_log.specs.Format as log
 use Rattle.cola_log.specs.Format.{Logged, read_log}
 use Rattle.cola_kv.specs.declared.error.Error.{Error}
@@ -16,12 +12,11 @@ use Rattle.cola_kv.specs.declared.list.Call.{Call}
 use Rattle.cola_kv.specs.declared.list.Call.TheVariants as call
 use Rattle.cola_kv.specs.declared.kv.Kv.{Kv}
 use Rattle.cola_kv.specs.Kv.{Holds, Stays, shape_of}
-use Rattle.cola_kv.specs.Listed.{Carries, CarriesAll, Follow, Start, Then, told_as}
+use Rattle.cola_kv.specs.Listed.{Carries, Follow, Start, Then, told_as}
 use Rattle.cola_kv.proofs.Answered.{stays-same}
 use Rattle.cola_kv.proofs.Listing.{shape-stays}
-use Rattle.cola_replay.specs.declared.making.Replayed.{Replayed}
 use Rattle.cola_replay.specs.Made.{after, after_all}
-use Rattle.cola_replay.specs.Replays.{failed_by, failed, Remakes, Replays}
+use Rattle.cola_replay.specs.Replays.{failed, Remakes}
 use Rattle.cola_replay.specs.Again.{logged_of, NoneFailed, AreMadeAgain}
 use Rattle.cola_replay.proofs.Remaking.{told_is, put_remade, put_if_remade, delete_remade}
 use Rattle.cola_replay.proofs.Replaying.{stays-longer}

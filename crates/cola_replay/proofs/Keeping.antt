@@ -1,15 +1,14 @@
 -- What is on the disk stays found, through every run.
-use Rattle.std.proofs.Common.{◌≡◌, ◌≢◌, ◌⊎◌, inl, inr, ℕ, Bool, true, false, bytes_eq, List, [], ◌∷◌, ◌++◌, append-nil, length, take, slice_index, Option, Some, None, refl, sym, ◌∙◌, ap, subst, arith, append_assoc}
-use Rattle.std.specs.Prelude.{if◌then◌else◌, ◌||◌, ◌&&◌, not}
-use Rattle.std.proofs.lemmas.Bool.{or_parts, or_left}
+use Rattle.std.proofs.Common.{◌≡◌, ◌≢◌, ◌⊎◌, inl, inr, ℕ, Bool, true, false, List, [], ◌∷◌, ◌++◌, Option, Some, None, refl, sym, ◌∙◌, ap, subst}
+use Rattle.std.specs.Prelude.{if◌then◌else◌, ◌&&◌, not}
 use Rattle.cola_journal.specs.declared.stage.Stage.{Stage}
 use Rattle.cola_journal.specs.declared.stage.Stage.TheVariants.{Rest, Journal, JournalSync, Found, Mark, MarkSync, Body, BodySync, Header, HeaderSync, Empty, EmptySync, Stuck, Littered}
-use Rattle.cola_journal.specs.Disk.{Contents, Same, Pages, with_pages, LeavesFile, LeavesJournal}
+use Rattle.cola_journal.specs.Disk.{Contents, Same, Pages}
 use Rattle.cola_journal.specs.Runs as runs
 use Rattle.cola_journal.specs.Runs.{World, IsComing, Stands, IsSafe, IsSettled, under_way, recovered, held_after, coming_after}
-use Rattle.cola_log.specs.Format.{Logged, AllFit, first_sum, log_of, read_log}
-use Rattle.cola_replay.specs.Crash.{header_of, sum_of, IsFront, LogDisk, last_calls, seen, WasToHave, IsUnforged, LeavesLog, ReadsLog, Logs, follows, durable, history, Happening, Turns, Begins, Fallen, Died, NewLog, Appends, Breaks, Syncs, TakesCalls, TakesCheckpoint, event_of, EventCanHappen, event_happens, LogCan, CanHappen, base_after, happens, IsRun, behind, begin_with, FindsHeld, FindsNext, Finds, IsKept, IsAnswered}
-use Rattle.cola_replay.proofs.Leaving.{sum_same, follows_same, followed, is_followed, not_followed, other_sum, front_self, front_nil, front_more, front_longer, front_behind, fits_both, were_to_have, front_found, read_same, passed_over}
+use Rattle.cola_log.specs.Format.{Logged, AllFit, first_sum, read_log}
+use Rattle.cola_replay.specs.Crash.{header_of, sum_of, IsFront, LogDisk, last_calls, seen, WasToHave, LeavesLog, Logs, follows, EventCanHappen, event_happens, FindsHeld, FindsNext}
+use Rattle.cola_replay.proofs.Leaving.{sum_same, followed, other_sum, front_nil, front_behind, were_to_have, front_found, read_same, passed_over}
 
 -- Choices
 

@@ -1,19 +1,19 @@
 -- What is read of a log that a crash left.
-use Rattle.std.proofs.Common.{◌≡◌, ◌≢◌, ◌⊎◌, inl, inr, ℕ, zero, suc, ◌+◌, ◌<◌, ◌≤◌, Bool, true, false, bytes_eq, List, [], ◌∷◌, ◌++◌, append-nil, length, take, drop, slice_index, Option, Some, None, refl, sym, ◌∙◌, ap, subst, arith, append_assoc}
+use Rattle.std.proofs.Common.{◌≡◌, ◌≢◌, inl, ℕ, zero, suc, ◌<◌, Bool, true, false, bytes_eq, List, [], ◌∷◌, ◌++◌, append-nil, take, drop, slice_index, Some, refl, sym, ◌∙◌, ap, subst, append_assoc}
 use Rattle.std.specs.Prelude.{if◌then◌else◌}
 use Rattle.std.proofs.lemmas.Bool.{false_from_ne_true}
 use Rattle.std.proofs.lemmas.List.{take_at}
 use Rattle.std.proofs.lemmas.Slice.Eq.{bytes_eq-Decides}
 use Rattle.sha2.proofs.Facts256.{length-sha256}
 use Rattle.cola_journal.specs.Disk.{Contents, Same}
-use Rattle.cola_log.specs.Format.{Logged, Fits, AllFit, Found, first_sum, log_of, sum_after, record_of, records_of, sums_after, record_at, read_records, read_log}
-use Rattle.cola_replay.specs.Crash.{bytes_from, header_of, sum_of, IsFront, LogDisk, seen, last_calls, AmongFronts, WasToHave, IsUnforged, LeavesLog, ReadsLog, follows}
-use Rattle.cola_log.proofs.Records.{record_read, log_read, if_true, if_false}
+use Rattle.cola_log.specs.Format.{Logged, AllFit, first_sum, log_of, sum_after, record_of, records_of, sums_after, record_at, read_records, read_log}
+use Rattle.cola_replay.specs.Crash.{bytes_from, sum_of, IsFront, LogDisk, WasToHave, IsUnforged, follows}
+use Rattle.cola_log.proofs.Records.{record_read, log_read, if_false}
 use Rattle.cola_log.proofs.Spelling.{is_spelled}
 
 -- Headers
 
-bytes_same : (n place : ℕ) (file other : Contents) → Same file other → bytes_from n place file ≡ bytes_from n place other
+pub bytes_same : (n place : ℕ) (file other : Contents) → Same file other → bytes_from n place file ≡ bytes_from n place other
 unfolding bytes_from
 bytes_same zero place file other same = refl
 bytes_same (suc n) place file other same = λ i. same place i ∷ bytes_same n (suc place) file other same i

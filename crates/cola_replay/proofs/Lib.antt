@@ -4,3 +4,4 @@ pub mod Leaving
 pub mod Remaking
 pub mod Replaying
 pub mod Running
+pub mod Mapping

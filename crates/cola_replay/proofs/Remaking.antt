@@ -1,7 +1,6 @@
 -- A call that is made on an open store, by the map that it holds.
-use Rattle.std.proofs.Common.{◌≡◌, ◌⊎◌, inl, inr, ℕ, ◌+◌, ◌≤◌, Bool, true, false, List, Option, Some, None, Result, Ok, Err, refl, sym, ◌∙◌, ap, subst, arith}
+use Rattle.std.proofs.Common.{◌≡◌, ℕ, Bool, true, false, List, Option, Some, None, Result, Ok, Err, refl, sym, ap, subst}
 use Rattle.std.specs.Prelude.{◌&&◌, if◌then◌else◌}
-use Rattle.cola_outside.specs.Faults.{Rose}
 use Rattle.cola_device.specs.declared.device.Device as device
 use Rattle.cola_spec.specs.Map as map
 use Rattle.cola_spec.specs.Map.{Shape, Map, PutOutcome, is_key, is_value, put_outcome, put_if_outcome, with_value, settled, after_put, after_put_if, after_delete}
@@ -13,7 +12,7 @@ use Rattle.cola_kv.specs.declared.error.Error.TheVariants as error
 use Rattle.cola_kv.specs.declared.kv.Kv.{Kv}
 use Rattle.cola_kv.specs.Calls.{Deletes, Puts, PutsIf}
 use Rattle.cola_kv.specs.Causes.{IsReadRefusal, IsPutRefusal, DeleteCause, PutCause}
-use Rattle.cola_kv.specs.Kv.{Holds, Stays, shape_of, faults_of}
+use Rattle.cola_kv.specs.Kv.{Holds, shape_of, faults_of}
 use Rattle.cola_replay.specs.Made.{after}
 use Rattle.cola_replay.specs.Replays.{failed_by, failed, Remakes}
 

@@ -1,13 +1,11 @@
 -- The calls of records, made one after another.
-use Rattle.std.proofs.Common.{◌≡◌, ◌≢◌, ℕ, suc, ◌+◌, ◌-◌, ◌<◌, ◌≤◌, Bool, true, false, bytes_eq, List, [], ◌∷◌, length, take, drop, Option, Some, None, Result, Ok, Err, refl, sym, ◌∙◌, ap, subst, arith}
-use Rattle.std.specs.Prelude.{if◌then◌else◌}
+use Rattle.std.proofs.Common.{◌≡◌, ℕ, suc, ◌+◌, ◌-◌, ◌≤◌, true, false, bytes_eq, List, [], ◌∷◌, length, take, drop, Some, None, Ok, Err, refl, sym, ◌∙◌, ap, subst, arith}
 use Rattle.std.proofs.lemmas.Slice.Eq.{bytes_eq-Decides}
 use Rattle.cola_outside.specs.Faults.{Rose}
 use Rattle.cola_device.specs.declared.device.Device as device
 use Rattle.cola_spec.specs.Map.{Shape, Map}
 use Rattle.cola_cell.proofs.Numbers.{AreBytes}
-use Rattle.cola_log.specs.Format.{Logged, Found, first_sum, log_of, records_of, sums_after, record_at, read_records, read_log}
-use Rattle.cola_log.specs.Appended.{IsReadTo}
+use Rattle.cola_log.specs.Format.{Logged, Found, first_sum, records_of, sums_after, record_at, read_records, read_log}
 use Rattle.cola_log.proofs.Records.{shorter, read_some, read_none, if_true, if_false}
 use Rattle.cola_log.proofs.Cutting.{length_log}
 use Rattle.cola_log.proofs.Passing.{Passed, passed_none, passed_more, passed_all}
@@ -19,7 +17,7 @@ use Rattle.cola_kv.proofs.Answered.{stays-same}
 use Rattle.cola_kv.proofs.Listing.{shape-stays}
 use Rattle.cola_replay.specs.declared.making.Replayed.{Replayed}
 use Rattle.cola_replay.specs.Made.{after, after_all}
-use Rattle.cola_replay.specs.Replays.{Remakes, ReplaysRecords, Replays, IsTold}
+use Rattle.cola_replay.specs.Replays.{Remakes, ReplaysRecords, Replays}
 
 module _ {D : Type 0} (d : device.Ghosts D) where
   pub stays-longer : (old mid new : Kv D d) → Stays d old mid → Stays d mid new → Stays d old new

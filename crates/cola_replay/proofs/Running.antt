@@ -1,18 +1,18 @@
 -- Each happening keeps what holds, and loses nothing that is on the disk.
-use Rattle.std.proofs.Common.{◌≡◌, ◌≢◌, ◌⊎◌, inl, inr, ℕ, Bool, true, false, bytes_eq, List, [], ◌∷◌, ◌++◌, append-nil, length, take, slice_index, Option, Some, None, refl, sym, ◌∙◌, ap, subst, arith, append_assoc}
+use Rattle.std.proofs.Common.{◌≡◌, ◌≢◌, ◌⊎◌, inl, inr, ℕ, Bool, true, false, bytes_eq, List, [], ◌∷◌, ◌++◌, append-nil, take, Option, Some, None, refl, sym, ◌∙◌, ap, subst}
 use Rattle.std.specs.Prelude.{if◌then◌else◌, ◌||◌, ◌&&◌, not}
 use Rattle.std.proofs.lemmas.Bool.{or_parts, or_left}
 use Rattle.cola_journal.specs.declared.stage.Stage.TheVariants.{Rest}
-use Rattle.cola_journal.specs.Disk.{Contents, Same, Pages, with_pages, LeavesFile, LeavesJournal}
+use Rattle.cola_journal.specs.Disk.{Contents, Same, Pages, with_pages}
 use Rattle.cola_journal.specs.Runs as runs
 use Rattle.cola_journal.specs.Runs.{World, IsComing, Stands, under_way, recovered}
-use Rattle.cola_log.specs.Format.{Logged, AllFit, first_sum, log_of, read_log}
-use Rattle.cola_replay.specs.Crash.{header_of, sum_of, IsFront, LogDisk, seen, LeavesLog, ReadsLog, Logs, follows, durable, history, Happening, Turns, Begins, Fallen, Died, NewLog, Appends, Breaks, Syncs, event_of, event_happens, CanHappen, base_after, log_after, next_after, happens, IsRun, behind, begin_with, Finds, IsKept, IsAnswered}
+use Rattle.cola_log.specs.Format.{Logged, AllFit, first_sum, read_log}
+use Rattle.cola_replay.specs.Crash.{header_of, sum_of, IsFront, LogDisk, seen, LeavesLog, ReadsLog, Logs, follows, durable, history, Happening, Turns, Begins, Fallen, Died, NewLog, Appends, Breaks, Syncs, CanHappen, base_after, log_after, happens, IsRun, behind, begin_with, Finds, IsKept, IsAnswered}
 use Rattle.cola_replay.proofs.Leaving.{sum_same, follows_same, followed, is_followed, not_followed, front_self, front_nil, front_more, front_longer, front_behind, fits_both, were_to_have, front_found, read_same}
 use Rattle.cola_replay.proofs.Keeping.{chosen, left_out, both_ways_front, not_both, turned, not_none, same_coming, coming_some, seen_fits, AllFitIn, Stays, AreSafe, AreSettled, AreTurns, Reached, reached_with, IsNext, Holds, Inv, held_found, next_found, synced_read, stays}
 
 module _ (reads : List ℕ → Option Pages) (start : Contents) (safe : AreSafe reads start) (settled : AreSettled reads start) (turns : AreTurns reads start) where
-  safe_at : (w : World) → Reached reads start w → runs.IsSafe reads w
+  pub safe_at : (w : World) → Reached reads start w → runs.IsSafe reads w
   safe_at w r = subst (λ (v : World). runs.IsSafe reads v) r.is (safe r.events r.run)
 
   none_comes : (w : World) → Reached reads start w → w.stage ≡ Rest → w.coming ≡ None
@@ -20,7 +20,7 @@ module _ (reads : List ℕ → Option Pages) (start : Contents) (safe : AreSafe 
       let s = settled r.events r.run (ap (λ (v : World). v.stage) r.is ∙ rest) in
       sym (ap (λ (v : World). v.coming) r.is) ∙ s.coming
 
-  turn_at : (w : World) → Reached reads start w → (event : runs.Event) → runs.CanHappen reads w event → Stands w (runs.happens reads w event).held
+  pub turn_at : (w : World) → Reached reads start w → (event : runs.Event) → runs.CanHappen reads w event → Stands w (runs.happens reads w event).held
   turn_at w r event can =
       subst (λ (v : World). Stands v (runs.happens reads v event).held) r.is (turns r.events event r.run (subst (λ (v : World). runs.CanHappen reads v event) (sym r.is) can))
 
@@ -184,7 +184,7 @@ module _ (reads : List ℕ → Option Pages) (start : Contents) (safe : AreSafe 
 
   -- Every happening
 
-  step : (w : Logs) → Inv reads start w → (it : Happening) → CanHappen reads w it → Inv reads start (happens reads w it)
+  pub step : (w : Logs) → Inv reads start w → (it : Happening) → CanHappen reads w it → Inv reads start (happens reads w it)
   step w inv (Turns runs.Carried) can = record { reached = reached_with reads start w.world inv.reached (Some runs.Carried) can.0; holds = carried w inv }
   step w inv (Turns (runs.Refused file)) can = record {
     reached = reached_with reads start w.world inv.reached (Some (runs.Refused file)) can.0;
@@ -229,10 +229,10 @@ module _ (reads : List ℕ → Option Pages) (start : Contents) (safe : AreSafe 
     holds = with_base w (log_after reads w Syncs) w.next w.world.held w.world.coming refl (syncs w inv (none_comes w.world inv.reached can.1));
   }
 
-  first : Inv reads start (begin_with start)
+  pub first : Inv reads start (begin_with start)
   first = record { reached = record { events = []; run = tt; is = refl }; holds = new_log start [] [] None refl }
 
-  run_from : (w : Logs) → Inv reads start w → (its : List Happening) → IsRun reads w its → Inv reads start (behind reads w its)
+  pub run_from : (w : Logs) → Inv reads start w → (its : List Happening) → IsRun reads w its → Inv reads start (behind reads w its)
   run_from w inv [] run = inv
   run_from w inv (it ∷ its) run = run_from (happens reads w it) (step w inv it run.0) its run.1
 

@@ -2,3 +2,4 @@ pub mod Again
 pub mod Crash
 pub mod Made
 pub mod Replays
+pub mod Maps

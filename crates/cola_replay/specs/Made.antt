@@ -1,5 +1,5 @@
 -- The map after the calls of a log.
-use Rattle.std.specs.Prelude.{ℕ, ◌&&◌, if◌then◌else◌, List, [], ◌∷◌}
+use Rattle.std.specs.Prelude.{◌&&◌, if◌then◌else◌, List, [], ◌∷◌}
 use Rattle.cola_spec.specs.Map.{Shape, Map, is_key, is_value, after_put, after_put_if, after_delete}
 use Rattle.cola_log.specs.Format.{Logged, Put, PutIf, Delete}
 

@@ -1,5 +1,5 @@
 -- What making the calls of a log again does to an open store.
-use Rattle.std.specs.Prelude.{◌≡◌, ◌≢◌, ℕ, List, [], take, length, Option, Some, None, Result, Ok, Err, IfOk, IfErr, OnOk}
+use Rattle.std.specs.Prelude.{◌≡◌, ◌≢◌, ℕ, List, take, length, Option, Some, None, Result, Ok, Err, IfOk, IfErr, OnOk}
 use Rattle.cola_outside.specs.Faults.{Rose}
 use Rattle.cola_device.specs.declared.device.Device as device
 use Rattle.cola_spec.specs.Map.{Map}

@@ -1,8 +1,8 @@
-//! Blocks behind a cache, and the buffers over them: worked rows, refusals, and many calls beside a plain list.
+//! Blocks behind a cache, and the buffers over them: worked rows and refusals.
 ghost use Rattle.std.specs.Prelude.{◌≡◌, ◌<◌, ◌≤◌, length, IfOk};
 
 use cola_cache::{Buffers, Cached};
-use cola_device::{Device, DeviceFault, MemoryDevice, SPOILED};
+use cola_device::{Device, DeviceFault, MemoryDevice};
 use std::alloc::{AllocError, Global};
 use std::process::Abort;
 use std::test::Fail;
@@ -103,17 +103,6 @@ fn with_no_blocks_every_call_passes_through(rt: HostRuntime) -> Result<(), Fail>
     pass_all_on(&rt, &mut cached, &mut block)
 }
 
-/// Writes a block of one value.
-fn fill<D: Device>(blocks: &mut Buffers<D>, block: u64, byte: u8) -> Result<(), DeviceFault>
-    requires size { blocks.old.cache.size ≡ 512 }
-    requires block { block < blocks.old.many }
-    ensures many { blocks.new.many ≡ blocks.old.many }
-    ensures size { blocks.new.cache.size ≡ blocks.old.cache.size }
-    ensures lasts { length blocks.new.lasts ≡ length blocks.old.lasts }
-{
-    blocks.write_block(block, &[byte; 512])
-}
-
 /// The byte at a place of block 0, by way of a buffer.
 fn byte_of_first<D: Device>(blocks: &mut Buffers<D>, at: usize) -> Result<u8, DeviceFault>
     requires many { 0 < blocks.old.many }
@@ -157,161 +146,6 @@ fn a_byte_is_written_and_settled(rt: HostRuntime) -> Result<(), Fail> {
     Ok(())
 }
 
-/// What a plain list says of seven blocks of one value each: their values, which of them are held, the most recently used
-/// first, how many may be, and which block each of three buffers holds.
-#[derive(Drop)]
-struct Plain {
-    values: Vec<u8>,
-    held: Vec<u64>,
-    room: usize,
-    lasts: Vec<Option<u64>>,
-}
-
-impl Plain {
-    fn new(alloc: Global, room: usize) -> Result<Plain, AllocError> {
-        let values = vec![in alloc; 7u8; 7]?;
-        let held = Vec::new(alloc);
-        let lasts = vec![in alloc; None; 3]?;
-        Ok(Plain {
-            values,
-            held,
-            room,
-            lasts,
-        })
-    }
-
-    /// Brings a block to the front.
-    fn used(&mut self, block: u64) -> Result<(), AllocError> {
-        self.given_up(block);
-        self.held.insert(0, block)?;
-        self.held.truncate(self.room);
-        Ok(())
-    }
-
-    /// Holds a block no longer.
-    fn given_up(&mut self, block: u64) {
-        self.held.retain(|held| *held != block);
-    }
-
-    /// No buffer holds this block.
-    fn forgotten(&mut self, block: u64) {
-        for last in self.lasts.iter_mut() {
-            if *last == Some(block) {
-                *last = None;
-            }
-        }
-    }
-
-    fn value(&self, block: u64) -> u8 {
-        self.values.get(block as usize).copied().unwrap_or(0)
-    }
-
-    fn last(&self, buffer: usize) -> Option<u64> {
-        self.lasts.get(buffer).copied().flatten()
-    }
-}
-
-/// Whether a buffer was turned to a block.
-fn is_turned<D: Device>(blocks: &mut Buffers<D>, buffer: usize, block: u64) -> bool
-    requires buffer { buffer < length blocks.old.lasts }
-    requires block { block < blocks.old.many }
-    ensures many { blocks.new.many ≡ blocks.old.many }
-    ensures size { blocks.new.cache.size ≡ blocks.old.cache.size }
-    ensures lasts { length blocks.new.lasts ≡ length blocks.old.lasts }
-{
-    match blocks.turn_to(buffer, block) {
-        Ok(()) => true,
-        Err(_) => false,
-    }
-}
-
-/// Turns a buffer to a block. Whether it was read from the device, what was answered and what stands there are as the list
-/// has it.
-fn turn_beside<D: Device>(
-    blocks: &mut Buffers<D>,
-    plain: &mut Plain,
-    buffer: usize,
-    block: u64,
-) -> Result<bool, AllocError>
-    requires buffer { buffer < length blocks.old.lasts }
-    requires block { block < blocks.old.many }
-    ensures many { blocks.new.many ≡ blocks.old.many }
-    ensures size { blocks.new.cache.size ≡ blocks.old.cache.size }
-    ensures lasts { length blocks.new.lasts ≡ length blocks.old.lasts }
-{
-    let stays = plain.last(buffer) == Some(block);
-    let held = plain.held.contains(&block);
-    let before = blocks.reads();
-    let answer = is_turned(blocks, buffer, block);
-    let reads = blocks.reads().wrapping_sub(before);
-    let value = plain.value(block);
-    let bytes = blocks.copy(buffer);
-    let right = bytes.first() == Some(&value) && bytes.last() == Some(&value);
-    if let Some(last) = plain.lasts.get_mut(buffer) {
-        *last = if answer { Some(block) } else { None };
-    }
-    if answer && !stays {
-        plain.used(block)?;
-    }
-    Ok(
-        reads == if stays || held { 0 } else { 1 }
-            && (right || !answer)
-            && (answer || !(stays || held)),
-    )
-}
-
-/// Writes a block of one value, which no buffer holds afterwards, and which the cache gives up where the device refuses.
-fn write_beside<D: Device>(blocks: &mut Buffers<D>, plain: &mut Plain, block: u64, byte: u8) -> bool
-    requires size { blocks.old.cache.size ≡ 512 }
-    requires block { block < blocks.old.many }
-    ensures many { blocks.new.many ≡ blocks.old.many }
-    ensures size { blocks.new.cache.size ≡ blocks.old.cache.size }
-    ensures lasts { length blocks.new.lasts ≡ length blocks.old.lasts }
-{
-    let before = blocks.reads();
-    let answer = fill(blocks, block, byte).is_ok();
-    plain.forgotten(block);
-    if !answer {
-        plain.given_up(block);
-    }
-    if let Some(value) = plain.values.get_mut(block as usize) {
-        *value = if answer { byte } else { SPOILED };
-    }
-    blocks.reads() == before
-}
-
-/// 12,500 calls, of which one in four writes.
-fn call_beside<D: Device>(
-    rt: &impl Abort,
-    blocks: &mut Buffers<D>,
-    plain: &mut Plain,
-) -> Result<(), Fail>
-    requires many { blocks.old.many ≡ 7 }
-    requires size { blocks.old.cache.size ≡ 512 }
-    requires lasts { length blocks.old.lasts ≡ 3 }
-{
-    let mut seed = 20071u64;
-    for number in 0..12_500u64 {
-        seed = seed.wrapping_mul(6364136223846793005).wrapping_add(number);
-        let (block, buffer) = (seed / 4294967296 % 7, (seed / 1048576 % 3) as usize);
-        if seed / 268435456 % 4 == 0 {
-            assert!(rt; write_beside(blocks, plain, block, (seed / 65536 % 100) as u8));
-        } else {
-            assert!(rt; turn_beside(blocks, plain, buffer, block)?);
-        }
-    }
-    Ok(())
-}
-
-/// The numbers of some calls that fail.
-fn every_97th(alloc: Global) -> Result<Vec<u64>, AllocError> {
-    let mut failing = Vec::new(alloc);
-    for at in 1..200u64 {
-        failing.push(at * 97)?;
-    }
-    Ok(failing)
-}
-
 /// Seven blocks of 512 bytes of the value 7 behind a cache of so many, and three buffers, on a device that refuses these of
 /// its calls.
 fn seven(alloc: Global, cache: u32, failing: Vec<u64>) -> Result<Buffers<MemoryDevice>, AllocError>
@@ -325,15 +159,4 @@ fn seven(alloc: Global, cache: u32, failing: Vec<u64>) -> Result<Buffers<MemoryD
         Ok(made) => Ok(made),
         Err((_, error)) => Err(error),
     }
-}
-
-#[test]
-fn many_calls_are_as_a_plain_list_has_them(rt: HostRuntime) -> Result<(), Fail> {
-    for cache in 0..8u32 {
-        let failing = every_97th(rt.alloc())?;
-        let mut blocks = seven(rt.alloc(), cache, failing)?;
-        let mut plain = Plain::new(rt.alloc(), cache as usize)?;
-        call_beside(&rt, &mut blocks, &mut plain)?;
-    }
-    Ok(())
 }

@@ -1,45 +1,9 @@
 //! Devices in memory.
-ghost use Rattle.std.specs.Prelude.{◌≡◌, ◌≤◌, true, length, is_some, OnOk};
-ghost use Rattle.cola_device.specs.Bytes.{HasRange};
+ghost use Rattle.std.specs.Prelude.{◌≡◌, length};
 
-use cola_device::{Device, DeviceFault, MAX_TRANSFER, MemoryDevice, SPOILED};
+use cola_device::{Device, MemoryDevice, SPOILED};
 use std::process::Abort;
 use std::test::Fail;
-
-/// Writes `from`, and reads it again.
-fn echo<D: Device>(device: &mut D, at: u64, from: &[u8], into: &mut [u8]) -> Result<(), DeviceFault>
-    requires block { length from.now ≤ MAX_TRANSFER }
-    requires room { length into.old ≡ length from.now }
-    requires inside { HasRange (D.bytes device.old) at (length from.now) }
-    ensures { OnOk result (D.tells ≡ true → into.new ≡ from.now) }
-{
-    device.write(at, from)?;
-    device.read(at, into)
-}
-
-// 64 zeros, of which the last three are written and read.
-fn keep(rt: &impl Abort, device: &mut MemoryDevice) -> Result<(), DeviceFault>
-    requires { length device.old.bytes ≡ 64 }
-{
-    let mut all = [1; 64];
-    device.read(0, &mut all)?;
-    let mut found = [0; 3];
-    echo(device, 61, b"abc", &mut found)?;
-    let size = device.size()?;
-    device.settle()?;
-    assert!(rt; all == [0; 64] && found == *b"abc" && size == 64);
-    Ok(())
-}
-
-#[test]
-fn keeps_what_is_written(rt: HostRuntime) -> Result<(), Fail> {
-    let mut device = MemoryDevice::new(rt.alloc(), 64, Vec::new(rt.alloc()))?;
-    device.lay_out(64)?;
-    keep(&rt, &mut device)?;
-    assert!(rt; device.reads() == 2 && device.writes() == 1);
-    assert!(rt; device.faults() == 0 && device.calls() == 6);
-    Ok(())
-}
 
 #[test]
 fn refuses_more_than_its_room(rt: HostRuntime) -> Result<(), Fail> {
@@ -54,16 +18,6 @@ fn has_room_for_a_large_file(rt: HostRuntime) -> Result<(), Fail> {
     let mut device = MemoryDevice::new(rt.alloc(), 64 << 20, Vec::new(rt.alloc()))?;
     device.lay_out(3)?;
     assert!(rt; device.as_bytes() == [0; 3].as_slice());
-    Ok(())
-}
-
-#[test]
-fn fails_the_listed_calls(rt: HostRuntime) -> Result<(), Fail> {
-    let failing = vec![in rt.alloc(); 2]?;
-    let mut device = MemoryDevice::new(rt.alloc(), 64, failing)?;
-    let laid = device.lay_out(64);
-    let sizes = [device.size(), device.size()];
-    assert!(rt; laid.is_ok() && sizes == [Err(DeviceFault), Ok(64)]);
     Ok(())
 }
 

@@ -3,7 +3,7 @@
 ghost use Rattle.std.specs.Prelude.{◌≤◌, length, ⊤};
 
 use cola_device::{Device, DeviceFault, MAX_TRANSFER};
-use cola_filedev::{FileDevice, LockedDevice, Locks, OpenedFile, Opener, PathDevice};
+use cola_filedev::{FileDevice, OpenedFile, Opener, PathDevice};
 use std::fs::{self, OpenOptions};
 use std::io::{self, ErrorKind};
 
@@ -12,8 +12,6 @@ const WRITTEN: &str = "cola_tests_written";
 const HELD: &str = "cola_tests_held";
 
 const LATE: &str = "cola_tests_late";
-
-const LOCKED: &str = "cola_tests_locked";
 
 /// Opens the file.
 #[derive(Drop)]
@@ -164,51 +162,18 @@ fn keeps_what_a_file_holds(rt: HostRuntime) {
     assert!(rt; laid && holds(&rt, HELD, &[0; 3]) && fs::remove_file(&rt, HELD).is_ok());
 }
 
+/// Whether each call that changes the device is refused and counted, and a read is not.
+fn is_full<O: Opener>(device: &mut PathDevice<O>) -> bool {
+    device.write(1, b"a").is_err()
+        && device.lay_out(1).is_err()
+        && device.settle().is_err()
+        && device.read(0, &mut [1]).is_ok()
+        && device.faults() == 3
+}
+
 /// A device of the system that has no room for any byte, and that the system does not sync.
 #[test]
 fn is_refused_by_a_full_device(rt: HostRuntime) {
     let mut device = FileDevice::new(&rt, "/dev/full", false);
-    let refused = [device.write(1, b"a"), device.lay_out(1), device.settle()];
-    let read = device.read(0, &mut [1]);
-    assert!(rt; refused == [Err(DeviceFault); 3] && read.is_ok() && device.faults() == 3);
-}
-
-#[test]
-fn is_refused_a_folder(rt: HostRuntime) {
-    let folder = FileDevice::new(&rt, ".", true).settle();
-    let none = FileDevice::none(&rt).settle();
-    assert!(rt; folder.is_err() && none.is_err());
-}
-
-/// The file's bytes and size, and what a write of its third byte and a layout answer.
-fn tries<O: Opener>(device: &mut PathDevice<O>) -> ([u8; 3], [Option<u64>; 2], [bool; 2]) {
-    let mut found = [0; 3];
-    let read = device.read(0, &mut found).ok();
-    let size = device.size().ok();
-    let refused = [device.write(2, b"z").is_err(), device.lay_out(3).is_err()];
-    (found, [read.map(|_| 3), size], refused)
-}
-
-/// Writes the first byte by one device of a program and the second by another; then another program reads, and is refused.
-fn writes_alone(rt: &HostRuntime, locks: &Locks<HostRuntime>, others: &Locks<HostRuntime>) -> bool {
-    let mut device = LockedDevice::new(locks.opener(), LOCKED, false);
-    let first = device.write(0, b"x").is_ok();
-    let second = LockedDevice::new(locks.opener(), LOCKED, true).write(1, b"y");
-    let tried = tries(&mut LockedDevice::new(others.opener(), LOCKED, true));
-    first
-        && second.is_ok()
-        && tried == (*b"xyc", [Some(3); 2], [true; 2])
-        && holds(rt, LOCKED, b"xyc")
-}
-
-/// Who has the lock of a file writes it, by each of its devices, and another reads it, and writes it once the lock is given up.
-#[test]
-fn keeps_others_from_writing(rt: HostRuntime) {
-    let made = fs::write(&rt, LOCKED, b"abc".as_slice()).is_ok();
-    let (locks, others) = (Locks::new(&rt), Locks::new(&rt));
-    assert!(rt; made && writes_alone(&rt, &locks, &others));
-    let wrote = LockedDevice::new(others.opener(), LOCKED, false).write(2, b"z");
-    assert!(rt;
-        wrote.is_ok() && holds(&rt, LOCKED, b"xyz") && fs::remove_file(&rt, LOCKED).is_ok()
-    );
+    assert!(rt; is_full(&mut device));
 }

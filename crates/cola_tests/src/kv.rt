@@ -46,20 +46,6 @@ fn each_call_is_answered(rt: HostRuntime) -> Result<(), Fail> {
     Ok(())
 }
 
-/// Whether lengths are refused that no key and no value has.
-fn refuses(kv: &mut Kv<MemoryDevice>) -> bool {
-    kv.get(b"") == Err(Error::KeyLength)
-        && kv.put(&[0; 41], b"") == Err(Error::KeyLength)
-        && kv.put(b"k", &[0; 73]) == Err(Error::ValueLength)
-}
-
-#[test]
-fn lengths_are_refused(rt: HostRuntime) -> Result<(), Fail> {
-    let mut kv = open(rt.alloc())?;
-    assert!(rt; refuses(&mut kv));
-    Ok(())
-}
-
 /// A store that was kept safe, closed and opened again.
 fn reopened(alloc: Global, kv: Kv<MemoryDevice>) -> Result<Kv<MemoryDevice>, Fail> {
     let Ok(kv) = kv.checkpoint(alloc) else {
@@ -81,32 +67,6 @@ fn what_was_put_is_kept(rt: HostRuntime) -> Result<(), Fail> {
     let put = kv.put(b"a", b"one").is_ok();
     let mut kv = reopened(alloc, kv)?;
     assert!(rt; put && kv.get(b"a") == Ok(value(b"one")));
-    Ok(())
-}
-
-/// The first byte of each key of a range, as one number.
-fn keys_of(kv: &mut Kv<MemoryDevice>, low: &[u8], high: Option<&[u8]>) -> Result<u64, Error> {
-    let mut keys: u64 = 0;
-    for pair in kv.range(low, high)? {
-        let (key, _value) = pair?;
-        keys = keys.wrapping_mul(256) | key.bytes()[0] as u64;
-    }
-    Ok(keys)
-}
-
-/// Whether three keys are put, and ranges of two of them are given.
-fn ranges(kv: &mut Kv<MemoryDevice>) -> bool {
-    kv.put(&[3], b"three").is_ok()
-        && kv.put(&[1], b"one").is_ok()
-        && kv.put(&[2], b"two").is_ok()
-        && keys_of(kv, &[1], Some(&[3])) == Ok(0x0102)
-        && keys_of(kv, &[2], None) == Ok(0x0203)
-}
-
-#[test]
-fn a_range_gives_its_pairs(rt: HostRuntime) -> Result<(), Fail> {
-    let mut kv = open(rt.alloc())?;
-    assert!(rt; ranges(&mut kv));
     Ok(())
 }
 

@@ -6,3 +6,5 @@ pub mod CheckLaws
 pub mod Suiting
 pub mod Grown
 pub mod GrowLaws
+pub mod Loaded
+pub mod LoadLaws

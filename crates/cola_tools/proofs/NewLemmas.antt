@@ -51,11 +51,12 @@ module _ (d e : New) (at : ℕ) (from : List ℕ) (sound : IsNew d) (laid : d.re
   behind = ap (λ (n : ℕ). drop n e.bytes) size_is ∙ (ap (drop d.size) bytes_are ∙ drop-splice_behind d.bytes at d.size from sound.inside below)
 
   -- bytes written into the file leave all behind it zero
-  pub keeps : e.faults ≡ d.faults → IsNew e
-  keeps faults_are = record {
+  pub keeps : e.faults ≡ d.faults → (e.writes ≡ 0 → ⊥) → IsNew e
+  keeps faults_are written = record {
     some = omega (arith, sound.some, many);
     inside = omega (arith, sound.inside, many, size_is);
     zero_behind = behind ∙ (sound.zero_behind ∙ ap (λ (n : ℕ). replicate n 0) (omega (arith, many, size_is)));
+    unwritten = λ none. absurd (written none);
     none_laid = λ yes. absurd (true≢false (sym yes ∙ (refused_is ∙ laid)));
     no_fault = λ _. faults_are ∙ sound.no_fault laid;
     met = λ yes. absurd (true≢false (sym yes ∙ (refused_is ∙ laid)));

@@ -24,11 +24,12 @@ pub record New : Type 0 where
 abbrev pub file_of : New → List ℕ
 file_of device = if device.refused then replicate (length device.bytes + 1) SPOILED else take device.size device.bytes
 
--- all bytes behind the file are zero, and there is no file where a layout was refused
+-- all bytes behind the file are zero, and all where it was not written; there is no file where a layout was refused
 pub record IsNew (device : New) : Type 0 where
   pub some : 0 < length device.bytes
   pub inside : device.size ≤ length device.bytes
   pub zero_behind : drop device.size device.bytes ≡ replicate (length device.bytes - device.size) 0
+  pub unwritten : device.writes ≡ 0 → device.bytes ≡ replicate (length device.bytes) 0
   pub none_laid : device.refused ≡ true → device.size ≡ 0
   pub no_fault : device.refused ≡ false → device.faults ≡ 0
   pub met : device.refused ≡ true → 1 ≤ device.faults

@@ -83,6 +83,13 @@ impl NewDevice {
         lent.into_region()
     }
 
+    /// Does nothing: it says what holds of it at any time.
+    pub(crate) fn is_sound(&self)
+        ensures { IsNew self.now }
+    {
+        let _ = &self.lent;
+    }
+
     /// Counts a fault where a layout was refused.
     fn begin(&mut self) -> Result<(), DeviceFault>
         ensures fails { is_err result ≡ self.old.refused }

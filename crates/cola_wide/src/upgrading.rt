@@ -57,7 +57,8 @@ fn set_version(head: &mut [u8; 512])
 /// and `NotEmpty` where it is not 0; `to` is laid out; the first block is read and its cells of runs are tested; all other
 /// blocks are read, tested and written in rising order; the first block is read again and written with the header; `to`
 /// settles. `BadCell` where a cell of a run is no spelling, with the number of the lowest. `Device` where a device refused a
-/// call. After a `BadCell`, and after a `Device` before the last write, the first 512 bytes of `to` are 0.
+/// call. After a `BadCell`, and after a `Device` between the layout and the last write, the first 512 bytes of `to` are 0; where
+/// it refused to be laid out it has any bytes, at most as many as the copy.
 pub fn upgrade<D: Device, E: Device>(
     alloc: Global,
     from: &mut D,

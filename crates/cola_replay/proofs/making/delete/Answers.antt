@@ -1,4 +1,4 @@
-use Rattle.std.proofs.Common.{Ok, Err, subst, sym}
+use Rattle.std.proofs.Common.{Ok, Err}
 use Rattle.cola_replay.proofs.Remaking.{delete_remade, as_failed}
 use Rattle.cola_replay.proofs.making.delete.Goals as goal
 

@@ -1,4 +1,4 @@
-use Rattle.std.proofs.Common.{◌≡◌, ◌∙◌, ◌+◌, ◌≤◌, ℕ, false, List, length, refl, sym, ap, subst}
+use Rattle.std.proofs.Common.{◌≡◌, ◌∙◌, ◌+◌, ◌≤◌, ℕ, false, List, length, refl, sym, ap, subst, arith}
 use Rattle.cola_device.specs.Bytes.{splice}
 use Rattle.cola_mapped.specs.Region.{bytes_in}
 use Rattle.cola_tools.specs.New.{New, file_of}
@@ -14,6 +14,7 @@ invariant_of-self-in-Ok c =
     let same : file_of before ≡ file_of c.args.self.now = ap file_of (c.self-2.view_is ∙ c.in-Ok.ensures.after) ∙ ap file_of c.self.view_is in
     let inside : c.args.at + length c.args.from.now ≤ length (file_of before) = subst (λ (xs : List ℕ). c.args.at + length c.args.from.now ≤ length xs) (sym same) c.requires.inside in
     keeps before _ c.args.at c.args.from.now c.self-2.invariant laid inside (ap bytes_in c.write.ensures.wrote) refl refl refl
+    (λ none. omega (arith, c.saturating_add-self-inside.ensures, sym (ap (λ (d : New). d.writes) (c.self-2.view_is ∙ c.in-Ok.ensures.after)) ∙ none))
 
 pub returns-in-Ok-clause-wrote : goal.returns-in-Ok-clause-wrote
 returns-in-Ok-clause-wrote c =
