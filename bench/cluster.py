@@ -71,7 +71,7 @@ def many(count):
 
 
 def loaded(path, workers, count, batch):
-    timed("a load by one process, sorted in memory", count, lambda: cola.load(os.path.join(path, "alone"), sorted(many(count)), keys=count))
+    timed("a load by one process, sorted in memory", count, lambda: cola.load(os.path.join(path, "sorted"), sorted(many(count)), keys=count))
     with a_cluster(os.path.join(path, "loaded"), workers, 5 * count // (4 * workers), [key for key, _ in many(10000)]) as store:
         timed(f"a load by {workers} workers", count, lambda: store.load(many(count), batch))
 
