@@ -20,8 +20,8 @@
  *   - the same for every store: cola_size, cola_stored_size, cola_count, cola_info, cola_level, cola_seek, cola_seek_prefix, cola_seek_last;
  *   - by the levels: cola_put, cola_put_if and cola_delete make at most 40 cell accesses for each, cola_get and cola_stamp 8;
  *     cola_put_many and cola_get_many take as much as so many calls of cola_put and cola_get;
- *     cola_load_row adds at most one cell for each, and of many rows eight for seven;
- *     cola_open reads, cola_close and cola_load_end write at most a block for each and three more; cola_checkpoint does both;
+ *     cola_load_row adds at most one cell for each, and of many rows eight for seven; what cola_load_end writes is not bounded here;
+ *     cola_open reads, cola_close writes at most a block for each and three more; cola_checkpoint does both;
  *   - by the keys: cola_create looks at each byte; cola_next and cola_prev pass over deleted keys that still have a cell, and
  *     before one row there may be nearly as many of them as the store has cells; where there are few, a row takes some cell
  *     accesses;
@@ -197,7 +197,8 @@ int32_t cola_count(cola *store, uint64_t *count);
  * high is NULL. Both have at most COLA_KEY_MAX bytes, in either version. */
 int32_t cola_seek(cola_cursor *cursor, const void *low, size_t low_len, const void *high, size_t high_len);
 
-/* Sets a cursor before the first of the keys that begin so; it gives these alone, or all keys, where the prefix is empty. */
+/* Sets a cursor before the first of the keys that begin so, or of all keys, where the prefix is empty; cola_next gives these alone,
+ * cola_prev those below the prefix too. */
 int32_t cola_seek_prefix(cola_cursor *cursor, const void *prefix, size_t prefix_len);
 
 /* The next rows of the cursor, at most so many, by rising keys, and how many they are. COLA_NONE where none was left.

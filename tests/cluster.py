@@ -1,8 +1,10 @@
 """Tests of cola_cluster over workers that are processes of this machine, which are killed, stopped and let go on. They run by
 tests/cluster.sh, which says where the modules and the library are. The last line is 'N passed, M failed'."""
 
+import ast
 import logging
 import os
+import pickle
 import random
 import signal
 import subprocess
@@ -39,8 +41,17 @@ def refuses(kind, call):
 class Room:
     """Folders for a store, and the words of create that all tests share."""
 
-    def __init__(self, client, path):
-        self.client, self.path, self.made = client, path, 0
+    def __init__(self, cluster, client, path):
+        self.cluster, self.client, self.path, self.made = cluster, client, path, 0
+
+    def whole(self):
+        """Waits for three workers. (Dask gives a worker up whose successor fails to begin, and has to be told to have others.)"""
+        for more in 6, 9:
+            try:
+                return self.client.wait_for_workers(3, timeout=30)
+            except TimeoutError:
+                self.cluster.scale(more)
+        self.client.wait_for_workers(3, timeout=30)
 
     def words(self, **words):
         self.made += 1
@@ -81,6 +92,34 @@ def same(store, wanted):
     return list(store.range()) == sorted(wanted.items()) and store.count() == len(wanted)
 
 
+def beside(journal, suffix=""):
+    """What the workers have in their folder whose names end so, of the store of a journal: names with their bytes."""
+    folder = os.path.join(os.path.dirname(journal), "own")
+    return {name: os.path.getsize(os.path.join(folder, name)) for name in os.listdir(folder) if name.endswith(suffix)}
+
+
+def the_page(room):
+    """The commands of docs/manual/CLUSTER.md, with an address and folders that are here."""
+    words = room.words()
+    with open(os.path.join(os.path.dirname(os.path.abspath(__file__)), "..", "docs", "manual", "CLUSTER.md")) as page:
+        text = "".join(line[4:] for line in page if line.startswith("    "))
+    for old, new in ("scheduler:8786", room.client.scheduler.address), ("/var/cola", words["folder"]), \
+            ("/shared/events", words["shared"]), ("events.journal", words["journal"]):
+        check(f"the page has {old}", f'"{old}"' in text)
+        text = text.replace(f'"{old}"', repr(new))
+    names, answers = {}, []
+    for it in ast.parse(text).body:
+        if isinstance(it, ast.Expr):
+            answers.append(eval(compile(ast.Expression(it.value), "CLUSTER.md", "eval"), names))
+        else:
+            exec(compile(ast.Module([it], []), "CLUSTER.md", "exec"), names)
+    pairs = [(b"key%06d" % number, b"value") for number in range(10, 20)]
+    check("the page's commands", answers == [None, [b"value", None], pairs, None])
+    check("and the store that they open again", names["store"].count() == 100_000)
+    names["store"].close()
+    names["client"].close()
+
+
 def as_a_dictionary(room):
     random_ = random.Random(1)
     rows = list(rows_of(200_000, random_))
@@ -91,6 +130,8 @@ def as_a_dictionary(room):
     check("200,000 rows are those of a dictionary", same(store, wanted))
     keys = [b"key%07d" % random_.randrange(300_000) for _ in range(5000)] + [b"absent"]
     check("many keys at once", store.get_many(keys) == [wanted.get(key) for key in keys])
+    check("in batches of any size", store.get_many(iter(keys), batch=333) == [wanted.get(key) for key in keys])
+    check("no key", store.get_many([]) == [])
     pairs = sorted(wanted.items())
     for _ in range(5):
         low, high = sorted(b"key%07d" % random_.randrange(250_000) for _ in range(2))
@@ -100,15 +141,20 @@ def as_a_dictionary(room):
     check("a prefix without an end", list(store.prefix(b"\xff")) == [] and list(store.prefix(b"")) == pairs)
     check("all pairs backwards", list(store.reversed()) == pairs[::-1] and next(store.reversed(b"key")) == pairs[-1])
     check("an empty range", list(store.range(b"z", b"a")) == list(store.reversed(b"z", b"a")) == [])
-    size = os.path.getsize(journal)
+    size, logs = os.path.getsize(journal), beside(journal, "-log")
     store.checkpoint()
     check("a checkpoint cuts the journal", os.path.getsize(journal) < 2000 < size)
+    check("and the logs of the workers", len(logs) == 4 and sum(beside(journal, "-log").values()) < sum(logs.values()))
     check("and leaves the map", same(store, wanted))
     store.put_rows([(b"behind", b"the checkpoint"), (b"key", b"again")])
     wanted.update({b"behind": b"the checkpoint", b"key": b"again"})
     store.close()
     store.close()
-    check("a closed store refuses calls", refuses(cola.Closed, lambda: store.get_many([b"a"])))
+    check("a close leaves the workers no file", beside(journal) == {})
+    for what, call in {"get_many": lambda: store.get_many([b"a"]), "put_rows": lambda: store.put_rows([(b"a", b"1")]),
+                       "load": lambda: store.load([]), "count": store.count, "checkpoint": store.checkpoint,
+                       "range": lambda: list(store.range()), "reversed": lambda: list(store.reversed())}.items():
+        check(f"a closed store refuses {what}", refuses(cola.Closed, call))
     check("and its journal is no new store's", refuses(FileExistsError, lambda: cola_cluster.create(
         room.client, "other", keys=10, folder=".", shared=".", journal=journal)))
     with cola_cluster.open(room.client, journal) as store:
@@ -122,23 +168,47 @@ def as_a_dictionary(room):
     with cola_cluster.open(room.client, journal) as store:
         check("a write of the journal that was cut off", same(store, wanted))
     check("splits that do not rise", refuses(ValueError, lambda: room.create(keys=10, splits=[b"b", b"a"])))
+    check("keys that no file is for", refuses(cola.Options, lambda: room.create(keys=1 << 25)))
 
 
 def from_a_bag(room):
     import dask.bag
-    bag = dask.bag.from_sequence(range(2000), npartitions=4).map(lambda number: (b"bag%05d" % number, b"%d" % number))
-    store, _ = room.create(keys=2000, splits=[b"bag01000"])
-    store.put_rows(bag)
-    check("the rows of a bag", same(store, {b"bag%05d" % number: b"%d" % number for number in range(2000)}))
+    bag = dask.bag.from_sequence(range(20_000), npartitions=20).map(lambda number: (b"bag%05d" % number, b"%d" % number))
+    wanted = {b"bag%05d" % number: b"%d" % number for number in range(20_000)}
+    store, journal = room.create(keys=4000, splits=[b"bag10000"])
+    store.put_rows(bag, batch=300)
+    check("the rows of a bag, by shards that are split meanwhile", same(store, wanted) and len(store._parts) > 3)
+    check("a row of a bag that no shard takes", refuses(cola.Length, lambda: store.put_rows(bag.map(lambda row: (b"", b"1")))))
+    check("is not made", same(store, wanted))
+    store.put_rows(bag.filter(lambda row: row[0] < b"bag05000").map(lambda row: (row[0], None)))
+    wanted = {key: value for key, value in wanted.items() if key >= b"bag05000"}
+    check("rows of a bag that take keys out", same(store, wanted))
+    store.__exit__(RuntimeError, None, None)
+    with cola_cluster.open(room.client, journal) as store:
+        check("and the journal has all of it", same(store, wanted))
+    store, _ = room.create(keys=20_000, splits=[b"bag10000"])
+    check("a bag without values is not loaded", refuses(TypeError, lambda: store.load(bag.map(lambda row: (row[0], None)))))
+    store, _ = room.create(keys=20_000, splits=[b"bag10000"])
+    store.load(bag)
+    check("a bag is loaded", list(store.range()) == [(b"bag%05d" % number, b"%d" % number) for number in range(20_000)])
     store.close()
+
+
+def small_runs():
+    """Has a worker sort a few rows of a load at once."""
+    import cola_cluster
+    cola_cluster._RUN = 3000
 
 
 def loaded(room):
     random_ = random.Random(7)
     rows = [(b"key%07d" % random_.randrange(40_000), b"%d" % number) for number in range(60_000)]
+    room.client.run(small_runs)
     store, journal = room.create(keys=40_000, splits=[b"key0013000", b"key0027000"])
-    store.load(iter(rows), batch=7000)
+    store.load(iter(rows), batch=700)
     check("rows in any order are loaded, the last one of a key is kept", same(store, dict(rows)))
+    runs = [it for it in beside(journal) if it.count("-") == 2 and it[-1].isdigit()]
+    check("and of the runs on the workers' disks none is left", runs == [])
     check("a store that has keys is not loaded", refuses(ValueError, lambda: store.load([(b"a", b"1")])))
     store.put_rows([(b"behind", b"the load")])
     store.__exit__(RuntimeError, None, None)
@@ -176,8 +246,9 @@ def grown(room):
 
 def killed_between_batches(room):
     random_ = random.Random(2)
-    for journal in {}, {"journal": None}, {"resident": True, "log": True}:
+    for journal in {}, {"journal": None}, {"log": False}:
         rows = list(rows_of(20_000, random_))
+        room.whole()
         store, _ = room.create(keys=20_000, splits=[b"key0010000"], **journal)
         store.put_rows(rows[:8000])
         store.checkpoint()
@@ -187,6 +258,10 @@ def killed_between_batches(room):
         check("a worker that is killed between two batches", same(store, made(rows)))
         os.kill(room.process(store, 1), signal.SIGKILL)
         check("a worker that is killed before a question", same(store, made(rows)))
+        keys = [b"key%07d" % random_.randrange(30_000) for _ in range(5000)]
+        os.kill(room.process(store, 0), signal.SIGKILL)
+        wanted = made(rows)
+        check("and before many", store.get_many(keys, batch=200) == [wanted.get(key) for key in keys])
         store.close()
 
 
@@ -235,10 +310,70 @@ def split(room):
     names = {part.name for part in store._parts[-1:]}
     store.put_rows([(b"a%05d" % number, b"") for number in range(3000)])
     check("a split moves no other shard", names <= {part.name for part in store._parts})
+    store.checkpoint()
+    names = {part.name for part in store._parts}
+    store.put_rows([(b"b%05d" % number, b"") for number in range(3000)])
+    shared = os.listdir(os.path.join(os.path.dirname(journal), "shared"))
+    check("and leaves no checkpoint of what was split", names - {part.name for part in store._parts}
+          and sorted(shared) == sorted(os.path.basename(part.base) for part in store._parts))
     store.__exit__(RuntimeError, None, None)
-    wanted = made(rows) | {b"a%05d" % number: b"" for number in range(3000)}
+    wanted = made(rows) | {b"%c%05d" % (letter, number): b"" for letter in b"ab" for number in range(3000)}
     with cola_cluster.open(room.client, journal) as store:
         check("a store that was not closed is opened from its journal", same(store, wanted))
+
+
+def split_by_a_client_that_ends(room):
+    """The map of a split is in the journal before the file that was split is given up, and a client may end before or behind it."""
+    rows = [(b"key%07d" % (number * 7919 % 10_007), b"%d" % number) for number in range(3000)]
+    store, journal = room.create(keys=1000)
+    call, noted = store._call, []
+
+    def watched(part, name, *words):
+        if name == "close":
+            map_ = [record for kind, record, *_ in cola_cluster._Journal(journal).records() if kind == "map"][-1]
+            noted.append(map_["parts"] == [it.words() for it in store._parts] and part not in store._parts)
+        return call(part, name, *words)
+    store._call = watched
+    store.put_rows(rows, batch=300)
+    check("the new bounds are in the journal before an old file is given up", len(noted) > 1 and all(noted))
+    store.close()
+
+    class Gone(Exception):
+        pass
+
+    for is_noted in False, True:
+        store, journal = room.create(keys=1000)
+        log = store._log
+
+        def ends(*record):
+            if is_noted or record[0] != "map":
+                log(*record)
+            if record[0] == "map":
+                raise Gone
+        store._log = ends
+        check("a client that ends in a split", refuses(Gone, lambda: store.put_rows(rows, batch=300)))
+        store.__exit__(Gone, None, None)
+        logged = [row for _, routed in cola_cluster._Journal(journal).batches(0) for some in routed for row in pickle.loads(some)]
+        with cola_cluster.open(room.client, journal) as store:
+            check(f"has the split in the journal: {is_noted}", len(store._parts) > 1 and 1000 < len(logged) < 3000)
+            check("and no row is lost", same(store, dict(logged)))
+
+
+def journal_fails(room):
+    rows = [(b"key%07d" % number, b"%d" % number) for number in range(900)]
+    store, journal = room.create(keys=1000, splits=[b"key0000150"])
+    append, calls = store._journal.append, []
+
+    def full(*record):
+        calls.append(record)
+        if len(calls) == 3:
+            raise OSError(28, "No space left on device")
+        append(*record)
+    store._journal.append = full
+    check("a journal that cannot be written is told", refuses(OSError, lambda: store.put_rows(rows, batch=100)))
+    check("and the store is closed", refuses(cola.Closed, store.count))
+    with cola_cluster.open(room.client, journal) as store:
+        check("with what was in the journal", same(store, dict(rows[:200])))
 
 
 CLIENT = """
@@ -283,7 +418,7 @@ def none_left():
     with tempfile.TemporaryDirectory() as path, \
             LocalCluster(n_workers=1, threads_per_worker=1, dashboard_address=None, silence_logs=logging.CRITICAL) as cluster, \
             Client(cluster, direct_to_workers=True) as client:
-        room = Room(client, path)
+        room = Room(cluster, client, path)
         store, journal = room.create(keys=100, patience=30)
         store.put_rows([(b"a", b"1")])
         os.kill(room.process(store, 0), signal.SIGKILL)
@@ -305,11 +440,11 @@ def main():
     with tempfile.TemporaryDirectory() as path, \
             LocalCluster(n_workers=3, threads_per_worker=1, dashboard_address=None, silence_logs=logging.CRITICAL) as cluster, \
             Client(cluster, direct_to_workers=True) as client:
-        room = Room(client, path)
-        for test in (as_a_dictionary, from_a_bag, loaded, grown, killed_between_batches, killed_in_a_checkpoint, stopped, split,
-                     client_killed):
+        room = Room(cluster, client, path)
+        for test in (the_page, as_a_dictionary, from_a_bag, loaded, grown, killed_between_batches, killed_in_a_checkpoint, stopped,
+                     split, split_by_a_client_that_ends, journal_fails, client_killed):
             begun = time.monotonic()
-            client.wait_for_workers(3)
+            room.whole()
             test(room)
             if "-v" in sys.argv:
                 print(f"{test.__name__}: {time.monotonic() - begun:.1f} s", flush=True)

@@ -1,8 +1,8 @@
 #!/usr/bin/env bash
 # The library as users of C, Rust and Python meet it: it is built, installed and linked, the header is compiled alone, each of
 # its answers is met, random calls are compared with a sorted array, and copies of the file are opened by the program. Each call
-# of the system fails, and processes are killed in front of each, behind each, and in mid-session. The shell is driven at a
-# terminal. The examples and the first programs of the documents are run, under valgrind and with the compiler's sanitizers too.
+# of the system fails, and processes are killed in front of each, behind each, and in mid-session. Texts of C that were made wrong
+# fail. The shell is driven at a terminal. The examples and the first programs of the documents are run, under valgrind and with the compiler's sanitizers too.
 # What needs a tool that is not there is skipped, and that is said.
 #
 #     tests/library.sh [FOLDER]    (FOLDER has the libcola.a and libcola.so to be tested; else they are made of what make library or the gate built here)
@@ -112,12 +112,20 @@ check 'rows backwards, and what a store says of itself' quietly "$room/backward"
 check 'stores are checked, grown and loaded' quietly "$room/tools" "$room"
 # (a hundred thousand of these calls are on small stores)
 check 'random calls, and a copy for the program after each hundred' quietly "$room/random" "$room" 125000 100 "$program"
-check 'killed processes leave a file that is refused, and their last copy' quietly "$room/killed" "$room" 20
-check 'a call of the system that fails, or is the last, leaves a file that is whole or refused' quietly "$room/failing" "$room"
 memory=$room # (a folder in memory, where there is one)
 [ ! -w /dev/shm ] || memory=$(mktemp -d /dev/shm/cola.XXXXXX) && trap 'rm -rf "$room" "$memory"' EXIT
+check 'a call of the system that fails, or is the last, leaves a file that is whole or refused' quietly "$room/failing" "$memory"
 check 'resident stores, on disks that are full or fail, with journals of all kinds' quietly "$room/resident" "$memory"
 check 'logged stores, on disks that are full or fail, with logs of all kinds' quietly "$room/logged" "$memory"
+# on_a_small_disk COMMAND..: runs the command with a disk of 4 MiB at $room/small, which goes with it.
+on_a_small_disk() { unshare --mount --map-root-user sh -c 'mount -t tmpfs -o size=4m tmpfs "$0" && exec "$@"' "$room/small" "$@"; }
+mkdir "$room/small"
+if on_a_small_disk true 2>/dev/null; then
+    check 'a logged store on a disk that is filled' quietly on_a_small_disk "$room/logged" "$room/small" full
+else
+    echo 'skipped: a disk that is filled (none can be mounted here)'
+fi
+check 'killed processes with mapped stores leave a file that is refused, and their last copy' quietly "$room/killed" "$memory" 300
 for it in resident logged synced; do
     check "processes with $it stores that are killed leave what they were promised" quietly "$room/killed" "$memory" 300 $it
 done
@@ -129,6 +137,81 @@ for it in journal log; do
     done
 done
 check 'from 200,000 states of a disk a recovery makes a checkpoint, byte for byte, and the calls of a log' quietly "$room/states" "$memory" 200000
+
+# wrong WHAT TEST FILE EDIT WORD..: whether the test, over the library with this text of C as sed makes it wrong, says what is not so.
+wrong() {
+    local what=$1
+    shift
+    check "wrong, and found by $1: $what" is_found "$@"
+}
+mkdir "$room/wrong"
+is_found() {
+    local test=$1 file=$2 edit=$3 with=$library/libcola.a flags=
+    shift 3
+    case $test in
+    handed) with= ;;
+    resident) flags=-Wl,--wrap=pwrite,--wrap=fsync ;;
+    logged) flags=${disk%%,--wrap=open,*} ;;
+    states) flags=$disk ;;
+    esac
+    sed "$edit" "bindings/c/$file" >"$room/wrong/$file"
+    ! cmp -s "bindings/c/$file" "$room/wrong/$file" || { echo "the edit of $file changes nothing"; return 1; }
+    cc -std=gnu11 -O1 -w $flags $folders "tests/library/$test.c" "$room/wrong/$file" $with -o "$room/wrong/$test" || return
+    ! "$room/wrong/$test" "$@" >"$room/out" 2>&1 && grep -q "^$test: .*not so: " "$room/out"
+}
+wrong 'a put is made before its record is appended' handed cola.c '/^int32_t cola_put(/,/^}/ {
+    s/int32_t refused/int32_t made = put(store, key, key_len, value, value_len, was), refused/; s/refused : put(.*/refused : made;/; }'
+wrong 'a journal that follows another header is applied' resident cola_journal.c 's/ && follows(&read, bytes, page)//' "$memory"
+wrong 'and beside an older copy' states cola_journal.c 's/ && follows(&read, bytes, page)//' "$memory" 20000
+wrong 'a header is written before the sync of the pages' states cola_journal.c '/case COLA_STEP_WRITE_PAGES/ s/COLA_HEADER/0/' "$memory" 20000
+wrong 'a sync of the file that failed is forgotten' resident cola_journal.c \
+    '/case COLA_STEP_SYNC_FILE/ s/fsync(journal->file) == 0/(fsync(journal->file), true)/' "$memory"
+wrong 'a sync of the log that failed is forgotten' logged cola_log.c 's/is_stuck = \(fdatasync(log->descriptor)\) != 0/is_stuck = (\1, false)/' "$memory"
+wrong 'a record that was torn is not cut off' logged cola_log.c 's/if (has_room) cut(log);//' "$memory"
+wrong 'a torn end of a log is not cut off' logged cola_log.c '/^static int32_t make_again/,/^}/ s/if (!cut(log)) return COLA_SYSTEM;//' "$memory"
+wrong 'a log is not begun anew at a checkpoint' logged cola_resident.c 's/ && !cola_log_begin(&it->log, file->bytes)/ \&\& false/' "$memory"
+wrong 'a journal outlives its file' resident cola_file.c 's/!cola_log_drop_stale(path, descriptor)/false/' "$memory"
+
+# What cola-recover says of files that processes left, with which status, and what the program finds in them then.
+recover=$library/cola-recover
+check 'what leaves such files compiles' compiles left '-O2 -g -Wl,--wrap=fsync' tests/library/left.c
+left=$room/left.files
+mkdir "$left"
+check 'processes leave such files' quietly "$room/left" "$left"
+# recovers STATUS TEXT NAME..: whether cola-recover ends so, and this is a line of it.
+recovers() {
+    local status text=$2 wanted=$1
+    shift 2
+    (cd "$left" && "$recover" "$@") >"$room/out" 2>&1
+    status=$?
+    [ "$status" -eq "$wanted" ] && grep -qxF -- "$text" "$room/out" || { cat "$room/out"; echo "status $status"; false; }
+}
+has_sound() { [ "$("$program" check "$left/$1")" = "sound $2" ] && [ ! -e "$left/$1-journal" ] && [ ! -e "$left/$1-log" ]; }
+# meets MODE: whether the program ends with 7 at the file that was left in mid-checkpoint, and its launcher names cola-recover.
+meets() {
+    (cd "$left" && "$root/cola" "$1" journal </dev/null) >"$room/out" 2>"$room/err"
+    [ $? -eq 7 ] && grep -q 'journal-journal stands beside it: cola-recover journal finishes' "$room/err" || { cat "$room/err"; false; }
+}
+cp "$left/journal" "$room/journal.kept" && cp "$left/journal-journal" "$room/journal-journal.kept"
+check 'the program refuses a file in mid-checkpoint, and the launcher names cola-recover' meets run
+check 'and so does a check of it' meets check
+check 'neither changes it' eval 'cmp "$left/journal" "$room/journal.kept" && cmp "$left/journal-journal" "$room/journal-journal.kept"'
+check 'cola-recover finishes a journal' recovers 0 'journal: its checkpoint was finished' journal
+check 'and the program finds what it had' has_sound journal 20
+check 'cola-recover makes the calls of a log again' recovers 0 'log: the calls of its log were made again' log
+check 'and the program finds them' has_sound log 20
+check 'cola-recover does both' recovers 0 'both: its checkpoint was finished, and the calls of its log were made again' both
+check 'and the program finds both' has_sound both 30
+check 'cola-recover drops a journal of another checkpoint' recovers 0 'other: nothing to finish' other
+check 'and the program finds the file as it was' has_sound other 20
+check 'cola-recover has nothing to finish' recovers 0 'nothing: nothing to finish' nothing
+check 'and the file is as it was' has_sound nothing 10
+check 'cola-recover says that there is no such file' recovers 1 'cola-recover: none: No such file or directory' nothing none
+if is_there flock 'cola-recover at a file in use'; then
+    recovers_held() { (flock -x 9 && recovers 1 'cola-recover: nothing: it is open in another process' nothing) 9<"$left/nothing"; }
+    check 'cola-recover says that a file is in use' recovers_held
+fi
+check 'cola-recover without names ends with 2' recovers 2 'usage: cola-recover NAME..'
 
 # are_sound: whether the program finds each of the files sound that a recovery may make.
 are_sound() {

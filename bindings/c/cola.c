@@ -33,6 +33,7 @@ int32_t cola_core_count(cola *store, uint64_t *count);
 int32_t cola_core_seek(cola_cursor *cursor, const void *low, size_t low_len, const void *high, size_t high_len, bool bounded);
 int32_t cola_core_next(cola *store, cola_cursor *cursor, cola_row *rows, size_t most, size_t *given);
 int32_t cola_core_seek_last(cola_cursor *cursor, const void *high, size_t high_len, bool bounded);
+int32_t cola_core_seek_prefix(cola_cursor *cursor, const void *prefix, size_t prefix_len);
 int32_t cola_core_prev(cola *store, cola_cursor *cursor, cola_row *rows, size_t most, size_t *given);
 int32_t cola_core_info(cola *store, cola_store_info *info);
 int32_t cola_core_level(cola *store, uint8_t level, cola_level_info *info);
@@ -227,17 +228,12 @@ int32_t cola_seek(cola_cursor *cursor, const void *low, size_t low_len, const vo
     return answer;
 }
 
-/* The keys that begin so lie below the prefix with its last byte one higher; bytes of 255 at its end, which can be no higher,
- * are left out first. Where no byte is left there is no such end: all keys from the prefix on begin so. */
 int32_t cola_seek_prefix(cola_cursor *cursor, const void *prefix, size_t prefix_len) {
-    uint8_t end[COLA_KEY_MAX];
-    size_t len = prefix_len;
+    cola_cursor place = {0};
     if (cursor == NULL || is_null(prefix, prefix_len)) return COLA_NULL;
-    if (prefix_len > COLA_KEY_MAX) return COLA_LENGTH;
-    memcpy(end, some(prefix), prefix_len);
-    while (len > 0 && end[len - 1] == UINT8_MAX) len--;
-    if (len > 0) end[len - 1]++;
-    return cola_seek(cursor, prefix, prefix_len, len > 0 ? end : NULL, len);
+    int32_t answer = cola_core_seek_prefix(&place, some(prefix), of_key(prefix_len));
+    if (answer == COLA_OK) *cursor = place;
+    return answer;
 }
 
 int32_t cola_seek_last(cola_cursor *cursor, const void *high, size_t high_len) {

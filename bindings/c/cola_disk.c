@@ -80,9 +80,7 @@ void cola_disk_close(int descriptor) {
     errno = error;
 }
 
-/* Whether the path names the locked file, and not another one, or none, by now. False too where that could not be told: then
- * *told is. */
-static bool is_named(int descriptor, const char *path, bool *told) {
+bool cola_disk_is_named(int descriptor, const char *path, bool *told) {
     struct stat own, named;
     *told = fstat(descriptor, &own) == 0;
     if (!*told) return false;
@@ -97,7 +95,7 @@ int cola_disk_open_locked(const char *path, bool reads) {
         int descriptor = open(path, (reads ? O_RDONLY : O_RDWR) | O_CLOEXEC);
         if (descriptor < 0) return -1;
         told = flock(descriptor, (reads ? LOCK_SH : LOCK_EX) | LOCK_NB) == 0;
-        if (told && is_named(descriptor, path, &told)) return descriptor;
+        if (told && cola_disk_is_named(descriptor, path, &told)) return descriptor;
         cola_disk_let_go(descriptor);
     }
     return -1;

@@ -25,15 +25,24 @@ static size_t first_of(size_t length) {
     return length < page ? length : page;
 }
 
-/* Makes the new store in an empty file. */
-static int32_t lay_out(int descriptor, size_t length, uint64_t keys, uint8_t block, uint8_t version) {
+/* Gives a mapping up, and the answer for which that is done. */
+static int32_t unmap(char *bytes, size_t length, int32_t answer) {
+    int error = errno;
+    munmap(bytes, length);
+    errno = error;
+    return answer;
+}
+
+/* Makes the new store in an empty file. A journal and a log are gone before it is one: that of the first checkpoint of a removed store
+ * for as many keys follows its header too. */
+static int32_t lay_out(const char *path, int descriptor, size_t length, uint64_t keys, uint8_t block, uint8_t version) {
     if (!cola_disk_take_room(descriptor, 0, length)) return COLA_SYSTEM;
     void *bytes = mmap(NULL, length, PROT_READ | PROT_WRITE, MAP_SHARED, descriptor, 0);
     if (bytes == MAP_FAILED) return COLA_SYSTEM;
+    if (!cola_log_drop_stale(path, descriptor)) return unmap(bytes, length, COLA_SYSTEM);
     int32_t answer = cola_create(bytes, length, keys, block, version);
     if (answer == COLA_OK && (msync(bytes, length, MS_SYNC) != 0 || fsync(descriptor) != 0)) answer = COLA_SYSTEM;
-    munmap(bytes, length);
-    return answer;
+    return unmap(bytes, length, answer);
 }
 
 int32_t cola_file_create(const char *path, uint64_t keys, uint8_t block, uint8_t version) {
@@ -54,8 +63,7 @@ int32_t cola_file_create(const char *path, uint64_t keys, uint8_t block, uint8_t
     } else if (fstat(descriptor, &about) == 0) {
         removes = is_new && about.st_size == 0;
         empties = !is_new && about.st_size == 0;
-        answer = about.st_size != 0 ? COLA_NOT_EMPTY : lay_out(descriptor, (size_t)length, keys, block, version);
-        if (answer == COLA_OK) cola_log_drop(path, descriptor);
+        answer = about.st_size != 0 ? COLA_NOT_EMPTY : lay_out(path, descriptor, (size_t)length, keys, block, version);
         if (answer == COLA_OK && !cola_disk_sync_name(path)) answer = COLA_SYSTEM;
     }
     int error = errno;
@@ -74,14 +82,6 @@ static int32_t keep(cola_file *file, char *bytes, size_t length, int descriptor)
     file->owner = (long)getpid();
     file->is_resident = false;
     return COLA_OK;
-}
-
-/* Gives a mapping up, and the answer for which that is done. */
-static int32_t unmap(char *bytes, size_t length, int32_t answer) {
-    int error = errno;
-    munmap(bytes, length);
-    errno = error;
-    return answer;
 }
 
 /* Maps the file's store and opens it to be read alone. The bytes are this process's: what opening and closing write in them
@@ -149,6 +149,10 @@ int32_t cola_file_open_settled(const char *path, uint32_t flags, int *descriptor
         int32_t answer = waits(path, *descriptor, flags, &journal, &log);
         if (answer == COLA_OK && !journal && !log) return COLA_OK;
         cola_disk_let_go(*descriptor);
+        if (cola_disk_is_replaced(answer == COLA_SYSTEM)) {
+            was_log = false;
+            continue;
+        }
         if (answer == COLA_OK && log && was_log) return errno = EEXIST, COLA_UNFINISHED; /* (its checkpoint could not be made) */
         if (answer == COLA_OK) answer = cola_file_settle(path, &journal, &was_log);
         if (answer != COLA_OK) return answer;
@@ -157,13 +161,16 @@ int32_t cola_file_open_settled(const char *path, uint32_t flags, int *descriptor
 
 int32_t cola_file_settle(const char *path, bool *journal, bool *log) {
     cola_file file = COLA_FILE_INIT;
-    *log = false;
-    int32_t answer = cola_journal_recover(path, journal);
-    if (answer != COLA_OK) return answer;
-    int descriptor = cola_disk_open_locked(path, true);
-    if (descriptor < 0) return COLA_SYSTEM;
-    if (!cola_log_is_beside(path, descriptor, log)) answer = COLA_SYSTEM;
-    cola_disk_let_go(descriptor);
+    int32_t answer;
+    do {
+        *log = false;
+        answer = cola_journal_recover(path, journal);
+        if (answer != COLA_OK) return answer;
+        int descriptor = cola_disk_open_locked(path, true);
+        if (descriptor < 0) return COLA_SYSTEM;
+        if (!cola_log_is_beside(path, descriptor, log)) answer = COLA_SYSTEM;
+        cola_disk_let_go(descriptor);
+    } while (cola_disk_is_replaced(answer == COLA_SYSTEM));
     if (answer == COLA_OK && *log) answer = cola_file_open_as(&file, path, COLA_LOGGED);
     return answer == COLA_OK && *log ? cola_file_close(&file) : answer;
 }
@@ -173,10 +180,13 @@ int32_t cola_file_open_as(cola_file *file, const char *path, uint32_t flags) {
     if (file == NULL || path == NULL) return COLA_NULL;
     if (flags > COLA_READ_ONLY && (flags & ~(uint32_t)(COLA_RESIDENT | COLA_LOGGED | COLA_SYNCED)) != 0) return COLA_OPTIONS;
     if (file->bytes != NULL) return COLA_IN_USE;
-    int32_t answer = cola_file_open_settled(path, flags, &descriptor);
-    if (answer != COLA_OK) return answer;
-    answer = judge_and_open(file, path, descriptor, flags);
-    if (answer != COLA_OK) cola_disk_let_go(descriptor);
+    int32_t answer;
+    do {
+        answer = cola_file_open_settled(path, flags, &descriptor);
+        if (answer != COLA_OK) return answer;
+        answer = judge_and_open(file, path, descriptor, flags);
+        if (answer != COLA_OK) cola_disk_let_go(descriptor);
+    } while (cola_disk_is_replaced(answer == COLA_SYSTEM));
     return answer;
 }
 
@@ -192,7 +202,8 @@ static bool is_same(const struct stat *own, const char *copy) {
 }
 
 /* Writes the bytes of a closed store to a new file of a name that no file has, the header last, so that the file is no store
- * before it is whole. It then takes the place of the one named copy. */
+ * before it is whole. It then takes the place of the one named copy, whose journal and log go with it before any other process can
+ * open the new one. */
 static bool write_copy(const cola_file *file, const char *copy) {
     char unfinished[PATH_MAX];
     struct stat own;
@@ -203,12 +214,14 @@ static bool write_copy(const cola_file *file, const char *copy) {
     const char *bytes = file->bytes;
     bool is_copied = fchmod(descriptor, own.st_mode & 0777) == 0 &&
                      cola_disk_store(descriptor, bytes + COLA_HEADER, file->length - COLA_HEADER, COLA_HEADER) &&
-                     cola_disk_store(descriptor, bytes, COLA_HEADER, 0) && rename(unfinished, copy) == 0;
+                     cola_disk_store(descriptor, bytes, COLA_HEADER, 0) && flock(descriptor, LOCK_EX | LOCK_NB) == 0 &&
+                     rename(unfinished, copy) == 0;
+    bool is_alone = is_copied && cola_log_drop_stale(copy, descriptor);
     int error = errno;
-    close(descriptor);
+    cola_disk_let_go(descriptor);
     if (!is_copied) unlink(unfinished);
     errno = error;
-    return is_copied && cola_disk_sync_name(copy);
+    return is_alone && cola_disk_sync_name(copy);
 }
 
 int32_t cola_file_reopen(cola_file *file) {

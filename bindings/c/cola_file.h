@@ -16,11 +16,13 @@
  * waits for the disk or meets a page that is not there. The file is not written but by cola_file_checkpoint(&file, NULL) and the
  * close, which write what changed: first to NAME-journal beside it, which the close removes, then to the file. So where the
  * process dies or the machine stops, the file has the last checkpoint, at whatever moment, once an opening of any kind, or the
- * program cola-recover, has finished a whole journal or dropped another. Journal and file are kept, moved and put back together.
+ * program cola-recover, has finished a whole journal or passed over another. Journal and file are kept, moved and put back together:
+ * a journal has the first page of the checkpoint that it follows, so that one that was left is passed over beside a copy that was put
+ * back, or a new store; and each call that makes a file removes a journal and a log that stand beside it.
  *
  * A logged store (COLA_LOGGED) is a resident one that goes back to its last call: each put, put_if and delete whose lengths are right
  * is appended to NAME-log beside the file, by one write, before it is made; cola_put_many by one for each 128 KiB of records, as
- * long as the store has room for as many new keys. An opening makes these calls again on the last checkpoint, and goes on behind
+ * long as the store has room for the keys that are new. An opening makes these calls again on the last checkpoint, and goes on behind
  * them; a checkpoint begins a new log, and the close, which is one, removes it. So where the process dies, no call is lost that was
  * answered; where the machine stops, none that was answered before the last cola_file_sync that came to its end, or, of a synced
  * store (COLA_SYNCED), none at all; and those that are there are the first ones, without a gap. A call that was answered COLA_SYSTEM
@@ -76,8 +78,8 @@ typedef struct cola_file {
 #define COLA_SYNCED 8    /* and on the disk, before it is answered */
 
 /* Makes the file of a new, closed store for so many keys, with blocks of 2^block cells, of version 1 or 2. A file that is
- * there has to be empty (COLA_NOT_EMPTY). A log of a removed store that would follow the new one is removed. Where it is not made,
- * the folder and the file are as before; a process that dies meanwhile leaves a file that is refused, or the whole one. */
+ * there has to be empty (COLA_NOT_EMPTY). The journal and the log of a removed store are removed. Where it is not made, the folder and
+ * the file are as before, but for these; a process that dies meanwhile leaves a file that is refused, or the whole one. */
 int32_t cola_file_create(const char *path, uint64_t keys, uint8_t block, uint8_t version);
 
 /* Opens the store in the file, for this process alone. The file may be longer than its store. As cola_open answers; COLA_SYSTEM
@@ -94,8 +96,9 @@ int32_t cola_file_open(cola_file *file, const char *path);
  * not write: a put, a delete and a checkpoint are answered COLA_READ_ONLY_STORE. EWOULDBLOCK is that a process has it open for
  * writing. COLA_OPTIONS: there are no such flags.
  *
- * Each opening finishes or drops a journal that stands beside the file; one that reads alone has to write for that, where the
- * journal is whole. COLA_UNFINISHED: it is whole, and could not be finished (errno), or is none of this store (EINVAL): it stays.
+ * Each opening finishes a journal beside the file that is whole and follows it, for which one that reads alone has to write
+ * too. Any other is removed, but by one that reads alone, and by cola_file_check, which leave it where it is. COLA_UNFINISHED: the
+ * journal could not be finished (errno), or its pieces are none of this store (EINVAL): it stays.
  * An opening without a log beside one that follows the file, a check and a growing make its calls again first, as one with COLA_LOGGED and
  * its close do, with their answers, the memory and the right to write. COLA_UNFINISHED with EEXIST: the log stays, since the file
  * of version 1 that its calls give has the header that it follows already; open it with COLA_LOGGED. */
@@ -104,9 +107,9 @@ int32_t cola_file_open_as(cola_file *file, const char *path, uint32_t flags);
 /* Makes a copy of the store as it is now, in the file named copy, which is replaced as a whole and is on the disk when this
  * answers COLA_OK. It has the mode of the store's file. It is written to a file of a new name first, copy.new- and six letters
  * or digits, which a refused call removes, and a process that dies meanwhile leaves behind: that one is refused, or is the whole
- * copy. COLA_SYSTEM: the store is open as before, and copy is as it was, or is the new one where its name alone could not be
- * synced; with errno EINVAL copy is the store's own file. COLA_MEMORY: the store is closed, the file has its map, and
- * cola_file_close is all that is left to call.
+ * copy. A journal and a log of the copy before go with it. COLA_SYSTEM: the store is open as before, and copy is as it was, or is
+ * the new one where these could not be removed, or its name not be synced; with errno EINVAL copy is the store's own file.
+ * COLA_MEMORY: the store is closed, the file has its map, and cola_file_close is all that is left to call.
  *
  * Of a resident store copy may be NULL: then the file itself is made to have what the store has. COLA_SYSTEM: the disk was full,
  * or failed; the store is open as before, and the file has its last checkpoint, or this one. COLA_UNFINISHED: the disk failed

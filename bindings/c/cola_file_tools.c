@@ -8,12 +8,14 @@
 #include <stdio.h>
 #include <stdlib.h>
 #include <string.h>
+#include <sys/file.h>
 #include <sys/mman.h>
 #include <sys/stat.h>
 #include <time.h>
 #include <unistd.h>
 
 #include "cola_disk.h"
+#include "cola_log.h"
 
 /* Frees a name, and unmaps bytes. errno stays. */
 static void give_up(char *name, void *bytes, size_t length) {
@@ -122,18 +124,21 @@ static bool begin_fresh(fresh *it, const char *path, size_t length) {
     return false;
 }
 
-/* The store is whole in memory: it goes to the disk, the header last, and takes its name there. */
+/* The store is whole in memory: it goes to the disk, the header last, and takes its name there. A journal and a log of that name go
+ * before any other process can open it. */
 static int32_t end_fresh(fresh *it, const char *path) {
     const char *bytes = it->bytes;
     size_t first = first_of(it->length);
     bool is_written = msync(it->bytes, it->length, MS_SYNC) == 0 &&
                       cola_disk_store(it->descriptor, bytes + COLA_HEADER, first - COLA_HEADER, COLA_HEADER) &&
-                      cola_disk_store(it->descriptor, bytes, COLA_HEADER, 0) && rename(it->name, path) == 0;
+                      cola_disk_store(it->descriptor, bytes, COLA_HEADER, 0) && flock(it->descriptor, LOCK_EX | LOCK_NB) == 0 &&
+                      rename(it->name, path) == 0;
     if (!is_written) return drop_fresh(it), COLA_SYSTEM;
-    cola_disk_close(it->descriptor);
+    bool is_alone = cola_log_drop_stale(path, it->descriptor);
+    cola_disk_let_go(it->descriptor);
     give_up(it->name, it->bytes, it->length);
     *it = (fresh)COLA_FILE_LOAD_INIT;
-    return cola_disk_sync_name(path) ? COLA_OK : COLA_SYSTEM;
+    return is_alone && cola_disk_sync_name(path) ? COLA_OK : COLA_SYSTEM;
 }
 
 /* Grows the store of a locked file. */

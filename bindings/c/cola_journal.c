@@ -1,5 +1,5 @@
-/* A checkpoint by way of a journal: see cola_journal.h. Which step comes next, and what stands in a journal, the proved calls
- * say; here each step is carried out, and it is told whether all of it went well. */
+/* A checkpoint by way of a journal: see cola_journal.h. Which step comes next, and what stands in a journal behind its front, the
+ * proved calls say; here each step is carried out, and it is told whether all of it went well. */
 #define _GNU_SOURCE
 #include "cola_journal.h"
 
@@ -16,6 +16,9 @@
 #include "cola_disk.h"
 
 static const char suffix[] = "-journal";
+
+/* In front of what the proved calls write and read stands the first page of the file as the journal was begun, with a sum. */
+enum { FRONT = COLA_PAGE + sizeof(cola_core_log), STATE = 14 };
 
 size_t cola_pages_in(size_t length) { return length / COLA_PAGE + (length % COLA_PAGE != 0); }
 
@@ -97,16 +100,33 @@ static bool open_journal(cola_journal *journal) {
     return fchmod(descriptor, about.st_mode & 0777) == 0;
 }
 
+/* Reads the first page of the file: false on failure, and where it is shorter, which no store is. */
+static bool read_page(const cola_journal *journal, char page[COLA_PAGE]) {
+    ssize_t had = cola_disk_read(journal->file, page, COLA_PAGE);
+    if (had >= 0 && had < COLA_PAGE) errno = EIO;
+    return had == COLA_PAGE;
+}
+
+/* The sum of a page, by which a journal is known whose front has reached the disk. */
+static cola_core_log sum_of(const char page[COLA_PAGE]) {
+    cola_core_log sum;
+    cola_core_log_begin(page, COLA_PAGE, &sum);
+    return sum;
+}
+
 /* Empties the journal, and writes the new one. */
 static bool write_journal(cola_journal *journal, const pieces *of) {
-    char head[COLA_JOURNAL_HEAD], sum[COLA_JOURNAL_SUM];
+    char page[COLA_PAGE], head[COLA_JOURNAL_HEAD], sum[COLA_JOURNAL_SUM];
     const cola_pages *store = of->store;
     piece it;
-    if (store == NULL || !open_journal(journal) || ftruncate(journal->descriptor, 0) != 0) return false;
+    if (store == NULL || !read_page(journal, page) || !open_journal(journal) || ftruncate(journal->descriptor, 0) != 0) return false;
     writer *to = malloc(sizeof *to);
     if (to == NULL) return false;
     to->descriptor = journal->descriptor, to->place = 0, to->had = 0, to->is_well = true;
     cola_core_journal_frame(store->bytes, store->length, store->marks, cola_pages_in(store->length), head, sum);
+    cola_core_log sum_of_page = sum_of(page);
+    add(to, page, sizeof page);
+    add(to, &sum_of_page, sizeof sum_of_page);
     add(to, head, sizeof head);
     for (size_t at = 0; to->is_well && next_piece(of, &at, &it);) {
         cola_core_journal_piece(it.place, it.length, head);
@@ -152,7 +172,6 @@ static bool write_pieces(const cola_journal *journal, const pieces *of, size_t f
 
 static bool carry_out(cola_journal *journal, const pieces *of, uint8_t step) {
     static const char in_use[] = {1};
-    enum { STATE = 14 };
     switch (step) {
     case COLA_STEP_WRITE_JOURNAL: return write_journal(journal, of);
     case COLA_STEP_SYNC_JOURNAL: return sync_journal(journal);
@@ -181,22 +200,42 @@ static void go_on(cola_journal *journal, const pieces *of, bool *holds) {
 
 /* A journal of the file has at most a piece for each of its pages. */
 static size_t most_of(size_t length) {
-    return COLA_JOURNAL_HEAD + cola_pages_in(length) * (COLA_JOURNAL_HEAD + COLA_PAGE) + COLA_JOURNAL_SUM;
+    return FRONT + COLA_JOURNAL_HEAD + cola_pages_in(length) * (COLA_JOURNAL_HEAD + COLA_PAGE) + COLA_JOURNAL_SUM;
 }
 
-/* Reads the journal: its pieces, whose bytes the caller frees, or none where it is not whole. */
+/* Whether a whole journal follows the checkpoint that the file has, or the file is half way to the journal's own: each byte of the
+ * file's first page, but for the mark of use, is that of the front, or that which the pieces make of it. (Each write may be torn.)
+ * Where the front has not reached the disk, the journal's sync did not end, so that nothing of the file was written yet, and the
+ * journal may be dropped. */
+static bool follows(const pieces *of, const char front[FRONT], const char page[COLA_PAGE]) {
+    char after[COLA_PAGE];
+    piece it;
+    cola_core_log sum = sum_of(front);
+    if (memcmp(&sum, front + COLA_PAGE, sizeof sum) != 0) return false;
+    memcpy(after, front, sizeof after);
+    for (size_t at = 0; next_read(of, &at, &it) && it.place < sizeof after;)
+        memcpy(after + it.place, it.bytes, it.length < sizeof after - it.place ? it.length : sizeof after - it.place);
+    for (size_t byte = 0; byte < sizeof after; byte++)
+        if (byte != STATE && page[byte] != front[byte] && page[byte] != after[byte]) return false;
+    return true;
+}
+
+/* Reads the journal: its pieces, whose bytes the caller frees, or none where it is not whole, or follows another checkpoint. */
 static int32_t read_journal(const cola_journal *journal, pieces *of) {
+    char page[COLA_PAGE];
     struct stat own, about;
     *of = (pieces){NULL, NULL, 0};
     if (fstat(journal->file, &own) != 0 || fstat(journal->descriptor, &about) != 0) return COLA_SYSTEM;
     if (!S_ISREG(about.st_mode)) return errno = EINVAL, COLA_SYSTEM;
-    size_t length = (size_t)about.st_size;
-    if (length < COLA_JOURNAL_HEAD + COLA_JOURNAL_SUM || length > most_of((size_t)own.st_size)) return COLA_OK;
+    size_t length = (size_t)about.st_size, least = FRONT + COLA_JOURNAL_HEAD + COLA_JOURNAL_SUM;
+    if (own.st_size < COLA_PAGE || length < least || length > most_of((size_t)own.st_size)) return COLA_OK;
+    if (!read_page(journal, page)) return COLA_SYSTEM;
     char *bytes = malloc(length);
     if (bytes == NULL) return COLA_MEMORY;
     ssize_t had = cola_disk_read(journal->descriptor, bytes, length);
-    if (had == (ssize_t)length && cola_core_journal_is_whole(bytes, length)) {
-        *of = (pieces){NULL, bytes + COLA_JOURNAL_HEAD, length - COLA_JOURNAL_HEAD - COLA_JOURNAL_SUM};
+    pieces read = {NULL, bytes + FRONT + COLA_JOURNAL_HEAD, length - least};
+    if (had == (ssize_t)length && cola_core_journal_is_whole(bytes + FRONT, length - FRONT) && follows(&read, bytes, page)) {
+        *of = read;
         return COLA_OK;
     }
     free(bytes);
@@ -205,28 +244,28 @@ static int32_t read_journal(const cola_journal *journal, pieces *of) {
 
 static void free_pieces(pieces *of) {
     int error = errno;
-    if (of->journal != NULL) free((char *)of->journal - COLA_JOURNAL_HEAD);
+    if (of->journal != NULL) free((char *)of->journal - COLA_JOURNAL_HEAD - FRONT);
     *of = (pieces){NULL, NULL, 0};
     errno = error;
 }
 
 /* Whether two headers are of one store: what never changes of them is the same. */
 static bool is_same_store(const char *header, const char *other) {
-    enum { STATE = 14, BEHIND = 15, KEYS_END = 24 };
+    enum { BEHIND = STATE + 1, KEYS_END = 24 };
     return memcmp(header, other, STATE) == 0 && memcmp(header + BEHIND, other + BEHIND, KEYS_END - BEHIND) == 0;
 }
 
 /* Whether the pieces are those of a closed store in the file, and lie in it, each behind the one before. False on failure too: then
  * *told is false. */
 static bool is_of_file(const cola_journal *journal, const pieces *of, bool *told) {
-    char header[COLA_HEADER];
+    char page[COLA_PAGE];
     struct stat own;
     uint64_t stored;
     piece it;
     size_t at = 0, from = 0;
-    *told = fstat(journal->file, &own) == 0 && cola_disk_read(journal->file, header, sizeof header) >= 0;
-    if (!*told || own.st_size < COLA_HEADER || !next_piece(of, &at, &it)) return false;
-    if (!is_same_store(header, it.bytes) || cola_stored_size(it.bytes, it.length, (uint64_t)own.st_size, &stored) != COLA_OK) return false;
+    *told = fstat(journal->file, &own) == 0 && read_page(journal, page);
+    if (!*told || !next_piece(of, &at, &it)) return false;
+    if (!is_same_store(page, it.bytes) || cola_stored_size(it.bytes, it.length, (uint64_t)own.st_size, &stored) != COLA_OK) return false;
     do {
         if (it.place < from || it.place > stored || it.length > stored - it.place) return false;
         from = it.place + it.length;
@@ -297,14 +336,16 @@ static bool is_in_folder(const cola_journal *journal) {
     cola_journal_beside(journal, "", name);
     if (fstat(journal->file, &own) != 0 || fstatat(journal->folder, name, &named, AT_SYMLINK_NOFOLLOW) != 0) return false;
     bool same = own.st_dev == named.st_dev && own.st_ino == named.st_ino;
-    if (!same) errno = ESTALE;
+    if (!same) errno = COLA_REPLACED;
     return same;
 }
 
 bool cola_journal_of(cola_journal *journal, const char *path, int file) {
+    bool told;
     *journal = (cola_journal){file, -1, -1, false, COLA_STAGE_REST, ""};
     if (!open_folder(journal, path)) return false;
     if (is_in_folder(journal)) return true;
+    if (errno == COLA_REPLACED && cola_disk_is_named(file, path, &told)) errno = ENOENT; /* (a path of /proc, of a file with no name) */
     cola_journal_leave(journal);
     return false;
 }
@@ -316,6 +357,13 @@ void cola_journal_remove(cola_journal *journal) {
         cola_disk_sync_folder(journal->folder);
     errno = error;
     cola_journal_leave(journal);
+}
+
+bool cola_journal_drop(const cola_journal *journal, bool *dropped) {
+    struct stat about;
+    bool is_there = fstatat(journal->folder, journal->name, &about, AT_SYMLINK_NOFOLLOW) == 0;
+    *dropped = is_there && S_ISREG(about.st_mode) && unlinkat(journal->folder, journal->name, 0) == 0;
+    return is_there ? *dropped || !S_ISREG(about.st_mode) : errno == ENOENT;
 }
 
 void cola_journal_leave(cola_journal *journal) {
@@ -382,10 +430,13 @@ bool cola_journal_is_beside(const char *path, int file, bool *beside) {
 }
 
 int32_t cola_journal_recover(const char *path, bool *found) {
-    int descriptor = cola_disk_open_locked(path, false);
-    *found = false;
-    if (descriptor < 0) return COLA_SYSTEM;
-    int32_t answer = cola_journal_settle(path, descriptor, found);
-    cola_disk_let_go(descriptor);
+    int32_t answer;
+    do {
+        int descriptor = cola_disk_open_locked(path, false);
+        *found = false;
+        if (descriptor < 0) return COLA_SYSTEM;
+        answer = cola_journal_settle(path, descriptor, found);
+        cola_disk_let_go(descriptor);
+    } while (cola_disk_is_replaced(answer == COLA_SYSTEM));
     return answer;
 }

@@ -136,17 +136,30 @@ static cola_call put_of(const cola_row *row) {
     return (cola_call){COLA_CALL_PUT, row->key, row->value, row->key_len, row->value_len, 0};
 }
 
+/* Whether a row puts a key that the store does not have. (True where that is not told.) */
+static bool is_new_key(cola *store, const cola_row *row) {
+    char value[COLA_VALUE_MAX];
+    size_t length;
+    return cola_get(store, row->key, row->key_len, value, &length) != COLA_OK;
+}
+
 int32_t cola_log_rows(cola *store, const cola_row *rows, size_t count, size_t *logged) {
     cola_log *log = cola_resident_log(store);
     uint64_t has;
     size_t at = 0, length = 0;
     int32_t answer = cola_count(store, &has);
     if (answer != COLA_OK) return answer;
-    uint64_t most = has < log->keys ? log->keys - has : 1;
+    uint64_t left = has < log->keys ? log->keys - has : 0; /* the keys that may still come */
+    bool may_be_full = left < count, is_last = false;
     begin_write(log);
-    for (; at < count && at < most && sizeof log->held - length >= LONGEST; at++) {
+    for (; at < count && !is_last && sizeof log->held - length >= LONGEST; at++) {
         cola_call call = put_of(&rows[at]);
         if (!is_whole_call(log, &call)) break;
+        if (may_be_full && is_new_key(store, &rows[at])) {
+            is_last = left == 0; /* (it will be refused) */
+            if (is_last && at > 0) break;
+            left -= !is_last;
+        }
         length += hold(log, &call, length);
     }
     *logged = at == 0 ? 1 : at; /* (the first one will be refused) */
@@ -272,18 +285,34 @@ static int open_beside(cola_journal *journal, const char *path, int file, char n
     return descriptor;
 }
 
+/* Reads the front of a log: its first state, and the bytes of a record at least. -1 on failure, 0 where it is no file. */
+static ssize_t read_front(int descriptor, uint8_t bytes[sizeof(cola_core_log) + LONGEST_READ]) {
+    struct stat about;
+    if (fstat(descriptor, &about) != 0) return -1;
+    return S_ISREG(about.st_mode) ? cola_disk_read(descriptor, bytes, sizeof(cola_core_log) + LONGEST_READ) : 0;
+}
+
+/* Whether the log has a call, whichever header it follows; false on failure too, which *told says. */
+static bool has_calls(int descriptor, cola_core_log *first, bool *told) {
+    uint8_t bytes[sizeof *first + LONGEST_READ];
+    ssize_t had = read_front(descriptor, bytes);
+    *told = had >= 0;
+    if (had < (ssize_t)sizeof *first) return false;
+    memcpy(first, bytes, sizeof *first);
+    cola_core_log sum = *first;
+    return cola_core_log_pass(&sum, bytes + sizeof sum, (size_t)had - sizeof sum) > 0;
+}
+
 /* Whether the log has a call, and follows the file; false on failure too, which *told says. */
 static bool has_calls_of(int descriptor, int file, bool *told) {
-    uint8_t header[COLA_HEADER], bytes[sizeof(cola_core_log) + LONGEST_READ];
-    cola_core_log sum;
-    struct stat about;
-    *told = fstat(descriptor, &about) == 0;
-    if (!*told || !S_ISREG(about.st_mode)) return false;
-    ssize_t had = cola_disk_read(descriptor, bytes, sizeof bytes), head = had < 0 ? -1 : cola_disk_read(file, header, sizeof header);
-    *told = head >= 0;
-    if (head < (ssize_t)sizeof header || had < (ssize_t)sizeof sum) return false;
+    uint8_t header[COLA_HEADER];
+    cola_core_log first, sum;
+    if (!has_calls(descriptor, &first, told)) return false;
+    ssize_t had = cola_disk_read(file, header, sizeof header);
+    *told = had >= 0;
+    if (had < (ssize_t)sizeof header) return false;
     cola_core_log_begin(header, sizeof header, &sum);
-    return memcmp(&sum, bytes, sizeof sum) == 0 && cola_core_log_pass(&sum, bytes + sizeof sum, (size_t)had - sizeof sum) > 0;
+    return memcmp(&sum, &first, sizeof sum) == 0;
 }
 
 bool cola_log_is_beside(const char *path, int file, bool *beside) {
@@ -297,13 +326,17 @@ bool cola_log_is_beside(const char *path, int file, bool *beside) {
     return told;
 }
 
-void cola_log_drop(const char *path, int file) {
+bool cola_log_drop_stale(const char *path, int file) {
     cola_journal journal;
+    cola_core_log first;
     char name[NAME_MAX + 1];
-    bool told;
-    int error = errno, descriptor = open_beside(&journal, path, file, name, &told);
-    if (descriptor >= 0 && has_calls_of(descriptor, file, &told)) unlinkat(journal.folder, name, 0);
+    bool told, dropped = false;
+    int descriptor = open_beside(&journal, path, file, name, &told);
+    bool has_log = descriptor >= 0 && has_calls(descriptor, &first, &told);
     if (descriptor >= 0) cola_disk_close(descriptor);
+    if (!told || journal.folder < 0) return cola_journal_leave(&journal), told;
+    bool is_gone = cola_journal_drop(&journal, &dropped) && (!has_log || unlinkat(journal.folder, name, 0) == 0);
+    if (is_gone && (dropped || has_log)) is_gone = cola_disk_sync_folder(journal.folder);
     cola_journal_leave(&journal);
-    errno = error;
+    return is_gone;
 }

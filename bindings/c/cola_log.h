@@ -69,16 +69,17 @@ void cola_log_leave(cola_log *log);
  * failure. */
 bool cola_log_is_beside(const char *path, int file, bool *beside);
 
-/* Removes the log that follows a store that was just made: it is that of another one, which is gone. errno stays. */
-void cola_log_drop(const char *path, int file);
+/* Removes the journal, and a log with calls, that stand beside the locked file of a new store: they are those of another one, which is
+ * gone. False on failure. */
+bool cola_log_drop_stale(const char *path, int file);
 
 /* For the calls of cola.h on a store with a log, before they are made. */
 
 /* Appends a call, unless its lengths are none, so that it will be refused. COLA_OK, COLA_SYSTEM, COLA_UNFINISHED: it is not to be made. */
 int32_t cola_log_call(cola *store, const cola_call *call);
 
-/* Appends puts of the first of some rows by one write, and says how many: one at least, and no more than the store has room for,
- * were all keys new, so that none but the last can be refused. */
+/* Appends puts of the first of some rows by one write, and says how many: one at least, and none behind as many new keys as the store
+ * has room for, so that none but the last can be refused. Where not all may be new, each key is looked up. */
 int32_t cola_log_rows(cola *store, const cola_row *rows, size_t count, size_t *logged);
 
 /* Takes back what the last write has of the rows behind the first so many, which are not made. */

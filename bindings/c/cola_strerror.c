@@ -25,7 +25,7 @@ const char *cola_strerror(int32_t answer) {
     case COLA_ORDER: return "the key of a row is not above that of the row before";
     case COLA_FEWER: return "the new store is for fewer keys than there are";
     case COLA_BROKEN: return "the store stands for no map";
-    case COLA_UNFINISHED: return "a checkpoint is not finished: the journal beside the file has it";
+    case COLA_UNFINISHED: return "the journal or the log beside the file is not settled";
     default: return "no answer of this library";
     }
 }

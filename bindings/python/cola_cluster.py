@@ -12,10 +12,10 @@
         for key, value in store.range(b"key0000", b"key0001"):
             print(key, value)
 
-A shard is an actor on a worker, with its file in `folder`, on that worker's disk. A checkpoint copies the files into `shared`,
-a folder that all workers and this client reach by the same path. The journal, a file of this client, has the batches behind the
-last checkpoint, and is synced before a batch is answered. Where a worker dies, its shards are opened on others, from the last
-checkpoint, and the batches behind it are made again: a put that is made twice leaves the same map.
+A shard is an actor on a worker, with its file and log in `folder`, on that worker's disk. A checkpoint copies the files into
+`shared`, a folder that all workers and this client reach by the same path. The journal, a file of this client, has the batches
+behind the last checkpoint, and is synced before a batch is answered. Where a worker dies, its shards are opened on others, from
+the last checkpoint, and the batches behind it are made again: a put that is made twice leaves the same map.
 
 One client at a time has a store. What is promised, and what is not, stands in docs/manual/CLUSTER.md.
 """
@@ -23,6 +23,7 @@ One client at a time has a store. What is promised, and what is not, stands in d
 import asyncio
 import bisect
 import collections
+import functools
 import heapq
 import io
 import itertools
@@ -42,6 +43,8 @@ import cola
 __all__ = ["create", "open", "splits_of", "Cluster", "Lost"]
 
 _PAGE = 4096  # rows that a range asks of a shard at once
+_RUN = 1 << 18  # rows of a load that a worker sorts at once
+_AHEAD = 2  # batches of keys that are asked for while one before them is put together
 _key = operator.itemgetter(0)
 _GONE = (OSError, ValueError, asyncio.CancelledError, distributed.TimeoutError,
          distributed.KilledWorker)  # what Dask raises of a worker that is gone, or does not answer in time
@@ -61,7 +64,7 @@ class _Shard:
             cola.create(path, *options)
         else:
             shutil.copyfile(base, path)
-        self._path, self._options, self._how, self._spilled = path, options, how, []
+        self._path, self._how, self._kept, self._spilled = path, how, [], []
         self._store = cola.open(path, **how)
 
     def call(self, name, *words):
@@ -99,25 +102,32 @@ class _Shard:
 
     def checkpoint(self, copy):
         self._store.checkpoint(copy)
+        if self._how.get("log") or self._how.get("sync"):
+            self._store.checkpoint()  # (a new log is begun)
 
     def spill(self, rows):
-        """Keeps rows of a load on this worker's disk, in the order of their keys; of rows of one key the last one stands last."""
-        path = f"{self._path}-{len(self._spilled)}"
-        with io.open(path, "wb") as file:
-            for row in sorted(pickle.loads(rows), key=_key):
-                pickle.dump(row, file)
-        self._spilled.append(path)
+        """Keeps rows of a load, and writes them to this worker's disk, many at once, in the order of their keys; of rows of one
+        key the last one stands last."""
+        self._kept += pickle.loads(rows)
+        if len(self._kept) >= _RUN:
+            self._kept.sort(key=_key)
+            self._spilled.append(f"{self._path}-{len(self._spilled)}")
+            with io.open(self._spilled[-1], "wb") as file:
+                for at in range(0, len(self._kept), _PAGE):
+                    pickle.dump(self._kept[at:at + _PAGE], file)
+            self._kept = []
 
     def fill(self):
         """Fills the store, which is empty, with the rows that were kept, by rising keys."""
-        rows = heapq.merge(*map(_unspilled, self._spilled), key=_key)  # (of equal keys, those that were kept first come first)
-        last = (tuple(some)[-1] for _, some in itertools.groupby(rows, _key))
-        self._store.close()
-        os.remove(self._path)
-        cola.load(self._path, last, *self._options)
-        for path in self._spilled:
-            os.remove(path)
-        self._spilled = []
+        self._kept.sort(key=_key)
+        rows = heapq.merge(*map(_unspilled, self._spilled), self._kept, key=_key)  # (of equal keys, in the order they came in)
+        self.close()
+        try:
+            cola.load(self._path, _last_of_each(rows), **self._store.limits)
+        finally:
+            for path in self._spilled:
+                os.remove(path)
+        self._kept, self._spilled = [], []
         self._store = cola.open(self._path, **self._how)
 
     def grow(self, most):
@@ -144,8 +154,9 @@ class _Shard:
             return next(iter(store))
 
     def close(self):
-        self._store.close()
-        os.remove(self._path)
+        self._store.discard()
+        for suffix in "", "-log", "-journal":
+            _remove(self._path + suffix)
 
 
 def _unspilled(path):
@@ -153,9 +164,54 @@ def _unspilled(path):
     with io.open(path, "rb") as file:
         while True:
             try:
-                yield pickle.load(file)
+                yield from pickle.load(file)
             except EOFError:
                 return
+
+
+def _last_of_each(rows):
+    """Of rows by rising keys the last one of each key."""
+    rows = iter(rows)
+    for before in itertools.islice(rows, 1):
+        for row in rows:
+            if row[0] != before[0]:
+                yield before
+            before = row
+        yield before
+
+
+def _check_lengths(keys, key_max, values, value_max):
+    """Refuses keys and values that no shard takes."""
+    if not all(issubclass(kind, bytes) for kind in {*map(type, keys), *map(type, values)}):
+        raise TypeError("a key or a value is bytes")
+    lengths = set(map(len, keys))
+    if lengths and not 1 <= min(lengths) <= max(lengths) <= key_max or max(map(len, values), default=0) > value_max:
+        raise cola.Length(f"a key has from 1 to {key_max} bytes, a value up to {value_max}")
+
+
+def _routed(rows, lows):
+    """Rows by shards, each shard's in the order of the rows: the place of the shard, how many, and one pickled string of them."""
+    if len(lows) == 1:
+        return [(0, len(rows), pickle.dumps(rows))]
+    routed = collections.defaultdict(list)
+    for row in rows:
+        routed[bisect.bisect_right(lows, row[0]) - 1].append(row)
+    return [(at, len(some), pickle.dumps(some)) for at, some in routed.items()]
+
+
+def _in_batches(rows, size, limits, none_allowed, bounds):
+    """Rows in batches, each routed, with the bounds that held then, once it is known that shards take all of it."""
+    rows, (key_max, value_max) = iter(rows), limits
+    while some := list(itertools.islice(rows, size)):
+        values = [value for _, value in some if not (none_allowed and value is None)]
+        _check_lengths([key for key, _ in some], key_max, values, value_max)
+        lows = bounds()
+        yield lows, _routed(some, lows)
+
+
+def _part_in_batches(rows, size, limits, none_allowed, lows):
+    """What a worker makes of a part of a bag: all its batches, as one pickled string."""
+    return pickle.dumps(list(_in_batches(rows, size, limits, none_allowed, lambda: lows)))
 
 
 class _Part:
@@ -171,8 +227,9 @@ class _Part:
 
 
 class _Journal:
-    """Maps of the shards and batches in the order in which they came, each pickled, with its length and a sum. What stands
-    behind the first record that lacks them is the rest of a write that was cut off. Without a path it is in memory alone."""
+    """Maps of the shards and batches in the order in which they came, each pickled, with its length and a sum. A batch is the
+    strings that the shards are sent. What stands behind the first record that lacks length or sum is the rest of a write that
+    was cut off. Without a path it is in memory alone."""
 
     def __init__(self, path, records=()):
         self._path, self._file, self._records = path, None, list(records)
@@ -241,19 +298,19 @@ def splits_of(sample, shards):
     return sorted({keys[len(keys) * at // shards] for at in range(1, shards)} - {keys[0]}) if keys else []
 
 
-def create(client, name, *, keys, folder, shared, journal, splits=(), block=5, version=1, most=None, patience=60, **how):
+def create(client, name, *, keys, folder, shared, journal, splits=(), block=5, version=1, most=None, patience=60, log=True, **how):
     """Makes a new, empty store: a shard below the first of the splits, and one from each split on, for so many keys each. A
     shard that is full is made one for twice as many keys while that is at most `most`, and else split in two. Where the
-    journal is None, what came behind the last checkpoint is lost with this client, though not with a worker. A worker
-    that has not answered within so many seconds is taken for dead: more than a checkpoint of a shard takes. Other words are
-    those of cola.open, by which the workers open their files: resident=True, log=True."""
+    journal is None, all is lost with this client, though nothing with a worker. A worker that has not answered within so
+    many seconds is taken for dead: more than a checkpoint of a shard takes, or its part of a load. Other words are those of
+    cola.open, by which the workers open their files: resident and logged, with log=False mapped."""
     splits = list(splits)
     if sorted(set(splits)) != splits or b"" in splits:
         raise ValueError("splits are keys, each greater than the one before")
     if keys < 2:
         raise ValueError("a shard that is to be split is for two keys at least")
-    map_ = {"name": name, "folder": folder, "shared": shared, "options": (keys, block, version), "how": how, "most": most or keys,
-            "parts": [(low, None, None, 0) for low in (b"", *splits)]}
+    map_ = {"name": name, "folder": folder, "shared": shared, "options": (keys, block, version), "most": most or keys,
+            "how": {"log": log, **how}, "parts": [(low, None, None, 0) for low in (b"", *splits)]}
     if journal is None:
         return Cluster(client, _Journal(None), map_, 0, patience)
     io.open(journal, "xb").close()  # (one that is there is of another store, which open() opens)
@@ -286,14 +343,11 @@ class Cluster:
         self._client, self._journal, self._map, self._patience = client, journal, map_, patience
         self._position = position  # of the last batch
         self._parts = [_Part(*words) for words in map_["parts"]]
-        key_max, value_max = {1: (24, 32), 2: (40, 72)}[map_["options"][2]]
-        self._key_max, self._value_max = key_max, value_max
+        self._limits = {1: (24, 32), 2: (40, 72)}[map_["options"][2]]  # bytes of a key, and of a value
         for part in self._parts:
             self._submit(part, ())
         for part in self._parts:
-            try:
-                part.actor = part.future.result(self._patience)
-            except _GONE:
+            if not self._is_opened(part):
                 self._open(part, {part.worker})
         self._journal.begin(self._noted(), min(part.position for part in self._parts))
         self._again(b"", None, min(part.position for part in self._parts))
@@ -311,55 +365,45 @@ class Cluster:
         synced in the journal before it is sent. What is made once this returns is made on all shards."""
         under_way = []
         try:
-            for some in self._batches(rows, batch):
-                self._check(some)
-                self._log("batch", self._position + 1, some)
+            for lows, routed in self._batches(rows, batch):  # (routed and logged while the one before is made)
+                self._log("batch", self._position + 1, [some for *_, some in routed])
                 self._position += 1
                 sent, under_way = under_way, []
                 self._finish(sent)
-                under_way = self._send(some, self._position)
+                under_way = self._send(lows, routed, self._position)
         finally:
             self._finish(under_way)
 
-    def get_many(self, keys):
-        """The values of keys, in their order; None where a key is absent."""
-        keys = list(keys)
-        self._check((key, b"") for key in keys)
-        found = [None] * len(keys)
-        asked = [(part, places, self._call(part, "get_many", pickle.dumps([keys[at] for at in places])))
-                 for part, places in self._routed(range(len(keys)), keys.__getitem__)]
-        for part, places, call in asked:
-            answer = self._answer(call)
-            if answer is None:
-                self._replace(part)
-                values = self.get_many(keys[at] for at in places)
-            else:
-                values = pickle.loads(answer[0])
-            for at, value in zip(places, values):
-                found[at] = value
+    def get_many(self, keys, batch=5000):
+        """The values of keys, in their order; None where a key is absent. They are asked for in batches, the next ones while one
+        is looked up."""
+        keys, found, asked = list(keys), [], collections.deque()
+        _check_lengths(keys, self._limits[0], (), 0)
+        for at in range(0, len(keys), batch):
+            if len(asked) > _AHEAD:
+                found += self._found(*asked.popleft())
+            asked.append(self._asked(keys[at:at + batch]))
+        while asked:
+            found += self._found(*asked.popleft())
         return found
 
     def range(self, low=b"", high=None):
         """The pairs of the keys from low on and below high, in order, streamed. Each page shows its shard as it is when it is
         asked for."""
         while high is None or low < high:
-            at = self._index(low)
-            until = self._parts[at + 1].low if at + 1 < len(self._parts) else None
-            end = min((bound for bound in (until, high) if bound is not None), default=None)
-            rows = pickle.loads(self._ask(low, "rows", low, end, False))
+            rows, _, until = self._page(lambda lows: bisect.bisect_right(lows, low) - 1, low, high, False)
             yield from rows
             if len(rows) == _PAGE:
                 low = rows[-1][0] + b"\0"
-            elif end is None:
+            elif until is None:
                 return
             else:
-                low = end
+                low = until
 
     def reversed(self, low=b"", high=None):
         """The pairs of range(low, high), the last one first, streamed as those are."""
         while high is None or low < high:
-            least = self._parts[-1 if high is None else bisect.bisect_left([part.low for part in self._parts], high) - 1].low
-            rows = pickle.loads(self._ask(least, "rows", max(low, least), high, True))
+            rows, least, _ = self._page(lambda lows: -1 if high is None else bisect.bisect_left(lows, high) - 1, low, high, True)
             yield from rows
             if len(rows) == _PAGE:
                 high = rows[-1][0]
@@ -375,6 +419,7 @@ class Cluster:
 
     def count(self):
         """The number of keys."""
+        self._lows()
         counted = [(part, self._call(part, "count")) for part in self._parts]
         counts = [self._answer(call) for _, call in counted]
         for (part, _), count in zip(counted, counts):
@@ -385,13 +430,14 @@ class Cluster:
     def checkpoint(self):
         """Copies each shard's file into the shared folder, and begins a new journal: what it had is in the copies, on the
         disk."""
+        self._lows()
         before = self._bases()
         while late := [part for part in self._parts if part.base is None or part.position < self._position]:
             for part in self._copied(late):
                 self._replace(part)
         self._begin_behind(before)
 
-    def load(self, rows, batch=5000):
+    def load(self, rows, batch=50_000):
         """Fills the store, which has no key, with pairs in any order, of an iterable or a dask.bag; of pairs of one key the last
         one is kept. Each worker sorts its shards' rows on its disk, and fills their files by rising keys. It ends with a
         checkpoint, and has nothing in the journal: where it raises, as Lost where a worker was lost or cola.Full where a
@@ -400,10 +446,9 @@ class Cluster:
             raise ValueError("the store has keys: put_rows adds to it")
         try:
             under_way = []
-            for some in self._batches(rows, batch):
-                self._check((key, 0 if value is None else value) for key, value in some)
-                sent, under_way = under_way, [self._call(part, "spill", pickle.dumps(its)) for part, its in self._routed(some, _key)]
-                self._all_answer(sent)
+            for _, routed in self._batches(rows, batch, none_allowed=False):
+                self._all_answer(under_way)  # (a shard has its rows in their order)
+                under_way = [self._call(self._parts[at], "spill", some) for at, _, some in routed]
             self._all_answer(under_way)
             self._all_answer([self._call(part, "fill") for part in self._parts])
             self._position += 1  # (it has a batch's number, so that a checkpoint from before it is behind)
@@ -447,48 +492,56 @@ class Cluster:
 
     # -- Where keys go
 
-    def _index(self, key):
-        return bisect.bisect_right(self._parts, key, key=lambda part: part.low) - 1
-
-    def _routed(self, rows, key):
-        """The parts of these rows by shards, each in the order of the rows."""
+    def _lows(self):
+        """The least key of each shard."""
         if not self._parts:
             raise cola.Closed("the store is closed")
-        lows, routed = [part.low for part in self._parts], collections.defaultdict(list)
-        for row in rows:
-            routed[bisect.bisect_right(lows, key(row)) - 1].append(row)
-        return [(self._parts[at], some) for at, some in routed.items()]
+        return [part.low for part in self._parts]
 
-    def _check(self, rows):
-        """Refuses a row that no shard takes, before any of its batch is made."""
-        for key, value in rows:
-            if not isinstance(key, bytes) or not isinstance(value, (bytes, type(None))):
-                raise TypeError("a key or a value is bytes")
-            if not 1 <= len(key) <= self._key_max or len(value or b"") > self._value_max:
-                raise cola.Length(f"a key has from 1 to {self._key_max} bytes, a value up to {self._value_max}")
-
-    def _batches(self, rows, size):
-        if hasattr(rows, "to_delayed"):  # (a bag: its parts are worked out on the cluster, one ahead)
-            rows = itertools.chain.from_iterable(map(self._client.gather, self._client.compute(rows.to_delayed())))
-        rows = iter(rows)
-        while some := list(itertools.islice(rows, size)):
-            yield some
+    def _batches(self, rows, size, none_allowed=True):
+        """Batches, each with the bounds by which it is routed. The parts of a bag are worked out and routed on the cluster, as many
+        ahead as there are workers: none of their rows is looked at here. (One task does both, since Dask is slow with rows.)"""
+        words = {"size": size, "limits": self._limits, "none_allowed": none_allowed}
+        if not hasattr(rows, "map_partitions"):
+            yield from _in_batches(rows, bounds=self._lows, **words)
+            return
+        ahead, most, lows = collections.deque(), len(self._workers(())), None
+        for at in range(rows.npartitions):
+            if lows != self._lows():
+                lows = self._lows()
+                parts = rows.map_partitions(functools.partial(_part_in_batches, lows=lows, **words)).to_delayed()
+            ahead.append(self._client.compute(parts[at]))
+            if len(ahead) > most:
+                yield from pickle.loads(ahead.popleft().result())
+        while ahead:
+            yield from pickle.loads(ahead.popleft().result())
 
     # -- Calls of shards
 
     def _call(self, part, name, *words):
-        """Begins a call; None where the shard's worker is gone."""
+        """Begins a call of a worker; None where it is gone."""
         try:
-            return part.actor.call(name, *words)
+            return part.worker, part.actor.call(name, *words)
         except _GONE:
             return None
+
+    def _result(self, worker, future):
+        """What a worker is to give. (Dask does not always tell that it died meanwhile.)"""
+        until = time.monotonic() + self._patience
+        while True:
+            left = until - time.monotonic()
+            try:
+                return future.result(min(max(left, 0), 1))
+            except distributed.TimeoutError:
+                if future.done() or left <= 1 or worker not in self._client.scheduler_info()["workers"]:
+                    raise
 
     def _answer(self, call):
         """What a call answers, as a tuple of one; None where its worker is gone or does not answer in time."""
         if call is None:
             return None
         try:
-            error, answer = call.result(self._patience)
+            error, answer = self._result(*call)
         except _GONE:
             return None
         if error is not None:
@@ -501,27 +554,63 @@ class Cluster:
         if None in [self._answer(call) for call in calls]:
             raise Lost("a worker was lost while rows were loaded")
 
-    def _ask(self, key, name, *words):
-        """Asks the shard of a key, or the one that comes in its place."""
+    def _page(self, find, low, high, backwards):
+        """Rows of the shard that is found among the bounds, or of the one that comes in its place; its bounds."""
         while True:
-            part = self._parts[self._index(key)]
-            answer = self._answer(self._call(part, name, *words))
+            lows = self._lows()
+            at = find(lows) % len(lows)
+            answer = self._answer(self._call(self._parts[at], "rows", low, high, backwards))
             if answer is not None:
-                return answer[0]
-            self._replace(part)
+                return pickle.loads(answer[0]), lows[at], (*lows, None)[at + 1]
+            self._replace(self._parts[at])
 
-    def _send(self, rows, number):
-        return [(part, some, number, self._call(part, "update", pickle.dumps(some)))
-                for part, some in self._routed(rows, lambda row: row[0])]
+    def _asked(self, keys):
+        """Begins to ask for keys, of which each shard has some."""
+        lows, places = self._lows(), collections.defaultdict(list)
+        for place, key in enumerate(keys):
+            places[bisect.bisect_right(lows, key) - 1].append(place)
+        asked = []
+        for at, its in places.items():
+            part = self._parts[at]
+            asked.append((part, part.name, its, self._call(part, "get_many", pickle.dumps([keys[place] for place in its]))))
+        return keys, asked
+
+    def _found(self, keys, asked):
+        """The values of keys that were asked for."""
+        found = [None] * len(keys)
+        for part, name, places, call in asked:
+            answer = self._answer(call) if part.name == name else None  # (else another batch has found it lost)
+            if answer is None:
+                if part in self._parts and part.name == name:
+                    self._replace(part)
+                values = self.get_many(keys[place] for place in places)
+            else:
+                values = pickle.loads(answer[0])
+            for place, value in zip(places, values):
+                found[place] = value
+        return found
+
+    def _send(self, lows, routed, number):
+        """Begins to have a batch made that was routed by these bounds."""
+        if lows != self._lows():  # (a shard was split since)
+            routed = _routed([row for *_, some in routed for row in pickle.loads(some)], self._lows())
+        return [(self._parts[at], count, some, number, self._call(self._parts[at], "update", some)) for at, count, some in routed]
 
     def _finish(self, under_way):
         """Sees that the rows that were sent are made, by their shards or by those that come in their place."""
-        for part, rows, number, call in under_way:
+        for part, count, some, number, call in under_way:
             answer = self._answer(call)
+            if not self._parts:
+                return  # (the store was given up)
             if answer is None:
                 self._replace(part)  # (the journal has these rows)
-            elif answer[0] < len(rows) and (self._grow(part) or self._split(part, number - 1)):
-                self._finish(self._send(rows[answer[0]:], number))
+            elif answer[0] < count and (self._grow(part) or self._split(part, number - 1)):
+                self._send_and_finish(pickle.loads(some)[answer[0]:], number)
+
+    def _send_and_finish(self, rows, number):
+        if rows:
+            lows = self._lows()
+            self._finish(self._send(lows, _routed(rows, lows), number))
 
     # -- Shards that come and go
 
@@ -565,12 +654,20 @@ class Cluster:
         """Opens a shard on a worker that answers, and is not one of those."""
         while True:
             self._submit(part, avoided)
-            try:
-                part.actor = part.future.result(self._patience)
+            if self._is_opened(part):
                 return
-            except _GONE:
-                part.future.release()
-                avoided = {*avoided, part.worker}
+            avoided = {*avoided, part.worker}
+
+    def _is_opened(self, part):
+        """Waits for a shard's worker. False where it is gone, or does not answer in time."""
+        try:
+            part.actor = self._result(part.worker, part.future)
+            return True
+        except cola.Error:
+            raise  # (it refuses the options, or the checkpoint)
+        except _GONE:
+            part.future.release()
+            return False
 
     def _replace(self, part):
         """Opens a shard anew, from its checkpoint, on another worker; what the one before still answers or writes is not read:
@@ -583,14 +680,18 @@ class Cluster:
 
     def _again(self, low, high, position):
         """Makes the batches behind a position again, as far as their keys are from low on and below high."""
-        for number, rows in list(self._journal.batches(position)):
-            rows = [row for row in rows if row[0] >= low and (high is None or row[0] < high)
-                    and self._parts[self._index(row[0])].position < number]
-            self._finish(self._send(rows, number))
+        for number, routed in self._journal.batches(position):
+            rows = [row for some in routed for row in pickle.loads(some) if row[0] >= low and (high is None or row[0] < high)]
+            if rows:
+                has = [part.position >= number for part in self._parts]
+                lows = self._lows()
+                if any(has):
+                    rows = [row for row in rows if not has[bisect.bisect_right(lows, row[0]) - 1]]
+                self._send_and_finish(rows, number)
 
     def _grow(self, part):
-        """Has a shard that is full made one for more keys, where it may have them. (One that is opened from an older checkpoint grows
-        again as its batches are made again.)"""
+        """Has a shard that is full made one for more keys, where it may have them. (One that is opened from an older checkpoint
+        grows again as its batches are made again.)"""
         answer = self._answer(self._call(part, "grow", self._map["most"]))
         return answer is not None and answer[0]
 
@@ -613,13 +714,16 @@ class Cluster:
         self._log("map", self._noted())
         self._answer(self._call(part, "close"))
         part.future.release()
+        if part.base is not None:
+            _remove(part.base)
         return True
 
     def _release(self):
+        parts, self._parts = self._parts, []
+        for part in parts:
+            if part.future is not None:
+                part.future.release()
         self._journal.close()
-        for part in self._parts:
-            part.future.release()
-        self._parts = []
 
 
 def _remove(path):

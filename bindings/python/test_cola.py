@@ -318,7 +318,7 @@ class Stores(unittest.TestCase):
     def test_many_at_once_cross_once(self):
         store = self.store(version=2)
         pairs = [(b"user:%06d" % at, b"value %d" % at) for at in range(1000)]
-        keys, rows, done = [key for key, _ in pairs], cola._packed(pairs), ctypes.c_size_t()
+        keys, rows, done = [key for key, _ in pairs], bytes(cola._packed(pairs)), ctypes.c_size_t()
         room, there = ctypes.create_string_buffer(rows, len(rows)), ctypes.create_string_buffer(1000)
 
         def put_each():
@@ -338,7 +338,7 @@ class Stores(unittest.TestCase):
             print(f"1,000 at once, beside one by one: {name} {many / each:.2f} of the time, and {crossing:.2f} without that of the library itself "
                   f"({each * 1000:.2f}, {many * 1000:.2f} and {alone * 1000:.2f} us a row)")
             self.assertLess(many, each)
-            self.assertLess(crossing, 0.5)  # (0.2 is aimed at)
+            self.assertLess(crossing, 0.3)  # (0.2 is aimed at; 0.1 is what it takes)
 
     def test_a_store_is_made_where_there_is_none(self):
         for wrong in {"create": True}, {"keys": 5}, {"block": 3}, {"version": 2, "read_only": True}:

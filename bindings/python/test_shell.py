@@ -70,14 +70,9 @@ class Terminal:
         os.write(self.master, text.encode())
 
     def interrupt(self, text):
-        """Types Ctrl-C, and once more each second until this text is shown: Python may see it only at the next one."""
-        for _ in range(30):
-            self.type("\x03")
-            try:
-                return self.until(text, 1)
-            except TimeoutError:
-                pass
-        raise AssertionError(f"Ctrl-C is not heard; there is {self.seen!r}")
+        """Types Ctrl-C, once, and gives what is shown up to this text."""
+        self.type("\x03")
+        return self.until(text)
 
     def _read(self, until):
         if not select.select([self.master], [], [], max(0, until - time.monotonic()))[0]:
@@ -177,18 +172,54 @@ class AtATerminal(Folder):
         lines = self.session("notes", "--read-only", prompt=prompt).says("levels", prompt).splitlines()
         with cola.open(self.path, read_only=True) as store:
             levels = store.info().levels
-        self.assertEqual(lines[0].split(), ["level", "room", "searched", "built"])
+        self.assertEqual(lines[0].split(), "level searched, of its room built, of at most".split())
         self.assertEqual(len(lines) - 1, len(levels))
-        self.assertEqual({len(line) for line in lines[1:]}, {5 + 2 + 4 + 2 * (2 + 31)})
+        self.assertEqual({len(line) for line in lines[1:]}, {5 + 2 * (2 + 14 + 1 + 4 + 4 + 4)})
+        most = [shell._most_built(levels, number) for number in range(len(levels))]
         for number, (line, level) in enumerate(zip(lines[1:], levels)):
-            found = re.fullmatch(r" +(\d+) +(\d+)  \[(#*)(\.*)\] +(\d+)  \[(#*)(\.*)\] +(\d+)", line)
-            self.assertEqual(tuple(map(int, found.group(1, 2, 5, 8))), (number, level.room, level.visible, level.shadow))
-            for marks, dots, cells in (*found.group(3, 4), level.visible), (*found.group(6, 7), level.shadow):
-                self.assertEqual(len(marks + dots), 24)
-                self.assertEqual((marks == "", dots == ""), (cells == 0, cells == level.room))
-                self.assertLess(abs(len(marks) - 24 * cells / level.room), 1)
+            found = re.fullmatch(r" +(\d+)  \[(#*)(\.*)\] +(\d+) of +(\d+)  \[(#*)(\.*)\] +(\d+) of +(\d+)", line)
+            self.assertEqual(tuple(map(int, found.group(1, 4, 5, 8, 9))), (number, level.visible, level.room, level.shadow, most[number]))
+            for marks, dots, cells, room in (*found.group(2, 3), level.visible, level.room), (*found.group(6, 7), level.shadow, most[number]):
+                self.assertEqual(len(marks + dots), 12)
+                self.assertEqual((marks == "", dots == ""), (cells == 0, cells == room))
+                self.assertLess(abs(len(marks) - 12 * cells / room), 1)
         told = self.piped("levels\n", "notes", "--read-only")[0].splitlines()
-        self.assertEqual([line.split("\t") for line in told], [[str(it) for it in (number, *level[2:], *level[:2])] for number, level in enumerate(levels)])
+        self.assertEqual([line.split("\t") for line in told],
+                         [[str(it) for it in (number, level.room, *level[:2], most[number])] for number, level in enumerate(levels)])
+        os.remove(self.path)
+        self.make()
+        lines = self.session().says("levels").splitlines()[1:]
+        self.assertEqual(lines[8], "    8  [............]    0 of 1024  [............]    0 of    0")
+
+    def test_a_merge_gives_at_most_what_its_bar_is_of(self):
+        """Of keys that do not meet some merges of each level fill the bar (from 3 on: the runs that the others are merged from are gone as
+        they end), and none is above it."""
+        with cola.open(self.path, create=True, keys=1000) as store:
+            before, ends, full = store.info().levels, [0] * 9, [False] * 9
+            for at in range(600):
+                store[b"%04d" % (at * 7919 % 10000)] = b""
+                levels = store.info().levels
+                for number, (old, new) in enumerate(zip(before, levels)):
+                    most = shell._most_built(levels, number)
+                    self.assertLessEqual(new.shadow, most)
+                    self.assertLessEqual(most, new.room)
+                    if new.shadow:
+                        full[number] = full[number] or new.shadow == most
+                    elif old.shadow:  # (a flip: the run that was built is searched now)
+                        ends[number] += 1
+                        self.assertEqual(new.visible, old.shadow)
+                before = levels
+        self.assertGreater(min(ends[1:7]), 1)
+        self.assertTrue(all(full[3:7]), full)
+
+    def test_the_column_of_keys_stays_as_wide(self):
+        keys = sorted({b"%05d" % at for at in range(2500)} | {b"02000 and a longer key", b"02100\0" + b"\1" * 18})
+        self.make(((key, b"v") for key in keys), keys=3000)
+        lines = self.session().says("scan").splitlines()
+        self.assertEqual([lines[0], lines[-1]], ["key" + " " * 23 + "value", "(2,502 rows)"])
+        for key, line in zip(keys, lines[1:-1]):
+            self.assertEqual(line, f"{shown(key):<24}  v")
+        self.assertEqual(self.session("notes", "--read-only", prompt=None).end()[0], 1)
 
     def test_signs_of_two_columns_are_aligned(self):
         self.make({"日本".encode(): b"1", b"ab": b"2"})
@@ -242,6 +273,11 @@ class AtATerminal(Folder):
         session.until("put a b")
         session.interrupt("notes> ")
         self.assertEqual(session.says("count"), "0\n")
+        for at in range(200):  # (at once behind the prompt or a sign, where readline may not wait yet)
+            if at % 2:
+                session.type("x")
+                session.until("x")
+            session.interrupt("notes> ")
         session.interrupt("notes> ")
         self.assertEqual(session.says("put a 1"), "new\n")
         session.type("\x04")
@@ -327,7 +363,12 @@ class InAPipe(Folder):
         self.assertRegex(out, r"^broken\tcount\t\d+\t\d+\n$")
         self.assertRegex(error, r"^other is damaged \(count, level \d+, cell \d+\): go back to a copy of it; ")
         self.assertEqual(self.piped("last 2\n")[0], self.piped("scan\n")[0].splitlines()[2] + "\na\t1\n")
-        self.assertEqual(self.piped("last 0\n", status=1)[1], "0 is no number of rows: write one from 1 on.\n")
+        self.assertEqual(self.piped("last 0\n", status=1)[1], "0 is no number of rows: write one from 1 to 16777216.\n")
+        self.assertEqual(self.piped("last 16777216\nlast 000000000001\n")[0].count("\n"), 4)
+        for line in "scan a {}", "range a b {}", "prefix a {}", "last {}":
+            for number in "16777217", "9" * 20, "9" * 5000:
+                self.assertEqual(self.piped(line.format(number) + "\ncount\n", status=1),
+                                 ("3\n", f"{number} is no number of rows: write one from 1 to 16777216.\n"))
         self.assertEqual(self.piped("put x \\x00\nput y 2\ndel a\nquit\nput z 3\n"), ("", ""))
         self.assertEqual(self.rows()[b"x"], b"\0")
         self.assertNotIn(b"z", self.rows())
@@ -340,7 +381,7 @@ class InAPipe(Folder):
                     'get "a': 'A quote is not closed: end the word with a ", or write \\" for a quote in a word.',
                     'get "a"b': 'A space parts two words: put one behind the closing quote, or write \\" for a quote in a word.',
                     "get \\q": r'A \ begins an escape: \xHH is a byte, \n, \t and \r are its names, \\ is a backslash, \" a quote.',
-                    "get a": "There is no key a: scan shows those that there are.", "scan a 0": "0 is no number of rows: write one from 1 on.",
+                    "get a": "There is no key a: scan shows those that there are.", "scan a 0": "0 is no number of rows: write one from 1 to 16777216.",
                     "put " + "k" * 25 + " v": "In this store a key has from 1 to 24 bytes and a value at most 32: make it shorter. A file of version 2",
                     "dump x": "The name x does not say its format: let it end with .csv or .jsonl, or put the word csv or jsonl behind it.",
                     "dump x.csv xml": "There is no format xml: name csv or jsonl.",
@@ -419,16 +460,46 @@ class InAPipe(Folder):
         self.assertIn("Line 3 can't be loaded: it has 1 column: write a key and a value. Loaded before it: 1 row.", load("x.csv", "key,value\na,1\nb\n"))
         self.assertEqual(self.rows(), {b"a": b"1"})
         self.assertIn("Line 2 can't be loaded: A \\ begins an escape", load("x.csv", "a,1\nb,\\q\n"))
-        self.assertIn("Line 2 is refused, behind 1 row that were loaded. In this store a key has from 1 to 24",
-                      load("x.csv", "a,1\n" + "b" * 25 + ",2\nc,3\n"))
-        self.assertIn("Line 3 is refused, behind 2 rows that were loaded. The store has as many keys", load("x.csv", "a,1\nb,2\nc,3\n", keys=2))
+        said = load("x.csv", "a,1\n" + "b" * 25 + ",2\nc,3\n")
+        self.assertTrue(said.startswith("Line 2 is refused. In this store a key has from 1 to 24") and said.endswith(" Loaded before it: 1 row.\n"), said)
+        said = load("x.csv", "a,1\nb,2\nc,3\n", keys=2)
+        self.assertTrue(said.startswith("Line 3 is refused. The store has as many keys") and said.endswith(" Loaded before it: 2 rows.\n"), said)
         self.assertEqual(self.rows(), {b"a": b"1", b"b": b"2"})
-        self.assertIn("Line 1501 is refused, behind 1,500 rows", load("x.csv", "".join(f"{at:05},v\n" for at in range(2000)), keys=1500))
+        said = load("x.csv", "".join(f"{at:05},v\n" for at in range(2000)), keys=1500)
+        self.assertTrue(said.startswith("Line 1501 is refused. ") and said.endswith(" Loaded before it: 1,500 rows.\n"), said)
         self.assertIn('Line 1 can\'t be loaded: it is no object: write {"key": "..", "value": ".."}', load("x.jsonl", "[1]\n"))
         self.assertIn("Line 2 can't be loaded: it has no value: write one.", load("x.jsonl", '{"key": "a", "value": "1"}\n{"key": "b"}\n'))
         self.assertIn("Line 1 can't be loaded: its key is no text: put it in quotes.", load("x.jsonl", '{"key": 5, "value": "1"}\n'))
-        self.assertIn("Line 1 can't be loaded: ", load("x.jsonl", '{"key": "a", "value_hex": "0g"}\n'))
-        self.assertIn("Line 1 can't be loaded: ", load("x.jsonl", "{\n"))
+
+    def test_no_error_of_a_file_is_in_the_words_of_python(self):
+        form, quotes = 'write {"key": "..", "value": ".."} on one line.', "its quotes don't match: put a field that has a quote or a comma in quotes, "
+        for kind, line, said in (
+                ("jsonl", "{", f"it is no JSON from column 2 on: {form}"), ("jsonl", '{"key": "a"} x', f"it is no JSON from column 14 on: {form}"),
+                ("jsonl", "NaN", f"it is no object: {form}"), ("jsonl", "[" * 100000, f"it has more than a key and a value: {form}"),
+                ("jsonl", '{"key": ' + "1" * 5000 + "}", None),
+                ("jsonl", '{"key": "b", "value_hex": "0g"}', "its value_hex is no bytes: write two digits of 0-9 and a-f for each."),
+                ("jsonl", '{"key_hex": "é", "value": "1"}', "its key_hex is no bytes: write two digits of 0-9 and a-f for each."),
+                ("jsonl", '{"key": "\\ud800", "value": "1"}', "its key has half a sign: write its bytes as key_hex."),
+                ("csv", 'b,"1', quotes + "and write each quote in it twice."), ("csv", 'b,"1"2', quotes + "and write each quote in it twice."),
+                ("csv", "b," + "x" * 200000, "a field has more signs than a key or a value has bytes: make it shorter.")):
+            first = "a,1\n" if kind == "csv" else '{"key": "a", "value": "1"}\n'
+            with self.assertRaises(Mistake) as raised:
+                list(files.read(io.StringIO(first + "\n" + line + "\n", newline=""), kind))
+            self.assertTrue(str(raised.exception).startswith("Line 3 can't be loaded: "), raised.exception)
+            if said:
+                self.assertEqual(str(raised.exception), f"Line 3 can't be loaded: {said}")
+        with open(os.path.join(self.folder, "x.jsonl"), "w", encoding="utf-8") as file:
+            file.write('{"key": "a", "value": "1"}\n{\n')
+        self.assertEqual(self.piped("load x.jsonl\n", "notes", "--create", "5", status=1)[1],
+                         f"Line 2 can't be loaded: it is no JSON from column 2 on: {form} Loaded before it: 1 row.\n")
+
+    def test_each_refusal_has_a_sentence(self):
+        for kind in cola.Error.__subclasses__():
+            self.assertIn(kind.__name__, cola.__all__)
+            if kind not in (cola.Length, cola.Order, cola.Fewer, cola.NotEmpty):  # (the first is one of the shell; it makes none of the others)
+                said = shell.sentence(kind("the library's words"), "notes")
+                self.assertRegex(said, r"^(The|No|A|notes) [^{}]*: [^{}]+$")
+                self.assertNotIn("the library's words", said)
 
 
 class Words(unittest.TestCase):

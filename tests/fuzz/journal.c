@@ -1,16 +1,17 @@
 /* A hostile journal beside a store's file, which is opened in each way: whatever the bytes are, the file has what the format's page
- * says of them, computed here by other means: the pieces of a whole journal of this store, which lie in it and rise, or else what it
- * had; a store opens then as one of these bytes does in memory, with the map that is known of it; and a whole journal of another
- * store, or with other pieces, is answered as such, with nothing written. Where a write or a sync is refused meanwhile, that is
- * answered, and the next opening makes the same file.
+ * says of them, computed here by other means: the pieces of a whole journal that follows the file's first page, which lie in it and rise, or
+ * else what it had; a store opens then as one of these bytes does in memory, with the map that is known of it; and such a journal with
+ * other pieces is answered as such, with nothing written. Where a write or a sync is refused meanwhile, that is answered, and the next
+ * opening makes the same file.
  *
- * An input is five bytes, which say how it is opened, and then the journal, as it is, or with its sum made right, or piece by piece. */
+ * An input is five bytes, which say how it is opened and which page stands in front of the journal, and then the journal, as it is, or
+ * with its sum made right, or piece by piece. */
 #include "hostile.h"
 
-enum { HEAD = 16, LEAST = HEAD + SUM };
+enum { HEAD = 16, LEAST = HEAD + SUM, FRONT = PAGE + SUM };
 
-static const known *it;        /* the store */
-static image before, journal;  /* its file, and the journal */
+static const known *it;                 /* the store */
+static image before, journal, written;  /* its file, the journal behind its front, and with it */
 
 /* Making the file and the journal of the input. */
 
@@ -27,6 +28,7 @@ static void make_file(input *in) {
     }
     if ((how & 1) != 0) before.bytes[STATE] = 1;
     if ((how & 2) != 0) memcpy(before.bytes, it->files[1].bytes, HEADER);
+    if ((how & 48) == 48) memcpy(before.bytes, it->files[1].bytes, 2u * next(in)); /* (a header that is torn) */
     if ((how & 12) == 12) before.length = before.length * next(in) / 255;
 }
 
@@ -100,11 +102,33 @@ static void make_pieces(input *in, image *to) {
     if (!is_sealed) seal(to, count);
 }
 
+static void sum_of_page(const uint8_t *page, uint8_t sum[SUM]) { sha256("COLA-LOG", 8, page, PAGE, sum); }
+
+/* What stands in front: the first page of the last checkpoint, with another byte or not, that of the next one, or bytes of the input. */
+static void make_front(input *in, unsigned kind) {
+    size_t left = in->length - in->at, place = kind == 1 ? next_number(in, 2) % FRONT : FRONT;
+    uint8_t sum[SUM], by = kind == 1 ? next(in) : 0;
+    written.length = 0;
+    if (kind == 3) {
+        if (left > 0) add(&written, in->bytes + in->at, left < FRONT ? left : FRONT), in->at += written.length;
+        return;
+    }
+    add(&written, it->files[kind / 2].bytes, PAGE);
+    if (place < PAGE) written.bytes[place] ^= by;
+    sum_of_page(written.bytes, sum);
+    add(&written, sum, SUM);
+    if (place >= PAGE && place < FRONT) written.bytes[place] ^= by;
+}
+
 static void make_journal(input *in, unsigned form) {
     journal.length = 0;
+    make_front(in, form / 3 % 4);
     if (form % 3 == 0) add(&journal, in->bytes + in->at, in->length - in->at);
     else if (form % 3 == 1) seal(&journal, add_pieces(in, &journal));
     else make_pieces(in, &journal);
+    add(&written, journal.bytes, journal.length);
+    journal.length = written.length < FRONT ? 0 : written.length - FRONT; /* (a front of the input may be short) */
+    memcpy(journal.bytes, written.bytes + FRONT, journal.length);
 }
 
 /* What the format's page says of it. */
@@ -127,6 +151,24 @@ static size_t pieces_of(void) {
     return at == end && has_header ? end - HEAD : 0;
 }
 
+/* Whether a whole journal follows the file: each byte of its first page is that of the front, or what the pieces that rise from its
+ * beginning make of it, but for the mark of use. */
+static bool follows(size_t end) {
+    uint8_t after[PAGE], sum[SUM];
+    sum_of_page(written.bytes, sum);
+    if (before.length < PAGE || memcmp(sum, written.bytes + PAGE, SUM) != 0) return false;
+    memcpy(after, written.bytes, PAGE);
+    for (size_t at = HEAD; at < HEAD + end;) {
+        uint64_t place = number_at(journal.bytes + at, 8), length = number_at(journal.bytes + at + 8, 8);
+        if (place >= PAGE) break;
+        for (uint64_t byte = 0; byte < length && place + byte < PAGE; byte++) after[place + byte] = journal.bytes[at + HEAD + byte];
+        at += HEAD + length;
+    }
+    for (int at = 0; at < PAGE; at++)
+        if (at != STATE && before.bytes[at] != written.bytes[at] && before.bytes[at] != after[at]) return false;
+    return true;
+}
+
 /* Whether the first piece has the header of a closed store as this one, and each lies in it, behind the one before. */
 static bool is_of_store(size_t end) {
     uint64_t stored, from = 0;
@@ -146,7 +188,7 @@ static bool is_of_store(size_t end) {
 static enum verdict make_behind(image *behind) {
     size_t end = pieces_of();
     copy_image(behind, &before);
-    if (end == 0) return DROPPED;
+    if (end == 0 || !follows(end)) return DROPPED;
     if (!is_of_store(end)) return OTHERS;
     for (size_t at = HEAD; at < HEAD + end; at += HEAD + number_at(journal.bytes + at + 8, 8))
         memcpy(behind->bytes + number_at(journal.bytes + at, 8), journal.bytes + at + HEAD, number_at(journal.bytes + at + 8, 8));
@@ -266,7 +308,7 @@ static void on_a_failing_disk(int way, int at, image *behind, enum verdict verdi
 static bool is_left(int way, enum verdict verdict, bool failed) {
     struct stat about;
     bool is_there = stat(journal_path, &about) == 0, reads = way == READ || way == CHECKED;
-    if (reads && verdict == DROPPED) return has_file(journal_path, &journal);
+    if (reads && verdict == DROPPED) return has_file(journal_path, &written);
     return !is_there || (reads && failed && about.st_size == 0);
 }
 
@@ -279,7 +321,7 @@ int LLVMFuzzerTestOneInput(const uint8_t *bytes, size_t length) {
     make_file(&in);
     make_journal(&in, form);
     write_file(store_path, &before);
-    write_file(journal_path, &journal);
+    write_file(journal_path, &written);
     unlink(log_path);
     int held = descriptors();
     enum verdict verdict = make_behind(&behind);
@@ -289,7 +331,7 @@ int LLVMFuzzerTestOneInput(const uint8_t *bytes, size_t length) {
     HOLDS(descriptors() == held);
     reaches((unsigned)way * 3 + verdict, (unsigned)answer, (unsigned)fails_at);
     if (verdict == OTHERS) {
-        HOLDS(answer == COLA_UNFINISHED && has_file(store_path, &before) && has_file(journal_path, &journal));
+        HOLDS(answer == COLA_UNFINISHED && has_file(store_path, &before) && has_file(journal_path, &written));
     } else {
         HOLDS(answer == known && !is_there(log_path) && is_left(way, verdict, fails_at > 0));
         HOLDS(has_file(store_path, &left));

@@ -62,6 +62,9 @@ static void make_journal(const image *behind, bool is_whole) {
     uint8_t sum[SUM];
     size_t length = behind->length - GUARD;
     journal.length = 0;
+    add(&journal, it->files[0].bytes, PAGE); /* (which it follows) */
+    sha256("COLA-LOG", 8, journal.bytes, PAGE, sum);
+    add(&journal, sum, SUM);
     add(&journal, "COLAJRNL", 8);
     add_number(&journal, length / PAGE, 8);
     for (size_t place = 0; place < length; place += PAGE) {
@@ -69,7 +72,7 @@ static void make_journal(const image *behind, bool is_whole) {
         add_number(&journal, PAGE, 8);
         add(&journal, behind->bytes + place, PAGE);
     }
-    sha256(journal.bytes, journal.length, NULL, 0, sum);
+    sha256(journal.bytes + PAGE + SUM, journal.length - PAGE - SUM, NULL, 0, sum);
     add(&journal, sum, SUM);
     if (!is_whole) journal.length -= 1000;
     write_file(journal_path, &journal);

@@ -3,7 +3,8 @@
  * synced store in its puts, a sync, a checkpoint and the openings that make its calls again; and the process is killed in front of
  * each, behind each, and within each write. What is left has to be whole or refused, never another map, and of a logged store each
  * call that was answered; a refused call leaves nothing behind, and its errno is that of the call that failed; all else in the
- * folder stays as it was.
+ * folder stays as it was. Where a file is made, a journal and a log of a removed one stand beside it. And in front of each call of
+ * an opening the file is replaced.
  *
  *     failing FOLDER
  *
@@ -52,7 +53,7 @@ static const char *const operations[OPERATIONS] = {"create", "create in an empty
                                                    "put logged", "put synced", "open logged", "open beside a log", "read beside a log",
                                                    "save logged", "close logged"};
 
-enum { KEYS = 300, HEADER = 512, SOME = 10, BATCH = 4 };
+enum { KEYS = 300, HEADER = 512, FIRST_PAGE = 4096, FRONT = FIRST_PAGE + 32, SOME = 10, BATCH = 4 };
 
 static enum kind kind;
 static long at, made;      /* the call that is not made as it is, and how many were made so far */
@@ -60,6 +61,9 @@ static bool armed;         /* calls are counted */
 static bool disk_fails;    /* each write and sync is refused */
 static int refused_with;   /* the error of the call that was refused */
 static const char *hit;    /* the call's name */
+static long replaced_at;   /* the call in front of which the store's file is replaced, and by which one; NULL: by none */
+static const char *replaced, *replacing;
+static long last_look;     /* the last call that looked at what a path names */
 static enum operation operation;
 
 static void fails(const char *what, int line) {
@@ -67,10 +71,19 @@ static void fails(const char *what, int line) {
     exit(1);
 }
 
+int __real_rename(const char *from, const char *to);
+int __real_unlink(const char *path);
+
+static void replace(void) {
+    if (replacing == NULL ? __real_unlink(replaced) != 0 : __real_rename(replacing, replaced) != 0) abort();
+}
+
 /* Counts a call, and says what becomes of it. */
 static enum kind begins(const char *call, bool moves, bool is_disk) {
     if (!armed) return MADE;
     made++;
+    if (made == replaced_at) replace();
+    if (strcmp(call, "stat") == 0 || strcmp(call, "fstatat") == 0) last_look = made;
     if (disk_fails && is_disk) return REFUSED;
     if (made != at) return MADE;
     hit = call;
@@ -139,17 +152,11 @@ char *__wrap_realpath(const char *path, char *into) {
     return answer;
 }
 
-static const char *replaced, *replacing; /* the file that is replaced in front of the next lock, and by which one; NULL: by none */
-
 int __real_flock(int descriptor, int how);
 int __wrap_flock(int descriptor, int how);
 int __wrap_flock(int descriptor, int how) {
     enum kind it = begins("flock", false, false);
     if (it == REFUSED) return refuses(ENOLCK);
-    if (replaced != NULL) {
-        if (replacing == NULL ? __real_unlink(replaced) != 0 : __real_rename(replacing, replaced) != 0) abort();
-        replaced = NULL;
-    }
     int answer = __real_flock(descriptor, how);
     ends(it);
     return answer;
@@ -379,7 +386,7 @@ static bool is_left(int steps) {
 }
 
 /* The files of a case: a closed store, a journal of it, an older copy, and two that only have names near theirs. */
-static image store, journal, record, copy, beside = {"copy.new", 8, "is other"}, other = {"store.new", 5, "other"};
+static image store, journal, record, copy, stale_journal, stale_log, beside = {"copy.new", 8, "is other"}, other = {"store.new", 5, "other"};
 
 static void make(const char *name, int steps, image *it) {
     cola_file file = COLA_FILE_INIT;
@@ -390,11 +397,17 @@ static void make(const char *name, int steps, image *it) {
     load(it, name);
 }
 
+/* The front of a journal that follows a file. */
+static void make_front(image *into, const image *file) {
+    memcpy(into->bytes, file->bytes, FIRST_PAGE);
+    cola_core_log_begin(into->bytes, FIRST_PAGE, (cola_core_log *)(into->bytes + FIRST_PAGE));
+}
+
 /* The journal by which the store gets what another one has. */
-static void make_journal(const image *to) {
+static void make_journal(image *into, const image *to) {
     uint8_t marks[sizeof to->bytes / COLA_PAGE];
     size_t pages = cola_pages_in(to->length);
-    uint8_t *end = journal.bytes + COLA_JOURNAL_HEAD;
+    uint8_t *end = into->bytes + FRONT + COLA_JOURNAL_HEAD;
     HOLDS(to->length == store.length && to->length % COLA_PAGE == 0);
     for (size_t page = 0; page < pages; page++) {
         const uint8_t *bytes = to->bytes + page * COLA_PAGE;
@@ -404,9 +417,9 @@ static void make_journal(const image *to) {
         memcpy(end + COLA_JOURNAL_HEAD, bytes, COLA_PAGE);
         end += COLA_JOURNAL_HEAD + COLA_PAGE;
     }
-    cola_core_journal_frame(to->bytes, to->length, marks, pages, journal.bytes, end);
-    journal.name = "store-journal";
-    journal.length = (size_t)(end - journal.bytes) + COLA_JOURNAL_SUM;
+    make_front(into, &store);
+    cola_core_journal_frame(to->bytes, to->length, marks, pages, into->bytes + FRONT, end);
+    into->length = (size_t)(end - into->bytes) + COLA_JOURNAL_SUM;
 }
 
 /* The log by which the store's calls go on to the second map. */
@@ -420,6 +433,31 @@ static void make_log(void) {
     HOLDS(unlink(path_of("store-log")) == 0);
 }
 
+static image empty; /* the file of a new store */
+
+/* A journal and a log that stand beside a file as it is made: those of a removed store. The log follows a new store. */
+static void make_stale(void) {
+    static image other_map;
+    cola_file file = COLA_FILE_INIT;
+    make("other_map", LAST, &other_map);
+    HOLDS(unlink(path_of("other_map")) == 0);
+    make_journal(&stale_journal, &other_map);
+    make("empty", EMPTY, &empty);
+    HOLDS(cola_file_open_as(&file, path_of("empty"), COLA_LOGGED) == COLA_OK);
+    go(&file.store, 0, OLD);
+    HOLDS(cola_file_discard(&file) == COLA_OK && truncate(path_of("empty-log"), 1 << 16) == 0);
+    load(&stale_log, "empty-log");
+    HOLDS(unlink(path_of("empty-log")) == 0 && unlink(path_of("empty")) == 0);
+}
+
+/* The names of these beside a file. */
+static const char *stale_names(bool log) {
+    return operation == CHECKPOINT ? log ? "copy-log" : "copy-journal" : log ? "made-log" : "made-journal";
+}
+
+/* Whether the case makes a file of its own, beside which they stand. */
+static bool makes_a_file(void) { return operation <= CREATE_EMPTY || operation == CHECKPOINT || operation == LOAD; }
+
 #define ARMED(call) (armed = true, errno = 0, answer = (call), error = errno, armed = disk_fails = false)
 
 static void set_up(void) {
@@ -432,6 +470,11 @@ static void set_up(void) {
     write_file("store.new", other.bytes, other.length);
     HOLDS(chmod(path_of("store"), 0640) == 0);
     if (operation == CREATE_EMPTY) write_file("made", "", 0);
+    if (makes_a_file()) {
+        make_front(&stale_journal, operation == CHECKPOINT ? &copy : &empty);
+        write_file(stale_names(false), stale_journal.bytes, stale_journal.length);
+        write_file(stale_names(true), stale_log.bytes, stale_log.length);
+    }
     if (operation == RECOVER) write_file("store-journal", journal.bytes, journal.length);
     if (operation >= OPEN_LOGGED && operation <= READ_BESIDE) write_file("store-log", record.bytes, record.length);
     *answered = FIRST;
@@ -589,6 +632,7 @@ static void session(void) {
         HOLDS(is_told && error == refused_with && error != 0);
         if (operation == OPEN && kind != DISK_FAILS) HOLDS(is_image(&store));
     } else {
+        if (makes_a_file()) HOLDS(!is_there(stale_names(false)) && !is_there(stale_names(true)));
         if (operation == CREATE || operation == CREATE_EMPTY) HOLDS(opens("made", EMPTY) == COLA_OK);
         if (operation == CHECKPOINT) HOLDS(opens("copy", SECOND) == COLA_OK);
         if (operation == CLOSE) HOLDS(opens("store", SECOND) == COLA_OK);
@@ -608,7 +652,8 @@ static void look(bool was_killed) {
     struct stat about;
     int32_t answer;
     const char *const known[] = {"store", "copy", "copy.new", "store.new", "made", operation >= OPEN_RESIDENT ? "store-journal" : "store",
-                                 operation >= PUT_LOGGED ? "store-log" : "store", NULL};
+                                 operation >= PUT_LOGGED ? "store-log" : "store", makes_a_file() ? stale_names(false) : "store",
+                                 makes_a_file() ? stale_names(true) : "store", NULL};
     int unknown = others(known, name);
     HOLDS(is_image(&beside) && is_image(&other));
     switch (operation) {
@@ -638,7 +683,8 @@ static void look(bool was_killed) {
             answer = opens(name, SECOND);
             HOLDS(answer == COLA_OK || answer == COLA_SMALL || answer == COLA_NOT_STORE);
         }
-        HOLDS(is_image(&copy) || opens("copy", SECOND) == COLA_OK);
+        if (is_image(&copy)) HOLDS(is_there("copy-journal") && is_there("copy-log"));
+        else HOLDS(opens("copy", SECOND) == COLA_OK);
         if (!is_image(&copy)) HOLDS(stat(path_of("copy"), &about) == 0 && (about.st_mode & 0777) == 0640);
         HOLDS(opens("store", THIRD) == (was_killed ? COLA_NOT_CLOSED : COLA_OK));
         break;
@@ -714,24 +760,41 @@ static long one(char call[32], int32_t *answer) {
     return count;
 }
 
-/* A path that gets another file, or none, while its old file is opened: what is opened is the file that it names. */
-static void of_replaced_files(uint32_t flags) {
+/* Opens the store, whose file is replaced in front of this call of the system: whether there was such a call. */
+static bool opens_replaced(uint32_t flags, long place, const char *at_store, const char *by, long looks) {
     cola_file file = COLA_FILE_INIT;
     uint64_t keys = 0;
-    operation = OPEN;
+    int32_t answer;
+    int error;
     set_up();
     int before = descriptors();
+    replaced = at_store, replacing = by, replaced_at = place, made = 0;
+    ARMED(cola_file_open_as(&file, at_store, flags));
+    bool was_replaced = made >= place;
+    HOLDS(answer == COLA_OK || (by == NULL && place <= looks && answer == COLA_SYSTEM && error == ENOENT && file.bytes == NULL));
+    if (answer == COLA_OK) {
+        HOLDS(cola_count(&file.store, &keys) == COLA_OK && map_of(OLD)->count != map_of(FIRST)->count);
+        bool is_new = keys == map_of(OLD)->count, is_old = keys == map_of(FIRST)->count;
+        HOLDS(by == NULL || place > looks ? is_new || is_old : is_new);
+        HOLDS(cola_file_discard(&file) == COLA_OK);
+    }
+    HOLDS(descriptors() == before && !is_there("store-log") && !is_there("store-journal"));
+    return was_replaced;
+}
+
+/* A path that gets another file, or none, in front of each call of an opening: up to its last look what is opened is the file that the path
+ * names then. (A mapped store without a name may be opened as it was.) */
+static void of_replaced_files(uint32_t flags) {
     char at_store[4096], at_copy[4096];
+    operation = OPEN, kind = MADE, at = 0;
     snprintf(at_store, sizeof at_store, "%s", path_of("store"));
     snprintf(at_copy, sizeof at_copy, "%s", path_of("copy"));
-    replaced = at_store, replacing = at_copy;
-    HOLDS(cola_file_open_as(&file, at_store, flags) == COLA_OK && replaced == NULL && !is_there("copy"));
-    HOLDS(cola_count(&file.store, &keys) == COLA_OK && keys == map_of(OLD)->count && keys != map_of(FIRST)->count);
-    HOLDS(cola_file_close(&file) == COLA_OK && descriptors() == before);
-    replaced = at_store, replacing = NULL;
-    errno = 0;
-    HOLDS(cola_file_open_as(&file, at_store, flags) == COLA_SYSTEM && errno == ENOENT && descriptors() == before);
-    HOLDS(!is_there("store") && file.bytes == NULL);
+    HOLDS(!opens_replaced(flags, 1 << 20, at_store, at_copy, 0)); /* (it is not) */
+    long looks = last_look;
+    HOLDS(looks > 5);
+    for (int way = 0; way < 2; way++)
+        for (long place = 1; opens_replaced(flags, place, at_store, way == 0 ? at_copy : NULL, looks); place++) {}
+    replaced_at = 0;
 }
 
 int main(int count, char **words) {
@@ -746,11 +809,14 @@ int main(int count, char **words) {
     HOLDS(answered != MAP_FAILED);
     make("store", FIRST, &store);
     make("made", SECOND, &made_once);
-    make_journal(&made_once);
+    make_journal(&journal, &made_once);
     make_log();
+    make_stale();
     make("copy", OLD, &copy);
     of_replaced_files(0);
     of_replaced_files(COLA_READ_ONLY);
+    of_replaced_files(COLA_RESIDENT);
+    of_replaced_files(COLA_LOGGED);
     for (operation = CREATE; operation < OPERATIONS; operation++) {
         kind = MADE, at = 0;
         long calls = one(call, &answer);

@@ -125,6 +125,12 @@ int32_t cola_core_seek_last(cola_cursor *cursor, const void *high, size_t high_l
     if (answer == COLA_OK) *cursor = (cola_cursor){.from_len = 5, .bounded = bounded};
     return answer;
 }
+int32_t cola_core_seek_prefix(cola_cursor *cursor, const void *prefix, size_t prefix_len) {
+    takes(prefix, prefix_len, "", 0);
+    HOLDS(is_bool(&cursor->behind) && is_bool(&cursor->bounded));
+    if (answer == COLA_OK) *cursor = (cola_cursor){.from_len = 7, .bounded = true};
+    return answer;
+}
 static int32_t walks(cola *store, cola_cursor *cursor, cola_row *rows, size_t most, size_t *given, bool falls) {
     calls++;
     HOLDS(store != NULL && rows != NULL && is_bool(&cursor->behind) && is_bool(&cursor->bounded));
@@ -211,9 +217,11 @@ static void of_cursors(cola *store) {
     SPOIL(cursor);
     answer = COLA_LENGTH;
     HOLDS(cola_seek(&cursor, "k", (size_t)-1, NULL, 0) == COLA_LENGTH && is_spoiled(&cursor, sizeof cursor));
+    HOLDS(cola_seek_prefix(&cursor, "k", (size_t)-1) == COLA_LENGTH && is_spoiled(&cursor, sizeof cursor));
     HOLDS(cola_next(store, &cursor, &row, 1, &given) == COLA_LENGTH && is_spoiled(&cursor, sizeof cursor) && given == 7);
     HOLDS(handed.behind && handed.bounded && handed.from_len == 0xAB);
     answer = COLA_OK;
+    HOLDS(cola_seek_prefix(&unwritten, NULL, 0) == COLA_OK && unwritten.from_len == 7 && unwritten.bounded && !unwritten.behind);
     HOLDS(cola_seek(&unwritten, "", 0, NULL, 0) == COLA_OK && unwritten.from_len == 3 && !unwritten.bounded);
     HOLDS(cola_seek(&unwritten, "", 0, "z", 1) == COLA_OK && unwritten.bounded && !unwritten.behind);
     HOLDS(cola_next(store, &unwritten, &row, 1, &given) == COLA_OK && given == 1 && unwritten.from_len == 4 && unwritten.behind);

@@ -1,7 +1,7 @@
 /* A store with a log: what each call answers and leaves, with a disk that is full or fails, with logs that are changed, cut, of an
  * older checkpoint or no logs, with batches, with openings of each kind beside it, and with another process.
  *
- *     logged FOLDER
+ *     logged FOLDER [full]    (full: the folder is that of a disk of 4 MiB, which is filled)
  *
  * Link with -Wl,--wrap=CALL for pwrite, fsync, fdatasync, ftruncate and posix_fallocate. */
 #define _GNU_SOURCE
@@ -237,6 +237,14 @@ static void of_other_openings(void) {
     HOLDS(!is_there(record) && has(path, COLA_LOGGED, KEYS, 0));
 }
 
+/* Whether nothing stands in the log's file from a place on. */
+static bool is_cut_at(size_t at) {
+    static image now;
+    load(&now, record);
+    while (at < now.length && now.bytes[at] == 0) at++;
+    return at >= now.length;
+}
+
 /* A log with each byte of its records changed, cut at each length, of an older checkpoint, and of other files. */
 static void of_changed_logs(void) {
     static image log, changed, store;
@@ -255,6 +263,7 @@ static void of_changed_logs(void) {
         changed.bytes[at] ^= (uint8_t)(1u << at % 8);
         save(&changed, record);
         HOLDS(has(path, COLA_LOGGED, FEW, at >= end ? 20 : whole) && is_file(path, &store));
+        if (whole > 0 && at % 16 == 0) HOLDS(is_cut_at(at >= end ? end : ends[whole - 1]));
         changed.bytes[at] ^= (uint8_t)(1u << at % 8);
     }
     for (changed.length = 0; changed.length < end + 10; changed.length += 3) {
@@ -314,6 +323,12 @@ static void of_batches(void) {
     HOLDS(cola_file_discard(&file) == COLA_OK);
     open_logged(&file, COLA_LOGGED);
     HOLDS(cola_count(&file.store, &count) == COLA_OK && count == KEYS && cola_stamp(&file.store, "0299", 4, &count) == COLA_OK && count == 500);
+    made[WRITES] = 0; /* (in a full store too, of keys that are there; a new one is refused by itself) */
+    HOLDS(cola_put_many(&file.store, rows, 300, NULL, &done) == COLA_OK && done == 300 && made[WRITES] == 1);
+    HOLDS(cola_put_many(&file.store, rows + 200, 101, NULL, &done) == COLA_FULL && done == 100 && made[WRITES] == 3);
+    HOLDS(cola_delete(&file.store, "0007", 4) == COLA_OK && made[WRITES] == 4);
+    HOLDS(cola_put_many(&file.store, rows + 299, 5, NULL, &done) == COLA_FULL && done == 2 && made[WRITES] == 6);
+    HOLDS(cola_delete(&file.store, "0300", 4) == COLA_OK && cola_put(&file.store, "0007", 4, "on", 2, NULL) == COLA_OK);
     refuse(WRITES, 0, ENOSPC);
     HOLDS(cola_put_many(&file.store, rows, 100, NULL, &done) == COLA_SYSTEM && done == 0 && errno == ENOSPC);
     mend();
@@ -428,6 +443,33 @@ static void of_a_full_disk(void) {
     HOLDS(cola_file_settle(path, &(bool){0}, &(bool){0}) == COLA_OK && !is_there(record));
 }
 
+/* A disk that is full: what finds no room on it is answered and not made, and goes on where there is room again. */
+static void of_a_filled_disk(const char *folder) {
+    static char filler[3300];
+    static image was;
+    cola_file file;
+    int done = 0;
+    int32_t answer = COLA_OK;
+    snprintf(filler, sizeof filler, "%.3000s/filler", folder);
+    make_store(KEYS, 2);
+    load(&was, path);
+    open_logged(&file, COLA_LOGGED);
+    int descriptor = open(filler, O_RDWR | O_CREAT | O_TRUNC, 0600);
+    for (off_t at = 0; pwrite(descriptor, &was, 4096, at) == 4096;) at += 4096;
+    HOLDS(errno == ENOSPC);
+    for (; done < 100000 && answer != COLA_SYSTEM; done += answer != COLA_SYSTEM) answer = make(&file.store, done);
+    HOLDS(answer == COLA_SYSTEM && errno == ENOSPC && done > ROOM / 100);
+    HOLDS(make(&file.store, done) == COLA_SYSTEM && errno == ENOSPC);
+    HOLDS(cola_file_sync(&file) == COLA_OK && cola_file_checkpoint(&file, NULL) == COLA_SYSTEM && errno == ENOSPC && is_file(path, &was));
+    HOLDS(make(&file.store, done) == COLA_SYSTEM && errno == ENOSPC);
+    HOLDS(ftruncate(descriptor, 0) == 0);
+    make_all(&file.store, done, done + 100);
+    HOLDS(cola_file_discard(&file) == COLA_OK && is_file(path, &was) && has(path, COLA_LOGGED, KEYS, done + 100));
+    open_logged(&file, COLA_LOGGED);
+    HOLDS(cola_file_close(&file) == COLA_OK && !is_there(record) && has(path, 0, KEYS, done + 100));
+    HOLDS(close(descriptor) == 0 && unlink(filler) == 0 && unlink(path) == 0);
+}
+
 /* Another process opens nothing, and a child leaves the log to its parent. */
 static void of_two_processes(void) {
     cola_file file, second = COLA_FILE_INIT;
@@ -485,6 +527,7 @@ int main(int count, char **words) {
     snprintf(journal, sizeof journal, "%.3000s/logged.store-journal", words[1]);
     snprintf(record, sizeof record, "%.3000s/logged.store-log", words[1]);
     snprintf(copy, sizeof copy, "%.3000s/logged.copy", words[1]);
+    if (count > 2) return of_a_filled_disk(words[1]), 0;
     of_sessions();
     of_other_openings();
     of_changed_logs();

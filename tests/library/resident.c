@@ -1,15 +1,18 @@
 /* A resident store, its journal and its recoveries: what each call answers and leaves, with a disk that is full or fails, with
- * journals that are changed, cut, of another store or no files, and beside another process.
+ * journals that are changed, cut, of another checkpoint, of another store or no files, and beside another process; and that its calls
+ * meet no page fault.
  *
  *     resident FOLDER
  *
  * Link with -Wl,--wrap=pwrite,--wrap=fsync. */
+#define _GNU_SOURCE
 #include <errno.h>
 #include <fcntl.h>
 #include <signal.h>
 #include <stdio.h>
 #include <stdlib.h>
 #include <string.h>
+#include <sys/resource.h>
 #include <sys/stat.h>
 #include <sys/wait.h>
 #include <unistd.h>
@@ -18,23 +21,24 @@
 #include "cola_file.h"
 #include "cola_journal.h"
 
-enum { KEYS = 300, FEW = 12, MOST = 1 << 20 };
+enum { KEYS = 300, FEW = 12, MOST = 1 << 21, FRONT = 4096 + 32, FIRST = 4096, STATE = 14 };
 
 static int keys = KEYS; /* that the store is for */
 
 #define HOLDS(is) ((is) ? (void)0 : (fprintf(stderr, "resident: line %d: not so: %s (%s)\n", __LINE__, #is, strerror(errno)), exit(1)))
 
-static char path[3100], journal[3200], copy[3200], other[3200];
+static char path[3100], journal[3200], record[3200], copy[3200], other[3200];
 
 /* The disk: which write, of those from now on, is refused with this error, or kills the process; and all behind it. */
 static long writes_left = -1, syncs_left = -1;
 static int error_then;
-static bool kills;
+static bool kills, is_once; /* (once: those behind it are made) */
 
 static bool is_refused(long *left) {
     if (*left < 0) return false;
     if (*left > 0) return --*left, false;
     if (kills) raise(SIGKILL);
+    if (is_once) *left = -1;
     errno = error_then;
     return true;
 }
@@ -244,6 +248,25 @@ static void of_a_failing_disk(void) {
     HOLDS(unfinished > 6);
 }
 
+/* One sync of a checkpoint fails, those behind it do not: that is told, and at one of the file the checkpoint goes no further. */
+static void of_a_sync_that_fails(void) {
+    enum { MARK = 2, EMPTIED = 5 }; /* the journal, its name; the mark, the pages, the header; the empty journal */
+    cola_file file;
+    uint64_t count;
+    for (int at = 0; at <= EMPTIED; at++) {
+        open_resident(&file);
+        puts_from(&file, 2000, 2100);
+        HOLDS(cola_count(&file.store, &count) == COLA_OK);
+        is_once = true;
+        refuse(-1, at, EIO);
+        int32_t answer = cola_file_checkpoint(&file, NULL);
+        HOLDS(answer == (at < MARK || at == EMPTIED ? COLA_SYSTEM : COLA_UNFINISHED) && errno == EIO);
+        is_once = false;
+        mend();
+        HOLDS(cola_file_close(&file) == COLA_OK && count_of(path, 0) == count && !is_there(journal));
+    }
+}
+
 static image before, behind, whole; /* the file in front of a checkpoint, behind it, and the journal */
 
 /* A process that dies as it begins to write to the file. */
@@ -265,9 +288,10 @@ static void leave_a_journal(void) {
     HOLDS(WIFSIGNALED(status) && WTERMSIG(status) == SIGKILL);
     load(&behind, copy);
     load(&whole, journal);
-    before.bytes[14] = 1; /* (it had just said that it is in use) */
+    before.bytes[STATE] = 1; /* (it had just said that it is in use) */
     HOLDS(is_file(path, &before) && whole.length > 4096);
-    before.bytes[14] = 0;
+    before.bytes[STATE] = 0;
+    HOLDS(memcmp(whole.bytes, before.bytes, FIRST) == 0 && memcmp(behind.bytes, before.bytes, 512) != 0);
 }
 
 static void state(const image *file, const image *of_journal) {
@@ -309,8 +333,160 @@ static void of_journals(void) {
     make_store(other, KEYS); /* another store's */
     load(&larger, other);
     state(&larger, &whole);
-    HOLDS(cola_journal_recover(path, &found) == COLA_UNFINISHED && errno == EINVAL && is_file(path, &larger) && is_file(journal, &whole));
+    HOLDS(cola_journal_recover(path, &found) == COLA_OK && !found && is_file(path, &larger) && !is_there(journal));
     HOLDS(unlink(other) == 0);
+}
+
+/* What an opening of each kind leaves of a file with another header than the journal follows: the file, and no journal, but where it
+ * reads alone. */
+static void is_passed_over(const image *file) {
+    bool found;
+    for (int way = 0; way < 4; way++) {
+        state(file, &whole);
+        if (way < 3) count_of(path, way == 0 ? 0 : way == 1 ? COLA_READ_ONLY : COLA_RESIDENT);
+        else HOLDS(cola_journal_recover(path, &found) == COLA_OK && !found);
+        HOLDS(is_file(path, file) && is_there(journal) == (way == 1));
+    }
+    HOLDS(unlink(journal) == 0 || errno == ENOENT);
+}
+
+/* The store of this many puts, with other values than the sessions' own. */
+static void make_alike(image *it, int puts) {
+    cola_file file = COLA_FILE_INIT;
+    char key[16];
+    make_store(other, FEW);
+    HOLDS(cola_file_open(&file, other) == COLA_OK);
+    for (int number = 0; number < puts; number++) {
+        snprintf(key, sizeof key, "k%04d", number % FEW);
+        HOLDS(cola_put(&file.store, key, 5, "other", 5, NULL) == COLA_OK);
+    }
+    HOLDS(cola_file_close(&file) == COLA_OK);
+    load(it, other);
+    HOLDS(unlink(other) == 0);
+}
+
+/* A journal beside a copy of an earlier checkpoint, a new store, another store with the same header, and one that a program changed
+ * which knows of no journal; beside its own file, with each part of the new page; and one whose first bytes did not reach the disk. */
+static void of_other_checkpoints(void) {
+    cola_file file;
+    bool found;
+    static image earlier, empty, alike, changed;
+    make_store(path, FEW);
+    load(&empty, path);
+    open_resident(&file);
+    puts_from(&file, 0, 5);
+    HOLDS(cola_file_close(&file) == COLA_OK);
+    load(&earlier, path);
+    open_resident(&file);
+    puts_from(&file, 5, 20);
+    HOLDS(cola_file_close(&file) == COLA_OK);
+    leave_a_journal();
+    is_passed_over(&earlier);
+    is_passed_over(&empty);
+    make_alike(&alike, 20);
+    HOLDS(memcmp(alike.bytes, before.bytes, 512) == 0); /* (version 1) */
+    is_passed_over(&alike);
+    make_alike(&alike, 120);
+    HOLDS(memcmp(alike.bytes, behind.bytes, 512) == 0);
+    is_passed_over(&alike);
+    save(&before, path);
+    HOLDS(unlink(journal) == 0 || errno == ENOENT);
+    HOLDS(cola_file_open(&file, path) == COLA_OK && put(&file, 7) == COLA_OK && cola_file_close(&file) == COLA_OK);
+    load(&changed, path);
+    is_passed_over(&changed);
+    for (size_t part = 0; part <= FIRST; part += part < 512 ? 1 : 7) {
+        changed = before;
+        memcpy(changed.bytes, behind.bytes, part);
+        changed.bytes[STATE] = part % 2;
+        state(&changed, &whole);
+        HOLDS(cola_journal_recover(path, &found) == COLA_OK && found && is_file(path, &behind));
+    }
+    changed = whole;
+    memset(changed.bytes, 0, FRONT);
+    state(&before, &changed);
+    HOLDS(cola_journal_recover(path, &found) == COLA_OK && !found && is_file(path, &before) && !is_there(journal));
+}
+
+/* A log that has a call, of some store. */
+static void leave_a_log(void) {
+    cola_file file = COLA_FILE_INIT;
+    static image log;
+    char its_log[3300];
+    snprintf(its_log, sizeof its_log, "%s-log", other);
+    make_store(other, FEW);
+    HOLDS(cola_file_open_as(&file, other, COLA_LOGGED) == COLA_OK && put(&file, 1) == COLA_OK && cola_file_discard(&file) == COLA_OK);
+    load(&log, its_log);
+    log.length = 4096;
+    save(&log, record);
+    HOLDS(unlink(other) == 0 && unlink(its_log) == 0);
+}
+
+/* The journal and the log of a removed file do not outlive that another one is made in its place, in each way. Those of the first
+ * checkpoint of a store for as many keys follow a new one's header too. */
+static void of_made_files(void) {
+    cola_file file = COLA_FILE_INIT;
+    cola_file_load rows = COLA_FILE_LOAD_INIT;
+    uint64_t count;
+    make_store(path, FEW);
+    leave_a_journal();
+    for (int way = 0; way < 5; way++) {
+        unlink(path);
+        save(&whole, journal);
+        leave_a_log();
+        if (way == 1) save(&(image){.length = 0}, path);
+        if (way < 2) HOLDS(cola_file_create(path, FEW, 3, 1) == COLA_OK);
+        if (way == 2) HOLDS(cola_file_load_begin(&rows, path, FEW, 3, 1) == COLA_OK && cola_file_load_end(&rows, &count) == COLA_OK);
+        if (way == 3) {
+            make_store(other, FEW);
+            HOLDS(cola_file_open(&file, other) == COLA_OK && cola_file_checkpoint(&file, path) == COLA_OK && cola_file_close(&file) == COLA_OK);
+        }
+        if (way == 4) { /* (the log follows another header) */
+            save(&before, path);
+            HOLDS(cola_file_grow(path, KEYS, 3, &count) == COLA_OK);
+        }
+        HOLDS(!is_there(journal) && !is_there(record));
+        HOLDS(count_of(path, 0) == (way == 4 ? FEW : 0) && count_of(path, COLA_LOGGED) == (way == 4 ? FEW : 0));
+    }
+    save(&whole, journal); /* (a refused call leaves them) */
+    HOLDS(cola_file_create(path, FEW, 3, 1) == COLA_NOT_EMPTY && is_there(journal) && unlink(journal) == 0);
+    HOLDS(mkfifo(journal, 0600) == 0 && unlink(path) == 0 && cola_file_create(path, FEW, 3, 1) == COLA_OK && unlink(journal) == 0);
+    unlink(other);
+}
+
+/* What the process has met of page faults. */
+static long faults(void) {
+    struct rusage usage;
+    HOLDS(getrusage(RUSAGE_SELF, &usage) == 0);
+    return usage.ru_minflt + usage.ru_majflt;
+}
+
+/* Puts and gets of a resident store and a logged one meet no page fault. (The first of each kind are not counted: they touch the
+ * program's own pages and the stack.) */
+static void of_page_faults(void) {
+    cola_file file = COLA_FILE_INIT;
+    char value[COLA_VALUE_MAX], key[16];
+    size_t length;
+    enum { TIMES = 10000, MANY = 100000 };
+    for (uint32_t flags = COLA_RESIDENT; flags <= COLA_LOGGED; flags += COLA_LOGGED - COLA_RESIDENT) {
+        make_store(path, MANY);
+        keys = MANY;
+        HOLDS(cola_file_open_as(&file, path, flags) == COLA_OK);
+        long before_all = 0;
+        for (int number = -100; number < TIMES; number++) {
+            if (number == 0) before_all = faults();
+            int length_of_key = snprintf(key, sizeof key, "k%05d", (number + 100) * 7919 % MANY);
+            HOLDS(cola_put(&file.store, key, (size_t)length_of_key, "value", 5, NULL) == COLA_OK);
+            HOLDS(cola_get(&file.store, key, (size_t)length_of_key, value, &length) == COLA_OK && length == 5);
+        }
+        long met = faults() - before_all;
+#ifdef __SANITIZE_ADDRESS__
+        met = 0; /* (the sanitizer's own memory) */
+#endif
+        if (met != 0) fprintf(stderr, "resident: %ld page faults in %d puts and gets\n", met, TIMES);
+        HOLDS(met == 0 && cola_file_discard(&file) == COLA_OK);
+        unlink(record);
+    }
+    keys = FEW;
 }
 
 /* A journal with a right sum, of a store with a page more than the file has. */
@@ -321,9 +497,11 @@ static void of_places(void) {
     bool found;
     long_one = before;
     long_one.length += 4096;
-    size_t pages = cola_pages_in(long_one.length), at = COLA_JOURNAL_HEAD;
+    size_t pages = cola_pages_in(long_one.length), at = FRONT + COLA_JOURNAL_HEAD;
     marks[0] = marks[pages - 1] = 1;
     made = (image){.length = 0};
+    memcpy(made.bytes, before.bytes, FIRST);
+    cola_core_log_begin(made.bytes, FIRST, (cola_core_log *)(made.bytes + FIRST));
     for (int page = 0; page < 2; page++) {
         size_t place = page == 0 ? 0 : (pages - 1) * 4096;
         cola_core_journal_piece(place, 4096, head);
@@ -331,9 +509,9 @@ static void of_places(void) {
         memcpy(made.bytes + at + sizeof head, long_one.bytes + place, 4096);
         at += sizeof head + 4096;
     }
-    cola_core_journal_frame(long_one.bytes, long_one.length, marks, pages, made.bytes, made.bytes + at);
+    cola_core_journal_frame(long_one.bytes, long_one.length, marks, pages, made.bytes + FRONT, made.bytes + at);
     made.length = at + COLA_JOURNAL_SUM;
-    HOLDS(cola_core_journal_is_whole(made.bytes, made.length));
+    HOLDS(cola_core_journal_is_whole(made.bytes + FRONT, made.length - FRONT));
     state(&before, &made);
     HOLDS(cola_journal_recover(path, &found) == COLA_UNFINISHED && errno == EINVAL && is_file(path, &before) && is_file(journal, &made));
     HOLDS(unlink(journal) == 0 && symlink(copy, journal) == 0); /* no file of its own, and none at all */
@@ -369,14 +547,19 @@ int main(int count, char **words) {
     if (count < 2) return fprintf(stderr, "resident FOLDER\n"), 2;
     snprintf(path, sizeof path, "%.3000s/resident.store", words[1]);
     snprintf(journal, sizeof journal, "%.3000s/resident.store-journal", words[1]);
+    snprintf(record, sizeof record, "%.3000s/resident.store-log", words[1]);
     snprintf(copy, sizeof copy, "%.3000s/resident.copy", words[1]);
     snprintf(other, sizeof other, "%.3000s/resident.other", words[1]);
     of_sessions();
     of_marks_and_links();
     of_a_full_disk();
     of_a_failing_disk();
+    of_a_sync_that_fails();
     of_journals();
     of_places();
     of_two_processes();
+    of_other_checkpoints();
+    of_made_files();
+    of_page_faults();
     return 0;
 }

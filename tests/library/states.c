@@ -1,10 +1,13 @@
 /* What a failure of the power, or of the process, may leave of a resident store's file, its journal and its log, enumerated: sessions
  * of random puts, deletes, syncs, checkpoints and deaths of the process are recorded, and at each write, sync, cut and name the disk
- * is left as it was synced, with each part of what was done to it since. From each of these states a recovery makes, byte for byte,
- * the file of the last promised checkpoint, or of the one under way; and so it does where it is cut short itself, at each of its
- * own steps. The files that it makes are opened and have the map of their checkpoint; those that differ are kept, for the
- * program's check. Half of the states are those of sessions with logs: from each of them an opening makes the map of the first so many
- * calls on that checkpoint, at least of all that were synced, or answered, where the process alone died.
+ * is left as it was synced, with parts of what was done to it since: with each set of them, where they are at most 8 (in every fourth
+ * session, 5 in the others); of more of them none, all, all in front of each, all but each, and 18 random sets. From each of these
+ * states a recovery makes, byte for byte, the file of the last promised checkpoint, or of the one under way, and of that one alone
+ * once its journal is on the disk; and so it does where it is cut short itself, at each of its own steps. The files that it makes are
+ * opened and have the map of their checkpoint; those that differ are kept, for the program's check. Half of the states are those of
+ * sessions with logs: from each of them an opening makes the map of the first so many calls on that checkpoint, at least of all that
+ * were synced, or answered, where the process alone died. Where the journal of a state stands beside the file of an earlier checkpoint,
+ * or of a new store for as many keys, a recovery leaves that file.
  *
  *     states FOLDER STATES    (FOLDER is best in memory)
  *
@@ -24,13 +27,14 @@
 #include "cola_journal.h"
 #include "plain.h"
 
-enum { MANY = 90, FEW = 12, MOST = 1 << 16, STATE = 14, HEADER = 512, PAGE = 4096, SECTOR = 512, PARTS = 40, IMAGES = 1 << 14, CALLS = 64, BYTES = 24 };
+enum { MANY = 90, FEW = 12, MOST = 1 << 16, STATE = 14, HEADER = 512, PAGE = 4096, SECTOR = 512, PARTS = 40, IMAGES = 1 << 14, CALLS = 64, BYTES = 24,
+       OLDER = 8 };
 
 #define HOLDS(is) ((is) ? (void)0 : fails(#is, __LINE__))
 
 /* The file of the sessions, and those of the states that are looked at, of a session and of a recovery; each in a folder. */
 static char folder[3000], paths[3][3100], journals[3][3200], logs[3][3200];
-static long states, distinct, recoveries;
+static long states, distinct, recoveries, others;
 static unsigned long long seed = 1;
 
 static void fails(const char *what, int line) {
@@ -84,6 +88,10 @@ static void make(image *it, const part *what, size_t length) {
 
 static image checkpoints[2]; /* the file of the last promised checkpoint, and of the one under way */
 static bool is_coming;       /* there is one under way */
+static bool is_held;         /* whose journal is on the disk */
+static image older[OLDER];   /* the file of the new store, and of some earlier promised checkpoints */
+static int promised;         /* how many there were */
+static int all_up_to = 5;    /* of so many parts each set is taken */
 static uint32_t degree;      /* the flags of the sessions */
 static unsigned keys;        /* that their store is for */
 static int synced_calls, made_calls, coming_calls; /* of the log: on the disk, answered, and being made */
@@ -145,14 +153,14 @@ static void with_parts(image *it, int file, unsigned long long chosen, size_t to
 /* Some choices of parts: all of them while they are few, else none, all, all in front of each, all but each, and random ones. */
 static unsigned long long choice(int parts, unsigned number, unsigned count) {
     unsigned long long all = (1ull << parts) - 1;
-    if (parts <= 5) return number;
+    if (parts <= all_up_to) return number;
     if (number == 0 || number == count - 1) return number == 0 ? 0 : all;
     if (number <= (unsigned)parts) return (1ull << (number - 1)) - 1;
     if (number <= 2 * (unsigned)parts) return all ^ 1ull << (number - 1 - (unsigned)parts);
     return ((unsigned long long)below(1u << 31) << 20 ^ below(1u << 31)) & all;
 }
 
-static unsigned choices(int parts) { return parts <= 5 ? 1u << parts : 2 * (unsigned)parts + 18; }
+static unsigned choices(int parts) { return parts <= all_up_to ? 1u << parts : 2 * (unsigned)parts + 18; }
 
 static int least_before; /* what a recovery that is recorded has to find */
 
@@ -246,6 +254,7 @@ int __wrap_fsync(int descriptor) { /* (nothing is waited for: the disk is the on
     int file = file_of[descriptor] - 1;
     if (file == FOLDER) memcpy(now.was_named, now.is_named, sizeof now.was_named);
     else synced(file);
+    if (file == JOURNAL && depth_now == 0 && is_coming && now.synced[JOURNAL].length > 0) is_held = true;
     enumerate(depth_now);
     return 0;
 }
@@ -358,6 +367,30 @@ static void begin_recording(const state *it) {
 /* The file of the last promised checkpoint, or of the one under way. */
 static bool is_checkpoint(const image *it) { return is_same(it, &checkpoints[0]) || (is_coming && is_same(it, &checkpoints[1])); }
 
+/* Whether a journal of the checkpoint under way may be taken as this file's too: all of the first page but the mark of use is that of the
+ * one checkpoint or of the other. */
+static bool may_follow(const image *it) {
+    for (int at = 0; at < PAGE; at++)
+        if (at != STATE && it->bytes[at] != checkpoints[0].bytes[at] && it->bytes[at] != checkpoints[1].bytes[at]) return false;
+    return true;
+}
+
+/* The journal of a state beside the file of a new store, and of an earlier checkpoint: a recovery leaves that file, and no journal. */
+static void beside_others(const image *of_journal, const char *path, const char *journal) {
+    static image made;
+    bool found;
+    for (int way = 0; way < 2; way++) {
+        const image *other = &older[way == 0 || promised < 2 ? 0 : 1 + below((unsigned)(promised < OLDER ? promised : OLDER) - 1)];
+        if (other->length > 0 && may_follow(other)) continue;
+        write_image(path, other);
+        write_image(journal, of_journal);
+        HOLDS(cola_journal_recover(path, &found) == COLA_OK && !found);
+        read_image(path, &made);
+        HOLDS(is_same(&made, other) && access(journal, F_OK) != 0);
+        others++;
+    }
+}
+
 /* A recovery of this state makes the file of a checkpoint, and an opening the map; one that is recorded is cut short in its turn. To
  * those who know of no journal the file is a checkpoint's, or says that it is in use. */
 static void consider(const state *it, int depth) {
@@ -383,8 +416,11 @@ static void consider(const state *it, int depth) {
     read_image(path, &made);
     bool is_first = is_same(&made, &checkpoints[0]), is_second = is_coming && is_same(&made, &checkpoints[1]);
     HOLDS((is_first || is_second) && access(journal, F_OK) != 0);
+    HOLDS(is_second || !is_held || !it->is_named[JOURNAL]);
     if (is_logged()) opens_behind(path, is_first, is_second, it->least);
     if (goes_deeper) now = kept;
+    records = false;
+    if (is_coming && it->is_named[JOURNAL] && below(16) == 0) beside_others(&it->files[JOURNAL], path, journal);
     records = recorded, dies_in = dies, depth_now = depth;
     memcpy(file_of, own_files, sizeof own_files);
 }
@@ -490,11 +526,13 @@ static void sync_log(cola_file *file) {
 
 /* The second checkpoint is the last promised one. */
 static void has_come(void) {
+    older[promised < OLDER ? promised : 1 + promised % (OLDER - 1)] = checkpoints[0];
+    promised++;
     checkpoints[0] = checkpoints[1];
     copy_map(&maps[0], &maps[1]);
     copy_map(&after[0], &maps[1]);
     made_calls = synced_calls = coming_calls = 0;
-    is_coming = false;
+    is_coming = is_held = false;
 }
 
 /* Whether a log would follow the second checkpoint as it follows the first: then it is kept in its place. */
@@ -507,7 +545,7 @@ static void promise(cola_file *file, const plain *map, bool closes) {
     image_of(file, &checkpoints[1]);
     copy_map(&maps[1], map);
     opens_to(&checkpoints[1], &maps[1]);
-    is_coming = true;
+    is_coming = true, is_held = false;
     dies_in = below(4) == 0 ? (long)below(14) : -1;
     int32_t answer = closes ? cola_file_close(file) : cola_file_checkpoint(file, NULL);
     bool died = dies_in == 0;
@@ -533,7 +571,7 @@ static void open_again(cola_file *file, plain *map) {
     HOLDS(answer == COLA_OK);
     is_logged() ? read_image(paths[0], &made) : image_of(file, &made);
     bool is_first = is_same(&made, &checkpoints[0]);
-    HOLDS(is_checkpoint(&made));
+    HOLDS(is_checkpoint(&made) && (!is_held || is_same(&made, &checkpoints[1])));
     if (is_logged() && is_first && (!is_coming || !is_same(&made, &checkpoints[1]))) {
         made_calls = synced_calls = calls_of(file, made_calls);
         HOLDS(made_calls >= 0);
@@ -541,7 +579,7 @@ static void open_again(cola_file *file, plain *map) {
         has_come();
         HOLDS(has(file, &maps[0]));
     }
-    is_coming = false, coming_calls = 0;
+    is_coming = is_held = false, coming_calls = 0;
     copy_map(map, &after[made_calls]);
 }
 
@@ -573,13 +611,17 @@ static void sessions(uint32_t flags, long until) {
     memset(&now, 0, sizeof now);
     memset(file_of, 0, sizeof file_of);
     unlink(paths[0]), unlink(journals[0]), unlink(logs[0]);
-    maps[0].count = 0, made_calls = synced_calls = coming_calls = 0, is_coming = false;
+    maps[0].count = 0, made_calls = synced_calls = coming_calls = promised = 0, is_coming = is_held = false;
     copy_map(&after[0], &maps[0]);
     HOLDS(cola_file_create(paths[0], keys, 3, 1) == COLA_OK);
     read_image(paths[0], &checkpoints[0]);
+    older[0] = checkpoints[0];
     now.synced[STORE] = checkpoints[0];
     records = true;
-    while (distinct < until) session(&map);
+    for (int number = 0; distinct < until; number++) {
+        all_up_to = number % 4 == 0 ? 8 : 5;
+        session(&map);
+    }
     free(map.pairs);
 }
 
@@ -601,6 +643,7 @@ int main(int count, char **words) {
     sessions(COLA_RESIDENT, most / 2);
     sessions(COLA_LOGGED, most * 3 / 4);
     sessions(COLA_SYNCED, most);
-    printf("%ld states of a disk, %ld of them distinct, %ld recoveries cut short\n", states, distinct, recoveries);
+    printf("%ld states of a disk, %ld of them distinct, %ld recoveries cut short, %ld journals beside another file\n", states, distinct, recoveries,
+           others);
     return 0;
 }

@@ -1,6 +1,6 @@
 /* SPDX-License-Identifier: MIT */
-/* cola-recover NAME..: finishes the checkpoint of each store's file whose journal, NAME-journal, is whole, and drops any other
- * journal; and makes the calls of a log that follows the file, NAME-log, again, by a checkpoint. Any opening by the library does the
+/* cola-recover NAME..: finishes the checkpoint of each store's file whose journal, NAME-journal, is whole and follows it, and drops any
+ * other journal; and makes the calls of a log that follows the file, NAME-log, again, by a checkpoint. Any opening by the library does the
  * same; the program cola, which knows of neither, wants it done before.
  *
  * A line for each file says what was done. The status is 0 where all was done, 1 where one was refused, 2 for no name. */
@@ -12,7 +12,7 @@
 #include "cola_opening.h"
 
 static const char *why(int32_t answer) {
-    return answer == COLA_UNFINISHED && errno == EINVAL ? "its journal is whole, and of another store"
+    return answer == COLA_UNFINISHED && errno == EINVAL ? "the pieces of its journal are none of this store"
          : answer != COLA_SYSTEM && answer != COLA_UNFINISHED ? cola_strerror(answer)
          : errno == EWOULDBLOCK                          ? "it is open in another process"
                                                          : strerror(errno);

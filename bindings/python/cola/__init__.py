@@ -12,8 +12,9 @@
         store.checkpoint("notes.copy")
 
 A store is for a number of keys that is chosen when its file is made. Keys are ordered byte by byte. They have from 1 to 24
-bytes and values up to 32, or up to 40 and 72 in a file of version 2. A process that dies leaves a file that is refused from
-then on (NotClosed): go back to the copy of the last checkpoint.
+bytes and values up to 32, or up to 40 and 72 in a file of version 2. A process that dies with a mapped store, which open gives where
+nothing else is asked for, leaves a file that is refused from then on (NotClosed): go back to the copy of the last checkpoint. The file
+of a resident store has its last checkpoint, and that of one with a log each call that was answered (open).
 
 Threads may share a store: one call on it is made at a time, and other threads run while a file is made, opened, copied or
 closed. It stands on libcola.so over ctypes alone. `python3 -m cola notes` is a shell for people (cola/shell.py).
@@ -28,11 +29,12 @@ import threading
 import weakref
 from collections import namedtuple
 from collections.abc import ItemsView, KeysView, Mapping, MutableMapping, ValuesView
+from functools import lru_cache
 from itertools import chain, islice
 
 __all__ = ["create", "open", "load", "check", "grow", "Store", "Info", "Level", "Verdict", "Error", "Full", "Worn", "Closed", "Length",
            "Options", "NotEmpty", "NotStore", "Small", "NotClosed", "BadCell", "Overfull", "ReadOnly", "Order", "Fewer",
-           "KEY_MAX", "VALUE_MAX", "KEYS_MAX"]
+           "Unfinished", "KEY_MAX", "VALUE_MAX", "KEYS_MAX"]
 
 __version__ = "1.0"
 
@@ -226,7 +228,7 @@ def _load():
         "cola_put": [at, text, size, text, size, at],
         "cola_put_if": [at, text, size, ctypes.c_uint64, text, size, number],
         "cola_delete": [at, text, size],
-        "cola_put_many": [at, text, size, at, ctypes.POINTER(size)],
+        "cola_put_many": [at, at, size, at, ctypes.POINTER(size)],
     }
     return _declare(quick, {
         **puts,
@@ -239,7 +241,7 @@ def _load():
         "cola_info": [at, ctypes.POINTER(_StoreInfo)],
         "cola_level": [at, ctypes.c_uint8, ctypes.POINTER(_LevelInfo)],
         "cola_get_many": [at, at, size, at, ctypes.POINTER(size)],
-        "cola_load_many": [at, text, size, ctypes.POINTER(size)],
+        "cola_load_many": [at, at, size, ctypes.POINTER(size)],
     }), _declare(slow, {
         **puts,
         "cola_file_sync": [ctypes.POINTER(_File)],
@@ -383,49 +385,80 @@ def load(path, pairs, keys, block=5, version=1):
     """Makes the file of a new store of pairs by rising keys, and says how many they are. A file that is there has to be
     empty (NotEmpty). A pair that is refused, as one whose key is not above the one before (Order), ends it: what is raised has in
     `done` how many were before it. Where the pairs end by an error, nothing is left."""
-    loading, rows, done = _FileLoad(descriptor=-1), ctypes.c_uint64(), 0
+    loading, all_rows, done = _FileLoad(descriptor=-1), ctypes.c_uint64(), 0
     name, (keys, block, version), pairs = _path(path), _options(keys, block, version), iter(_pairs(pairs, {}))
     _check(_files.cola_file_load_begin(loading, name, keys, block, version), path)
     try:
         while batch := list(islice(pairs, _MANY)):
-            packed, loaded = _packed(batch), ctypes.c_size_t()
-            answer = _library.cola_load_many(ctypes.byref(loading), packed, len(batch), loaded)
+            rows, loaded = _packed(batch), ctypes.c_size_t()
+            answer = _library.cola_load_many(ctypes.byref(loading), _at(rows), len(batch), loaded)
             done += loaded.value
             if answer != _OK:
                 kind = _errors.get(answer, Error)
                 error = kind(f"{_library.cola_strerror(answer).decode()}: pair {done + 1}, {bytes(batch[loaded.value][0])!r}")
                 error.done = done
                 raise error
-        _check(_files.cola_file_load_end(loading, rows), path)
+        _check(_files.cola_file_load_end(loading, all_rows), path)
     finally:
         if loading.bytes:
             _files.cola_file_load_drop(loading)
-    return rows.value
+    return all_rows.value
 
 
 _row = struct.Struct(f"BB{KEY_MAX}s{VALUE_MAX}s")  # a cola_row
-_row_of_key = struct.Struct(f"Bx{KEY_MAX}s{VALUE_MAX}x")
-_value_of_row = struct.Struct(f"xB{KEY_MAX}x{VALUE_MAX}s")
+_KEY_LENS, _VALUE_LENS = slice(0, None, _row.size), slice(1, None, _row.size)  # in some rows
+
+# Many rows are laid out by struct's p, bytes behind a byte with their length, and cut off where there is no room: a key begins behind
+# where the length of its value will be, and a value where the last byte of a key of KEY_MAX is. Then the lengths are moved.
+_pair = struct.Struct(f"x{KEY_MAX}p{VALUE_MAX + 1}p")
+_BEFORE_VALUES = slice(1 + KEY_MAX, None, _row.size)
+
+
+@lru_cache(maxsize=None)  # (for each power of 2 up to _MANY)
+def _many(row, count):
+    """So many rows at once, by the layout of one."""
+    return struct.Struct(row * count)
 
 
 def _packed(pairs):
     """The rows of some pairs, of which each is bytes. A length that no row has stays too long."""
-    pack = _row.pack
+    pack = _pair.pack
     try:
-        return b"".join([pack(len(key), len(value), key, value) for key, value in pairs])
+        rows = bytearray().join([pack(key, value) for key, value in pairs])
+        key_lens, value_lens = rows[_VALUE_LENS], rows[_BEFORE_VALUES]
+        if KEY_MAX - 1 in key_lens or VALUE_MAX in value_lens:  # (some may be cut off)
+            if any(len(key) >= KEY_MAX or len(value) > VALUE_MAX for key, value in pairs):
+                raise struct.error
+        rows[_KEY_LENS], rows[_VALUE_LENS] = key_lens, value_lens
+        return rows
     except (struct.error, TypeError):
         pairs = [(_bytes(key), _bytes(value)) for key, value in pairs]
-        return b"".join([pack(min(len(key), 255), min(len(value), 255), key, value) for key, value in pairs])
+        return bytearray().join([_row.pack(min(len(key), 255), min(len(value), 255), key, value) for key, value in pairs])
 
 
 def _packed_keys(keys):
-    """The rows of some keys."""
-    pack = _row_of_key.pack
+    """The rows of some keys, and as many behind them as make a power of 2."""
+    room = 1 << (len(keys) - 1).bit_length()
     try:
-        return b"".join([pack(len(key), key) for key in keys])
+        rows = bytearray(_many(f"x{KEY_MAX + 1}p{VALUE_MAX}x", room).pack(*keys, *[b""] * (room - len(keys))))
+        key_lens = rows[_VALUE_LENS]
+        if KEY_MAX in key_lens and max(map(len, keys)) > KEY_MAX:
+            raise struct.error
+        rows[_KEY_LENS] = key_lens
+        return rows
     except (struct.error, TypeError):
-        keys = list(map(_bytes, keys))
-        return b"".join([pack(min(len(key), 255), key) for key in keys])
+        return _packed([(key, b"") for key in keys]) + bytes((room - len(keys)) * _row.size)
+
+
+def _values(rows, count):
+    """The values of the first of some rows, which lose their keys."""
+    rows[_BEFORE_VALUES] = rows[_VALUE_LENS]
+    return _many(f"{1 + KEY_MAX}x{VALUE_MAX + 1}p", len(rows) // _row.size).unpack(rows)[:count]
+
+
+def _at(it):
+    """Where the bytes of a bytearray are."""
+    return ctypes.byref(ctypes.c_char.from_buffer(it))
 
 
 class _Place(namedtuple("_Place", "key is_behind")):
@@ -609,7 +642,7 @@ class Store(MutableMapping):
         while batch := list(islice(pairs, _MANY)):
             rows, put = _packed(batch), ctypes.c_size_t()
             with self._lock:
-                answer = self._puts.cola_put_many(self._at, rows, len(batch), None, put)
+                answer = self._puts.cola_put_many(self._at, _at(rows), len(batch), None, put)
             done += put.value
             try:
                 _check(answer)
@@ -621,12 +654,11 @@ class Store(MutableMapping):
         """The values of the keys, as a list in their order, with the default where a key is absent."""
         keys, values = iter(keys), []
         while batch := list(islice(keys, _MANY)):
-            rows, there = bytearray(_packed_keys(batch)), bytearray(len(batch))
-            places = [(ctypes.c_char * len(it)).from_buffer(it) for it in (rows, there)]
+            rows, there = _packed_keys(batch), bytearray(len(batch))
             with self._lock:
-                _check(_library.cola_get_many(self._at, places[0], len(batch), places[1], ctypes.c_size_t()))
-            values += [value[:length] for length, value in _value_of_row.iter_unpack(rows)]
-            if not all(there):
+                _check(_library.cola_get_many(self._at, _at(rows), len(batch), _at(there), ctypes.c_size_t()))
+            values += _values(rows, len(batch))
+            if 0 in there:
                 first = len(values) - len(batch)
                 for at, is_there in enumerate(there):
                     if not is_there:

@@ -13,6 +13,7 @@ from cola.words import Mistake, escaped, unescaped
 
 FORMATS = {"csv": ("csv",), "jsonl": ("jsonl", "json", "ndjson")}
 _HEADING = ["key", "value"]
+_FORM = 'write {"key": "..", "value": ".."} on one line'
 
 
 def format_of(path, word=None):
@@ -64,8 +65,11 @@ def _read_csv(file):
             if len(row) != 2:
                 raise Mistake(f"it has {len(row)} column{'s' if len(row) != 1 else ''}: write a key and a value")
             yield rows.line_num, unescaped(row[0]), unescaped(row[1])
-        except (Mistake, csv.Error) as error:
-            raise Mistake(f"Line {rows.line_num} can't be loaded: {_sentence(error)}") from None
+        except Mistake as mistake:
+            raise _refused(rows.line_num, mistake) from None
+        except csv.Error as error:
+            raise _refused(rows.line_num, "a field has more signs than a key or a value has bytes: make it shorter" if "limit" in str(error) else
+                           "its quotes don't match: put a field that has a quote or a comma in quotes, and write each quote in it twice") from None
 
 
 def _read_lines(file):
@@ -75,22 +79,30 @@ def _read_lines(file):
         try:
             row = json.loads(line)
             if not isinstance(row, dict):
-                raise Mistake('it is no object: write {"key": "..", "value": ".."}')
+                raise Mistake(f"it is no object: {_FORM}")
             yield number, _bytes_of(row, "key"), _bytes_of(row, "value")
-        except (Mistake, ValueError) as error:
-            raise Mistake(f"Line {number} can't be loaded: {_sentence(error)}") from None
+        except Mistake as mistake:
+            raise _refused(number, mistake) from None
+        except json.JSONDecodeError as error:
+            raise _refused(number, f"it is no JSON from column {min(error.pos, len(line.rstrip())) + 1} on: {_FORM}") from None
+        except (ValueError, RecursionError):  # (a number of thousands of digits, or thousands of lists in each other)
+            raise _refused(number, f"it has more than a key and a value: {_FORM}") from None
 
 
 def _bytes_of(row, name):
     """The bytes of a member, or of the one that has them by their digits."""
-    for member, to_bytes in (name, lambda text: text.encode("utf-8", "surrogateescape")), (name + "_hex", bytes.fromhex):
+    for member, to_bytes, form in ((name, lambda text: text.encode("utf-8", "surrogateescape"), f"has half a sign: write its bytes as {name}_hex"),
+                                   (name + "_hex", bytes.fromhex, "is no bytes: write two digits of 0-9 and a-f for each")):
         if member in row:
             if not isinstance(row[member], str):
                 raise Mistake(f"its {member} is no text: put it in quotes")
-            return to_bytes(row[member])
+            try:
+                return to_bytes(row[member])
+            except ValueError:
+                raise Mistake(f"its {member} {form}") from None
     raise Mistake(f"it has no {name}: write one")
 
 
-def _sentence(error):
-    text = str(error)
-    return text if text.endswith(".") else text + "."
+def _refused(number, why):
+    """The mistake of a line, in a sentence."""
+    return Mistake(f"Line {number} can't be loaded: {str(why).rstrip('.')}.")

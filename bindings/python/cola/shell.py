@@ -38,7 +38,8 @@ COMMANDS = {  # the words, what the command does, and an example
     "last": ("[COUNT]", "shows the last COUNT rows, 10 where it is not said, from the last one on", "last 100"),
     "count": ("", "shows how many keys there are", "count"),
     "info": ("", "shows what the file is and has", "info"),
-    "levels": ("", "draws how far each level is filled: the run that is searched, and the one that is built", "levels"),
+    "levels": ("", "draws the runs of each level: the one that is searched, of its room, and the one that its merge builds, of the most that it gives",
+               "levels"),
     "check": ("[PATH]", "tests the store as it is now, or the closed one in a file", "check notes.copy"),
     "checkpoint": ("PATH", "makes a copy of the store as it is now, a closed store, in the place of PATH", "checkpoint notes.copy"),
     "load": ("PATH [csv|jsonl]", "puts the rows of a file", "load users.csv"),
@@ -48,7 +49,8 @@ COMMANDS = {  # the words, what the command does, and an example
 }
 _BATCH = 1000  # rows that are shown, or put, at once
 _LAST = 10  # rows that last shows
-_COLUMNS = 24  # of a bar
+_COLUMNS = 12  # of a bar: the largest store has lines of 79
+_SAMPLE = 8  # a run has a cell for every so many cells of the run below
 _CANDIDATES = 100  # keys that are offered at most to complete one
 
 
@@ -77,10 +79,11 @@ _SENTENCES = {
     cola.Options: "No store has these keys, this block or this version: keys are from 1 to 16777216, a block from 3 to 9 and no more than "
                   "the keys have room for (5 always goes), and a version is 1 or 2.",
     cola.ReadOnly: "The store is open to be read alone: start the shell without --read-only to change it.",
+    cola.Unfinished: "A journal or a log beside {path} has what the file has not yet: keep all of them, and run cola-recover {path}, which says "
+                     "what is in the way.",
     BlockingIOError: "{path} is open in another process: end that one and try again. To read it beside others that read, start with "
                      "--read-only.",
     MemoryError: "There was no memory: end something else and try again.",
-    RecursionError: "The line is too deep: write it flatter.",
 }
 _ADVICE = {
     errno.ENOENT: "Look at the name.",
@@ -111,11 +114,21 @@ def _rows(count):
     return f"{count:,} row{'s' if count != 1 else ''}"
 
 
-def _bar(cells, room):
-    """How far a run fills its room: empty or full only where it is."""
-    marks = cells * _COLUMNS // room
-    marks = max(marks, 1) if cells else 0
+def _bar(cells, most):
+    """How many cells there are of the most that there may be: empty or full only where it is."""
+    marks = max(cells * _COLUMNS // most, 1) if cells else 0
     return f"[{'#' * marks}{'.' * (_COLUMNS - marks)}]"
+
+
+def _most_built(levels, number):
+    """How many cells the merge of a level gives at most: the items of its own run and of the run above it, or the one that is put, and
+    the sample of the run below it. Of a run the sample of the run below is no item."""
+    def cells(at):
+        return levels[at].visible if at < len(levels) else 0
+
+    own, above = cells(number) - cells(number + 1) // _SAMPLE, 1 if number == 0 else cells(number - 1) - cells(number) // _SAMPLE
+    below = max(levels[number + 1][:2]) // _SAMPLE if number + 1 < len(levels) else 0
+    return max(levels[number].shadow, min(levels[number].room, max(own, 0) + max(above, 0) + below))
 
 
 class _Progress:
@@ -150,12 +163,22 @@ class Shell(cmd.Cmd):
         self.has_table = sys.stdout.isatty()
         self.prompt = f"{self.name}{' (read alone)' if store.read_only else ''}> " if self.is_terminal else ""
         self.refusals = 0
+        self.is_waiting = False  # (for a line)
 
     # The lines.
 
     def preloop(self):
         if readline is not None and self.is_terminal:
             readline.set_completer_delims(" \t")
+        self.is_waiting = True
+
+    def precmd(self, line):
+        self.is_waiting = False
+        return line
+
+    def postcmd(self, stop, line):
+        self.is_waiting = True
+        return stop
 
     def onecmd(self, line):
         try:
@@ -170,7 +193,7 @@ class Shell(cmd.Cmd):
             self.refuse(str(mistake))
         except cola.Length:
             self.refuse(self._length())
-        except (cola.Error, OSError, MemoryError, RecursionError) as error:
+        except (cola.Error, OSError, MemoryError) as error:
             self.refuse(sentence(error, self.store.path))
         return False
 
@@ -193,8 +216,11 @@ class Shell(cmd.Cmd):
         if self.is_terminal:
             print(text, file=self.stdout)
 
+    def _limits(self):
+        return (40, 72) if self.store.limits["version"] == 2 else (24, 32)
+
     def _length(self):
-        limits = (40, 72) if self.store.limits["version"] == 2 else (24, 32)
+        limits = self._limits()
         return f"In this store a key has from 1 to {limits[0]} bytes and a value at most {limits[1]}: make it shorter." \
                + ("" if limits[0] == 40 else " A file of version 2 takes 40 and 72.")
 
@@ -211,9 +237,10 @@ class Shell(cmd.Cmd):
         """How many rows the word asks for; None where it is not there."""
         if len(words) <= at:
             return None
-        if not words[at].isdigit() or int(words[at]) == 0:
-            raise Mistake(f"{shown(words[at])} is no number of rows: write one from 1 on.")
-        return int(words[at])
+        digits = words[at].lstrip(b"0")
+        if not words[at].isdigit() or not digits or len(digits) > len(str(cola.KEYS_MAX)) or int(digits) > cola.KEYS_MAX:
+            raise Mistake(f"{shown(words[at])} is no number of rows: write one from 1 to {cola.KEYS_MAX}.")
+        return int(digits)
 
     # The commands.
 
@@ -265,7 +292,7 @@ class Shell(cmd.Cmd):
     def do_info(self, line):
         self._words("info", line, 0, 0)
         info = self.store.info()
-        longest = (40, 72) if info.version == 2 else (24, 32)
+        longest = self._limits()
         rows = [("file", os.fsdecode(self.store.path)), ("bytes", os.stat(self.store.path).st_size),
                 ("open", "to be read alone" if self.store.read_only else "to be read and written"),
                 ("keys", info.count), ("for at most", info.keys), ("longest key", longest[0]), ("longest value", longest[1]),
@@ -278,14 +305,16 @@ class Shell(cmd.Cmd):
         self._words("levels", line, 0, 0)
         levels = self.store.info().levels
         digits = len(str(levels[-1].room))
+        columns = _COLUMNS + 7 + 2 * digits
         if self.has_table:
-            print(f"{'level':<5}  {'room':>{digits}}  {'searched':<{_COLUMNS + 3 + digits}}  built", file=self.stdout)
+            print(f"level  {'searched, of its room':<{columns}}  built, of at most", file=self.stdout)
         for number, level in enumerate(levels):
+            most = _most_built(levels, number)
             if self.has_table:
-                runs = "  ".join(f"{_bar(cells, level.room)} {cells:>{digits}}" for cells in level[:2])
-                print(f"{number:>5}  {level.room:>{digits}}  {runs}", file=self.stdout)
+                runs = ((level.visible, level.room), (level.shadow, most))
+                print(f"{number:>5}  {'  '.join(f'{_bar(*run)} {run[0]:>{digits}} of {run[1]:>{digits}}' for run in runs)}", file=self.stdout)
             else:
-                print(number, level.room, *level[:2], sep="\t", file=self.stdout)
+                print(number, level.room, *level[:2], most, sep="\t", file=self.stdout)
 
     def do_check(self, line):
         words = self._words("check", line, 0, 1)
@@ -334,7 +363,7 @@ class Shell(cmd.Cmd):
             except cola.Error as error:
                 why = self._length() if isinstance(error, cola.Length) else sentence(error, self.store.path)
                 number = batch[error.done][0] if batch else 1
-                raise Mistake(f"Line {number} is refused, behind {_rows(progress.count + error.done)} that were loaded. {why}") from None
+                raise Mistake(f"Line {number} is refused. {why} Loaded before it: {_rows(progress.count + error.done)}.") from None
             progress.reach(progress.count + len(batch))
             if mistake:
                 raise Mistake(f"{mistake} Loaded before it: {_rows(progress.count)}.")
@@ -401,12 +430,14 @@ class Shell(cmd.Cmd):
     # The rows.
 
     def _show(self, pairs, count):
+        """Shows the rows. The first of them, and the bytes that a key may have where there may be more, say how wide the keys are; one that is
+        wider by its escapes makes no other row wider."""
         pairs, columns, all_rows = itertools.islice(pairs, count), 0, 0
         while batch := [(shown(key), shown(value)) if self.has_table else (escaped(key), escaped(value))
                         for key, value in itertools.islice(pairs, _BATCH)]:
             if self.has_table:
-                columns = max(columns, len("key"), *(width(key) for key, _ in batch))
                 if all_rows == 0:
+                    columns = max(len("key"), *(width(key) for key, _ in batch), self._limits()[0] if len(batch) == _BATCH else 0)
                     self.stdout.write(f"key{' ' * (columns - 3)}  value\n")
                 self.stdout.writelines(f"{key}{' ' * (columns - width(key))}  {value}\n" for key, value in batch)
             else:
@@ -511,6 +542,28 @@ def _close_at_signals(store, history):
     threading.Thread(target=wait, daemon=True).start()
 
 
+def _hear_ctrl_c(shell):
+    """One Ctrl-C drops a line, also where it comes just before readline waits for the next sign, which would then be waited for first: a
+    thread that is told of each signal ends such a wait, by a signal that does nothing else."""
+    told, tell = os.pipe()
+    os.set_blocking(tell, False)
+    signal.set_wakeup_fd(tell, warn_on_full_buffer=False)
+    signal.signal(signal.SIGURG, lambda *_: None)
+    reader = threading.get_ident()
+
+    def wake():
+        while True:
+            if signal.SIGINT in os.read(told, 64):
+                for pause in 0.02, 0.1, 0.4, 1.6:
+                    time.sleep(pause)
+                    if shell.is_waiting:
+                        signal.pthread_kill(reader, signal.SIGURG)
+
+    before = signal.pthread_sigmask(signal.SIG_BLOCK, {signal.SIGINT})  # (the thread has it so too)
+    threading.Thread(target=wake, daemon=True).start()
+    signal.pthread_sigmask(signal.SIG_SETMASK, before)
+
+
 def _serve(shell):
     """Runs the commands of the input."""
     if not shell.is_terminal:
@@ -570,6 +623,8 @@ def main(arguments=None):
     shell = Shell(store)
     history = _History(shell.is_terminal)
     _close_at_signals(store, history)
+    if shell.is_terminal:
+        _hear_ctrl_c(shell)
     status = 1
     try:
         _serve(shell)

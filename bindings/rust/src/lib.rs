@@ -21,16 +21,18 @@
 //!     let (key, value) = row?;
 //!     println!("{} {}", String::from_utf8_lossy(&key), String::from_utf8_lossy(&value));
 //! }
-//! store.checkpoint(folder.join("notes.copy"))?;
+//! store.checkpoint_to(folder.join("notes.copy"))?;
 //! store.close()?;
 //! # std::fs::remove_dir_all(&folder)?;
 //! # Ok(())
 //! # }
 //! ```
 //!
-//! A process that dies leaves a file that is refused from then on ([`Error::NotClosed`]): go back to the copy of the last
-//! [`Store::checkpoint`]. A dropped store is closed. The library behind it is proved but for the calls that map the file; this
-//! crate is not.
+//! A process that dies with a mapped store, which [`Store::open`] gives, leaves a file that is refused from then on
+//! ([`Error::NotClosed`]): go back to the copy of the last [`Store::checkpoint_to`]. The file of a resident store
+//! ([`Options::resident`]) has its last [`Store::checkpoint`], and that of one with a log ([`Options::logged`],
+//! [`Options::synced`]) each call that was answered. A dropped store is closed. The library behind it is proved but for the
+//! calls that have the file; this crate is not.
 
 use std::cell::UnsafeCell;
 use std::ffi::{CStr, CString};
@@ -252,6 +254,8 @@ pub enum Error {
     /// A checkpoint holds in the journal beside the file of a resident store, and not in the file, or what the disk has of its log is
     /// not known: nothing is put until a checkpoint has succeeded.
     Unfinished,
+    /// The file of a store that is not resident has no checkpoint of its own: [`Store::checkpoint_to`] makes a copy.
+    NotResident,
     /// An answer that this crate doesn't know.
     Unknown(i32),
 }
@@ -267,6 +271,7 @@ impl Error {
             4 => Error::Worn,
             5 => Error::Closed,
             7 => Error::Length,
+            8 => Error::NotResident, // (the only pointer that may be NULL here is that of the copy of a checkpoint)
             9 => Error::Options,
             10 => Error::NotEmpty,
             11 => Error::NotStore,
@@ -291,6 +296,7 @@ impl Error {
             Error::Worn => 4,
             Error::Closed => 5,
             Error::Length => 7,
+            Error::NotResident => 8,
             Error::Options => 9,
             Error::NotEmpty => 10,
             Error::NotStore => 11,
@@ -311,8 +317,10 @@ impl Error {
 
 impl fmt::Display for Error {
     fn fmt(&self, out: &mut fmt::Formatter) -> fmt::Result {
-        if let Error::System(cause) = self {
-            return cause.fmt(out);
+        match self {
+            Error::System(cause) => return cause.fmt(out),
+            Error::NotResident => return out.write_str("the store is not resident: make a copy of it in another file, by checkpoint_to"),
+            _ => {}
         }
         // SAFETY: cola_strerror gives a text that ends with a zero byte and stays.
         let text = unsafe { CStr::from_ptr(c::cola_strerror(self.answer())) };
@@ -448,6 +456,11 @@ impl Default for Options {
 }
 
 impl Options {
+    /// These, with the store kept in memory or not.
+    pub fn resident(self, resident: bool) -> Options {
+        Options { resident, ..self }
+    }
+
     /// These, with a log or not.
     pub fn logged(self, logged: bool) -> Options {
         Options { logged, ..self }
@@ -517,7 +530,7 @@ impl Store {
         done(unsafe { c::cola_file_create(path.as_ptr(), options.keys, options.block, options.version) })
     }
 
-    /// Opens the store in a file, for this process alone.
+    /// Opens the store in a file, for this process alone, and maps it into memory: [`Options::open`] does so in other ways too.
     pub fn open(path: impl AsRef<Path>) -> Result<Store> {
         Store::open_as(path.as_ref(), 0)
     }
@@ -529,7 +542,7 @@ impl Store {
     }
 
     /// Opens the store in a file and keeps it in memory, as much as the file has: no call on it waits for the disk. The file has
-    /// its last checkpoint ([`Store::save`]) whenever the process dies, once it is opened; the close is one too, but the drop
+    /// its last [`Store::checkpoint`] whenever the process dies, once it is opened; the close is one too, but the drop
     /// of a thread that panics is none.
     pub fn open_resident(path: impl AsRef<Path>) -> Result<Store> {
         Store::open_as(path.as_ref(), c::RESIDENT)
@@ -635,19 +648,34 @@ impl Store {
         Ok(count)
     }
 
-    /// Makes a copy of the store as it is now, a closed store, in a file that is replaced as a whole, and waits until it is on
+    /// Makes the file of a resident store have what the store has, and waits until it is on the disk: what changed is written.
+    /// After [`Error::System`] the store goes on, and the file has its last checkpoint, or this one. Of any other store it is
+    /// [`Error::NotResident`].
+    ///
+    /// ```no_run
+    /// # fn main() -> cola::Result<()> {
+    /// let mut store = cola::Options::default().resident(true).open("notes")?;
+    /// store.put("user:1001", "Ada")?;
+    /// store.checkpoint()?;
+    /// # Ok(())
+    /// # }
+    /// ```
+    pub fn checkpoint(&mut self) -> Result<()> {
+        // SAFETY: no copy is asked for.
+        done(unsafe { c::cola_file_checkpoint(self.file.get(), ptr::null()) })
+    }
+
+    /// [`Store::checkpoint`], by another name.
+    pub fn save(&mut self) -> Result<()> {
+        self.checkpoint()
+    }
+
+    /// Makes a copy of any store as it is now, a closed store, in a file that is replaced as a whole, and waits until it is on
     /// the disk. It writes as many bytes as the file has.
-    pub fn checkpoint(&mut self, copy: impl AsRef<Path>) -> Result<()> {
+    pub fn checkpoint_to(&mut self, copy: impl AsRef<Path>) -> Result<()> {
         let copy = text(copy.as_ref())?;
         // SAFETY: the path ends with a zero byte.
         done(unsafe { c::cola_file_checkpoint(self.file.get(), copy.as_ptr()) })
-    }
-
-    /// Makes the file of a resident store have what the store has, and waits until it is on the disk: what changed is written.
-    /// After [`Error::System`] the store goes on, and the file has its last checkpoint, or this one.
-    pub fn save(&mut self) -> Result<()> {
-        // SAFETY: no copy is asked for.
-        done(unsafe { c::cola_file_checkpoint(self.file.get(), ptr::null()) })
     }
 
     /// Waits until what was answered by a store with a log is on the disk. A store without one: [`Error::Options`].

@@ -242,7 +242,7 @@ fn a_store_that_is_read_alone_is_read_by_many() {
     assert!(matches!(one.put_if("a", 1, "2"), Err(Error::ReadOnly)));
     assert!(matches!(one.delete("a"), Err(Error::ReadOnly)));
     assert!(matches!(one.update([("a", "2")]), Err(stopped) if matches!(stopped.error, Error::ReadOnly)));
-    assert!(matches!(one.checkpoint(folder.path("copy")), Err(Error::ReadOnly)));
+    assert!(matches!(one.checkpoint_to(folder.path("copy")), Err(Error::ReadOnly)));
     assert_eq!(one.put("a", "2").unwrap_err().to_string(), "the store is open to be read alone");
     assert_eq!(rows(one.iter()), rows(two.range("a"..)));
     assert_eq!(one.get_many(["b", "c"]).unwrap(), [Some(b"2".to_vec()), None]);
@@ -312,7 +312,7 @@ fn what_is_refused_is_an_error() {
     assert!(matches!(store.put("a", [0; 33]), Err(Error::Length)));
     assert!(matches!(store.get([0; 25]), Err(Error::Length)));
     assert_eq!(store.put("b", "1").unwrap_err().to_string(), "the store has as many keys as it is for");
-    assert!(matches!(store.checkpoint(folder.path("none/copy")), Err(Error::System(_))));
+    assert!(matches!(store.checkpoint_to(folder.path("none/copy")), Err(Error::System(_))));
     store.close().unwrap();
     assert!(matches!(Store::create(&path, &small), Err(Error::NotEmpty)));
     let bytes = fs::read(&path).unwrap();
@@ -330,7 +330,7 @@ fn a_dropped_store_is_closed_and_a_leaked_one_is_not() {
     drop(store);
     let mut store = Store::open(folder.path("store")).unwrap();
     assert_eq!(store.get("a").unwrap().unwrap(), b"1");
-    store.checkpoint(folder.path("copy")).unwrap();
+    store.checkpoint_to(folder.path("copy")).unwrap();
     store.put("a", "2").unwrap();
     // A copy of the bytes as a process that died would leave them.
     fs::copy(folder.path("store"), folder.path("died")).unwrap();
@@ -393,15 +393,19 @@ fn the_file_of_a_resident_store_has_its_last_checkpoint() {
     let folder = Folder::new("resident");
     let path = folder.path("store");
     drop(folder.store(&Options { keys: 100, ..Options::default() }));
-    let mut store = Store::open_resident(&path).unwrap();
+    let resident = Options::default().resident(true);
+    assert!(resident.resident && !resident.resident(false).resident);
+    let mut store = resident.open(&path).unwrap();
     let made = fs::read(&path).unwrap();
     store.put("a", "1").unwrap();
     assert_eq!(fs::read(&path).unwrap(), made);
-    store.save().unwrap();
+    store.checkpoint().unwrap();
     assert!(matches!(Options { read_only: true, resident: true, ..Options::default() }.open(&path), Err(Error::Options)));
     let saved = fs::read(&path).unwrap();
     assert_ne!(saved, made);
     store.put("b", "2").unwrap();
+    store.checkpoint_to(folder.path("copy")).unwrap();
+    assert_eq!(rows(Store::open(folder.path("copy")).unwrap().iter()), rows(store.iter()));
     store.discard().unwrap();
     assert_eq!(fs::read(&path).unwrap(), saved);
     let mut store = Store::open_resident(&path).unwrap();
@@ -418,7 +422,10 @@ fn the_file_of_a_resident_store_has_its_last_checkpoint() {
     drop(store);
     assert_eq!(rows(Store::open(&path).unwrap().iter()), [(b"a".to_vec(), b"1".to_vec()), (b"d".to_vec(), b"4".to_vec())]);
     assert!(!folder.path("store-journal").exists());
-    assert!(matches!(Store::open(&path).unwrap().save(), Err(Error::Unknown(8))));
+    let refused = Store::open(&path).unwrap().checkpoint().unwrap_err();
+    assert!(matches!(refused, Error::NotResident));
+    assert_eq!(refused.to_string(), "the store is not resident: make a copy of it in another file, by checkpoint_to");
+    assert!(matches!(Store::open_read_only(&path).unwrap().save(), Err(Error::ReadOnly)));
 }
 
 #[test]

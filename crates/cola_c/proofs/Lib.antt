@@ -15,3 +15,4 @@ pub mod LoadsTold
 pub mod LoadInside
 mod Saved
 mod SavedRuns
+pub mod PrefixesTold

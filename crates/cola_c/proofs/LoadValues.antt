@@ -4,7 +4,7 @@ use mathlib.Core.Bool.{true}
 use mathlib.Core.Path.{sym}
 use seplogic.Ra.Ura.{Ura}
 use mir.Raw.{raw as bare}
-use mir.Val.{Val, vptr, vstruct, vcons, vnil, of_list}
+use mir.Val.{Val, vptr, vstruct, of_list}
 use base.Logic.{never, fst∗}
 use types.Logic.{Logic, sem}
 use types.Kit.{Item, Goal, Seq, Step, step, ‵, ◌$◌, drop, fsplit, fjoin, fpick, fpack, rewrite, feq_i, feq_l}
@@ -19,6 +19,7 @@ use denote.Struct.Owning.{shape}
 use Rattle.std_alloc.specs.Box.Ownership.{box_owns}
 use Rattle.std.specs.Prelude.{Option, Some, None, is_some}
 use Rattle.cola_handle.specs.Handle.{given_back}
+use Rattle.cola_handle.proofs.Values.{owned_val}
 use Rattle.cola_tools.specs.contracts.loading.Load as load
 use Rattle.cola_c.specs.LoadHandle.{load_at}
 use Rattle.cola_c.specs.contracts.load_handle.OwnedLoad as owned
@@ -29,9 +30,6 @@ S = load.the_row
 pub taken : (o : Option S.Denot) → is_some o ≡ true → (x : S.Denot) × (o ≡ Some x)
 taken None e = absurd (true≢false (sym e))
 taken (Some x) e = (x, refl)
-
-abbrev pub owned_val : Ptr → Val
-owned_val p = vstruct (vcons (pointer p) vnil)
 
 module _ {M : Type 1} {𝓤 : Ura M} {𝓛 : Logic 𝓤} {K : Type 0} {Γ : List (Item 𝓤)} {G : Goal 𝓤 𝓛.H} where
   -- what a full one owns is made, and taken out

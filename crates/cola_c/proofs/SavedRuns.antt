@@ -1,11 +1,10 @@
 -- Whatever happens behind the begin of a checkpoint, a recovery makes the last one or it.
 use Rattle.std.proofs.Common.{◌≡◌, inl, inr, ⊎_elim, ◌∙◌, ℕ, List, [], ◌∷◌, ◌++◌, Option, Some, None, refl, sym, ap, subst}
 use Rattle.std.specs.Prelude.{if◌then◌else◌}
-use Rattle.cola_journal.specs.declared.stage.Stage.{Stage}
-use Rattle.cola_journal.specs.declared.stage.Stage.TheVariants.{Rest, Journal, JournalSync, Found, Mark, MarkSync, Body, BodySync, Header, HeaderSync, Empty, EmptySync, Stuck, Littered}
 use Rattle.cola_journal.specs.Disk.{Contents, Same, with_pages}
-use Rattle.cola_journal.specs.Runs.{World, Event, Carried, Refused, Fallen, Died, Begins, Resumes, CanHappen, happens, IsRun, behind, begin_with, coming_after, IsComing, Stands, IsSafe}
+use Rattle.cola_journal.specs.Runs.{World, Event, Carried, Refused, Fallen, Died, Begins, Resumes, CanHappen, happens, IsRun, behind, begin_with, IsComing, Stands, IsSafe}
 use Rattle.cola_journal_bytes.specs.Applied.{pages_read}
+use Rattle.cola_replay.proofs.Mapping.{still_comes}
 use Rattle.cola_c.specs.Checkpoints.{contents, NoneBegins, world_behind, saved_behind, saved_pages, saved_journal, IsSaved, Recovers, IsOneOf, PagesAreTheStore, JournalsAreRead}
 
 -- Runs, one behind the other
@@ -55,25 +54,9 @@ module _ (safe : (file : Contents) (events : List Event) → IsRun pages_read (b
       by_coming None is none = absurd none
       by_coming (Some c) is same = respects file now (λ place. same place ∙ is c refl place) is_now
 
-  comes_still : (stage : Stage) (coming : Option Contents) (c : Contents) → coming_after stage coming ≡ Some c → coming ≡ Some c
-  comes_still Rest coming c is = is
-  comes_still Journal coming c is = is
-  comes_still JournalSync coming c is = absurd (cc is)
-  comes_still Found coming c is = absurd (cc is)
-  comes_still Mark coming c is = is
-  comes_still MarkSync coming c is = is
-  comes_still Body coming c is = is
-  comes_still BodySync coming c is = is
-  comes_still Header coming c is = is
-  comes_still HeaderSync coming c is = is
-  comes_still Empty coming c is = is
-  comes_still EmptySync coming c is = absurd (cc is)
-  comes_still Stuck coming c is = is
-  comes_still Littered coming c is = is
-
   -- nothing else comes
   comes_by : (w : World) (event : Event) (events : List Event) → NoneBegins (event ∷ events) → (c : Contents) → (happens pages_read w event).coming ≡ Some c → w.coming ≡ Some c
-  comes_by w Carried events none c is = comes_still w.stage w.coming c is
+  comes_by w Carried events none c is = still_comes w.stage w.coming c is
   comes_by w (Refused file) events none c is = is
   comes_by w (Fallen file bytes) events none c is = is
   comes_by w (Died file bytes) events none c is = is

@@ -9,3 +9,4 @@ pub mod Told
 pub mod LoadHandle
 pub mod Loads
 pub mod Checkpoints
+pub mod Prefixed

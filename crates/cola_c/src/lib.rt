@@ -39,12 +39,12 @@ pub use laws::{
     deletes_are_told, gets_are_told, openings_are_told, puts_are_told, rows_are_told,
     sizes_are_told, stamps_are_told, what_was_lent_stays,
 };
-pub use laws_of_walks::prevs_are_told;
+pub use laws_of_walks::{prevs_are_told, seeks_of_prefixes_are_told};
 use std::alloc::Global;
 use std::marker::Brand;
 use std::sync::ledger::{Blank, Ledger};
 pub use told::{cola_core_info, cola_core_level};
-pub use walks::{cola_core_prev, cola_core_seek_last};
+pub use walks::{cola_core_prev, cola_core_seek_last, cola_core_seek_prefix};
 
 /// How many bytes a store takes.
 #[unsafe(no_mangle)]

@@ -1,10 +1,12 @@
-//! Rows by falling keys.
+//! Rows by falling keys, and of the keys that begin with a prefix.
 ghost use Rattle.std.specs.Prelude.{◌≡◌, ◌<◌, pos, true, false, [], length, reverse, nat_le};
 ghost use Rattle.cola_spec.specs.Map.{Map};
+ghost use Rattle.cola_kv.specs.Prefix.{KeysAreBytes, pairs_with};
 ghost use Rattle.cola_handle.specs.declared.answer.Answer.TheVariants as answer;
 ghost use Rattle.cola_handle.specs.Behind.{HasBytes, IsSetLast, behind, pairs_below};
 ghost use Rattle.cola_handle.specs.Cursors.{ahead, end_at};
 ghost use Rattle.cola_handle.specs.Numbers.{number};
+ghost use Rattle.cola_handle.specs.Prefixed.{IsSetPrefix};
 ghost use Rattle.cola_c.specs.Exports.{AnswersClosed, IfClosed, IfOpen};
 ghost use Rattle.cola_c.specs.Walks.{AnswersPrev, IsAbsentAtStart, Prevs};
 
@@ -29,6 +31,25 @@ pub extern "C" fn cola_core_seek_last(cursor: &mut Cursor, high: &[u8], bounded:
         (result ≡ pos (number answer.Length)) × (cursor.new ≡ cursor.old) }
 {
     match Cursor::seek_last(high, bounded) {
+        Ok(place) => {
+            *cursor = place;
+            Answer::Done.code()
+        }
+        Err(error) => Answer::of(error).code(),
+    }
+}
+
+/// Sets a cursor before the first of the keys that begin with a prefix, which alone are ahead of it.
+#[unsafe(no_mangle)]
+pub extern "C" fn cola_core_seek_prefix(cursor: &mut Cursor, prefix: &[u8]) -> i32
+    ensures set { nat_le (length prefix.now) 40 ≡ true →
+        (result ≡ pos (number answer.Done)) × IsSetPrefix prefix.now cursor.new }
+    ensures ahead { (m : Map) → KeysAreBytes m → nat_le (length prefix.now) 40 ≡ true →
+        ahead m cursor.new ≡ pairs_with m prefix.now }
+    ensures long { nat_le (length prefix.now) 40 ≡ false →
+        (result ≡ pos (number answer.Length)) × (cursor.new ≡ cursor.old) }
+{
+    match Cursor::seek_prefix(prefix) {
         Ok(place) => {
             *cursor = place;
             Answer::Done.code()

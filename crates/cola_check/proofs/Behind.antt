@@ -7,8 +7,8 @@ use Rattle.cola_runs.specs.Cells.{Entry, Look, key_of, IsRising}
 use Rattle.cola_runs.specs.Seen.{Nothing, flagged, seen}
 use Rattle.cola_pairs.specs.Walk.{AtHead, pass_key}
 use Rattle.cola_pairs.proofs.Order.{by_bool, tied_alike}
-use Rattle.cola_pairs.proofs.LivePairs.{none_below}
-use Rattle.cola_pairs.proofs.Steps.{passed_above, rising_passed}
+use Rattle.cola_pairs.proofs.LivePairs.{rising_onward, none_below}
+use Rattle.cola_pairs.proofs.Onward.{passed_above, rising_passed}
 use Rattle.cola_cell.specs.Held.{LawCell}
 use Rattle.cola_cell.specs.Order.{key_cmp}
 use Rattle.cola_check.specs.Walks.{passed_seen}
@@ -37,14 +37,14 @@ unseen_below k (Entry x i y l ∷ cells) h = ap (λ r. cond (is_eq r) (flagged y
 
 -- nothing of the key is left behind its cells
 pub none_behind : (k : List ℕ) (cells : List LawCell) → IsRising key_cmp cells → BeginsFrom k cells → seen key_cmp k (pass_key key_cmp k cells) ≡ Nothing
-none_behind k cells h p = unseen_below k (pass_key key_cmp k cells) (passed_above key_total k cells h p)
+none_behind k cells h p = unseen_below k (pass_key key_cmp k cells) (passed_above key_total k cells (rising_onward key_total cells h) p)
 
 pub rising_behind : (k : List ℕ) (cells : List LawCell) → IsRising key_cmp cells → IsRising key_cmp (pass_key key_cmp k cells)
 rising_behind k cells h = rising_passed key_total k cells h
 
 begins_after : (k : List ℕ) (c : LawCell) (cells : List LawCell) → IsRising key_cmp (c ∷ cells) → BeginsFrom k (c ∷ cells) → BeginsFrom k cells
 begins_after k c [] h p = tt
-begins_after k c (d ∷ cells) h p = (none_below key_total k c (d ∷ cells) p h).1.0
+begins_after k c (d ∷ cells) h p = (none_below key_total k c (d ∷ cells) p (rising_onward key_total (c ∷ d ∷ cells) h)).1.0
 
 -- the item of the key stands at the front, or nowhere
 pub front_is_seen : (k : List ℕ) (cells : List LawCell) → IsRising key_cmp cells → BeginsFrom k cells → passed_seen k cells ≡ seen key_cmp k cells

@@ -10,7 +10,8 @@ use Rattle.cola_runs.specs.Seen.{seen, holds, answer}
 use Rattle.cola_pairs.specs.Live.{with_answer, below_end}
 use Rattle.cola_pairs.specs.Walk.{AtHead, pass_key, pass_keys, HeadsPast}
 use Rattle.cola_pairs.proofs.Order.{by_bool}
-use Rattle.cola_pairs.proofs.Steps.{live_step, live_ends}
+use Rattle.cola_pairs.proofs.LivePairs.{all_rising_onward}
+use Rattle.cola_pairs.proofs.Onward.{live_step, live_ends, below_closes}
 use Rattle.cola_cell.specs.declared.cell.Item.TheVariants.{Value, Tombstone}
 use Rattle.cola_cell.specs.Held.{LawCell, Stamped}
 use Rattle.cola_cell.specs.Order.{key_cmp}
@@ -113,7 +114,7 @@ BeginsFrom k = AtHead (λ h. is_lt (key_cmp h k) ≡ false)
 
 pairs_step : (k : List ℕ) (runs : List (List LawCell)) → AllByRecursion (IsRising key_cmp) runs → AllByRecursion (BeginsFrom k) runs →
     live_pairs runs ≡ with_answer k (answer key_cmp k runs) (live_pairs (pass_keys key_cmp k runs))
-pairs_step k runs h p = live_step key_total keys_alike None k runs h p refl
+pairs_step k runs h p = live_step key_total keys_alike (below_end key_cmp None) k runs (all_rising_onward key_total runs h) p refl
 
 one_more : (k : List ℕ) (a : Option (laws.Item Stamped)) (pairs : List (List ℕ × Stamped)) → length (with_answer k a pairs) ≡ live_one (as_said a) + length pairs
 one_more k None pairs = omega arith
@@ -131,7 +132,7 @@ nothing_rises = tt
 
 -- runs of no cells have no live key
 pairs_end : (runs : List (List LawCell)) → AllByRecursion (λ run. run ≡ []) runs → live_pairs runs ≡ []
-pairs_end runs h = live_ends key_total None runs (rising runs h) (past runs h)
+pairs_end runs h = live_ends key_total (below_end key_cmp None) (below_closes key_total None) runs (all_rising_onward key_total runs (rising runs h)) (past runs h)
   where
     rising : (runs : List (List LawCell)) → AllByRecursion (λ run. run ≡ []) runs → AllByRecursion (IsRising key_cmp) runs
     rising [] h = tt

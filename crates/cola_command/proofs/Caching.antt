@@ -94,27 +94,27 @@ module _ {D : Type 0} (d : device.Ghosts D) where
   given-opened : {K A E : Type 0} (t : table.Ghosts (Stored D) Cursor) (k : sink.Ghosts K) (means : Means d.bytes d.counts t) (command : Command) (answer : Reply) (ticks : ℕ) (result : Result A E) (old new : Stored D) (sink sink' : K)
       → Given t k command result old sink (turn_of command answer ticks) new sink' → SameOpened old new
   given-opened t k means (Put key value) answer ticks result old new sink sink' given =
-      let a = means.answers old (turn_of (Put key value) answer ticks) new given in
+      let a = (means.answers old (turn_of (Put key value) answer ticks) new given).0 in
       put-opened a.0.mid new key value a.0.search answer a.0.follows ∙ search-opened old a.0.mid key a.0.search a.0.searches
   given-opened t k means (PutIf key seen value) answer ticks result old new sink sink' given =
-      let a = means.answers old (turn_of (PutIf key seen value) answer ticks) new given in
+      let a = (means.answers old (turn_of (PutIf key seen value) answer ticks) new given).0 in
       put-if-opened a.0.mid new key seen value a.0.search answer a.0.follows ∙ search-opened old a.0.mid key a.0.search a.0.searches
   given-opened t k means (Del key) answer ticks result old new sink sink' given =
-      let a = means.answers old (turn_of (Del key) answer ticks) new given in
+      let a = (means.answers old (turn_of (Del key) answer ticks) new given).0 in
       delete-opened a.0.mid new key a.0.search answer a.0.follows ∙ search-opened old a.0.mid key a.0.search a.0.searches
   given-opened t k means (Get key) answer ticks result old new sink sink' given =
-      let a = means.answers old (turn_of (Get key) answer ticks) new given in
+      let a = (means.answers old (turn_of (Get key) answer ticks) new given).0 in
       search-opened old new key a.search a.searches
   given-opened t k means (Stamp key) answer ticks result old new sink sink' given =
-      let a = means.answers old (turn_of (Stamp key) answer ticks) new given in
+      let a = (means.answers old (turn_of (Stamp key) answer ticks) new given).0 in
       search-opened old new key a.search a.searches
   given-opened t k means (Range low high) answer ticks result old new sink sink' given = (rows-calls d.bytes d.counts t k means low (Some high) None result old sink answer new sink' given).opened_is
   given-opened t k means (Scan low most) answer ticks result old new sink sink' given = (rows-calls d.bytes d.counts t k means low None (Some most) result old sink answer new sink' given).opened_is
   given-opened t k means Count answer ticks result old new sink sink' given =
-      let a = means.answers old (turn_of Count answer ticks) new given in
+      let a = (means.answers old (turn_of Count answer ticks) new given).0 in
       ap (λ (s : Stored D). s.account.opened) a.1
-  given-opened t k means Close answer ticks result old new sink sink' given = absurd (means.answers old (turn_of Close answer ticks) new given)
-  given-opened t k means Reopen answer ticks result old new sink sink' given = absurd (means.answers old (turn_of Reopen answer ticks) new given)
+  given-opened t k means Close answer ticks result old new sink sink' given = absurd (means.answers old (turn_of Close answer ticks) new given).0
+  given-opened t k means Reopen answer ticks result old new sink sink' given = absurd (means.answers old (turn_of Reopen answer ticks) new given).0
 
 -- A file that was closed is refused for want of memory or for a damaged cell alone
 

@@ -198,27 +198,27 @@ module _ {D : Type 0} (bytes : D → Option (List ℕ)) (counts : D → Counts) 
 
     pub turn-counts : (command : Command) (answer : Reply) (ticks : ℕ) (result : Result A E) (old new : Stored D) (sink sink' : K) (m : Map) → Holds bytes old m → NotFailed answer → Given t k command result old sink (turn_of command answer ticks) new sink' → TurnCounts old new command answer
     turn-counts (Put key value) answer ticks result old new sink sink' m holds fine given =
-        let a = means.answers old (turn_of (Put key value) answer ticks) new given in
+        let a = (means.answers old (turn_of (Put key value) answer ticks) new given).0 in
         record { calls = put-calls old new key answer fine a.0.mid a.0.search value a.0.searches a.1 a.0.follows; reads_kept = λ none. put-turn bytes counts old new m key value answer holds a.0 }
     turn-counts (PutIf key seen value) answer ticks result old new sink sink' m holds fine given =
-        let a = means.answers old (turn_of (PutIf key seen value) answer ticks) new given in
+        let a = (means.answers old (turn_of (PutIf key seen value) answer ticks) new given).0 in
         record { calls = put-if-calls old new key answer fine a.0.mid a.0.search seen value a.0.searches a.1 a.0.follows; reads_kept = λ none. put-if-turn bytes counts old new m key seen value answer holds a.0 }
     turn-counts (Del key) answer ticks result old new sink sink' m holds fine given =
-        let a = means.answers old (turn_of (Del key) answer ticks) new given in
+        let a = (means.answers old (turn_of (Del key) answer ticks) new given).0 in
         record { calls = delete-calls old new key answer fine a.0.mid a.0.search a.0.searches a.1 a.0.follows; reads_kept = λ none. delete-turn bytes counts old new m key answer holds a.0 }
     turn-counts (Get key) answer ticks result old new sink sink' m holds fine given =
-        let a = means.answers old (turn_of (Get key) answer ticks) new given in
+        let a = (means.answers old (turn_of (Get key) answer ticks) new given).0 in
         record { calls = got-calls old new key answer fine got (λ found. (refl, refl)) (λ f. refl) a.search a.searches a.answer_is; reads_kept = λ none. search-reads bytes counts old new m key a.search holds a.searches }
     turn-counts (Stamp key) answer ticks result old new sink sink' m holds fine given =
-        let a = means.answers old (turn_of (Stamp key) answer ticks) new given in
+        let a = (means.answers old (turn_of (Stamp key) answer ticks) new given).0 in
         record { calls = got-calls old new key answer fine stamp_got (λ found. (refl, refl)) (λ f. refl) a.search a.searches a.answer_is; reads_kept = λ none. search-reads bytes counts old new m key a.search holds a.searches }
     turn-counts (Range low high) answer ticks result old new sink sink' m holds fine given = record { calls = rows-calls low (Some high) None result old sink answer new sink' given; reads_kept = λ none. absurd none }
     turn-counts (Scan low most) answer ticks result old new sink sink' m holds fine given = record { calls = rows-calls low None (Some most) result old sink answer new sink' given; reads_kept = λ none. absurd none }
     turn-counts Count answer ticks result old new sink sink' m holds fine given =
-        let a = means.answers old (turn_of Count answer ticks) new given in
+        let a = (means.answers old (turn_of Count answer ticks) new given).0 in
         record { calls = counts-as old new answer (reply.Counted old.count) 0 0 a.0 refl refl (calls-uncounted old new (uncounted-none old new a.1)); reads_kept = λ none has. subst (λ (x : Stored D). HasRead counts x) (sym a.1) has }
-    turn-counts Close answer ticks result old new sink sink' m holds fine given = absurd (means.answers old (turn_of Close answer ticks) new given)
-    turn-counts Reopen answer ticks result old new sink sink' m holds fine given = absurd (means.answers old (turn_of Reopen answer ticks) new given)
+    turn-counts Close answer ticks result old new sink sink' m holds fine given = absurd (means.answers old (turn_of Close answer ticks) new given).0
+    turn-counts Reopen answer ticks result old new sink sink' m holds fine given = absurd (means.answers old (turn_of Reopen answer ticks) new given).0
 
 -- an open store as a table has these meanings
 pub table-means : {D : Type 0} (d : device.Ghosts D) → Means d.bytes d.counts (store_table d)

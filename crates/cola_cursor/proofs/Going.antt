@@ -16,7 +16,7 @@ use Rattle.cola_look.specs.Runs.{AreRuns}
 use Rattle.cola_look.proofs.RunLists.{sampled_rise}
 use Rattle.cola_pairs.specs.Live.{live, with_answer}
 use Rattle.cola_pairs.specs.Walk.{HeadsFrom}
-use Rattle.cola_reverse.proofs.Onward.{live_ends}
+use Rattle.cola_pairs.proofs.Onward.{live_ends}
 use Rattle.cola_cursor.specs.Way.{way_cmp, within_end}
 use Rattle.cola_cursor.proofs.Keys.{way_total, way_closes}
 use Rattle.cola_cursor.specs.declared.line.Line.{Line}

@@ -4,11 +4,11 @@ use Rattle.std.proofs.lemmas.List.{length-reverse, get_or-reverse}
 use Rattle.std.specs.Option.{option_or}
 use Rattle.std.specs.Cmp.{IsTotalOrder, back_total, eq_by_cmp_equiv}
 use Rattle.std.specs.Cmp.Lexicographic.{nat_list_cmp_total}
-use Rattle.cola_pairs.specs.Live.{below_end}
-use Rattle.cola_pairs.specs.Walk.{pass_key, pass_keys, passed_item, first_passed}
-use Rattle.cola_reverse.specs.Falling.{Closes, KeysOnward}
-use Rattle.cola_reverse.proofs.Onward.{not_below_then}
-use Rattle.cola_reverse.proofs.Turned.{rising_onward, falling_onward, sorted_reverse}
+use Rattle.cola_pairs.specs.Walk.{Closes, KeysOnward, pass_key, pass_keys, passed_item, first_passed}
+use Rattle.cola_pairs.proofs.Order.{equal}
+use Rattle.cola_pairs.proofs.LivePairs.{rising_onward}
+use Rattle.cola_pairs.proofs.Onward.{below_closes}
+use Rattle.cola_reverse.proofs.Turned.{falling_onward, sorted_reverse}
 use Rattle.cola_reverse.proofs.Falls.{low_closes}
 use Rattle.cola_cursor.specs.Way.{way_cmp, within_end, way, at}
 use Rattle.std.specs.Ordering.{is_eq, is_lt, is_le, ordering_reverse}
@@ -26,11 +26,6 @@ key_same (cell.Look key link) = refl
 
 pub keys_alike : IsAntisymmetric key_cmp
 keys_alike = slice_cmp-IsAntisymmetric nat_cmp-IsAntisymmetric
-
-equal : (r : Ordering) → is_eq r ≡ true → r ≡ Equal
-equal Less e = cc
-equal Equal e = refl
-equal Greater e = cc
 
 pub same_key : (x y : List ℕ) → is_eq (key_cmp x y) ≡ true → x ≡ y
 same_key x y e = keys_alike x y (equal _ e)
@@ -53,13 +48,9 @@ pub none_ends : (falls : Bool) (k : List ℕ) → within_end falls None k ≡ tr
 none_ends true k = refl
 none_ends false k = refl
 
-below_closes : (end : Option (List ℕ)) → Closes key_cmp (below_end key_cmp end)
-below_closes None x y e f = cc
-below_closes (Some hi) x y e f = not_below_then nat_list_cmp_total x y hi f e
-
 pub way_closes : (falls : Bool) (end : Option (List ℕ)) → Closes (way_cmp falls) (within_end falls end)
 way_closes true end = low_closes nat_list_cmp_total end
-way_closes false end = below_closes end
+way_closes false end = below_closes nat_list_cmp_total end
 
 pub way_onward : (falls : Bool) (cells : List LawCell) → laws.IsRising key_cmp cells → KeysOnward (way_cmp falls) (way falls cells)
 way_onward true cells h = falling_onward nat_list_cmp_total (reverse cells) (sorted_reverse (laws.place_cmp key_cmp) cells h)

@@ -19,7 +19,8 @@ use Rattle.cola_look.specs.Runs.{HasRun, AreRuns}
 use Rattle.cola_look.specs.Stops.{StopsAtPlaces}
 use Rattle.cola_look.proofs.RunLists.{stops_at_places, sampled_rise}
 use Rattle.cola_pairs.specs.Live.{live, between, below_end, rests_from}
-use Rattle.cola_pairs.proofs.LivePairs.{live_from, none_below}
+use Rattle.cola_pairs.proofs.Order.{all_change}
+use Rattle.cola_pairs.proofs.LivePairs.{live_from, rising_onward, none_below}
 use Rattle.cola_cursor.specs.declared.line.Line.{Line}
 use Rattle.cola_cursor.specs.declared.cursor.Cursor.{Cursor}
 use Rattle.cola_cursor.specs.Giving.{SeekGives}
@@ -79,7 +80,7 @@ unfolding IsStrictlySortedBy
 after_place key [] h = tt
 after_place key (c ∷ cells) h =
     by_bool false (λ b. is_lt (key_cmp (laws.key_of c) key) ≡ b → AllByRecursion (λ d. is_lt (key_cmp (laws.key_of d) key) ≡ false) (drop (cond b (suc (place key_cmp key cells)) 0) (c ∷ cells)))
-    (λ e. after_place key cells h.1) (λ e. none_below nat_list_cmp_total key c cells e h) (is_lt (key_cmp (laws.key_of c) key)) refl
+    (λ e. after_place key cells h.1) (λ e. none_below nat_list_cmp_total key c cells e (rising_onward nat_list_cmp_total (c ∷ cells) h)) (is_lt (key_cmp (laws.key_of c) key)) refl
 
 across : (key a b : List ℕ) → key_cmp a key ≡ Less → is_lt (key_cmp b key) ≡ false → key_cmp a b ≡ Less
 across key a b e f = go (key_cmp key b) refl
@@ -88,10 +89,6 @@ across key a b e f = go (key_cmp key b) refl
     go Less g = nat_list_cmp_total.trans a key b e g
     go Equal g = sym (alike_right nat_list_cmp_total key b a g) ∙ e
     go Greater g = let h = sym (ap is_lt (nat_list_cmp_total.antisymm b key ∙ ap Rattle.std.specs.Ordering.ordering_reverse g)) ∙ f in absurd (cc)
-
-all_change : {X : Type 0} {P Q : X → Type 0} → ((x : X) → P x → Q x) → (xs : List X) → AllByRecursion P xs → AllByRecursion Q xs
-all_change f [] h = tt
-all_change f (x ∷ xs) h = (f x h.0, all_change f xs h.1)
 
 befores_below : (key : List ℕ) (lines : List Line) (lists : List (List LawCell)) → map (λ (x : Line). x.place) lines ≡ map (place key_cmp key) lists →
     AllByRecursion (AllByRecursion (λ c. key_cmp (laws.key_of c) key ≡ Less)) (befores false lines lists)

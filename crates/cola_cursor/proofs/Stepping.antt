@@ -13,9 +13,9 @@ use Rattle.cola_cell.specs.Spent.{IsBad}
 use Rattle.cola_cell.specs.Order.{key_cmp}
 use Rattle.cola_look.specs.Runs.{AreRuns}
 use Rattle.cola_pairs.specs.Live.{live, with_answer}
-use Rattle.cola_pairs.specs.Walk.{AtHead, pass_key, pass_keys, first_passed, HeadsFrom, HeadsPast}
-use Rattle.cola_reverse.specs.Falling.{KeysOnward, HeadsOut}
-use Rattle.cola_reverse.proofs.Onward.{live_step, first_is_answer, passed_above}
+use Rattle.cola_pairs.specs.Walk.{AtHead, pass_key, pass_keys, passed_item, first_passed, KeysOnward, HeadsFrom, HeadsOut}
+use Rattle.cola_pairs.proofs.Order.{all_change}
+use Rattle.cola_pairs.proofs.Onward.{all_left_keep, live_step, first_is_answer, passed_above}
 use Rattle.cola_cursor.specs.Way.{way_cmp, within_end, way, at}
 use Rattle.cola_cursor.specs.declared.line.Line.{Line}
 use Rattle.cola_cursor.specs.Lines.{LineFits, IsReady, HasBadAhead, all_ahead}
@@ -161,7 +161,7 @@ module _ (falls : Bool) where
     pass_item (o ∷ olds) (n ∷ news) item (cells ∷ lists) h r =
         ap (option_map as_item) h.4 ∙ or_mapped as_item h.0 h.1
         ∙ ap (λ x. option_or x (option_map as_item h.1)) (h.2.item_is cells r.0)
-        ∙ ap (option_or (Rattle.cola_pairs.specs.Walk.passed_item key_cmp key (drop o.place (way falls cells)))) (pass_item olds news h.1 lists h.3 r.1)
+        ∙ ap (option_or (passed_item key_cmp key (drop o.place (way falls cells)))) (pass_item olds news h.1 lists h.3 r.1)
 
   -- ---- the fronts of told runs
 
@@ -181,7 +181,7 @@ module _ (falls : Bool) where
         head (Some c) (inr h) n s = subst (AtHead (λ q. is_lt (way_cmp falls q k) ≡ false)) (sym (s c refl)) (ap (λ q. is_lt (way_cmp falls q k)) (key_same c) ∙ h)
 
     pub heads_past : (lines : List Line) (lists : List (List LawCell)) → AllByRecursion (LineFits falls held) lines → AllByRecursion IsReady lines → AreRuns held (runs_of lines) lists →
-        AllByRecursion (λ line. HeadPast falls end line.head) lines → HeadsOut (way_cmp falls) (within_end falls end) (rests falls lines lists)
+        AllByRecursion (λ line. HeadPast falls end line.head) lines → HeadsOut (within_end falls end) (rests falls lines lists)
     heads_past [] lists f y r h = tt
     heads_past (line ∷ lines) [] f y r h = absurd r
     heads_past (line ∷ lines) (cells ∷ lists) f y r h =
@@ -233,24 +233,12 @@ module _ (falls : Bool) where
     taken_passed P (suc n) (suc m) [] l e h f = tt
     taken_passed P (suc n) (suc m) (c ∷ cells) l e h f = (h.0, taken_passed P n m cells (omega arith) e h.1 f)
 
-    suffix : (P : LawCell → Type 0) (cells : List LawCell) → AllByRecursion P cells → AllByRecursion P (pass_key key_cmp k cells)
-    suffix P [] h = tt
-    suffix P (c ∷ cells) h = by_bool falls (λ b. AllByRecursion P (cond b (pass_key key_cmp k cells) (c ∷ cells))) (suffix P cells h.1) h (is_eq (key_cmp k (laws.key_of c)))
-
-    suffixes : (P : LawCell → Type 0) (lists : List (List LawCell)) → AllByRecursion (AllByRecursion P) lists → AllByRecursion (AllByRecursion P) (pass_keys key_cmp k lists)
-    suffixes P [] h = tt
-    suffixes P (cells ∷ lists) h = (suffix P cells h.0, suffixes P lists h.1)
-
     above_way : (lists : List (List LawCell)) → AllByRecursion (KeysOnward (way_cmp falls)) lists → HeadsFrom (way_cmp falls) k lists → AllByRecursion (AllByRecursion (λ d. way_cmp falls k (laws.key_of d) ≡ Less)) (pass_keys (way_cmp falls) k lists)
     above_way [] h p = tt
     above_way (cells ∷ lists) h p = (passed_above (way_total falls) k cells h.0 p.0, above_way lists h.1 p.1)
 
     all_above : (lists : List (List LawCell)) → AllByRecursion (KeysOnward (way_cmp falls)) lists → HeadsFrom (way_cmp falls) k lists → AllByRecursion (AllByRecursion (λ d. way_cmp falls k (laws.key_of d) ≡ Less)) (pass_keys key_cmp k lists)
     all_above lists h p = subst (AllByRecursion (AllByRecursion (λ d. way_cmp falls k (laws.key_of d) ≡ Less))) (way_passes falls k lists) (above_way lists h p)
-
-    all_change : {X : Type 0} {P Q : X → Type 0} → ((x : X) → P x → Q x) → (xs : List X) → AllByRecursion P xs → AllByRecursion Q xs
-    all_change f [] h = tt
-    all_change f (x ∷ xs) h = (f x h.0, all_change f xs h.1)
 
     -- the cells before a list of places, by those before the places that a step left and by those with its key
     befores_passed : (held : Held) (P : LawCell → Type 0) (olds news : List Line) (item : Option Item) (lists : List (List LawCell)) → PassAll falls held k olds news item → AreRuns held (runs_of olds) lists →
@@ -271,6 +259,6 @@ module _ (falls : Bool) where
         let same = pass_rests held k olds news item lists h r in
         let above = all_above (rests falls olds lists) (onward_rests olds lists rise) heads in
         let before : AllByRecursion (AllByRecursion (Q R)) (befores falls olds lists) =
-        all_change (λ cells. all_change (λ c q. suffixes (λ d. way_cmp falls (laws.key_of c) (laws.key_of d) ≡ Less) (rests falls olds lists) q) cells) (befores falls olds lists) a in
+        all_change (λ cells. all_change (λ c q. all_left_keep key_cmp (AllByRecursion (λ d. way_cmp falls (laws.key_of c) (laws.key_of d) ≡ Less)) (λ x xs p. p.1) k (rests falls olds lists) q) cells) (befores falls olds lists) a in
         subst (λ S. AllByRecursion (AllByRecursion (Q S)) (befores falls news lists)) (sym same)
         (befores_passed held (Q R) olds news item lists h r before (λ c e. subst (λ x. AllByRecursion (AllByRecursion (λ d. way_cmp falls x (laws.key_of d) ≡ Less)) R) (sym e) above))

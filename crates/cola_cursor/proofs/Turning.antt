@@ -14,6 +14,7 @@ use Rattle.cola_look.specs.Outcome.{Answers}
 use Rattle.cola_look.specs.Runs.{HasRun, AreRuns}
 use Rattle.cola_look.proofs.RunLists.{sampled_rise}
 use Rattle.cola_pairs.specs.Live.{live, below_end}
+use Rattle.cola_pairs.proofs.Order.{all_change}
 use Rattle.cola_reverse.specs.Falling.{fronts_below, from_low, within_bounds}
 use Rattle.cola_reverse.proofs.Turned.{all_reverse, live_reverse}
 use Rattle.cola_reverse.proofs.Falls.{live_below_places, rising_fronts}
@@ -99,10 +100,6 @@ module _ {X : Type 0} where
       tails : (xs : List X) → AllByRecursion (λ x. AllByRecursion (λ y. P x y) (y ∷ ys)) xs → AllByRecursion (λ x. AllByRecursion (λ y. P x y) ys) xs
       tails [] h = tt
       tails (x ∷ xs) h = (h.0.1, tails xs h.1)
-
-all_change : {X : Type 0} {P Q : X → Type 0} → ((x : X) → P x → Q x) → (xs : List X) → AllByRecursion P xs → AllByRecursion Q xs
-all_change f [] h = tt
-all_change f (x ∷ xs) h = (f x h.0, all_change f xs h.1)
 
 all_all_back : {X : Type 0} (P : X → Type 0) (xss : List (List X)) → AllByRecursion (AllByRecursion P) xss → AllByRecursion (AllByRecursion P) (map reverse xss)
 all_all_back P [] h = tt

@@ -1,15 +1,14 @@
 //! The lines of a cursor: their next cells, the least key among those, and a step over it.
-ghost use Rattle.std.specs.Prelude.{◌≡◌, ◌+◌, ◌≤◌, length, None, IfOk, OnOk};
+ghost use Rattle.std.specs.Prelude.{◌≡◌, ◌+◌, ◌≤◌, cond, length, None, Some, IfOk, OnOk};
 ghost use Rattle.std.specs.List.{AllByRecursion};
 ghost use Rattle.cola_cell.specs.Cell.{key_of};
 ghost use Rattle.cola_cell.specs.Looks.{OnlyLooks};
-ghost use Rattle.cola_cursor.specs.Way.{way_cmp, within_end};
-ghost use Rattle.std.specs.Ordering.{is_lt};
+ghost use Rattle.cola_cursor.specs.Way.{within_end};
 ghost use Rattle.cola_cursor.specs.Causes.{HasLinesCause};
 ghost use Rattle.cola_cursor.specs.Lines.{LineFits, IsReady, all_left, Reading};
 ghost use Rattle.cola_cursor.specs.Passing.{PassAll};
 ghost use Rattle.cola_cursor.specs.Saving.{SavedOnce, Saves};
-ghost use Rattle.cola_cursor.specs.Results.{FetchAll, left_then, lowered, least_from, key_in};
+ghost use Rattle.cola_cursor.specs.Results.{FetchAll, left_then, lesser, lowered, least_from, key_in};
 
 use crate::line::Line;
 use crate::saved::{Saved, save};
@@ -59,16 +58,15 @@ fn is_within(cell: &Packed, end: &Option<Key>, falls: bool) -> bool
     }
 }
 
-/// Whether the key of a cell comes before that of another in a direction.
+/// Whether a cell has the lesser key in a direction than another.
 #[inline]
-fn comes_before(cell: &Packed, other: &Packed, falls: bool) -> bool
-    ensures { result ≡ is_lt (way_cmp falls (key_of cell.now) (key_of other.now)) }
+fn leads(cell: &Packed, other: &Packed, falls: bool) -> bool
+    ensures { cond result (Some (key_of cell.now)) (Some (key_of other.now))
+        ≡ lesser falls (Some (key_of other.now)) (key_of cell.now) }
 {
-    if falls {
-        other.cmp_keys(cell).is_lt()
-    } else {
-        cell.cmp_keys(other).is_lt()
-    }
+    // One call for both directions: which order is asked for is then known outside the loop.
+    let order = cell.cmp_keys(other);
+    if falls { order.is_gt() } else { order.is_lt() }
 }
 
 /// The cell with the lesser key, of one, where there is one, and the next cell of a line: the first where the keys are equal.
@@ -83,7 +81,7 @@ fn lesser<'a>(
     match head {
         Some(cell) => match least {
             Some(least) => {
-                if comes_before(cell, least, falls) {
+                if leads(cell, least, falls) {
                     Some(cell)
                 } else {
                     Some(least)

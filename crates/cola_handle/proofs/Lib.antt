@@ -10,3 +10,4 @@ pub mod Turned
 pub mod Taking
 pub mod Marking
 pub mod Lending
+pub mod Between

@@ -6,6 +6,7 @@ use Rattle.cola_spec.specs.Bounds.{range_bound}
 use Rattle.cola_store.specs.Calls.{ReadsWithin}
 use Rattle.cola_store.specs.Store.{Stored, spent_of, levels_of}
 use Rattle.cola_store.specs.Walks.{Begins, Goes, TurnsWithin, left_of}
+use Rattle.cola_store.proofs.Storing.{ticks_then, none_made}
 use Rattle.cola_handle.specs.declared.cursor.Cursor.{Cursor}
 use Rattle.cola_handle.specs.declared.cursor.Row.{Row}
 use Rattle.cola_handle.specs.Cursors.{Pair}
@@ -18,6 +19,7 @@ then_more old mid new left rest most first second = record {
   turned_stays = omega (arith, first.turned_stays, second.turned_stays);
   turned_rises = omega (arith, first.turned_rises, second.turned_rises);
   written_is = second.written_is ∙ first.written_is;
+  ticks = ticks_then old mid new most left rest first.ticks second.ticks;
 }
 
 -- what is left is not needed
@@ -34,7 +36,7 @@ module _ {T W : Type 0} (spent : T → Spent) (left : W → ℕ) (most : T → �
     (gone_turns : (old : T) (walk : W) (answer : Option Pair) (new : T) (after : W) → goes old walk (Ok answer) new after → TurnsWithin (spent old) (spent new) (left after) (left walk))
     (broken_turns : (old : T) (walk : W) (fault : ReadFault) (new : T) (after : W) → goes old walk (Err fault) new after → TurnsWithin (spent old) (spent new) 0 (left walk)) where
   pub turns_on : (old new : T) (walk last : W) (pairs : List Pair) → GoesOn begins goes old walk pairs new last → TurnsWithin (spent old) (spent new) (left last) (left walk)
-  turns_on old new walk last pairs Stays = record { turned_stays = omega arith; turned_rises = omega arith; written_is = refl }
+  turns_on old new walk last pairs Stays = record { turned_stays = omega arith; turned_rises = omega arith; written_is = refl; ticks = none_made (spent old) (left walk) }
   turns_on old new walk last pairs (Then {mid = mid} {after = after} {pairs = before} pair gone went) =
       then_more (spent old) (spent mid) (spent new) (left after) (left last) (left walk) (turns_on old mid walk after before gone) (gone_turns mid after (Some pair) new last went)
 

@@ -9,3 +9,4 @@ pub mod Walking
 pub mod Stored
 pub mod Behind
 pub mod Falling
+pub mod Prefixed

@@ -10,6 +10,7 @@ pub mod laws;
 mod loose;
 mod marks;
 mod opening;
+mod prefixed;
 mod session;
 mod stored;
 mod telling;

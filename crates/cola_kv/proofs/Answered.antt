@@ -1,5 +1,5 @@
 -- What the calls of a store as a table say, as the records of the calls of an open store.
-use Rattle.std.proofs.Common.{◌≡◌, ℕ, ◌≤◌, Bool, true, false, List, Option, Result, Ok, Err, refl, sym, ap, subst, arith}
+use Rattle.std.proofs.Common.{◌≡◌, ℕ, ◌+◌, ◌-◌, ◌≤◌, Bool, true, false, List, Option, Result, Ok, Err, refl, sym, ap, subst, arith}
 use Rattle.std.specs.Result.{IsErrAnd}
 use Rattle.cola_cell.specs.declared.cell.Item.{Item}
 use Rattle.cola_cell.specs.declared.fault.ReadFault.{ReadFault}
@@ -15,6 +15,7 @@ use Rattle.cola_table.specs.declared.PutFault.{PutFault}
 use Rattle.cola_table.specs.declared.PutFault.TheVariants as fault
 use Rattle.cola_table.specs.Replies.{put_reply, put_if_reply, delete_reply, get_reply, stamp_reply, put_refused, read_failure, step_failure}
 use Rattle.cola_table.specs.Answers.{PutRefused, PutAnswers, PutIfAnswers, DeleteAnswers, GetAnswers, StampAnswers, OnlyDevice, OnlyDeviceRead, PutFaults, StepFaults, ReadFaults}
+use Rattle.cola_cell.specs.Spent as spending
 use Rattle.cola_cell.specs.Spent.{Spent}
 use Rattle.cola_spec.specs.Bounds.{get_bound, put_bound}
 use Rattle.cola_spec.specs.Command as command
@@ -22,13 +23,14 @@ use Rattle.cola_spec.specs.Command.{Command}
 use Rattle.cola_spec.specs.Reply as reply
 use Rattle.cola_store.specs.Calls.{ReadsWithin, Searches, worn_at}
 use Rattle.cola_store.specs.Store.{kept_of}
+use Rattle.cola_store.proofs.Storing.{no_tick}
 use Rattle.cola_kv.specs.declared.error.Error.{Error}
 use Rattle.cola_kv.specs.declared.error.Error.TheVariants.{KeyLength, ValueLength}
 use Rattle.cola_kv.specs.declared.kv.Kv.{Kv}
 use Rattle.cola_kv.specs.Errors.{of_read, of_step, of_put}
 use Rattle.cola_kv.specs.Kv.{Holds, Stays, shape_of, levels_of, faults_of}
 use Rattle.cola_kv.specs.Causes.{ReadCause, DeleteCause, PutCause, IsReadRefusal, IsPutRefusal, IsStepRefusal}
-use Rattle.cola_kv.specs.Calls.{Gets, Stamps, Deletes, Puts, PutsIf, Replies, StoreRefuses, Ticks, ReadsFew, TransfersFew, unticked}
+use Rattle.cola_kv.specs.Calls.{Gets, Stamps, Deletes, Puts, PutsIf, Replies, StoreRefuses, Ticks, Ticked, Spends, ReadsFew, TransfersFew, unticked}
 use Rattle.cola_kv.proofs.Moved.{searched, put-moved, put-if-moved, delete-moved}
 use Rattle.cola_kv.proofs.Refusing.{put-full, put-worn, put-if-full, put-if-worn}
 
@@ -80,6 +82,13 @@ put-cause A shape count last key value before now fault.Device full worn faults 
 put-cause A shape count last key value before now (fault.BadCell cell) full worn faults = faults
 put-cause A shape count last key value before now (fault.Overfull level) full worn faults = faults
 
+-- the ticks between two counts of a ledger are those that are told, or few
+pub spends-told : (from to before after ticks : ℕ) → after ≡ before + ticks → spending.Ticks from to (after - before) → spending.Ticks from to ticks
+spends-told from to before after ticks counted ticked = let between : after - before ≡ ticks = omega (arith, counted) in subst (λ (n : ℕ). spending.Ticks from to n) between ticked
+
+pub spends-few : (from to before after most : ℕ) → after ≤ before + most → spending.Ticks from to (after - before) → (ticks : ℕ) × (ticks ≤ most) × spending.Ticks from to ticks
+spends-few from to before after most within ticked = (after - before, omega (arith, within), ticked)
+
 -- nothing was turned to
 no-turn : (spent : Spent) (most : ℕ) → ReadsWithin spent spent most
 no-turn spent most = record { turned_stays = omega arith; turned_rises = omega arith; written_is = refl }
@@ -103,6 +112,9 @@ module _ {D : Type 0} (d : device.Ghosts D) where
 
   transfers-none : (kv : Kv D d) → TransfersFew d kv kv
   transfers-none kv = record { transfers = omega arith }
+
+  spends-none : (kv : Kv D d) (most : ℕ) → (ticks : ℕ) × (ticks ≤ most) × Ticked d kv kv ticks
+  spends-none kv most = (0, omega arith, no_tick _)
 
   -- What the table answered where it refused
 
@@ -134,6 +146,7 @@ module _ {D : Type 0} (d : device.Ghosts D) where
     cause = short;
     no_step = refl;
     ticks = refl;
+    spends = spends-none kv _;
     blocks = reads-none kv;
     stays = stays-same kv;
   })
@@ -148,6 +161,7 @@ module _ {D : Type 0} (d : device.Ghosts D) where
     cause = short;
     no_step = refl;
     ticks = refl;
+    spends = spends-none kv _;
     blocks = reads-none kv;
     stays = stays-same kv;
   })
@@ -163,6 +177,7 @@ module _ {D : Type 0} (d : device.Ghosts D) where
     cause = short;
     one_step = omega arith;
     ticks = refl;
+    spends = spends-none kv _;
     blocks = transfers-none kv;
     stays = stays-same kv;
   })
@@ -181,6 +196,7 @@ module _ {D : Type 0} (d : device.Ghosts D) where
       cause = short;
       one_step = omega arith;
       ticks = refl;
+      spends = spends-none kv _;
       blocks = transfers-none kv;
       stays = stays-same kv;
     })
@@ -197,6 +213,7 @@ module _ {D : Type 0} (d : device.Ghosts D) where
       cause = (fits, long);
       one_step = omega arith;
       ticks = refl;
+      spends = spends-none kv _;
       blocks = transfers-none kv;
       stays = stays-same kv;
     })
@@ -214,6 +231,7 @@ module _ {D : Type 0} (d : device.Ghosts D) where
         cause = short;
         one_step = omega arith;
         ticks = refl;
+        spends = spends-none kv _;
         blocks = transfers-none kv;
         stays = stays-same kv;
       })
@@ -230,6 +248,7 @@ module _ {D : Type 0} (d : device.Ghosts D) where
         cause = (fits, long);
         one_step = omega arith;
         ticks = refl;
+        spends = spends-none kv _;
         blocks = transfers-none kv;
         stays = stays-same kv;
       })
@@ -243,8 +262,8 @@ module _ {D : Type 0} (d : device.Ghosts D) where
   module _ (old new : Kv D d) (key : List ℕ) (fits : is_key (shape_of old) key ≡ true) (cache : new.cache ≡ old.cache)
       (kept : kept_of d.bytes d.counts d.kept new.store ≡ kept_of d.bytes d.counts d.kept old.store) (faults_stay : faults_of d old ≤ faults_of d new) where
     pub gets : (result : Result (Option (List ℕ) × ℕ) ReadFault) → ((m : Map) → Holds d old m → GetAnswers m key (Holds d new) result) → Replies d old new (command.Get key) (get_reply result) →
-        ReadFaults result (faults_of d old) (faults_of d new) → Ticks d old new (get_bound (levels_of old)) (answer_of of_read result) → Gets d old new key (answer_of of_read result)
-    gets (Ok answer) answers given faults ticks =
+        ReadFaults result (faults_of d old) (faults_of d new) → Ticks d old new (get_bound (levels_of old)) (answer_of of_read result) → Spends d old new (get_bound (levels_of old)) (answer_of of_read result) → Gets d old new key (answer_of of_read result)
+    gets (Ok answer) answers given faults ticks spends =
         let moved = searched d.bytes d.counts old.store new.store key given.search given.searches in
         record {
           given = given;
@@ -255,10 +274,11 @@ module _ {D : Type 0} (d : device.Ghosts D) where
           cause = tt;
           no_step = moved.steps;
           ticks = ticks;
+          spends = spends;
           blocks = few old new key given.search given.searches;
           stays = stays-of old new kept cache moved.opened faults_stay;
         }
-    gets (Err f) answers given faults ticks =
+    gets (Err f) answers given faults ticks spends =
         let moved = searched d.bytes d.counts old.store new.store key given.search given.searches in
         record {
           given = read-given old new (command.Get key) f given;
@@ -269,13 +289,14 @@ module _ {D : Type 0} (d : device.Ghosts D) where
           cause = read-cause (Option (List ℕ) × ℕ) (shape_of old) key (faults_of d old) (faults_of d new) f faults;
           no_step = moved.steps;
           ticks = ticks;
+          spends = spends;
           blocks = few old new key given.search given.searches;
           stays = stays-of old new kept cache moved.opened faults_stay;
         }
 
     pub stamps : (result : Result (Option ℕ × ℕ) ReadFault) → ((m : Map) → Holds d old m → StampAnswers m key (Holds d new) result) → Replies d old new (command.Stamp key) (stamp_reply result) →
-        ReadFaults result (faults_of d old) (faults_of d new) → Ticks d old new (get_bound (levels_of old)) (answer_of of_read result) → Stamps d old new key (answer_of of_read result)
-    stamps (Ok answer) answers given faults ticks =
+        ReadFaults result (faults_of d old) (faults_of d new) → Ticks d old new (get_bound (levels_of old)) (answer_of of_read result) → Spends d old new (get_bound (levels_of old)) (answer_of of_read result) → Stamps d old new key (answer_of of_read result)
+    stamps (Ok answer) answers given faults ticks spends =
         let moved = searched d.bytes d.counts old.store new.store key given.search given.searches in
         record {
           given = given;
@@ -286,10 +307,11 @@ module _ {D : Type 0} (d : device.Ghosts D) where
           cause = tt;
           no_step = moved.steps;
           ticks = ticks;
+          spends = spends;
           blocks = few old new key given.search given.searches;
           stays = stays-of old new kept cache moved.opened faults_stay;
         }
-    stamps (Err f) answers given faults ticks =
+    stamps (Err f) answers given faults ticks spends =
         let moved = searched d.bytes d.counts old.store new.store key given.search given.searches in
         record {
           given = read-given old new (command.Stamp key) f given;
@@ -300,13 +322,14 @@ module _ {D : Type 0} (d : device.Ghosts D) where
           cause = read-cause (Option ℕ × ℕ) (shape_of old) key (faults_of d old) (faults_of d new) f faults;
           no_step = moved.steps;
           ticks = ticks;
+          spends = spends;
           blocks = few old new key given.search given.searches;
           stays = stays-of old new kept cache moved.opened faults_stay;
         }
 
     pub deletes : (result : Result (Option (List ℕ) × ℕ) StepFault) → ((m : Map) → Holds d old m → DeleteAnswers m key (Holds d new) result) → Replies d old new (command.Del key) (delete_reply result) →
-        StepFaults result (faults_of d old) (faults_of d new) → Ticks d old new (put_bound (levels_of old)) (answer_of of_step result) → Deletes d old new key (answer_of of_step result)
-    deletes (Ok answer) answers given faults ticks =
+        StepFaults result (faults_of d old) (faults_of d new) → Ticks d old new (put_bound (levels_of old)) (answer_of of_step result) → Spends d old new (put_bound (levels_of old)) (answer_of of_step result) → Deletes d old new key (answer_of of_step result)
+    deletes (Ok answer) answers given faults ticks spends =
         let moved = delete-moved d.bytes d.counts old.store new.store key _ given.0 in
         record {
           given = given;
@@ -318,10 +341,11 @@ module _ {D : Type 0} (d : device.Ghosts D) where
           cause = tt;
           one_step = moved.steps;
           ticks = ticks;
+          spends = spends;
           blocks = given.1;
           stays = stays-of old new kept cache moved.opened faults_stay;
         }
-    deletes (Err f) answers given faults ticks =
+    deletes (Err f) answers given faults ticks spends =
         let moved = delete-moved d.bytes d.counts old.store new.store key _ given.0 in
         record {
           given = step-given old new (command.Del key) f given;
@@ -333,14 +357,15 @@ module _ {D : Type 0} (d : device.Ghosts D) where
           cause = step-cause (Option (List ℕ) × ℕ) (shape_of old) key (faults_of d old) (faults_of d new) f faults;
           one_step = moved.steps;
           ticks = ticks;
+          spends = spends;
           blocks = given.1;
           stays = stays-of old new kept cache moved.opened faults_stay;
         }
 
     module _ (value : List ℕ) (value_fits : is_value (shape_of old) value ≡ true) where
       pub puts : (result : Result (Put × ℕ) PutFault) → ((m : Map) → Holds d old m → PutAnswers (shape_of old) m key value (Holds d new) result) → Replies d old new (command.Put key value) (put_reply result) →
-          PutFaults result (faults_of d old) (faults_of d new) → Ticks d old new (put_bound (levels_of old)) (answer_of of_put result) → Puts d old new key value (answer_of of_put result)
-      puts (Ok answer) answers given faults ticks =
+          PutFaults result (faults_of d old) (faults_of d new) → Ticks d old new (put_bound (levels_of old)) (answer_of of_put result) → Spends d old new (put_bound (levels_of old)) (answer_of of_put result) → Puts d old new key value (answer_of of_put result)
+      puts (Ok answer) answers given faults ticks spends =
           let moved = put-moved d.bytes d.counts old.store new.store key value _ given.0 in
           record {
             given = given;
@@ -353,10 +378,11 @@ module _ {D : Type 0} (d : device.Ghosts D) where
             cause = tt;
             one_step = moved.steps;
             ticks = ticks;
+            spends = spends;
             blocks = given.1;
             stays = stays-of old new kept cache moved.opened faults_stay;
           }
-      puts (Err f) answers given faults ticks =
+      puts (Err f) answers given faults ticks spends =
           let moved = put-moved d.bytes d.counts old.store new.store key value _ given.0 in
           record {
             given = put-given old new (command.Put key value) f given;
@@ -371,13 +397,14 @@ module _ {D : Type 0} (d : device.Ghosts D) where
                 (λ e. put-worn d.bytes d.counts old.store new.store key value (subst (λ (g : PutFault). Replies d old new (command.Put key value) (put_refused g)) e given).0) faults;
             one_step = moved.steps;
             ticks = ticks;
+            spends = spends;
             blocks = given.1;
             stays = stays-of old new kept cache moved.opened faults_stay;
           }
 
       pub puts-if : (seen : ℕ) (result : Result (PutIf × ℕ) PutFault) → ((m : Map) → Holds d old m → PutIfAnswers (shape_of old) m key seen value (Holds d new) result) → Replies d old new (command.PutIf key seen value) (put_if_reply result) →
-          PutFaults result (faults_of d old) (faults_of d new) → Ticks d old new (put_bound (levels_of old)) (answer_of of_put result) → PutsIf d old new key seen value (answer_of of_put result)
-      puts-if seen (Ok answer) answers given faults ticks =
+          PutFaults result (faults_of d old) (faults_of d new) → Ticks d old new (put_bound (levels_of old)) (answer_of of_put result) → Spends d old new (put_bound (levels_of old)) (answer_of of_put result) → PutsIf d old new key seen value (answer_of of_put result)
+      puts-if seen (Ok answer) answers given faults ticks spends =
           let moved = put-if-moved d.bytes d.counts old.store new.store key seen value _ given.0 in
           record {
             given = given;
@@ -390,10 +417,11 @@ module _ {D : Type 0} (d : device.Ghosts D) where
             cause = tt;
             one_step = moved.steps;
             ticks = ticks;
+            spends = spends;
             blocks = given.1;
             stays = stays-of old new kept cache moved.opened faults_stay;
           }
-      puts-if seen (Err f) answers given faults ticks =
+      puts-if seen (Err f) answers given faults ticks spends =
           let moved = put-if-moved d.bytes d.counts old.store new.store key seen value _ given.0 in
           record {
             given = put-given old new (command.PutIf key seen value) f given;
@@ -408,6 +436,7 @@ module _ {D : Type 0} (d : device.Ghosts D) where
                 (λ e. put-if-worn d.bytes d.counts old.store new.store key seen value (subst (λ (g : PutFault). Replies d old new (command.PutIf key seen value) (put_refused g)) e given).0) faults;
             one_step = moved.steps;
             ticks = ticks;
+            spends = spends;
             blocks = given.1;
             stays = stays-of old new kept cache moved.opened faults_stay;
           }

@@ -18,8 +18,9 @@ use Rattle.cola_store.specs.Backward.{RangeBackAnswers, LastAnswers, AsksLast, p
 use Rattle.cola_store.specs.Store as opened
 use Rattle.cola_store.specs.Store.{Stored, kept_of, spent_of}
 use Rattle.cola_store.specs.Walks as walks
-use Rattle.cola_store.specs.Walks.{TurnsWithin, left_of, left_after}
+use Rattle.cola_store.specs.Walks.{TurnsWithin, TicksFew, left_of, left_after}
 use Rattle.cola_store.proofs.Falling.{last-answers}
+use Rattle.cola_store.proofs.Storing.{ticks_then}
 use Rattle.cola_kv.specs.declared.error.Error.{Error}
 use Rattle.cola_kv.specs.declared.error.Error.TheVariants.{KeyLength}
 use Rattle.cola_kv.specs.declared.kv.Kv.{Kv}
@@ -113,12 +114,17 @@ module _ {D : Type 0} (d : device.Ghosts D) where
     last-refused from to read.Device given = given
     last-refused from to (read.BadCell cell) given = given
 
+    -- what is left is not needed
+    few-ticks : {one two : Spent} {left most : ℕ} → TicksFew one two left most → TicksFew one two 0 most
+    few-ticks t = let few = t.few in record { made = t.made; counted = t.counted; few = omega (arith, few) }
+
     -- the walk that is begun at the end, and asked once, turns to no more than a range may
     asked-turns : (one two three : Spent) (left rest most : ℕ) → TurnsWithin one two left most → TurnsWithin two three rest left → TurnsWithin one three 0 most
     asked-turns one two three left rest most first second = record {
       turned_stays = omega (arith, first.turned_stays, second.turned_stays);
       turned_rises = omega (arith, first.turned_rises, second.turned_rises);
       written_is = second.written_is ∙ first.written_is;
+      ticks = few-ticks (ticks_then one two three most left rest first.ticks second.ticks);
     }
 
     asked : (from to : ℕ) (result : Result (Option (List ℕ × List ℕ)) ReadFault) (a : AsksLast d.bytes d.counts old.store result new.store from to) → TurnsFew d old new 0 (range_bound (levels_of old))

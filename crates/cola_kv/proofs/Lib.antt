@@ -6,3 +6,6 @@ pub mod Carried
 pub mod Ranging
 pub mod Openings
 pub mod Falling
+pub mod Beginning
+pub mod Prefixed
+mod Worked

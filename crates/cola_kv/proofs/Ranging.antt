@@ -1,6 +1,7 @@
 -- What a range of a store as a table says, as the records of a range of an open store.
 use Rattle.std.proofs.Common.{◌≡◌, ◌⊎◌, inl, inr, ℕ, ◌<◌, ◌≤◌, true, false, List, Option, Some, None, Result, Ok, Err, refl, sym, ap, subst, arith}
 use Rattle.std.specs.Option.{IsSomeAnd}
+use Rattle.std.specs.Result.{IsErrAnd}
 use Rattle.std.specs.Prelude.{IfSome, IfOk, OnErr, OnSome}
 use Rattle.cola_cell.specs.declared.fault.ReadFault.{ReadFault}
 use Rattle.cola_cell.specs.declared.fault.ReadFault.TheVariants as read
@@ -45,9 +46,9 @@ left-few old new left most turns = omega (arith, turns.turned_stays, turns.turne
 
 -- nothing was turned to
 pub no-turns : (spent : Spent) (most : ℕ) → TurnsWithin spent spent 0 most
-no-turns spent most = record { turned_stays = omega arith; turned_rises = omega arith; written_is = refl }
+no-turns spent most = record { turned_stays = omega arith; turned_rises = omega arith; written_is = refl; ticks = record { made = 0; counted = omega arith; few = omega arith } }
 
-both-fit : (shape : Shape) (low : List ℕ) (high : Option (List ℕ)) → is_key shape low ≡ true → IfSome high (λ key. is_key shape key ≡ true) → (is_key shape low ≡ false) ⊎ IsSomeAnd high (λ key. is_key shape key ≡ false) → ⊥
+pub both-fit : (shape : Shape) (low : List ℕ) (high : Option (List ℕ)) → is_key shape low ≡ true → IfSome high (λ key. is_key shape key ≡ true) → (is_key shape low ≡ false) ⊎ IsSomeAnd high (λ key. is_key shape key ≡ false) → ⊥
 both-fit shape low high fits highs (inl short) = differ (is_key shape low) fits short
 both-fit shape low None fits highs (inr short) = short
 both-fit shape low (Some key) fits highs (inr short) = differ (is_key shape key) highs short
@@ -70,6 +71,10 @@ module _ {D : Type 0} (d : device.Ghosts D) where
     no_ticks = refl;
     stays = stays-same d kv;
   })
+
+  pub nexts-err : (old new : Kv D d) (walk after : Cursor) (result : Result (Option (List ℕ × List ℕ)) Error) (error : Error) → IsErrAnd result (λ e. e ≡ error) → Nexts d old new walk after (Err error) → Nexts d old new walk after result
+  nexts-err old new walk after (Ok pair) error so is = absurd so
+  nexts-err old new walk after (Err e) error so is = subst (λ (x : Error). Nexts d old new walk after (Err x)) (sym so) is
 
   module _ (old new : Kv D d) (cache : new.cache ≡ old.cache) (ticks : new.ticks ≡ old.ticks) (kept : kept_of d.bytes d.counts d.kept new.store ≡ kept_of d.bytes d.counts d.kept old.store)
       (faults_stay : faults_of d old ≤ faults_of d new) where

@@ -61,6 +61,15 @@ module _ {D : Type 0} (d : device.Ghosts D) (old new : Kv D d) where
   Ticks most (Ok answer) = new.ticks ≤ most
   Ticks most (Err error) = new.ticks ≡ old.ticks
 
+  -- the store counts so many ticks more
+  abbrev pub Ticked : ℕ → Type 0
+  Ticked ticks = store.Ticked d.bytes d.counts old.store new.store ticks
+
+  -- those that an answered call tells are the ones that it made; a refused one makes at most so many
+  abbrev pub Spends : {A : Type 0} → ℕ → Result A Error → Type 0
+  Spends most (Ok answer) = Ticked new.ticks
+  Spends most (Err error) = (ticks : ℕ) × (ticks ≤ most) × Ticked ticks
+
   -- a search reads two blocks for each level at most, and one where the store holds a map; none is written
   pub record ReadsFew : Type 0 where
     pub most : ReadsBy d.bytes d.counts old.store new.store (2 * levels_of old)
@@ -81,6 +90,7 @@ module _ {D : Type 0} (d : device.Ghosts D) (old new : Kv D d) where
       pub cause : IfErr result (ReadCause (shape_of old) key (faults_of d old) (faults_of d new))
       pub no_step : steps_of new ≡ steps_of old
       pub ticks : Ticks (get_bound (levels_of old)) result
+      pub spends : Spends (get_bound (levels_of old)) result
       pub blocks : ReadsFew
       pub stays : Stays d old new
 
@@ -94,6 +104,7 @@ module _ {D : Type 0} (d : device.Ghosts D) (old new : Kv D d) where
       pub cause : IfErr result (ReadCause (shape_of old) key (faults_of d old) (faults_of d new))
       pub no_step : steps_of new ≡ steps_of old
       pub ticks : Ticks (get_bound (levels_of old)) result
+      pub spends : Spends (get_bound (levels_of old)) result
       pub blocks : ReadsFew
       pub stays : Stays d old new
 
@@ -108,6 +119,7 @@ module _ {D : Type 0} (d : device.Ghosts D) (old new : Kv D d) where
       pub cause : IfErr result (DeleteCause (shape_of old) key (faults_of d old) (faults_of d new))
       pub one_step : steps_of new ≤ steps_of old + 1
       pub ticks : Ticks (put_bound (levels_of old)) result
+      pub spends : Spends (put_bound (levels_of old)) result
       pub blocks : TransfersFew
       pub stays : Stays d old new
 
@@ -128,6 +140,7 @@ module _ {D : Type 0} (d : device.Ghosts D) (old new : Kv D d) where
           (PutCause (shape_of old) old.store.count old.store.last key value (faults_of d old) (faults_of d new))
       pub one_step : steps_of new ≤ steps_of old + 1
       pub ticks : Ticks (put_bound (levels_of old)) result
+      pub spends : Spends (put_bound (levels_of old)) result
       pub blocks : TransfersFew
       pub stays : Stays d old new
 
@@ -148,5 +161,6 @@ module _ {D : Type 0} (d : device.Ghosts D) (old new : Kv D d) where
           (PutCause (shape_of old) old.store.count old.store.last key value (faults_of d old) (faults_of d new))
       pub one_step : steps_of new ≤ steps_of old + 1
       pub ticks : Ticks (put_bound (levels_of old)) result
+      pub spends : Spends (put_bound (levels_of old)) result
       pub blocks : TransfersFew
       pub stays : Stays d old new

@@ -8,3 +8,4 @@ pub mod Ranged
 pub mod Iterated
 pub mod Backward
 pub mod Told
+pub mod Prefix

@@ -39,7 +39,7 @@ left_behind walk (Ok answer) = walks.left_of walk
 left_behind walk (Err error) = 0
 
 module _ {D : Type 0} (d : device.Ghosts D) (old new : Kv D d) where
-  -- the blocks that were read, and those that are left to read, within a number; none is written
+  -- the blocks that were read and the ticks that were made, and what is left of each, within a number; none is written
   abbrev pub TurnsFew : (left most : ℕ) → Type 0
   TurnsFew left most = walks.TurnsBy d.bytes d.counts old.store new.store left most
 

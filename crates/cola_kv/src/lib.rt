@@ -12,6 +12,7 @@ mod list;
 mod listed;
 mod opened;
 mod options;
+mod prefix;
 mod range;
 mod told;
 
@@ -23,5 +24,6 @@ pub use kv::{Kv, Unfinished};
 pub use list::{Answer, Call};
 pub use opened::create;
 pub use options::Options;
+pub use prefix::{prefix_end, prefixes_are_intervals};
 pub use range::Range;
 pub use told::Info;

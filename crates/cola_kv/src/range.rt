@@ -24,7 +24,7 @@ pub struct Range<'a, D: Device> {
 }
 
 /// Begins a range on a ledger that the blank opens.
-fn range_on<D: Device, L: Ledger>(
+pub(crate) fn range_on<D: Device, L: Ledger>(
     blank: Blank,
     kv: &mut Kv<D>,
     low: &[u8],

@@ -1,5 +1,5 @@
 pub mod Order
 pub mod Entries
 pub mod LivePairs
-pub mod Steps
+pub mod Onward
 mod Worked

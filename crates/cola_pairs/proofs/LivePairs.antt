@@ -1,8 +1,8 @@
 -- What the live pairs have of a key, and what they are of a sorted list and of runs from a key on.
 use Rattle.std.proofs.Common.{◌≡◌, suc, Bool, true, false, cond, ◌&&◌, T, List, [], ◌∷◌, ◌++◌, refl, sym, ap, ◌∙◌, Less, Ordering, filter, drop, None, Option}
 use Rattle.std.proofs.lemmas.List.Elements.{filter-append}
-use Rattle.std.specs.Ordering.{is_lt, is_le, is_eq, ordering_then, ordering_reverse, bool_cmp}
-use Rattle.std.specs.Cmp.{IsTotalOrder}
+use Rattle.std.specs.Ordering.{is_lt, is_le, ordering_then, ordering_reverse, bool_cmp}
+use Rattle.std.specs.Cmp.{IsTotalOrder, tied_back}
 use Rattle.std.specs.FinMap.{find, is_sorted, IsAntisymmetric}
 use Rattle.std.specs.FinMap.Entries.{find-where_key, is_sorted-where_key, same_entries}
 use Rattle.std.specs.List.{AllByRecursion}
@@ -11,7 +11,8 @@ use Rattle.cola_runs.specs.Cells.{Cell, Entry, Look, key_of, is_look, place_cmp,
 use Rattle.cola_runs.specs.Seen.{answer, value_of}
 use Rattle.cola_runs.specs.Search.{place}
 use Rattle.cola_pairs.specs.Live.{items, entries, values, placed, live, rests_from, between, below_end, KeepsTies}
-use Rattle.cola_pairs.proofs.Order.{by_bool, by_ordering, not_below_on, not_below_after, all_change}
+use Rattle.cola_pairs.specs.Walk.{KeysOnward}
+use Rattle.cola_pairs.proofs.Order.{by_bool, by_ordering, turned_less, not_below_then, all_change}
 use Rattle.cola_pairs.proofs.Entries.{find_entries, find_placed, find_values, sorted_placed, sorted_values}
 
 module _ {K V : Type 0} {cmp : K → K → Ordering} (o : IsTotalOrder cmp) (within : K → Bool) (runs : List (List (Cell K V))) where
@@ -38,20 +39,27 @@ module _ {K V : Type 0} {cmp : K → K → Ordering} (o : IsTotalOrder cmp) (wit
       (λ q. find-where_key cmp within q (λ x e. ap within (sym (same q x e))) es ∙ ap (λ x. cond (within q) x None) (finds q) ∙ sym (live_find (keeps_ties same) q))
 
 module _ {K V : Type 0} {cmp : K → K → Ordering} (o : IsTotalOrder cmp) where
-  -- a cell that is not below q, and one behind it
-  key_not_below : (q : K) (c d : Cell K V) → is_lt (cmp (key_of c) q) ≡ false → place_cmp cmp c d ≡ Less → is_lt (cmp (key_of d) q) ≡ false
-  key_not_below q c d e p =
-      by_ordering (λ r. cmp (key_of c) (key_of d) ≡ r → ordering_then r (bool_cmp (is_look c) (is_look d)) ≡ Less → is_lt (cmp (key_of d) q) ≡ false)
-      (λ f g. not_below_after o (key_of c) (key_of d) q e f)
-      (λ f g. not_below_on o (key_of c) (key_of d) q e (ap is_eq f))
+  -- a cell that stands before another has no key above that
+  pub place_keys : (c d : Cell K V) → place_cmp cmp c d ≡ Less → is_lt (cmp (key_of d) (key_of c)) ≡ false
+  place_keys c d p =
+      by_ordering (λ r. cmp (key_of c) (key_of d) ≡ r → ordering_then r (bool_cmp (is_look c) (is_look d)) ≡ Less → is_lt (cmp (key_of d) (key_of c)) ≡ false)
+      (λ f g. ap is_lt (turned_less o (key_of c) (key_of d) f))
+      (λ f g. ap is_lt (tied_back o (key_of c) (key_of d) f))
       (λ f g. cc)
       (cmp (key_of c) (key_of d)) refl p
 
-  -- in a run whose first key is not below q none is
-  pub none_below : (q : K) (c : Cell K V) (cells : List (Cell K V)) → is_lt (cmp (key_of c) q) ≡ false → IsRising cmp (c ∷ cells) →
-      AllByRecursion (λ d. is_lt (cmp (key_of d) q) ≡ false) (c ∷ cells)
+  pub rising_onward : (run : List (Cell K V)) → IsRising cmp run → KeysOnward cmp run
   unfolding IsStrictlySortedBy
-  none_below q c cells e h = (e, all_change (λ d p. key_not_below q c d e p) cells h.0)
+  rising_onward [] h = tt
+  rising_onward (c ∷ cells) h = (all_change (λ d p. place_keys c d p) cells h.0, rising_onward cells h.1)
+
+  pub all_rising_onward : (runs : List (List (Cell K V))) → AllByRecursion (IsRising cmp) runs → AllByRecursion (KeysOnward cmp) runs
+  all_rising_onward = all_change rising_onward
+
+  -- in a run whose first key is not below q none is
+  pub none_below : (q : K) (c : Cell K V) (cells : List (Cell K V)) → is_lt (cmp (key_of c) q) ≡ false → KeysOnward cmp (c ∷ cells) →
+      AllByRecursion (λ d. is_lt (cmp (key_of d) q) ≡ false) (c ∷ cells)
+  none_below q c cells e h = (e, all_change (λ d p. not_below_then o (key_of c) (key_of d) q p e) cells h.0)
 
 module _ {K : Type 0} {cmp : K → K → Ordering} (o : IsTotalOrder cmp) where
   from_lower : (lo x : K) → is_lt (cmp x lo) ≡ false → is_le (cmp lo x) ≡ true
@@ -74,9 +82,8 @@ module _ {K V : Type 0} {cmp : K → K → Ordering} (o : IsTotalOrder cmp) (lo 
       ap (λ b. cond (b && below_end cmp hi k) ((k, i) ∷ filter (λ e. between cmp lo hi e.0) (items cells)) (filter (λ e. between cmp lo hi e.0) (items cells))) (from_lower o lo k h.0)
       ∙ ap (λ es. cond (below_end cmp hi k) ((k, i) ∷ es) es) (all_from cells h.1)
 
-  run_from : (run : List (Cell K V)) → IsRising cmp run →
+  run_from : (run : List (Cell K V)) → KeysOnward cmp run →
       filter (λ e. between cmp lo hi e.0) (items run) ≡ filter (λ e. below_end cmp hi e.0) (items (drop (place cmp lo run) run))
-  unfolding IsStrictlySortedBy
   run_from [] h = refl
   run_from (Look k l ∷ cells) h =
       by_bool (λ b. is_lt (cmp k lo) ≡ b → filter (λ e. between cmp lo hi e.0) (items cells) ≡ filter (λ e. below_end cmp hi e.0) (items (drop (cond b (suc (place cmp lo cells)) 0) (Look k l ∷ cells))))
@@ -89,7 +96,7 @@ module _ {K V : Type 0} {cmp : K → K → Ordering} (o : IsTotalOrder cmp) (lo 
       (λ e. all_from (Entry k i y l ∷ cells) (none_below o lo (Entry k i y l) cells e h))
       (is_lt (cmp k lo)) refl
 
-  entries_from : (runs : List (List (Cell K V))) → AllByRecursion (IsRising cmp) runs →
+  entries_from : (runs : List (List (Cell K V))) → AllByRecursion (KeysOnward cmp) runs →
       filter (λ e. between cmp lo hi e.0) (entries runs) ≡ filter (λ e. below_end cmp hi e.0) (entries (rests_from cmp lo runs))
   entries_from [] h = refl
   entries_from (run ∷ runs) h =
@@ -101,4 +108,4 @@ module _ {K V : Type 0} {cmp : K → K → Ordering} (o : IsTotalOrder cmp) (lo 
   pub live_from : (runs : List (List (Cell K V))) → AllByRecursion (IsRising cmp) runs →
       live cmp (between cmp lo hi) runs ≡ live cmp (below_end cmp hi) (rests_from cmp lo runs)
   unfolding live
-  live_from runs h = ap (λ es. values (placed cmp es)) (entries_from runs h)
+  live_from runs h = ap (λ es. values (placed cmp es)) (entries_from runs (all_rising_onward o runs h))

@@ -1,7 +1,7 @@
 -- Orders and tests.
 use Rattle.std.proofs.Common.{◌≡◌, Bool, true, false, ◌&&◌, T, refl, sym, ap, ◌∙◌, Less, Equal, Greater, Ordering, List, [], ◌∷◌}
 use Rattle.std.specs.Ordering.{ordering_reverse, is_lt, is_eq}
-use Rattle.std.specs.Cmp.{IsTotalOrder, alike_right}
+use Rattle.std.specs.Cmp.{IsTotalOrder, tied_itself, alike_right}
 use Rattle.std.specs.List.{AllByRecursion}
 
 pub by_bool : (P : Bool → Type 0) → P true → P false → (b : Bool) → P b
@@ -49,12 +49,6 @@ is_less Less e = refl
 is_less Equal e = cc
 is_less Greater e = cc
 
--- not below and not beside is above
-pub above : (r : Ordering) → is_lt r ≡ false → is_eq r ≡ false → r ≡ Greater
-above Less e f = cc
-above Equal e f = cc
-above Greater e f = refl
-
 module _ {X : Type 0} {P : X → Type 0} where
   pub all_change : {Q : X → Type 0} → ((x : X) → P x → Q x) → (xs : List X) → AllByRecursion P xs → AllByRecursion Q xs
   all_change f [] h = tt
@@ -67,13 +61,30 @@ module _ {K : Type 0} {cmp : K → K → Ordering} (o : IsTotalOrder cmp) where
   pub turned_less : (x y : K) → cmp x y ≡ Less → cmp y x ≡ Greater
   turned_less x y e = o.antisymm y x ∙ ap ordering_reverse e
 
-  -- not below x, and not above y
-  pub not_below_on : (x y k : K) → is_lt (cmp x k) ≡ false → is_eq (cmp x y) ≡ true → is_lt (cmp y k) ≡ false
-  not_below_on x y k e f = ap is_lt (sym (o.congr x y k (equal _ f))) ∙ e
+  -- not below k and not beside it is above
+  pub above_head : (k x : K) → is_lt (cmp x k) ≡ false → is_eq (cmp k x) ≡ false → cmp k x ≡ Less
+  above_head k x e f =
+      by_ordering (λ r. cmp k x ≡ r → r ≡ Less) (λ g. refl) (λ g. let h = ap is_eq g in absurd (cc)) (λ g. let h = ap is_lt (turned_greater k x g) in absurd (cc)) (cmp k x) refl
 
-  pub not_below_after : (x y k : K) → is_lt (cmp x k) ≡ false → cmp x y ≡ Less → is_lt (cmp y k) ≡ false
-  not_below_after x y k e f =
-      by_bool (λ b. is_lt (cmp y k) ≡ b → b ≡ false) (λ g. let h = o.trans x y k f (is_less _ g) in let i = ap is_lt h in cc) (λ g. refl) (is_lt (cmp y k)) refl
+  -- y is not below x, and x not below z
+  pub not_below_then : (x y z : K) → is_lt (cmp y x) ≡ false → is_lt (cmp x z) ≡ false → is_lt (cmp y z) ≡ false
+  not_below_then x y z e f =
+      by_ordering (λ r. cmp x y ≡ r → is_lt (cmp y z) ≡ false)
+      (λ g. by_bool (λ b. is_lt (cmp y z) ≡ b → b ≡ false) (λ h. let i = ap is_lt (o.trans x y z g (is_less _ h)) in cc) (λ h. refl) (is_lt (cmp y z)) refl)
+      (λ g. ap is_lt (sym (o.congr x y z g)) ∙ f)
+      (λ g. let h = ap is_lt (turned_greater x y g) in absurd (cc))
+      (cmp x y) refl
+
+  pub less_then : (k x y : K) → cmp k x ≡ Less → is_lt (cmp y x) ≡ false → cmp k y ≡ Less
+  less_then k x y e f =
+      by_ordering (λ r. cmp x y ≡ r → cmp k y ≡ Less)
+      (λ g. o.trans k x y e g)
+      (λ g. sym (alike_right o x y k g) ∙ e)
+      (λ g. let h = ap is_lt (turned_greater x y g) in absurd (cc))
+      (cmp x y) refl
+
+  pub not_below_itself : (k : K) → cmp k k ≡ Less → ⊥
+  not_below_itself k l = let h = ap is_lt l in let i = ap is_lt (tied_itself o k) in cc
 
   -- a key that ties with one ties with what that ties with
   pub tied_alike : (q k x : K) → is_eq (cmp k x) ≡ true → is_eq (cmp q x) ≡ is_eq (cmp q k)

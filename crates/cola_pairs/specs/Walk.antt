@@ -1,5 +1,5 @@
--- A walk over the rests of a list of runs, key by key.
-use Rattle.std.specs.Prelude.{◌≡◌, false, cond, List, [], ◌∷◌, map, ⊤, IsTrue}
+-- A walk over the rests of a list of runs, key by key, in any order of keys.
+use Rattle.std.specs.Prelude.{◌≡◌, Bool, false, cond, List, [], ◌∷◌, map, ⊤, IsTrue}
 use Rattle.std.specs.declared.cmp.Ordering.{Ordering}
 use Rattle.std.specs.Ordering.{is_lt, is_eq}
 use Rattle.std.specs.declared.option.Option.{Option}
@@ -10,13 +10,27 @@ use Rattle.cola_runs.specs.Cells.{Item, Cell, Entry, Look, key_of}
 use Rattle.cola_runs.specs.Seen.{answer}
 use Rattle.cola_pairs.specs.Live.{with_answer, below_end}
 
+module _ {K : Type 0} (cmp : K → K → Ordering) where
+  -- behind a key that does not lie within none does
+  abbrev pub Closes : (K → Bool) → Type 0
+  Closes within = (x y : K) → within x ≡ false → is_lt (cmp y x) ≡ false → within y ≡ false
+
 module _ {K V : Type 0} where
   -- where a run has a first cell, this holds of its key
   abbrev pub AtHead : (K → Type 0) → List (Cell K V) → Type 0
   AtHead P [] = ⊤
   AtHead P (c ∷ cells) = P (key_of c)
 
+  -- no run begins with a key that lies within
+  abbrev pub HeadsOut : (K → Bool) → List (List (Cell K V)) → Type 0
+  HeadsOut within = AllByRecursion (AtHead (λ h. within h ≡ false))
+
 module _ {K V : Type 0} (cmp : K → K → Ordering) where
+  -- no key is below one before it
+  abbrev pub KeysOnward : List (Cell K V) → Type 0
+  KeysOnward [] = ⊤
+  KeysOnward (c ∷ cells) = AllByRecursion (λ d. is_lt (cmp (key_of d) (key_of c)) ≡ false) cells × KeysOnward cells
+
   -- the run without the cells at its front that have this key
   abbrev pub pass_key : K → List (Cell K V) → List (Cell K V)
   pass_key k [] = []
@@ -41,14 +55,18 @@ module _ {K V : Type 0} (cmp : K → K → Ordering) where
   abbrev pub HeadsFrom : K → List (List (Cell K V)) → Type 0
   HeadsFrom k = AllByRecursion (AtHead (λ h. is_lt (cmp h k) ≡ false))
 
+  -- a walk gives these pairs: it ends where no run begins within; else it takes a key within below which no run begins,
+  -- gives what the runs have of it, and goes on behind its cells
+  pub data WalksWithin (within : K → Bool) : List (List (Cell K V)) → List (K × V) → Type 0 where
+    Ends : {rests : List (List (Cell K V))} → HeadsOut within rests → WalksWithin within rests []
+    Takes : {rests : List (List (Cell K V))} {left : List (K × V)} {pairs : List (K × V)} (k : K) →
+        IsTrue (within k) → HeadsFrom k rests → WalksWithin within (pass_keys k rests) left →
+        pairs ≡ with_answer k (answer cmp k rests) left → WalksWithin within rests pairs
+
   -- no run begins with a key below the upper end
   abbrev pub HeadsPast : Option K → List (List (Cell K V)) → Type 0
-  HeadsPast hi = AllByRecursion (AtHead (λ h. below_end cmp hi h ≡ false))
+  HeadsPast hi = HeadsOut (below_end cmp hi)
 
-  -- a walk below the upper end gives these pairs: it ends where no run begins below the upper end; else it takes a key that
-  -- lies below it and below which no run begins, gives what the runs have of the key, and goes on behind its cells
-  pub data Walks (hi : Option K) : List (List (Cell K V)) → List (K × V) → Type 0 where
-    Ends : {rests : List (List (Cell K V))} → HeadsPast hi rests → Walks hi rests []
-    Takes : {rests : List (List (Cell K V))} {left : List (K × V)} {pairs : List (K × V)} (k : K) →
-        IsTrue (below_end cmp hi k) → HeadsFrom k rests → Walks hi (pass_keys k rests) left →
-        pairs ≡ with_answer k (answer cmp k rests) left → Walks hi rests pairs
+  -- a walk below the upper end, where there is one
+  abbrev pub Walks : Option K → List (List (Cell K V)) → List (K × V) → Type 0
+  Walks hi = WalksWithin (below_end cmp hi)

@@ -21,7 +21,7 @@ after_both : (shape : Shape) (m : Map) (calls more : List Logged) → after_all 
 after_both shape m [] more = refl
 after_both shape m (it ∷ calls) more = after_both shape (after shape m it) calls more
 
-still_comes : (stage : Stage) (coming : Option Contents) (c : Contents) → coming_after stage coming ≡ Some c → coming ≡ Some c
+pub still_comes : (stage : Stage) (coming : Option Contents) (c : Contents) → coming_after stage coming ≡ Some c → coming ≡ Some c
 still_comes Rest coming c is = is
 still_comes Journal coming c is = is
 still_comes JournalSync coming c is = absurd (cc is)

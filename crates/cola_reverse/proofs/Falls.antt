@@ -2,7 +2,7 @@
 use Rattle.std.proofs.Common.{◌≡◌, ℕ, zero, suc, Bool, true, false, cond, List, [], ◌∷◌, ◌++◌, refl, sym, ap, ◌∙◌, Less, Ordering, filter, take, None, Some, Option, ◌&&◌, IsTrue, map, reverse}
 use Rattle.std.proofs.lemmas.List.{reverse-reverse}
 use Rattle.std.proofs.lemmas.List.Elements.{filter-append}
-use Rattle.std.specs.Ordering.{is_lt, is_le, is_eq, flip_args, ordering_reverse}
+use Rattle.std.specs.Ordering.{is_lt, is_le, flip_args, ordering_reverse}
 use Rattle.std.specs.Cmp.{IsTotalOrder, back_total}
 use Rattle.std.specs.FinMap.{IsAntisymmetric}
 use Rattle.std.specs.List.{AllByRecursion}
@@ -11,11 +11,11 @@ use Rattle.cola_runs.specs.Cells.{Cell, Entry, Look, Item, Value, Tombstone, key
 use Rattle.cola_runs.specs.Search.{place}
 use Rattle.cola_runs.specs.Seen.{answer}
 use Rattle.cola_pairs.specs.Live.{items, entries, values, placed, with_answer, live, below_end}
-use Rattle.cola_pairs.specs.Walk.{pass_key, pass_keys, first_passed}
+use Rattle.cola_pairs.specs.Walk.{Closes, KeysOnward, pass_key, pass_keys, first_passed, WalksWithin}
 use Rattle.cola_pairs.proofs.Order.{by_bool, by_ordering}
-use Rattle.cola_pairs.proofs.LivePairs.{none_below}
-use Rattle.cola_reverse.specs.Falling.{KeysOnward, IsFalling, Closes, WalksWithin, front_below, fronts_below, from_low, leave_key, leave_keys, LastsUpTo}
-use Rattle.cola_reverse.proofs.Onward.{live_step, walk_lives, first_is_answer}
+use Rattle.cola_pairs.proofs.LivePairs.{all_rising_onward, none_below}
+use Rattle.cola_pairs.proofs.Onward.{left_keeps, live_step, walk_lives, first_is_answer}
+use Rattle.cola_reverse.specs.Falling.{IsFalling, front_below, fronts_below, from_low, leave_key, leave_keys, LastsUpTo}
 use Rattle.cola_reverse.proofs.Turned.{sorted_reverse, all_map_reverse, reverse_first, falling_onward, live_reverse, answer_reverse}
 
 -- ---- the lower end, from above
@@ -93,8 +93,7 @@ module _ {K V : Type 0} {cmp : K → K → Ordering} (o : IsTotalOrder cmp) wher
         ap (λ b. cond b ((k, i) ∷ filter (inner None) (items cells)) (filter (inner None) (items cells))) (and_true (from_low cmp lo k))
         ∙ ap (λ es. cond (from_low cmp lo k) ((k, i) ∷ es) es) (unbounded cells)
 
-    run_below : (hi : K) (run : List (Cell K V)) → IsRising cmp run → filter (inner (Some hi)) (items run) ≡ filter low (items (take (place cmp hi run) run))
-    unfolding IsStrictlySortedBy
+    run_below : (hi : K) (run : List (Cell K V)) → KeysOnward cmp run → filter (inner (Some hi)) (items run) ≡ filter low (items (take (place cmp hi run) run))
     run_below hi [] h = refl
     run_below hi (Look k l ∷ cells) h =
         by_bool (λ b. is_lt (cmp k hi) ≡ b → filter (inner (Some hi)) (items cells) ≡ filter low (items (take (cond b (suc (place cmp hi cells)) 0) (Look k l ∷ cells))))
@@ -109,11 +108,11 @@ module _ {K V : Type 0} {cmp : K → K → Ordering} (o : IsTotalOrder cmp) wher
         (λ e. none_within hi (Entry k i y l ∷ cells) (none_below o hi (Entry k i y l) cells e h))
         (is_lt (cmp k hi)) refl
 
-    front_items : (hi : Option K) (run : List (Cell K V)) → IsRising cmp run → filter (inner hi) (items run) ≡ filter low (items (front_below cmp hi run))
+    front_items : (hi : Option K) (run : List (Cell K V)) → KeysOnward cmp run → filter (inner hi) (items run) ≡ filter low (items (front_below cmp hi run))
     front_items None run h = unbounded run
     front_items (Some hi) run h = run_below hi run h
 
-    entries_below : (hi : Option K) (runs : List (List (Cell K V))) → AllByRecursion (IsRising cmp) runs → filter (inner hi) (entries runs) ≡ filter low (entries (fronts_below cmp hi runs))
+    entries_below : (hi : Option K) (runs : List (List (Cell K V))) → AllByRecursion (KeysOnward cmp) runs → filter (inner hi) (entries runs) ≡ filter low (entries (fronts_below cmp hi runs))
     entries_below hi [] h = refl
     entries_below hi (run ∷ runs) h =
         filter-append (inner hi) (items run) (entries runs)
@@ -124,7 +123,7 @@ module _ {K V : Type 0} {cmp : K → K → Ordering} (o : IsTotalOrder cmp) wher
     -- the live pairs of an interval are those from its lower end on among the cells below its upper end
     pub live_below_places : (hi : Option K) (runs : List (List (Cell K V))) → AllByRecursion (IsRising cmp) runs → live cmp (λ k. from_low cmp lo k && below_end cmp hi k) runs ≡ live cmp (from_low cmp lo) (fronts_below cmp hi runs)
     unfolding live
-    live_below_places hi runs h = ap (λ es. values (placed cmp es)) (entries_below hi runs h)
+    live_below_places hi runs h = ap (λ es. values (placed cmp es)) (entries_below hi runs (all_rising_onward o runs h))
 
   -- ---- a falling step
 
@@ -133,8 +132,7 @@ module _ {K V : Type 0} {cmp : K → K → Ordering} (o : IsTotalOrder cmp) wher
 
   falling_passed : (k : K) (run : List (Cell K V)) → IsFalling cmp run → IsFalling cmp (pass_key (flip_args cmp) k run)
   unfolding IsStrictlySortedBy
-  falling_passed k [] h = h
-  falling_passed k (c ∷ cells) h = by_bool (λ b. IsStrictlySortedBy (flip_args (place_cmp cmp)) (cond b (pass_key (flip_args cmp) k cells) (c ∷ cells))) (falling_passed k cells h.1) h (is_eq (cmp (key_of c) k))
+  falling_passed = left_keeps (flip_args cmp) (IsFalling cmp) (λ c cells h. h.1)
 
   rising_left : (k : K) (run : List (Cell K V)) → IsRising cmp run → IsRising cmp (leave_key cmp k run)
   rising_left k run h = sorted_reverse (flip_args (place_cmp cmp)) (pass_key (flip_args cmp) k (reverse run)) (falling_passed k (reverse run) (sorted_reverse (place_cmp cmp) run h))

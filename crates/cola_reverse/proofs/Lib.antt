@@ -1,4 +1,3 @@
-pub mod Onward
 pub mod Turned
 pub mod Falls
 mod Worked

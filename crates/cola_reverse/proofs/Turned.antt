@@ -3,19 +3,20 @@ use Rattle.std.proofs.Common.{◌≡◌, ℕ, Bool, true, false, cond, T, List, 
 use Rattle.std.proofs.lemmas.List.{reverse-reverse}
 use Rattle.std.proofs.lemmas.Grind.{reverse_onto}
 use Rattle.std.specs.Option.{option_or}
-use Rattle.std.specs.Ordering.{is_lt, is_eq, eq_by_cmp, flip_args, ordering_then, bool_cmp}
-use Rattle.std.specs.Cmp.{IsTotalOrder, tied_back, back_total, eq_by_cmp_equiv}
+use Rattle.std.specs.Ordering.{is_lt, is_eq, eq_by_cmp, flip_args, ordering_then}
+use Rattle.std.specs.Cmp.{IsTotalOrder, back_total, eq_by_cmp_equiv}
 use Rattle.std.specs.FinMap.{find, is_sorted, IsAntisymmetric}
 use Rattle.std.specs.FinMap.Entries.{same_entries, below_all}
 use Rattle.std.specs.List.{AllByRecursion}
 use Rattle.std.specs.List.Sorted.{IsStrictlySortedBy}
-use Rattle.cola_runs.specs.Cells.{Cell, Entry, Look, Item, key_of, is_look, place_cmp, IsRising}
+use Rattle.cola_runs.specs.Cells.{Cell, Entry, Look, Item, place_cmp, IsRising}
 use Rattle.cola_runs.specs.Seen.{seen, holds, answer, value_of}
 use Rattle.cola_pairs.specs.Live.{items, live}
-use Rattle.cola_pairs.proofs.Order.{by_ordering, both, first, second, less, equal, passed, turned_less, all_change}
+use Rattle.cola_pairs.proofs.Order.{both, first, second, less, equal, passed, all_change}
 use Rattle.cola_pairs.proofs.Entries.{find_append, find_items}
-use Rattle.cola_pairs.proofs.LivePairs.{live_find, live_rises, keeps_ties}
-use Rattle.cola_reverse.specs.Falling.{KeysOnward, IsFalling}
+use Rattle.cola_pairs.proofs.LivePairs.{place_keys, live_find, live_rises, keeps_ties}
+use Rattle.cola_pairs.specs.Walk.{KeysOnward}
+use Rattle.cola_reverse.specs.Falling.{IsFalling}
 
 -- ---- lists from the other end
 
@@ -134,24 +135,10 @@ module _ {K V : Type 0} where
     sorted_items (Entry x i y l ∷ cells) h = both _ _ (below_items x i y l cells h.0) (sorted_items cells h.1)
 
   module _ {cmp : K → K → Ordering} (o : IsTotalOrder cmp) where
-    -- a cell that stands before another has no key above that
-    place_keys : (c d : Cell K V) → place_cmp cmp c d ≡ Less → is_lt (cmp (key_of d) (key_of c)) ≡ false
-    place_keys c d p =
-        by_ordering (λ r. cmp (key_of c) (key_of d) ≡ r → ordering_then r (bool_cmp (is_look c) (is_look d)) ≡ Less → is_lt (cmp (key_of d) (key_of c)) ≡ false)
-        (λ f g. ap is_lt (turned_less o (key_of c) (key_of d) f))
-        (λ f g. ap is_lt (tied_back o (key_of c) (key_of d) f))
-        (λ f g. cc)
-        (cmp (key_of c) (key_of d)) refl p
-
-    pub rising_onward : (run : List (Cell K V)) → IsRising cmp run → KeysOnward cmp run
-    unfolding IsStrictlySortedBy
-    rising_onward [] h = tt
-    rising_onward (c ∷ cells) h = (all_change (λ d p. place_keys c d p) cells h.0, rising_onward cells h.1)
-
     pub falling_onward : (run : List (Cell K V)) → IsFalling cmp run → KeysOnward (flip_args cmp) run
     unfolding IsStrictlySortedBy
     falling_onward [] h = tt
-    falling_onward (c ∷ cells) h = (all_change (λ d p. place_keys d c p) cells h.0, falling_onward cells h.1)
+    falling_onward (c ∷ cells) h = (all_change (λ d p. place_keys o d c p) cells h.0, falling_onward cells h.1)
 
     seen_reverse : (q : K) (run : List (Cell K V)) → IsRising cmp run → holds (seen (flip_args cmp) q (reverse run)) ≡ holds (seen cmp q run)
     seen_reverse q run h =

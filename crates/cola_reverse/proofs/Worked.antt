@@ -2,7 +2,8 @@
 use Rattle.std.proofs.Common.{◌≡◌, ℕ, true, List, [], ◌∷◌, refl, Some, map, reverse}
 use Rattle.std.specs.Ordering.{nat_cmp, flip_args}
 use Rattle.cola_runs.specs.Cells.{Value, Tombstone, Cell, Entry, Look}
-use Rattle.cola_reverse.specs.Falling.{WalksWithin, Ends, Takes, fronts_below, from_low, leave_keys}
+use Rattle.cola_pairs.specs.Walk.{WalksWithin, Ends, Takes}
+use Rattle.cola_reverse.specs.Falling.{fronts_below, from_low, leave_keys}
 
 abbrev young : ℕ → ℕ → Cell ℕ ℕ
 young k v = Entry k (Value v) true 0

@@ -1,24 +1,17 @@
--- A walk over lists of cells in one direction, key by key, and the same walk from the other end.
-use Rattle.std.specs.Prelude.{◌≡◌, false, true, Bool, ◌&&◌, List, [], ◌∷◌, map, filter, take, reverse, ⊤, IsTrue}
+-- The pairs of an interval in falling order, and runs from the other end.
+use Rattle.std.specs.Prelude.{true, Bool, ◌&&◌, List, map, filter, take, reverse}
 use Rattle.std.specs.declared.cmp.Ordering.{Ordering}
 use Rattle.std.specs.Ordering.{is_lt, is_le, flip_args}
 use Rattle.std.specs.declared.option.Option.{Option}
 use Rattle.std.specs.declared.option.Option.TheVariants.{None, Some}
 use Rattle.std.specs.declared.ops.Bound.{Bound}
 use Rattle.std.specs.declared.ops.Bound.TheVariants.{Included, Excluded, Unbounded}
-use Rattle.std.specs.List.{AllByRecursion}
 use Rattle.std.specs.List.Sorted.{IsStrictlySortedBy}
-use Rattle.cola_runs.specs.Cells.{Cell, key_of, place_cmp}
+use Rattle.cola_runs.specs.Cells.{Cell, place_cmp}
 use Rattle.cola_runs.specs.Search.{place}
-use Rattle.cola_runs.specs.Seen.{answer}
-use Rattle.cola_pairs.specs.Live.{with_answer}
-use Rattle.cola_pairs.specs.Walk.{AtHead, pass_key, pass_keys, HeadsFrom}
+use Rattle.cola_pairs.specs.Walk.{pass_key, HeadsFrom}
 
 module _ {K : Type 0} (cmp : K → K → Ordering) where
-  -- behind a key that does not lie within none does
-  abbrev pub Closes : (K → Bool) → Type 0
-  Closes within = (x y : K) → within x ≡ false → is_lt (cmp y x) ≡ false → within y ≡ false
-
   -- a key is the lower end or above it, where there is one
   abbrev pub from_low : Option K → K → Bool
   from_low None k = true
@@ -39,24 +32,9 @@ abbrev pub falling_pairs : {K X : Type 0} → (K → K → Ordering) → Option 
 falling_pairs cmp lo hi pairs = reverse (filter (λ pair. within_bounds cmp lo hi pair.0) pairs)
 
 module _ {K V : Type 0} (cmp : K → K → Ordering) where
-  -- no key is below one before it
-  abbrev pub KeysOnward : List (Cell K V) → Type 0
-  KeysOnward [] = ⊤
-  KeysOnward (c ∷ cells) = AllByRecursion (λ d. is_lt (cmp (key_of d) (key_of c)) ≡ false) cells × KeysOnward cells
-
   -- the cells of a run from its last one on: keys fall, and of one key the lookahead cell stands before the item
   abbrev pub IsFalling : List (Cell K V) → Type 0
   IsFalling = IsStrictlySortedBy (flip_args (place_cmp cmp))
-
-  -- no run begins with a key that lies within
-  abbrev pub HeadsOut : (K → Bool) → List (List (Cell K V)) → Type 0
-  HeadsOut within = AllByRecursion (AtHead (λ h. within h ≡ false))
-
-  -- a walk gives these pairs: it ends where no run begins within; else it takes a key within below which no run begins, gives what the runs have of it, and goes on behind its cells
-  pub data WalksWithin (within : K → Bool) : List (List (Cell K V)) → List (K × V) → Type 0 where
-    Ends : {rests : List (List (Cell K V))} → HeadsOut within rests → WalksWithin within rests []
-    Takes : {rests : List (List (Cell K V))} {left : List (K × V)} {pairs : List (K × V)} (k : K) →
-        IsTrue (within k) → HeadsFrom cmp k rests → WalksWithin within (pass_keys cmp k rests) left → pairs ≡ with_answer k (answer cmp k rests) left → WalksWithin within rests pairs
 
   -- the cells whose keys are below the upper end, where there is one
   abbrev pub front_below : Option K → List (Cell K V) → List (Cell K V)

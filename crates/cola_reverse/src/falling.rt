@@ -8,8 +8,8 @@ ghost use Rattle.std.specs.List.{AllByRecursion};
 ghost use Rattle.cola_runs.specs.Cells.{Cell, IsRising};
 ghost use Rattle.cola_runs.specs.Seen.{answer};
 ghost use Rattle.cola_pairs.specs.Live.{live, with_answer, below_end};
-ghost use Rattle.cola_pairs.specs.Walk.{first_passed};
-ghost use Rattle.cola_reverse.specs.Falling.{WalksWithin, fronts_below, from_low, leave_keys, LastsUpTo};
+ghost use Rattle.cola_pairs.specs.Walk.{first_passed, WalksWithin};
+ghost use Rattle.cola_reverse.specs.Falling.{fronts_below, from_low, leave_keys, LastsUpTo};
 
 /// What one step of a falling walk leaves: where no run ends with a key above `k`, the live pairs are those of the
 /// runs without the cells of `k` at their ends, and last what the runs have of `k`, which is the first item that the

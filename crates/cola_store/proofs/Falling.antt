@@ -34,14 +34,14 @@ use Rattle.cola_store.specs.Store as opened
 use Rattle.cola_store.specs.Store.{Stored, Holds, held_of, spent_of, levels_of}
 use Rattle.cola_store.specs.Walks.{Ahead, Goes, left_of, left_after, pair_of}
 use Rattle.cola_store.specs.Backward.{pairs_back, RangeBackAnswers, LastAnswers, BeginsBack, AsksLast}
-use Rattle.cola_store.proofs.Storing.{same}
+use Rattle.cola_store.proofs.Storing.{same, turns_few}
 use Rattle.cola_table.specs.Answers.{NextAnswers}
 use Rattle.cola_device.specs.declared.counts.Counts.{Counts}
 use Rattle.cola_cell.specs.State.{State}
 use Rattle.cola_chain.specs.Contents as chain
 use Rattle.cola_chain.specs.Contents.{Contents}
 use Rattle.cola_cursor.specs.Lines.{ahead_of}
-use Rattle.cola_store.proofs.Walking.{stored, sorted-stored, find-stored, kept-pair, only-runs}
+use Rattle.cola_store.proofs.Walking.{stored, sorted-stored, find-stored, kept-pair, only-runs, begun-end, begun-way}
 
 map-reverse : {X Y : Type 0} (f : X → Y) (xs : List X) → map f (reverse xs) ≡ reverse (map f xs)
 map-reverse f [] = refl
@@ -123,33 +123,21 @@ last-answers m Ahead Holds (Err fault) took holds = (took.0, holds)
 
 -- ---- how a falling walk begins, on every file
 
-begun-end : (runs : List Run) (low : Option (List ℕ)) (result : Result Cursor ReadFault) → IfOk result (λ walk. (runs_of walk.lines.items ≡ runs) × (walk.end ≡ low) × (walk.falls ≡ true)) → IfOk result (λ walk. walk.end ≡ low)
-begun-end runs low (Ok walk) begins = begins.1
-begun-end runs low (Err fault) begins = tt
-
-begun-way : (runs : List Run) (low : Option (List ℕ)) (result : Result Cursor ReadFault) → IfOk result (λ walk. (runs_of walk.lines.items ≡ runs) × (walk.end ≡ low) × (walk.falls ≡ true)) → IfOk result (λ walk. walk.falls ≡ true)
-begun-way runs low (Ok walk) begins = begins.2
-begun-way runs low (Err fault) begins = tt
-
 module _ {D K : Type 0} (bytes : D → Option (List ℕ)) (counts : D → Counts) (kept : D → K) where
   pub back-given : (store : Stored D) (now : Contents D) (low : Option (List ℕ)) (high : Bound (List ℕ)) (runs : List Run) (ticks ticks' : ℕ) (result : Result Cursor ReadFault) → runs ≡ opened.runs_of store →
       chain.held_of bytes now ≡ held_of bytes store → chain.kept_of bytes counts kept now ≡ chain.kept_of bytes counts kept store.chain →
       SeekBackGives runs low high (record { held = held_of bytes store; spent = spent_of counts store }) (record { held = chain.held_of bytes now; spent = chain.spent_of counts now }) ticks ticks' result →
       BeginsBack bytes counts store low high result (record { chain = now; count = store.count; last = store.last; account = store.account })
   back-given store now low high runs ticks ticks' result visible held_is kept_is seeks =
-      let costs = seeks.reading.costs in
-      let left : ticks' + left_sought result ≤ ticks + range_ticks (levels_of store) = seeks.left in
-      let steps = costs.steps_stay in
-      let rises = costs.turned_rises in
       record {
-        ends = begun-end runs low result seeks.begins;
-        way = begun-way runs low result seeks.begins;
+        ends = begun-end runs low true result seeks.begins;
+        way = begun-way runs low true result seeks.begins;
         places = subst (λ (rs : List Run). (lists : List (List LawCell)) → AreRuns (held_of bytes store) rs lists → IfOk result (λ walk. map ahead_of walk.lines.items ≡ places_to high lists)) visible seeks.places;
         exact = subst (λ (rs : List Run). Answers (places_told_to (held_of bytes store) high rs) (λ (walk : Cursor). aheads_of walk.lines) result) visible seeks.exact;
         few = subst (λ (rs : List Run). (chain.spent_of counts now).turned ≤ (spent_of counts store).turned + 2 * length rs) visible seeks.costs.turned_rises;
         unread = λ e. let u = seeks.unread e in (u.0, ap (λ (s : State). s.spent) u.1);
         cause = subst (λ (rs : List Run). IfErr result (RunsCause (held_of bytes store) rs (spent_of counts store).faults (chain.spent_of counts now).faults)) visible seeks.cause;
-        turns = record { turned_stays = costs.turned_stays; turned_rises = omega (arith, left, steps, rises); written_is = costs.written_is };
+        turns = turns_few (spent_of counts store) (chain.spent_of counts now) ticks ticks' (left_sought result) (range_ticks (levels_of store)) seeks.reading.costs seeks.left;
         same = same bytes counts kept store now store.account held_is kept_is;
         account_is = refl;
       }

@@ -1,5 +1,6 @@
 -- A search of a store, a step of its chain, and a call that only reads: what they say of the store, and leave of walks.
 use Rattle.std.proofs.Common.{◌≡◌, ℕ, suc, ◌+◌, ◌-◌, ◌*◌, ◌<◌, ◌≤◌, ◌≢◌, ◌^◌, min, Bool, List, [], ◌∷◌, length, Option, Some, None, Result, Ok, Err, option_map, true, refl, ap, sym, subst, ◌∙◌, arith}
+use Rattle.std.specs.Prelude.{OnOk}
 use Rattle.std.specs.Option.{IsSome}
 use Rattle.std.specs.FinMap as finite
 use Rattle.cola_clock.specs.Clock.{visible_slot}
@@ -18,7 +19,7 @@ use Rattle.cola_cell.specs.Costs.{Costs}
 use Rattle.cola_cell.specs.Format.{stamp_limit}
 use Rattle.cola_cell.specs.Held.{Held, Fixed, LawCell, Stamped, as_item}
 use Rattle.cola_cell.specs.Order.{key_cmp}
-use Rattle.cola_cell.specs.Spent.{Buffer, Search}
+use Rattle.cola_cell.specs.Spent.{Spent, Ticks, Buffer, Search}
 use Rattle.cola_device.specs.declared.counts.Counts.{Counts}
 use Rattle.cola_layout.specs.declared.geometry.Geometry.{Geometry}
 use Rattle.cola_spec.specs.Bounds.{get_bound}
@@ -32,6 +33,8 @@ use Rattle.cola_image.specs.Standing.{found_in}
 use Rattle.cola_look.specs.Outcome.{Found, Answers}
 use Rattle.cola_search.specs.Finds.{Finds}
 use Rattle.cola_cursor.specs.Standing as standing
+use Rattle.cola_cursor.specs.Standing.{with_stamp}
+use Rattle.cola_cursor.specs.declared.cursor.Cursor.{Cursor}
 use Rattle.cola_cursor.specs.declared.line.Line.{Line}
 use Rattle.cola_cursor.proofs.Staying.{stands_stay, ahead_stays}
 use Rattle.cola_level.specs.declared.level.Level.{Level}
@@ -52,7 +55,48 @@ use Rattle.cola_chain.proofs.Account.{paid-stays}
 use Rattle.cola_store.specs.declared.account.Account.{Account}
 use Rattle.cola_store.specs.Store.{Stored, IsStored, IsMadeAfter, HasWritten, Holds, held_of, spent_of, state_of, geometry_of, levels_of, runs_of, terms_of, kept_of}
 use Rattle.cola_store.specs.Calls.{stamped_found, FindsIn, TicksWithin, ReadsWithin, Same, Searches, with_search, with_refusal, value_found, stamp_found}
-use Rattle.cola_store.specs.Walks.{WalksStay}
+use Rattle.cola_store.specs.Walks.{WalksStay, TicksFew, TurnsWithin, left_of, left_after}
+
+-- Ticks
+
+-- the ticks between two counts of a ledger are those that the object counts
+pub ticked_between : (old new : Spent) (before after most : ℕ) → TicksWithin old new before after most → Ticks old.ticked new.ticked (after - before)
+ticked_between old new before after most t = let e = t.ticked_is in let s = t.steps_stay in omega (arith, e, s)
+
+-- the same of a call that reads and leaves some to make, each tick for a block at most
+pub turns_few : (old new : Spent) (before after left most : ℕ) → Costs old new before after (after - before) (after - before) → after + left ≤ before + most → TurnsWithin old new left most
+turns_few old new before after left most c within =
+    let e = c.ticked_is in
+    let s = c.steps_stay in
+    let r = c.turned_rises in
+    record {
+      turned_stays = c.turned_stays;
+      turned_rises = omega (arith, r, s, within);
+      written_is = c.written_is;
+      ticks = record { made = after - before; counted = omega (arith, e, s); few = omega (arith, s, within) };
+    }
+
+-- and of a step on a walk, by its answer
+pub turns_gone : (stamp : ℕ) (walk after : Cursor) (result : Result (Option (List ℕ × List ℕ)) ReadFault) (old new : Spent) (before now : ℕ) → Costs old new before now (now - before) (now - before) →
+    OnOk (with_stamp stamp result) (now + left_of after ≤ before + left_of walk) → now ≤ before + left_of walk → TurnsWithin old new (left_after after result) (left_of walk)
+turns_gone stamp walk after (Ok answer) old new before now c left most = turns_few old new before now (left_of after) (left_of walk) c left
+turns_gone stamp walk after (Err fault) old new before now c left most = turns_few old new before now 0 (left_of walk) c (omega (arith, most))
+
+-- one call behind another
+pub ticks_then : (old mid new : Spent) (most left less : ℕ) → TicksFew old mid left most → TicksFew mid new less left → TicksFew old new less most
+ticks_then old mid new most left less a b =
+    let x = a.counted in
+    let y = b.counted in
+    let z = a.few in
+    let w = b.few in
+    record { made = a.made + b.made; counted = omega (arith, x, y); few = omega (arith, z, w) }
+
+-- where nothing is done none is made
+pub none_made : (spent : Spent) (left : ℕ) → TicksFew spent spent left left
+none_made spent left = record { made = 0; counted = omega arith; few = omega arith }
+
+pub no_tick : (ticked : ℕ) → Ticks ticked ticked 0
+no_tick ticked = omega arith
 
 -- Searches
 

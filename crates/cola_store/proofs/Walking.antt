@@ -1,5 +1,5 @@
 -- Walks over a store: where they begin, what they take, what they may still read, and why they are refused.
-use Rattle.std.proofs.Common.{◌≡◌, ℕ, suc, ◌+◌, ◌<◌, ◌≤◌, ◌^◌, Bool, true, false, cond, ◌&&◌, T, List, [], ◌∷◌, length, map, filter, Option, Some, None, Result, Ok, Err, option_map, refl, ap, sym, subst, ◌∙◌, inl, inr, arith}
+use Rattle.std.proofs.Common.{◌≡◌, ℕ, suc, ◌+◌, ◌*◌, ◌<◌, ◌≤◌, ◌^◌, Bool, true, false, cond, ◌&&◌, T, List, [], ◌∷◌, length, map, filter, Option, Some, None, Result, Ok, Err, option_map, refl, ap, sym, subst, ◌∙◌, inl, inr, arith}
 use Rattle.std.specs.Prelude.{IfOk, IfErr, OnErr, OnSome}
 use Rattle.std.specs.List.{AllByRecursion}
 use Rattle.std.specs.Ordering.{is_lt, eq_by_cmp}
@@ -25,6 +25,7 @@ use Rattle.cola_shapes.specs.Shapes.{stamped_of}
 use Rattle.cola_image.specs.Standing.{found_in}
 use Rattle.cola_device.specs.declared.counts.Counts.{Counts}
 use Rattle.cola_level.specs.declared.level.Level.{Level}
+use Rattle.cola_look.specs.Outcome.{Answers}
 use Rattle.cola_look.specs.Runs.{AreRuns}
 use Rattle.cola_pairs.specs.Live.{live, between, below_end}
 use Rattle.cola_pairs.proofs.LivePairs.{live_entries}
@@ -32,15 +33,19 @@ use Rattle.cola_cursor.specs.declared.line.Line.{Line}
 use Rattle.cola_cursor.specs.declared.cursor.Cursor.{Cursor}
 use Rattle.cola_cursor.specs.Lines.{LineFits, heads_of, all_left, all_ahead}
 use Rattle.cola_cursor.specs.Results.{LinesCause, HasBadLine}
-use Rattle.cola_cursor.specs.Seeking.{LevelsRise, RunsCause, HasBadRun, range_ticks, left_sought}
+use Rattle.cola_cursor.specs.Giving.{SeekGives}
+use Rattle.cola_cursor.specs.Seeking.{LevelsRise, RunsCause, HasBadRun, places_from, places_of, places_told, range_ticks, left_sought}
 use Rattle.cola_cursor.specs.Standing as standing
 use Rattle.cola_cursor.specs.Standing.{runs_of, TakesNext, LinesPassed, AnyHasValue, IsPassed, none_hidden, answered_key, with_stamp}
 use Rattle.cola_cursor.proofs.Keys.{keys_alike, at_within}
 use Rattle.cola_cursor.specs.Way.{at}
+use Rattle.cola_chain.specs.Contents as chain
+use Rattle.cola_chain.specs.Contents.{Contents}
 use Rattle.cola_chain.specs.Runs.{visible_runs, AreSearched}
 use Rattle.cola_store.specs.Store as opened
 use Rattle.cola_store.specs.Store.{Stored, Holds, held_of, spent_of, levels_of}
-use Rattle.cola_store.specs.Walks.{Stands, Ahead, GoesOn, Stays, Then, TurnsWithin, pair_of, left_of, cells_ahead}
+use Rattle.cola_store.proofs.Storing.{same, turns_few, ticks_then, none_made}
+use Rattle.cola_store.specs.Walks.{Stands, Ahead, Begins, GoesOn, Stays, Then, TurnsWithin, pair_of, left_of, cells_ahead}
 
 -- The visible runs, as a range takes them
 
@@ -261,6 +266,38 @@ module _ {D : Type 0} (bytes : D → Option (List ℕ)) (old new : Stored D) (he
         record { stamped = ahead.stamped; cursor = took; pairs_are = ahead.pairs_are; visible = visible },
       )
 
+-- How a walk begins, on every file
+
+pub begun-end : (runs : List Run) (end : Option (List ℕ)) (falls : Bool) (result : Result Cursor ReadFault) → IfOk result (λ walk. (runs_of walk.lines.items ≡ runs) × (walk.end ≡ end) × (walk.falls ≡ falls)) → IfOk result (λ walk. walk.end ≡ end)
+begun-end runs end falls (Ok walk) begins = begins.1
+begun-end runs end falls (Err fault) begins = tt
+
+pub begun-way : (runs : List Run) (end : Option (List ℕ)) (falls : Bool) (result : Result Cursor ReadFault) → IfOk result (λ walk. (runs_of walk.lines.items ≡ runs) × (walk.end ≡ end) × (walk.falls ≡ falls)) → IfOk result (λ walk. walk.falls ≡ falls)
+begun-way runs end falls (Ok walk) begins = begins.2
+begun-way runs end falls (Err fault) begins = tt
+
+module _ {D K : Type 0} (bytes : D → Option (List ℕ)) (counts : D → Counts) (kept : D → K) where
+  pub range-given : (store : Stored D) (now : Contents D) (low : List ℕ) (high : Option (List ℕ)) (runs : List Run) (ticks ticks' : ℕ) (result : Result Cursor ReadFault) → runs ≡ opened.runs_of store →
+      chain.held_of bytes now ≡ held_of bytes store → chain.kept_of bytes counts kept now ≡ chain.kept_of bytes counts kept store.chain →
+      SeekGives runs low high (record { held = held_of bytes store; spent = spent_of counts store }) (record { held = chain.held_of bytes now; spent = chain.spent_of counts now }) ticks ticks' result →
+      Begins bytes counts store low high result (record { chain = now; count = store.count; last = store.last; account = store.account })
+  range-given store now low high runs ticks ticks' result visible held_is kept_is seeks =
+      record {
+        ends = begun-end runs high false result seeks.begins;
+        way = begun-way runs high false result seeks.begins;
+        places = subst (λ (rs : List Run). (lists : List (List LawCell)) → AreRuns (held_of bytes store) rs lists → IfOk result (λ walk. map (λ line. line.place) walk.lines.items ≡ places_from low 0 lists)) visible seeks.places;
+        exact = subst (λ (rs : List Run). Answers (places_told (held_of bytes store) low 0 rs) (λ (walk : Cursor). places_of walk.lines) result) visible seeks.exact;
+        few = subst (λ (rs : List Run). (chain.spent_of counts now).turned ≤ (spent_of counts store).turned + 2 * length rs) visible seeks.costs.turned_rises;
+        cause = subst (λ (rs : List Run). IfErr result (RunsCause (held_of bytes store) rs (spent_of counts store).faults (chain.spent_of counts now).faults)) visible seeks.cause;
+        turns = turns_few (spent_of counts store) (chain.spent_of counts now) ticks ticks' (left_sought result) (range_ticks (levels_of store)) seeks.reading.costs seeks.left;
+        same = same bytes counts kept store now store.account held_is kept_is;
+        account_is = refl;
+      }
+
+pub gone-cause : (stamp : ℕ) (result : Result (Option (List ℕ × List ℕ)) ReadFault) (Cause : ReadFault → Type 0) → IfErr (with_stamp stamp result) Cause → IfErr result Cause
+gone-cause stamp (Ok answer) Cause cause = tt
+gone-cause stamp (Err fault) Cause cause = cause
+
 -- Calls on a walk, one after another
 
 turns-then : (old mid new : Spent) (most left less : ℕ) → TurnsWithin old mid left most → TurnsWithin mid new less left → TurnsWithin old new less most
@@ -273,11 +310,12 @@ turns-then old mid new most left less a b =
       turned_stays = omega (arith, x, z);
       turned_rises = omega (arith, y, w);
       written_is = b.written_is ∙ a.written_is;
+      ticks = ticks_then old mid new most left less a.ticks b.ticks;
     }
 
 module _ {D : Type 0} (bytes : D → Option (List ℕ)) (counts : D → Counts) where
   goes-on : (mid new : Stored D) (walk last : Cursor) → GoesOn bytes counts mid walk new last → TurnsWithin (spent_of counts mid) (spent_of counts new) (left_of last) (left_of walk)
-  goes-on mid new walk last Stays = record { turned_stays = omega arith; turned_rises = omega arith; written_is = refl }
+  goes-on mid new walk last Stays = record { turned_stays = omega arith; turned_rises = omega arith; written_is = refl; ticks = none_made (spent_of counts mid) (left_of walk) }
   goes-on old new walk last (Then {mid = mid} {after = after} answer goes rest) =
       turns-then (spent_of counts old) (spent_of counts mid) (spent_of counts new) (left_of walk) (left_of after) (left_of last) goes.turns (goes-on mid new after last rest)
 

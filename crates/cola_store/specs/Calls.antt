@@ -11,7 +11,7 @@ use Rattle.cola_cell.specs.declared.fault.StepFault.{StepFault}
 use Rattle.cola_cell.specs.Format.{key_limit}
 use Rattle.cola_cell.specs.Held.{LawCell, Stamped, as_item}
 use Rattle.cola_cell.specs.Order.{key_cmp}
-use Rattle.cola_cell.specs.Spent.{Spent}
+use Rattle.cola_cell.specs.Spent.{Spent, Ticks}
 use Rattle.cola_device.specs.declared.counts.Counts.{Counts}
 use Rattle.cola_spec.specs.Bounds.{put_bound}
 use Rattle.cola_spec.specs.Command.{Command, Put, PutIf, Del, Get, Stamp, Range, Scan, Count, Close, Reopen}
@@ -318,6 +318,10 @@ module _ {D : Type 0} (bytes : D → Option (List ℕ)) (counts : D → Counts) 
   AnswersRequest (Some Close) answer old new = ⊥
   AnswersRequest (Some Reopen) answer old new = ⊥
 
-  -- the same as a turn
+  -- its object counts so many ticks more
+  abbrev pub Ticked : (old new : Stored D) → ℕ → Type 0
+  Ticked old new ticks = Ticks (spent_of counts old).ticked (spent_of counts new).ticked ticks
+
+  -- the same as a turn, in so many ticks
   abbrev pub AnswersTurn : Stored D → Turn → Stored D → Type 0
-  AnswersTurn old turn new = AnswersRequest turn.request turn.answer old new
+  AnswersTurn old turn new = AnswersRequest turn.request turn.answer old new × Ticked old new turn.ticks

@@ -2,7 +2,7 @@
 use Rattle.std.specs.Prelude.{◌≡◌, false, ℕ, ◌+◌, ◌*◌, ◌≤◌, List, length, map, Option, Result, Ok, Err, IfOk, IfErr}
 use Rattle.cola_cell.specs.declared.fault.ReadFault.{ReadFault}
 use Rattle.cola_cell.specs.Held.{LawCell, Stamped}
-use Rattle.cola_cell.specs.Spent.{Spent}
+use Rattle.cola_cell.specs.Spent.{Spent, Ticks}
 use Rattle.cola_device.specs.declared.counts.Counts.{Counts}
 use Rattle.cola_look.specs.Outcome.{Answers}
 use Rattle.cola_look.specs.Runs.{AreRuns}
@@ -27,11 +27,18 @@ left_of walk = all_left walk.lines.items
 abbrev pub cells_ahead : Cursor → ℕ
 cells_ahead walk = all_ahead walk.lines.items
 
--- blocks turned to and left to turn to, at most one for each tick, within a number; none is written
+-- ticks made, as an object counts them, and left to make, within a number
+pub record TicksFew (old new : Spent) (left most : ℕ) : Type 0 where
+  pub made : ℕ
+  pub counted : Ticks old.ticked new.ticked made
+  pub few : made + left ≤ most
+
+-- the same of the blocks turned to, at most one for each tick; none is written
 pub record TurnsWithin (old new : Spent) (left most : ℕ) : Type 0 where
   pub turned_stays : old.turned ≤ new.turned
   pub turned_rises : new.turned + left ≤ old.turned + most
   pub written_is : new.written ≡ old.written
+  pub ticks : TicksFew old new left most
 
 -- what a walk that was refused may still read: nothing is asked of it
 abbrev pub left_after : {A : Type 0} → Cursor → Result A ReadFault → ℕ

@@ -43,6 +43,7 @@ impl<D: Device> Table for Store<D> {
     }
 
     /// The number of its keys.
+    #[tactic(auto, using(crate::proofs::Storing::no_tick))]
     fn count(&self) -> u64 {
         self.keys_now()
     }
@@ -53,6 +54,7 @@ impl<D: Device> Table for Store<D> {
     /// Its step is refused where the device failed; where a cell that a merge reads next is bad; and as overfull, by the
     /// number of a level that works at this clock, or of level 0, where the next run of that level fills its slot and a step
     /// would emit another cell. On a store that stands for a map it is refused by the device alone.
+    #[tactic(auto, using(crate::proofs::Storing::ticked_between))]
     fn put<L: Ledger>(
         &mut self,
         key: &Key,
@@ -68,6 +70,7 @@ impl<D: Device> Table for Store<D> {
 
     /// A put that is made only where the key has the stamp seen, 0 where it is absent. That is tried before the causes of a
     /// put. In format One each stamp is 0. Another stamp leaves the clock, the count, the last number and every cell.
+    #[tactic(auto, using(crate::proofs::Storing::ticked_between))]
     fn put_if<L: Ledger>(
         &mut self,
         key: &Key,
@@ -86,6 +89,7 @@ impl<D: Device> Table for Store<D> {
     /// format are answered none: no step is made, and the clock stays. A delete takes no number. A refusal leaves the count,
     /// the last number and every visible run. Its step is refused where the step of a put is: as overfull by a level that
     /// works at this clock, or by level 0, whose next run fills its slot where a step would emit another cell.
+    #[tactic(auto, using(crate::proofs::Storing::ticked_between))]
     fn delete<L: Ledger>(
         &mut self,
         key: &Key,
@@ -99,6 +103,7 @@ impl<D: Device> Table for Store<D> {
     }
 
     /// The value of the key. It turns to two blocks for each level at most, and to one on a store that stands for a map.
+    #[tactic(auto, using(crate::proofs::Storing::ticked_between))]
     fn get<L: Ledger>(
         &mut self,
         key: &Key,
@@ -112,6 +117,7 @@ impl<D: Device> Table for Store<D> {
     }
 
     /// The stamp of the key: the number of the put that gave its value, and 0 in format One. It costs as much as a get.
+    #[tactic(auto, using(crate::proofs::Storing::ticked_between))]
     fn stamp<L: Ledger>(
         &mut self,
         key: &Key,

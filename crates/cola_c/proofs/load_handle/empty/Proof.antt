@@ -16,7 +16,8 @@ use denote.Steps.{nothing}
 use denote.Triple.Entry.{alive}
 use denote.Triple.Walked.{walk_of}
 use Rattle.std.proofs.raw_atomic.Walks.{proved, leaves}
-use Rattle.cola_c.proofs.LoadValues.{S, owned_val, owned_empty}
+use Rattle.cola_handle.proofs.Values.{owned_val}
+use Rattle.cola_c.proofs.LoadValues.{S, owned_empty}
 use Rattle.cola_c.specs.contracts.load_handle.empty.{ended, clauses}
 use Rattle.cola_c.specs.contracts.load_handle.empty.Key.{name as #self}
 use Rattle.cola_c.proofs.load_handle.empty.Statement.{statement}

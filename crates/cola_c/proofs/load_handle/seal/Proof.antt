@@ -19,8 +19,8 @@ use denote.Triple.Entry.{alive}
 use denote.Triple.Walked.{Stays, stay_dropped, walk_of}
 use Rattle.core.proofs.alloc.Calls.{Goes-blank}
 use Rattle.std.proofs.raw_atomic.Walks.{proved_at, leaves}
-use Rattle.cola_handle.proofs.Values.{both, loose_good, loose_out, Gl, LGl, g}
-use Rattle.cola_c.proofs.LoadValues.{S, owned_val, owned_in}
+use Rattle.cola_handle.proofs.Values.{both, loose_good, loose_out, Gl, LGl, g, owned_val}
+use Rattle.cola_c.proofs.LoadValues.{S, owned_in}
 use Rattle.cola_handle.specs.contracts.loose.Loose as loose
 use Rattle.cola_c.specs.contracts.load_handle.seal.{ended, clauses}
 use Rattle.cola_c.specs.contracts.load_handle.seal.Key.{name as #self}

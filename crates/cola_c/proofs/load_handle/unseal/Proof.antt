@@ -19,8 +19,8 @@ use denote.Triple.Entry.{alive}
 use denote.Triple.Walked.{Stays, stay_dropped, walk_of}
 use Rattle.core.proofs.alloc.Calls.{Goes-blank, handle_tells}
 use Rattle.std.proofs.raw_atomic.Walks.{proved_at, leaves}
-use Rattle.cola_handle.proofs.Values.{both, loose_good, loose_in, Gl, LGl, g, heap}
-use Rattle.cola_c.proofs.LoadValues.{S, owned_val, owned_out, taken}
+use Rattle.cola_handle.proofs.Values.{both, loose_good, loose_in, Gl, LGl, g, heap, owned_val}
+use Rattle.cola_c.proofs.LoadValues.{S, owned_out, taken}
 use Rattle.cola_c.specs.contracts.load_handle.OwnedLoad as owned
 use Rattle.cola_c.specs.contracts.load_handle.unseal.{ended, clauses}
 use Rattle.cola_c.specs.contracts.load_handle.unseal.Key.{name as #self}

@@ -10,27 +10,27 @@ returns-clause-puts g c = λ old new m key value result answers faults ticks tur
     put-kept g.D.Device.bytes g.D.Device.counts (λ s. s.account.calm ≡ old.account.calm) new (put_reply result)
     (step-calm g.D.Device.bytes g.D.Device.counts old.account.calm new (put_reply result)
     (put-not-failed (shape (terms_of old)) m key value (Holds g.D.Device.bytes new) result (spent_of g.D.Device.counts old).faults (spent_of g.D.Device.counts new).faults answers faults calm))
-    old key (λ mid search s. search-calm g.D.Device.bytes g.D.Device.counts old mid key search s) value turn.0
+    old key (λ mid search s. search-calm g.D.Device.bytes g.D.Device.counts old mid key search s) value turn.0.0
 
 pub returns-clause-conditional_puts : goal.returns-clause-conditional_puts
 returns-clause-conditional_puts g c = λ old new m key seen value result answers faults ticks turn calm.
     put-if-kept g.D.Device.bytes g.D.Device.counts (λ s. s.account.calm ≡ old.account.calm) new (put_if_reply result)
     (step-calm g.D.Device.bytes g.D.Device.counts old.account.calm new (put_if_reply result)
     (put-if-not-failed (shape (terms_of old)) m key seen value (Holds g.D.Device.bytes new) result (spent_of g.D.Device.counts old).faults (spent_of g.D.Device.counts new).faults answers faults calm))
-    old key (λ mid search s. search-calm g.D.Device.bytes g.D.Device.counts old mid key search s) seen value turn.0
+    old key (λ mid search s. search-calm g.D.Device.bytes g.D.Device.counts old mid key search s) seen value turn.0.0
 
 pub returns-clause-deletes : goal.returns-clause-deletes
 returns-clause-deletes g c = λ old new m key result answers faults ticks turn calm.
     delete-kept g.D.Device.bytes g.D.Device.counts (λ s. s.account.calm ≡ old.account.calm) new (delete_reply result)
     (step-calm g.D.Device.bytes g.D.Device.counts old.account.calm new (delete_reply result)
     (delete-not-failed m key (Holds g.D.Device.bytes new) result (spent_of g.D.Device.counts old).faults (spent_of g.D.Device.counts new).faults answers faults calm))
-    old key (λ mid search s. search-calm g.D.Device.bytes g.D.Device.counts old mid key search s) turn.0
+    old key (λ mid search s. search-calm g.D.Device.bytes g.D.Device.counts old mid key search s) turn.0.0
 
 pub returns-clause-gets : goal.returns-clause-gets
-returns-clause-gets g c = λ key old new answer ticks turn. search-calm g.D.Device.bytes g.D.Device.counts old new key turn.search turn.searches
+returns-clause-gets g c = λ key old new answer ticks turn. search-calm g.D.Device.bytes g.D.Device.counts old new key turn.0.search turn.0.searches
 
 pub returns-clause-stamps : goal.returns-clause-stamps
-returns-clause-stamps g c = λ key old new answer ticks turn. search-calm g.D.Device.bytes g.D.Device.counts old new key turn.search turn.searches
+returns-clause-stamps g c = λ key old new answer ticks turn. search-calm g.D.Device.bytes g.D.Device.counts old new key turn.0.search turn.0.searches
 
 pub returns-clause-counts : goal.returns-clause-counts
-returns-clause-counts g c = λ old new answer ticks turn. ap (λ (s : Stored g.row.D.Denot). s.account.calm) turn.1
+returns-clause-counts g c = λ old new answer ticks turn. ap (λ (s : Stored g.row.D.Denot). s.account.calm) turn.0.1

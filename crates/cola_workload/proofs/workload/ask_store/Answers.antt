@@ -27,7 +27,7 @@ returns-in-Ok-close-clause-ends g c = λ before opened.
     Told (at c.verify.new.table c.verify.new.tally c.verify.new.steps)
     (record { was = record { store = c.args.store; opened = opened; asks = asks g.D.Device (ghosts g.row.D g.D.Device g.D.Device-dict) c.args.keys (at c.args.store c.args.tally c.args.steps.now) (at c.verify.new.table c.verify.new.tally c.verify.new.steps) c.levels-levels.result (Ok tt) c.levels-levels.ensures c.in-Ok.ensures.given c.in-Ok.ensures.sound c.in-Ok.ensures.wrong c.in-Ok.ensures.none_wrong c.in-Ok.ensures.not_over c.in-Ok.ensures.tallied c.in-Ok.ensures.spent c.in-Ok.ensures.faults }; closed = c.in-Ok-close.ensures.closes })
     refl
-    (subst (λ (n : ℕ). LineEnds g.K.Sink (workload_line c.verify.new.tally n) 0 c.args.sink.now c.write_tally.new.sink c.write_tally.result) (counted-is c.count-left.result c.verify.new.table.count c.count-left.ensures.given.0) c.write_tally.ensures)
+    (subst (λ (n : ℕ). LineEnds g.K.Sink (workload_line c.verify.new.tally n) 0 c.args.sink.now c.write_tally.new.sink c.write_tally.result) (counted-is c.count-left.result c.verify.new.table.count c.count-left.ensures.given.0.0) c.write_tally.ensures)
 
 pub returns-in-Err-close-clause-ends : goal.returns-in-Err-close-clause-ends
 returns-in-Err-close-clause-ends g c = λ before opened.

@@ -1,6 +1,6 @@
 use Rattle.std.proofs.Common.{Ok, Err, refl, arith}
 use Rattle.cola_kv.specs.Errors.{of_read}
-use Rattle.cola_kv.proofs.Answered.{stamps, stamps-at, stamps-err}
+use Rattle.cola_kv.proofs.Answered.{stamps, stamps-at, stamps-err, spends-told, spends-few}
 use Rattle.cola_kv.proofs.kv.Kv.stamp_counted.Goals as goal
 
 pub returns-in_err-answer-clause-stamps : goal.returns-in_err-answer-clause-stamps
@@ -10,7 +10,8 @@ returns-in_err-answer-clause-stamps g c =
     stamps-err d c.args.self.now _ c.args.key.now c.from_residual-in_err-answer.result (of_read f) c.from_residual-in_err-answer.ensures.1
     (stamps-at d c.args.self.now _ c.in_ok-key.key c.args.key.now (Err (of_read f)) c.in_ok-key.ensures.value
     (stamps d c.args.self.now _ c.in_ok-key.key c.in_ok-key.ensures.exact refl c.stamp.ensures.kept c.stamp.ensures.call.faults_kept (Err f)
-    c.in_err-answer.ensures.answer c.in_err-answer.ensures.given c.in_err-answer.ensures.faults refl))
+    c.in_err-answer.ensures.answer c.in_err-answer.ensures.given.0 c.in_err-answer.ensures.faults refl
+    (spends-few _ _ c.args.steps.now c.stamp.new.steps _ c.stamp.ensures.call.within c.in_err-answer.ensures.given.1)))
 
 pub returns-clause-stamps : goal.returns-clause-stamps
 returns-clause-stamps g c =
@@ -18,4 +19,5 @@ returns-clause-stamps g c =
     let a = c.in_ok-answer.answer in
     stamps-at d c.args.self.now _ c.in_ok-key.key c.args.key.now (Ok a.0) c.in_ok-key.ensures.value
     (stamps d c.args.self.now _ c.in_ok-key.key c.in_ok-key.ensures.exact refl c.stamp.ensures.kept c.stamp.ensures.call.faults_kept (Ok a)
-    c.in_ok-answer.ensures.answer c.in_ok-answer.ensures.given c.in_ok-answer.ensures.faults (omega (arith, c.in_ok-answer.ensures.counted, c.stamp.ensures.call.within)))
+    c.in_ok-answer.ensures.answer c.in_ok-answer.ensures.given.0 c.in_ok-answer.ensures.faults (omega (arith, c.in_ok-answer.ensures.counted, c.stamp.ensures.call.within))
+    (spends-told _ _ c.args.steps.now c.stamp.new.steps a.1 c.in_ok-answer.ensures.counted c.in_ok-answer.ensures.given.1))

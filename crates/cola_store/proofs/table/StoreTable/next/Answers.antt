@@ -4,9 +4,9 @@ use Rattle.cola_table.specs.Answers.{NextAnswers}
 use Rattle.cola_chain.specs.Contents as chain
 use Rattle.cola_chain.specs.Runs.{visible_runs}
 use Rattle.cola_store.specs.Store.{Stored, Holds, held_of}
-use Rattle.cola_store.specs.Walks.{Stands, Ahead}
-use Rattle.cola_store.proofs.Storing.{read-is}
-use Rattle.cola_store.proofs.Walking.{fewer-ahead, next-right, next-stands}
+use Rattle.cola_store.specs.Walks.{Stands, Ahead, Goes}
+use Rattle.cola_store.proofs.Storing.{read-is, same, turns_gone}
+use Rattle.cola_store.proofs.Walking.{fewer-ahead, next-right, next-stands, gone-cause}
 use Rattle.cola_store.proofs.table.StoreTable.next.Goals as goal
 
 pub invariant_of-self : goal.invariant_of-self
@@ -38,3 +38,25 @@ returns-clause-stands g c =
 pub returns-clause-fewer : goal.returns-clause-fewer
 returns-clause-fewer g c =
     fewer-ahead (held_of g.D.Device.bytes (record { chain = c.self.inside.chain; count = c.self.inside.count; last = c.self.inside.last; account = c.self.inside.account })) _ c.next.ensures.stamp c.next.result c.args.walk.now c.next.new.self c.next.ensures.gives.passes c.next.ensures.gives.pair c.next.ensures.gives.stands
+
+pub returns-clause-given : goal.returns-clause-given
+returns-clause-given g c =
+    let D = g.row.D.Denot in
+    let bytes = g.D.Device.bytes in
+    let counts = g.D.Device.counts in
+    let s : Stored D = record { chain = c.self.inside.chain; count = c.self.inside.count; last = c.self.inside.last; account = c.self.inside.account } in
+    let new : Stored D = record { chain = c.next.new.work; count = c.self.inside.count; last = c.self.inside.last; account = c.self.inside.account } in
+    let gives = c.next.ensures.gives in
+    let goes : Goes bytes counts s c.args.walk.now c.next.result new c.next.new.self = record {
+      stamp = c.next.ensures.stamp;
+      answers = gives.answers;
+      pair = gives.pair;
+      passes = gives.passes;
+      end_is = gives.end_stays;
+      way_is = gives.way_stays;
+      cause = gone-cause c.next.ensures.stamp c.next.result _ gives.cause;
+      turns = turns_gone c.next.ensures.stamp c.args.walk.now c.next.new.self c.next.result _ _ c.args.steps.now c.next.new.steps gives.reading.costs gives.left gives.at_most;
+      same = same bytes counts g.D.Device.kept s c.next.new.work c.self.inside.account gives.looks.cells_stay gives.looks.kept;
+      account_is = refl;
+    } in
+    subst (λ (x : Stored D). Goes bytes counts x c.args.walk.now c.next.result new c.next.new.self) c.self.view_is goes

@@ -7,9 +7,9 @@ use Rattle.cola_cursor.specs.Seeking.{LevelsRise}
 use Rattle.cola_chain.specs.Contents as chain
 use Rattle.cola_chain.specs.Runs.{visible_runs, visible_lists}
 use Rattle.cola_store.specs.Store.{Stored, Holds, held_of}
-use Rattle.cola_store.specs.Walks.{Ahead}
+use Rattle.cola_store.specs.Walks.{Ahead, Begins}
 use Rattle.cola_store.proofs.Storing.{length-visible, read-is, same, holds-same}
-use Rattle.cola_store.proofs.Walking.{levels-rise, few-ahead, range-right}
+use Rattle.cola_store.proofs.Walking.{levels-rise, few-ahead, range-right, range-given}
 use Rattle.cola_store.proofs.table.StoreTable.range.Goals as goal
 
 pub seek-requires-clause-levels : goal.seek-requires-clause-levels
@@ -43,3 +43,15 @@ returns-clause-most g c =
     let few = q.shallow in
     let n : length c.visible-runs.result.items ≡ q.bottom + 1 = ap (λ (rs : List Run). length rs) c.visible-runs.ensures.runs ∙ length-visible c.self.inside.chain.clock 0 c.self.inside.chain.levels ∙ c.self.invariant.many in
     few-ahead (option_copied c.args.high) false c.visible-runs.result.items (q.bottom + 1) _ _ c.seek.result (omega (arith, n, few)) (omega (arith, few)) c.seek.ensures.seeks.begins c.seek.ensures.seeks.reading.costs.steps_stay c.seek.ensures.seeks.left
+
+pub returns-clause-given : goal.returns-clause-given
+returns-clause-given g c =
+    let D = g.row.D.Denot in
+    let bytes = g.D.Device.bytes in
+    let counts = g.D.Device.counts in
+    let now = c.seek.new.work in
+    let s : Stored D = record { chain = c.self.inside.chain; count = c.self.inside.count; last = c.self.inside.last; account = c.self.inside.account } in
+    let new : Stored D = record { chain = now; count = c.self.inside.count; last = c.self.inside.last; account = c.self.inside.account } in
+    subst (λ (x : Stored D). Begins bytes counts x c.args.low.now (option_copied c.args.high) c.seek.result new) c.self.view_is
+    (range-given bytes counts g.D.Device.kept s now c.args.low.now (option_copied c.args.high) c.visible-runs.result.items c.args.steps.now c.seek.new.steps c.seek.result c.visible-runs.ensures.runs
+    c.seek.ensures.looks.cells_stay c.seek.ensures.looks.kept c.seek.ensures.seeks)
