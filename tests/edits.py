@@ -4,11 +4,15 @@
     tests/edits.sh [--jobs N] [CRATE..]    those of these crates, or all
 
 An edit is a file crates/CRATE/edits/NAME.edit: a line 'by: FUNCTION' with the function or law that must not be proved any more,
-by its path in the crate, or the file of worked examples (proofs/..) that is refused; a line 'file: PATH' below src/ or specs/; and
-pairs of lines 'old: TEXT' and 'new: TEXT', where the old text stands in that file exactly once. A crate's wrong bodies of different functions are tried in one check: a body is none of
-another function's contract, and 'refused' is what the prover says of the function itself, not of one that it calls. An edit
-elsewhere (a clause, a definition, a constant) is tried alone. The libraries below are those that the gate's proofs left in
-crates/*/out, or rt lib builds them. The last line is 'N passed, M failed', and the status is 0 only where none failed.
+by its path in the crate, or with the file of worked examples (proofs/..) that is refused; a line 'file: PATH' below src/ or specs/;
+and pairs of lines 'old: TEXT' and 'new: TEXT', where the old text stands in that file exactly once.
+
+A crate's wrong bodies of different functions are tried in one check: a body is none of another function's contract, and 'refused'
+is what the prover says of the function itself, not of one that it calls. An edit elsewhere (a clause, a definition, a constant) is
+tried alone. Where a proof was written by hand, a refusal may be that it no longer fits, which says less of the contract.
+
+The libraries below are those that the gate's proofs left in crates/*/out, or rt lib builds them. The last line is 'N passed, M
+failed', and the status is 0 only where none failed.
 """
 
 import concurrent.futures
