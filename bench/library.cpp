@@ -9,7 +9,7 @@
 // processor, of all threads. BATCH is a number of puts in one transaction, where the store has any, or the block of COLA.
 // WORK is what a put does: "blind" is a put alone, and with "looked" a peer looks the key up before, as a put of COLA does by
 // itself; "many" are calls of COLA with ROWS rows (1,000), each timed as one. FLAGS are those of cola_file_open_as, 0 where none are given.
-// It prints: seconds, of processor, median, 99.9th percentile and worst in nanoseconds, of puts and then of gets; the most memory in KiB above
+// It prints: seconds, of processor, median, 99.9th and 99.99th percentile and worst in nanoseconds, of puts and then of gets; the most memory in KiB above
 // that before the first store; and a sum over the values that were got.
 //
 // With WORK "rows" it puts the keys once, each alone, and then reads all rows ROUNDS times, forwards and backwards (COLA, LEVELDB
@@ -124,7 +124,8 @@ struct Times {
     void show() {
         std::sort(least.begin(), least.end());
         size_t count = least.size();
-        printf("%.3f %.3f %u %u %u ", seconds, processor_seconds, least[count / 2], least[size_t(double(count - 1) * 0.999)], least[count - 1]);
+        auto at = [&](double part) { return least[size_t(double(count - 1) * part)]; };
+        printf("%.3f %.3f %u %u %u %u ", seconds, processor_seconds, least[count / 2], at(0.999), at(0.9999), least[count - 1]);
     }
 };
 

@@ -7,8 +7,8 @@
 # answers whether its key was there: so a peer looks the key up before it puts, and beside these rows are those of its puts
 # alone. A cola is mapped, and then resident, logged, and synced, which is by calls of 1,000 rows alone. With many rows at once
 # a call is one of 1,000 rows; from Python it is update and get_many beside single calls (bench/library.py). It prints a table
-# with the seconds, passed and of processor, their ratios to those of LevelDB with look-ups, the median, the 99.9th percentile
-# and the worst call, and the peak memory; then what became of the aims, the rate of puts that are on the disk when their call ends,
+# with the seconds, passed and of processor, their ratios to those of LevelDB with look-ups, the median, the 99.9th and 99.99th
+# percentile and the worst call, and the peak memory; then what became of the aims, the rate of puts that are on the disk when their call ends,
 # alone and by 100 (fewer keys; LevelDB by a batch, LMDB and SQLite by a transaction), how long all rows take both ways, how long
 # an opening takes that makes a log again, and what checkpoints of the resident store take (bench/checkpoints.c). It wants a C++
 # compiler and the library (make library builds it; LIBRARY names another folder that has libcola.a, and libcola.so.1 for
@@ -80,12 +80,13 @@ for order in random rising; do
         echo "$title|$(cat "$room/$order.$name")" >>"$room/$order"
     done
     [ "$(awk '{ print $NF }' "$room/$order" | sort -u | wc -l)" -eq 1 ] || { echo 'library: two stores have other values' >&2; exit 1; }
-    printf '\n| %s keys in %s order | puts and gets, seconds | beside LevelDB | of processor | beside LevelDB | put: median, 99.9th, worst, us | get: median, 99.9th, worst, us | memory, MiB |\n' "$count" "$order"
+    printf '\n| %s keys in %s order | puts and gets, seconds | beside LevelDB | of processor | beside LevelDB | put: median, 99.9th, 99.99th, worst, us | get: median, 99.9th, 99.99th, worst, us | memory, MiB |\n' "$count" "$order"
     printf '|---|---:|---:|---:|---:|---:|---:|---:|\n'
     cells=$(for ((round = 0; round < rounds; round++)); do "$room/accesses" "$count" "$order"; done | sort -n | head -n 1)
     awk -F '[|]' -v cells="$cells" '
-        { split($2, n, " "); title[NR] = $1; both[NR] = n[1] + n[6]; used[NR] = n[2] + n[7]; if ($1 == "LevelDB") level = NR
-          text[NR] = sprintf("%.2f + %.2f | %%s | %.2f + %.2f | %%s | %.2f, %.1f, %.0f | %.2f, %.1f, %.0f | %.1f", n[1], n[6], n[2], n[7], n[3] / 1e3, n[4] / 1e3, n[5] / 1e3, n[8] / 1e3, n[9] / 1e3, n[10] / 1e3, n[11] / 1024) }
+        { split($2, n, " "); title[NR] = $1; both[NR] = n[1] + n[7]; used[NR] = n[2] + n[8]; if ($1 == "LevelDB") level = NR
+          text[NR] = sprintf("%.2f + %.2f | %%s | %.2f + %.2f | %%s | %s | %s | %.1f", n[1], n[7], n[2], n[8], waits(3), waits(9), n[13] / 1024) }
+        function waits(at) { return sprintf("%.2f, %.1f, %.1f, %.0f", n[at] / 1e3, n[at + 1] / 1e3, n[at + 2] / 1e3, n[at + 3] / 1e3) }
         function beside(it) { return level ? sprintf("%.2f", it) : "" }
         END { for (at = 1; at <= NR; at++) printf("| %s | " text[at] " |\n", title[at], beside(both[at] / both[level]), beside(used[at] / used[level]))
             split(cells, alone, " ")
@@ -96,7 +97,8 @@ for order in random rising; do
     awk -F '[|]' -v order="$order" '
         # part OF THAT: how much the one takes of the other.
         function part(of, that) { return sprintf("%.2f", both[of] / both[that]) }
-        { split($2, n, " "); both[$1] = n[1] + n[6]; worst[$1] = n[5] }
+        { split($2, n, " "); both[$1] = n[1] + n[7]; worst[$1] = n[6]; median[$1] = n[3]; rare[$1] = n[5]; got[$1] = n[12]
+          if ($1 !~ /^cola/ && (best == "" || n[12] < got[best])) best = $1 }
         END {
             for (block = 5; block <= 9; block += 4) {
                 it = "cola, block " block
@@ -108,6 +110,9 @@ for order in random rising; do
             printf "By 1,000 rows a call it takes %s of the time of single calls in %s order.\n", part(it, "cola, block 5"), order
             if ("LMDB" in both) printf "The worst put in %s order takes %.2f of that of LMDB (the aim: 0.1).\n", order, worst["cola, block 5"] / worst["LMDB"]
             if ("Tkrzw" in both) printf "The worst put of a resident store in %s order takes %.2f of that of Tkrzw (the aim: 0.6).\n", order, worst["cola, block 5, resident"] / worst["Tkrzw"]
+            it = "cola, block 5, resident"
+            printf "99.99%% of the puts of a resident store in %s order take at most %.1f times their median (the aim: 3).\n", order, rare[it] / median[it]
+            if (best != "") printf "The worst get of a resident store in %s order takes %.2f of that of %s, the best of the peers (the aim: 0.5).\n", order, got[it] / got[best], best
             it = "cola, block 5, logged"
             if ("LMDB" in both) printf "The worst logged put in %s order takes %.3f of that of LMDB (the aim: 0.02).\n", order, worst[it] / worst["LMDB"]
             if ("LevelDB" in both) printf "The worst logged put in %s order takes %.2f of that of LevelDB (the aim: 0.5).\n", order, worst[it] / worst["LevelDB, puts alone"]

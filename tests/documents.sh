@@ -150,10 +150,14 @@ while IFS= read -r row; do
     count "README.md leads to a page for what is looked for: $row" $?
 done <<<"$rows"
 
-# The numbers of README beside other stores were measured.
-for number in $(sed -n '/^## What it costs/,/^## /s/^| [^-].*/&/p' README.md | grep -oE '[0-9]+(\.[0-9]+)?'); do
-    cat bench/STORE.md bench/measured.md | grep -qE "(^|[^0-9.])$number([^0-9.]|\.[^0-9]|\$)"
-    count "README.md has $number as bench/STORE.md or bench/measured.md" $?
+# The numbers of README and of the four degrees were measured.
+while IFS=$'\t' read -r page part; do
+    grep -qF -- "$part" "$page"
+    count "$page has what bench/degrees.awk makes of bench/library.md: $part" $?
+done < <(awk -f bench/degrees.awk bench/library.md)
+for number in $(sed -n '/^## What it costs/,/^## /s/^| the file.*/&/p' README.md | grep -oE '[0-9]+(\.[0-9]+)?'); do
+    grep -qE "\\| $number \\|\$" bench/measured.md
+    count "README.md has $number as bench/measured.md" $?
 done
 
 # The table of blocks and caches has the numbers that were measured.

@@ -1,14 +1,16 @@
 #!/usr/bin/env python3
 """Tries the edits: wrong bodies and wrong definitions, each of which the prover must refuse.
 
-    tests/edits.sh [--jobs N] [CRATE..]    those of these crates, or all
+    tests/edits.sh [--jobs N] [CRATE..]              those of these crates, or all
+    tests/edits.sh --control [--jobs N] [CRATE..]    the functions that refuse, each with its own body: none may be refused
 
 An edit is a file crates/CRATE/edits/NAME.edit: a line 'by: FUNCTION' with the function or law that must not be proved any more,
 by its path in the crate, or with the file of worked examples (proofs/..) that is refused; a line 'file: PATH' below src/ or specs/;
 and pairs of lines 'old: TEXT' and 'new: TEXT', where the old text stands in that file exactly once.
 
-A crate's wrong bodies of different functions are tried in one check: a body is none of another function's contract, and 'refused'
-is what the prover says of the function itself, not of one that it calls. An edit elsewhere (a clause, a definition, a constant) is
+A crate's wrong bodies of different functions are tried in one check: a body is none of another function's contract. The bodies of all
+other functions are emptied and their proofs left open, so that a function is judged by the contracts of those that it calls, which are
+not proved again; 'refused' is what the prover says of the function itself. An edit elsewhere (a clause, a definition, a constant) is
 tried alone. Where a proof was written by hand, a refusal may be that it no longer fits, which says less of the contract.
 
 The libraries below are those that the gate's proofs left in crates/*/out, or rt lib builds them. The last line is 'N passed, M
@@ -16,6 +18,7 @@ failed', and the status is 0 only where none failed.
 """
 
 import concurrent.futures
+import json
 import os
 import re
 import shutil
@@ -32,6 +35,9 @@ ROOM = 3 << 30
 # An older toolchain checks a crate whole.
 IS_ONE_ENOUGH = "--only" in subprocess.run([f"{KIT}/bin/rattle", "check", "--help"], stdout=subprocess.PIPE, text=True).stdout
 says = threading.Lock()
+# A function with its clauses and its body, as rt fmt sets them.
+BODY = re.compile(r'''(?m)^(?P<head>(?P<indent>[ ]*)(?:pub(?:\(\w+\))? )?(?:unsafe )?(?:extern "C" )?fn (?P<name>\w+)(?:(?!.*;$).*\n(?!.*\bfn ))*?)'''
+                  r'''(?P<open>(?P=indent)\{|(?P=indent)\).* \{|[<(].* \{)\n(?:(?!(?P=indent)\}).*\n)*(?P=indent)\}$''')
 
 
 def text_of(path):
@@ -154,15 +160,51 @@ def rounds(edits):
     return found
 
 
-def attempt(name, edits, every, kept):
-    """What the prover says of the functions, each with its edit: a verdict for each edit, and what it printed."""
+def proved(name):
+    """The functions that the library has which the gate built of the crate, by their paths; none where there is no such library."""
+    code = f"{ROOT}/crates/{name}/out/rlib/{name}.rlib/toolchain/mir.json"
+    found = [it[0] for it in json.loads(text_of(code))] if os.path.isfile(code) else []
+    return [it[len(name) + 2:] for it in found if it.startswith(f"{name}::") and "+" not in it]
+
+
+def leave_out(name, functions, kept, room):
+    """Empties the bodies of these functions, but for those of the names that are kept, and puts a hole in the place of each proof."""
+    for at, _, files in os.walk(f"{room}/src"):
+        for file in files:
+            text = text_of(f"{at}/{file}")
+            emptied = BODY.sub(lambda it: it[0] if it["name"] in kept else f"{it['head']}{it['open']}\n{it['indent']}    loop {{}}\n{it['indent']}}}", text)
+            if emptied != text:
+                with open(f"{at}/{file}", "w", encoding="utf-8") as it:
+                    it.write(emptied)
+    for path in functions:
+        *above, last = path.split("::")
+        if last in kept:
+            continue
+        at = "/".join([room, "proofs", *above])
+        # (a function that called itself has a folder of another name)
+        shutil.rmtree(f"{at}/+{last}", ignore_errors=True)
+        os.makedirs(f"{at}/{last}", exist_ok=True)
+        for file in ("Invariants.antt", "Answers.antt"):
+            if os.path.isfile(f"{at}/{last}/{file}"):
+                os.remove(f"{at}/{last}/{file}")
+        with open(f"{at}/{last}/Proof.antt", "w", encoding="utf-8") as file:
+            file.write(f"use Rattle.{name}.proofs.{'.'.join([*above, last])}.Statement.{{statement}}\n\n"
+                       f"pub {last}_spec : {{M : Type 1}} → statement M\n{last}_spec = ?\n")
+
+
+def attempt(name, edits, every, kept, is_control=False):
+    """What the prover says of the functions, each with its edit, or as they are: a verdict for each edit, and what it printed."""
     with tempfile.TemporaryDirectory(prefix="edits-") as room:
         for part in PARTS:
             if os.path.isdir(f"{ROOT}/crates/{name}/{part}"):
                 shutil.copytree(f"{ROOT}/crates/{name}/{part}", f"{room}/{part}")
-        for it in edits:
+        for it in edits * (not is_control):
             it.apply(room)
         only = [word for it in edits for word in ("--only", it.by)] if IS_ONE_ENOUGH and not edits[0].by_file else []
+        others = proved(name) if only else []
+        if others:
+            only += ["--allow-holes"]
+            leave_out(name, others, [it.by.split("::")[-1] for it in edits], room)
         command = [f"{KIT}/bin/rattle", "check", *words(name, every), "--incremental", kept, *only]
         ran = subprocess.run(command, cwd=room, stdin=subprocess.DEVNULL, stdout=subprocess.PIPE, stderr=subprocess.STDOUT, text=True, errors="replace")
     said = dict(re.findall(rf"(?m)^\w+ {name}::(\S+): (.*)", ran.stdout))
@@ -213,6 +255,22 @@ def try_crate(name, edits, every):
     return refused
 
 
+def control(name, edits, every):
+    """How many of the functions that refuse an edit are not refused with their own bodies."""
+    one = list({it.by: it for it in edits if not it.why and not it.by_file}.values())
+    with tempfile.TemporaryDirectory(prefix="edits-kept-") as kept:
+        verdicts, _ = attempt(name, one, every, kept, is_control=True) if one else ([], "")
+    fine = 0
+    for it, verdict in zip(one, verdicts):
+        if verdict and not is_refused(verdict):
+            fine += 1
+        else:
+            tell(it, f"{it.by} with its own body: {verdict or 'the prover says nothing of it'}")
+    with says:
+        print(f"{name}: {fine} of {len(one)} functions are not refused", flush=True)
+    return fine, len(one)
+
+
 def edits_of(name):
     folder = f"{ROOT}/crates/{name}/edits"
     files = sorted(os.listdir(folder)) if os.path.isdir(folder) else []
@@ -229,7 +287,8 @@ def size_of(name):
 
 
 def main(args):
-    jobs = 0
+    jobs, is_control = 0, args[:1] == ["--control"]
+    args = args[is_control:]
     if args[:1] == ["--jobs"]:
         jobs, args = int(args[1]), args[2:]
     every = crates()
@@ -245,8 +304,12 @@ def main(args):
         jobs = max(1, min(len(os.sched_getaffinity(0)), pages // ROOM))
     order = sorted(todo, key=size_of, reverse=True)
     with concurrent.futures.ThreadPoolExecutor(jobs) as pool:
-        refused = sum(pool.map(lambda it: try_crate(it, todo[it], every), order))
-    wanted = sum(len(it) for it in todo.values())
+        if is_control:
+            found = list(pool.map(lambda it: control(it, todo[it], every), order))
+            refused, wanted = sum(it[0] for it in found), sum(it[1] for it in found)
+        else:
+            refused = sum(pool.map(lambda it: try_crate(it, todo[it], every), order))
+            wanted = sum(len(it) for it in todo.values())
     print(f"{refused} passed, {wanted - refused} failed")
     return 0 if refused == wanted else 1
 

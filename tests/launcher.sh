@@ -63,11 +63,16 @@ check 'with no rt on PATH it ends with 100' ended 100
 check 'with no rt on PATH it says so in one line' complained PATH
 check 'with no rt on PATH it writes nothing' wrote_text ''
 
-# A log that follows a file is told of, and another file of its name is not.
+# A log that follows a file is told of, also as an earlier library wrote it, and another file of its name is not.
 "$root/cola" create kept --keys 10
-{ printf COLA-LOG && head -c 512 kept; } | sha256sum | cut -c 1-64 | perl -ne 'chomp; print pack "H*", $_' >kept-log
+for it in 4096 512; do
+    { printf COLA-LOG && head -c "$it" kept; } | sha256sum | cut -c 1-64 | perl -ne 'chomp; print pack "H*", $_' >kept-log
+    run "$root/cola" check kept
+    check "a log beside a file is told of, by $it bytes" complained 'kept: the log kept-log stands beside it: cola-recover kept makes its calls again'
+done
+{ printf COLA-LOG && head -c 4096 kept | tr 'C' 'D'; } | sha256sum | cut -c 1-64 | perl -ne 'chomp; print pack "H*", $_' >kept-log
 run "$root/cola" check kept
-check 'a log beside a file is told of' complained 'kept: the log kept-log stands beside it: cola-recover kept makes its calls again'
+check 'that of another file is not' is_silent
 echo 'a text of that name, which is none' >kept-log
 run "$root/cola" check kept
 check 'a text of its name is not' is_silent

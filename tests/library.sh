@@ -170,6 +170,9 @@ wrong 'a sync of the log that failed is forgotten' logged cola_log.c 's/is_stuck
 wrong 'a record that was torn is not cut off' logged cola_log.c 's/if (has_room) cut(log);//' "$memory"
 wrong 'a torn end of a log is not cut off' logged cola_log.c '/^static int32_t make_again/,/^}/ s/if (!cut(log)) return COLA_SYSTEM;//' "$memory"
 wrong 'a log is not begun anew at a checkpoint' logged cola_resident.c 's/ && !cola_log_begin(&it->log, file->bytes)/ \&\& false/' "$memory"
+wrong 'a log is matched by the header alone' logged cola_log.c 's/COLA_PAGE/COLA_HEADER/' "$memory"
+wrong 'the log of an earlier library is begun anew' logged cola_log.c '/is_earlier(&first, page)) return/d' "$memory"
+wrong 'and passed over by other openings' logged cola_log.c 's/(errno = COLA_EARLIER, COLA_UNFINISHED)/COLA_OK/' "$memory"
 wrong 'a journal outlives its file' resident cola_file.c 's/!cola_log_drop_stale(path, descriptor)/false/' "$memory"
 
 # What cola-recover says of files that processes left, with which status, and what the program finds in them then.
@@ -204,6 +207,9 @@ check 'cola-recover does both' recovers 0 'both: its checkpoint was finished, an
 check 'and the program finds both' has_sound both 30
 check 'cola-recover drops a journal of another checkpoint' recovers 0 'other: nothing to finish' other
 check 'and the program finds the file as it was' has_sound other 20
+check 'cola-recover refuses the log of an earlier library' recovers 1 \
+    'cola-recover: earlier: its log was written by an earlier library, which makes its calls again' earlier
+check 'and leaves it' [ -s "$left/earlier-log" ]
 check 'cola-recover has nothing to finish' recovers 0 'nothing: nothing to finish' nothing
 check 'and the file is as it was' has_sound nothing 10
 check 'cola-recover says that there is no such file' recovers 1 'cola-recover: none: No such file or directory' nothing none

@@ -48,8 +48,8 @@ typedef struct cola_core_log {
     uint8_t sum[32];
 } cola_core_log;
 
-/* The first state of a log that follows a closed store of this header. */
-void cola_core_log_begin(const void *header, size_t length, cola_core_log *log);
+/* The first state of a log that follows a closed file with this first page. */
+void cola_core_log_begin(const void *page, size_t length, cola_core_log *log);
 
 /* Write the record of a call to the front of some bytes, and tell its length: 0 where they are too few. */
 size_t cola_core_log_put(cola_core_log *log, const void *key, size_t key_len, const void *value, size_t value_len, void *into, size_t room);
@@ -60,9 +60,9 @@ size_t cola_core_log_delete(cola_core_log *log, const void *key, size_t key_len,
 /* Goes behind the whole records at the front of some bytes, and tells their length. */
 size_t cola_core_log_pass(cola_core_log *log, const void *bytes, size_t length);
 
-/* Makes the calls of a log again on the store that was opened of the file with this header, as it lay closed. *whole is how many bytes of
- * the log are whole, 0 where it follows another header, and *log the state behind them. */
-int32_t cola_core_log_replay(cola *store, const void *header, size_t header_len, const void *bytes, size_t length, cola_core_log *log,
+/* Makes the calls of a log again on the store that was opened of the file with this first page, as it lay closed. *whole is how many
+ * bytes of the log are whole, 0 where it follows another file, and *log the state behind them. */
+int32_t cola_core_log_replay(cola *store, const void *page, size_t page_len, const void *bytes, size_t length, cola_core_log *log,
                              size_t *whole, size_t *done);
 
 #endif

@@ -34,7 +34,7 @@ static int32_t unmap(char *bytes, size_t length, int32_t answer) {
 }
 
 /* Makes the new store in an empty file. A journal and a log are gone before it is one: that of the first checkpoint of a removed store
- * for as many keys follows its header too. */
+ * for as many keys follows it too. */
 static int32_t lay_out(const char *path, int descriptor, size_t length, uint64_t keys, uint8_t block, uint8_t version) {
     if (!cola_disk_take_room(descriptor, 0, length)) return COLA_SYSTEM;
     void *bytes = mmap(NULL, length, PROT_READ | PROT_WRITE, MAP_SHARED, descriptor, 0);
@@ -138,7 +138,7 @@ static int32_t waits(const char *path, int descriptor, uint32_t flags, bool *jou
     int32_t answer = !reads ? cola_journal_settle(path, descriptor, NULL)
                    : cola_journal_is_beside(path, descriptor, journal) ? COLA_OK : COLA_SYSTEM;
     if (answer != COLA_OK || *journal || is_logged) return answer;
-    return cola_log_is_beside(path, descriptor, log) ? COLA_OK : COLA_SYSTEM;
+    return cola_log_is_beside(path, descriptor, log);
 }
 
 int32_t cola_file_open_settled(const char *path, uint32_t flags, int *descriptor) {
@@ -168,7 +168,7 @@ int32_t cola_file_settle(const char *path, bool *journal, bool *log) {
         if (answer != COLA_OK) return answer;
         int descriptor = cola_disk_open_locked(path, true);
         if (descriptor < 0) return COLA_SYSTEM;
-        if (!cola_log_is_beside(path, descriptor, log)) answer = COLA_SYSTEM;
+        answer = cola_log_is_beside(path, descriptor, log);
         cola_disk_let_go(descriptor);
     } while (cola_disk_is_replaced(answer == COLA_SYSTEM));
     if (answer == COLA_OK && *log) answer = cola_file_open_as(&file, path, COLA_LOGGED);

@@ -101,7 +101,8 @@ int32_t cola_file_open(cola_file *file, const char *path);
  * journal could not be finished (errno), or its pieces are none of this store (EINVAL): it stays.
  * An opening without a log beside one that follows the file, a check and a growing make its calls again first, as one with COLA_LOGGED and
  * its close do, with their answers, the memory and the right to write. COLA_UNFINISHED with EEXIST: the log stays, since the file
- * of version 1 that its calls give has the header that it follows already; open it with COLA_LOGGED. */
+ * of version 1 that its calls give has the first page that it follows already; open it with COLA_LOGGED. With ENOTSUP any opening: the
+ * log stays, since an earlier library wrote it, for which the header alone told whether it follows: that one makes its calls again. */
 int32_t cola_file_open_as(cola_file *file, const char *path, uint32_t flags);
 
 /* Makes a copy of the store as it is now, in the file named copy, which is replaced as a whole and is on the disk when this

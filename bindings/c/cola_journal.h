@@ -3,8 +3,8 @@
  * calls has the file locked.
  *
  * The first 4,096 bytes of a journal are the file's first page as the journal was begun, that of the last checkpoint: the header, and the
- * cells of the latest puts. (A header alone would not do: in version 1 that of another store with as many puts may be the same.) Then
- * come 32 bytes, the sum with which a log would follow such a header, and what the proved calls write (crates/cola_journal_bytes). A
+ * cells of the latest puts. (A header alone would not do: that of another store with as many puts may be the same.) Then come 32
+ * bytes, the sum with which a log of that file begins, and what the proved calls write (crates/cola_journal_bytes). A
  * journal beside a file with another first page, as a copy that was put back or a new store, is dropped as one that is not whole is. */
 #ifndef COLA_JOURNAL_H
 #define COLA_JOURNAL_H

@@ -66,9 +66,9 @@ static void take_first_room(cola_log *log) {
     errno = error;
 }
 
-bool cola_log_begin(cola_log *log, const void *header) {
+bool cola_log_begin(cola_log *log, const void *page) {
     cola_core_log sum;
-    cola_core_log_begin(header, COLA_HEADER, &sum);
+    cola_core_log_begin(page, COLA_PAGE, &sum);
     log->is_done = false;
     if (!log->is_stuck && log->length == sizeof sum && memcmp(&sum, &log->first, sizeof sum) == 0) return true;
     log->is_stuck = true;
@@ -79,10 +79,15 @@ bool cola_log_begin(cola_log *log, const void *header) {
     return sync_whole(log);
 }
 
-bool cola_log_follows(const cola_log *log, const void *header) {
+/* Whether a log that begins so follows the file that begins with so many bytes of its first page. */
+static bool follows(const cola_core_log *first, const void *page, size_t bytes) {
     cola_core_log sum;
-    cola_core_log_begin(header, COLA_HEADER, &sum);
-    return log->length > sizeof sum && memcmp(&sum, &log->first, sizeof sum) == 0;
+    cola_core_log_begin(page, bytes, &sum);
+    return memcmp(&sum, first, sizeof sum) == 0;
+}
+
+bool cola_log_follows(const cola_log *log, const void *page) {
+    return log->length > sizeof log->first && follows(&log->first, page, COLA_PAGE);
 }
 
 /* Appending. */
@@ -204,16 +209,31 @@ static bool is_log(const uint8_t *bytes, size_t length) {
     return length <= sizeof(cola_core_log) || memchr(bytes, 0, length) != NULL;
 }
 
-/* Makes the calls again of a log that was read, which goes on behind them; one that follows another header is begun anew. */
-static int32_t make_again(cola_log *log, cola *store, const void *header, const uint8_t *bytes, size_t length) {
+/* Whether these bytes are those of a log that has a call, whatever it follows; and how it begins. */
+static bool has_call(const uint8_t *bytes, size_t length, cola_core_log *first) {
+    if (length < sizeof *first) return false;
+    memcpy(first, bytes, sizeof *first);
+    cola_core_log sum = *first;
+    size_t behind = length - sizeof sum;
+    return cola_core_log_pass(&sum, bytes + sizeof sum, behind < LONGEST_READ ? behind : LONGEST_READ) > 0;
+}
+
+/* Whether a log that has calls, and does not follow the file, follows its header alone, as those of an earlier library did. Another
+ * store with as many puts may have that header too: so they are neither made again nor dropped. */
+static bool is_earlier(const cola_core_log *first, const void *page) { return follows(first, page, COLA_HEADER); }
+
+/* Makes the calls again of a log that was read, which goes on behind them; one that follows another file is begun anew. */
+static int32_t make_again(cola_log *log, cola *store, const void *page, const uint8_t *bytes, size_t length) {
     size_t whole = 0, done = 0;
+    cola_core_log first;
     cola own = *store;
-    int32_t answer = cola_core_log_replay(&own, header, COLA_HEADER, bytes, length, &log->sum, &whole, &done);
+    int32_t answer = cola_core_log_replay(&own, page, COLA_PAGE, bytes, length, &log->sum, &whole, &done);
     store->is_open = own.is_open;
     store->at = own.at;
     if (answer != COLA_OK) return answer;
+    if (whole == 0 && has_call(bytes, length, &first) && is_earlier(&first, page)) return errno = COLA_EARLIER, COLA_UNFINISHED;
     if (whole == 0 && !is_log(bytes, length)) return errno = EEXIST, COLA_SYSTEM;
-    if (whole == 0) return log->is_stuck = true, cola_log_begin(log, header) ? COLA_OK : COLA_SYSTEM;
+    if (whole == 0) return log->is_stuck = true, cola_log_begin(log, page) ? COLA_OK : COLA_SYSTEM;
     memcpy(&log->first, bytes, sizeof log->first);
     log->length = whole;
     if (!cut(log)) return COLA_SYSTEM;
@@ -221,11 +241,11 @@ static int32_t make_again(cola_log *log, cola *store, const void *header, const 
     return sync_whole(log) ? COLA_OK : COLA_SYSTEM;
 }
 
-static int32_t read_and_make_again(cola_log *log, cola *store, const void *header) {
+static int32_t read_and_make_again(cola_log *log, cola *store, const void *page) {
     uint8_t *bytes = malloc(log->room + 1);
     if (bytes == NULL) return COLA_MEMORY;
     ssize_t had = cola_disk_read(log->descriptor, bytes, log->room);
-    int32_t answer = had < 0 ? COLA_SYSTEM : make_again(log, store, header, bytes, (size_t)had);
+    int32_t answer = had < 0 ? COLA_SYSTEM : make_again(log, store, page, bytes, (size_t)had);
     int error = errno;
     free(bytes);
     errno = error;
@@ -241,13 +261,13 @@ static void learn(cola_log *log, const uint8_t *header) {
     for (int at = 0; at < 8; at++) log->keys |= (uint64_t)header[KEYS + at] << 8 * at;
 }
 
-int32_t cola_log_open(cola_log *log, const cola_journal *journal, cola *store, const void *header, bool syncs) {
+int32_t cola_log_open(cola_log *log, const cola_journal *journal, cola *store, const void *page, bool syncs) {
     log->folder = journal->folder;
     log->syncs = syncs;
     log->is_done = false;
     cola_journal_beside(journal, suffix, log->name);
-    learn(log, header);
-    int32_t answer = open_file(log, journal->file) ? read_and_make_again(log, store, header) : COLA_SYSTEM;
+    learn(log, page);
+    int32_t answer = open_file(log, journal->file) ? read_and_make_again(log, store, page) : COLA_SYSTEM;
     if (answer != COLA_OK) {
         int error = errno;
         if (log->is_new && log->descriptor >= 0) unlinkat(log->folder, log->name, 0);
@@ -264,7 +284,7 @@ void cola_log_leave(cola_log *log) {
     log->descriptor = -1;
 }
 
-/* (One that cannot be removed follows no header any more, or has no call.) */
+/* (One that cannot be removed follows no file any more, or has no call.) */
 void cola_log_close(cola_log *log) {
     int error = errno;
     bool is_empty = log->length == sizeof log->first && !log->is_stuck;
@@ -292,38 +312,36 @@ static ssize_t read_front(int descriptor, uint8_t bytes[sizeof(cola_core_log) + 
     return S_ISREG(about.st_mode) ? cola_disk_read(descriptor, bytes, sizeof(cola_core_log) + LONGEST_READ) : 0;
 }
 
-/* Whether the log has a call, whichever header it follows; false on failure too, which *told says. */
+/* Whether the log has a call, whichever file it follows; false on failure too, which *told says. */
 static bool has_calls(int descriptor, cola_core_log *first, bool *told) {
     uint8_t bytes[sizeof *first + LONGEST_READ];
     ssize_t had = read_front(descriptor, bytes);
     *told = had >= 0;
-    if (had < (ssize_t)sizeof *first) return false;
-    memcpy(first, bytes, sizeof *first);
-    cola_core_log sum = *first;
-    return cola_core_log_pass(&sum, bytes + sizeof sum, (size_t)had - sizeof sum) > 0;
+    return *told && has_call(bytes, (size_t)had, first);
 }
 
-/* Whether the log has a call, and follows the file; false on failure too, which *told says. */
-static bool has_calls_of(int descriptor, int file, bool *told) {
-    uint8_t header[COLA_HEADER];
-    cola_core_log first, sum;
-    if (!has_calls(descriptor, &first, told)) return false;
-    ssize_t had = cola_disk_read(file, header, sizeof header);
-    *told = had >= 0;
-    if (had < (ssize_t)sizeof header) return false;
-    cola_core_log_begin(header, sizeof header, &sum);
-    return memcmp(&sum, &first, sizeof sum) == 0;
+/* Whether the log has a call, and follows the file. */
+static int32_t has_calls_of(int descriptor, int file, bool *beside) {
+    uint8_t page[COLA_PAGE];
+    cola_core_log first;
+    bool told;
+    if (!has_calls(descriptor, &first, &told)) return told ? COLA_OK : COLA_SYSTEM;
+    ssize_t had = cola_disk_read(file, page, sizeof page);
+    if (had < (ssize_t)sizeof page) return had < 0 ? COLA_SYSTEM : COLA_OK; /* (which no store is) */
+    *beside = follows(&first, page, COLA_PAGE);
+    return !*beside && is_earlier(&first, page) ? (errno = COLA_EARLIER, COLA_UNFINISHED) : COLA_OK;
 }
 
-bool cola_log_is_beside(const char *path, int file, bool *beside) {
+int32_t cola_log_is_beside(const char *path, int file, bool *beside) {
     cola_journal journal;
     char name[NAME_MAX + 1];
     bool told;
     int descriptor = open_beside(&journal, path, file, name, &told);
-    *beside = descriptor >= 0 && has_calls_of(descriptor, file, &told);
+    *beside = false;
+    int32_t answer = descriptor >= 0 ? has_calls_of(descriptor, file, beside) : told ? COLA_OK : COLA_SYSTEM;
     if (descriptor >= 0) cola_disk_close(descriptor);
     cola_journal_leave(&journal);
-    return told;
+    return answer;
 }
 
 bool cola_log_drop_stale(const char *path, int file) {

@@ -1,9 +1,14 @@
 /* A log of calls beside the file of a resident store, for the files of this folder alone: what a record has, and which calls of a
  * log are made again, the proved calls say (crates/cola_log, crates/cola_replay). The log of the file NAME is NAME-log in the same
- * folder, of the file's mode. Who calls has the file locked. */
+ * folder, of the file's mode. Who calls has the file locked.
+ *
+ * A log begins with a sum of the first page, 4,096 bytes, of the closed file that it follows, as a journal has that page. (An earlier
+ * library took the header alone, which another store with as many puts may have too. What has calls, and follows the file's header
+ * so, is refused, COLA_UNFINISHED with COLA_EARLIER, and stays as it is.) */
 #ifndef COLA_LOG_H
 #define COLA_LOG_H
 
+#include <errno.h>
 #include <limits.h>
 #include <stdbool.h>
 #include <stddef.h>
@@ -13,7 +18,10 @@
 #include "cola_core.h"
 #include "cola_journal.h"
 
-enum { COLA_LOG_HELD = 1 << 17 }; /* the bytes of records that one write has at most */
+enum {
+    COLA_LOG_HELD = 1 << 17, /* the bytes of records that one write has at most */
+    COLA_EARLIER = ENOTSUP   /* the errno that says that an earlier library wrote the log */
+};
 
 /* The log of an open store. */
 typedef struct cola_log {
@@ -45,16 +53,17 @@ typedef struct cola_call {
 /* No log. */
 void cola_log_none(cola_log *log);
 
-/* Opens the log of the store that was just opened from the file of this journal, whose header was this one as it lay closed, or
- * makes a new one. The calls of a log that follows this header are made again on the store, and its end is cut off behind its
- * last whole record. COLA_SYSTEM with EEXIST: the file of that name is no log. */
-int32_t cola_log_open(cola_log *log, const cola_journal *journal, cola *store, const void *header, bool syncs);
+/* Opens the log of the store that was just opened from the file of this journal, whose first page was this one as it lay closed, or
+ * makes a new one. The calls of a log that follows this page are made again on the store, and its end is cut off behind its
+ * last whole record. COLA_SYSTEM with EEXIST: the file of that name is no log. COLA_UNFINISHED with COLA_EARLIER: see above. */
+int32_t cola_log_open(cola_log *log, const cola_journal *journal, cola *store, const void *page, bool syncs);
 
-/* Begins the log anew, behind a checkpoint of this header, and waits until that is on the disk. False on failure: then it is stuck. */
-bool cola_log_begin(cola_log *log, const void *header);
+/* Begins the log anew, behind a checkpoint with this first page, and waits until that is on the disk. False on failure: then it is
+ * stuck. */
+bool cola_log_begin(cola_log *log, const void *page);
 
-/* Whether the log has calls, and follows this header. */
-bool cola_log_follows(const cola_log *log, const void *header);
+/* Whether the log has calls, and follows this page. */
+bool cola_log_follows(const cola_log *log, const void *page);
 
 /* Waits until the log is on the disk: COLA_OK, COLA_SYSTEM, which makes it stuck, or COLA_UNFINISHED where it was that. */
 int32_t cola_log_sync(cola_log *log);
@@ -65,9 +74,9 @@ void cola_log_close(cola_log *log);
 /* Closes what is open of it, and leaves all else to the process that opened it. */
 void cola_log_leave(cola_log *log);
 
-/* Whether a log with calls stands beside the closed store's file that is open here and has this path, and follows it. False on
- * failure. */
-bool cola_log_is_beside(const char *path, int file, bool *beside);
+/* Whether a log with calls stands beside the closed store's file that is open here and has this path, and follows it. COLA_OK,
+ * COLA_SYSTEM, or COLA_UNFINISHED with COLA_EARLIER. */
+int32_t cola_log_is_beside(const char *path, int file, bool *beside);
 
 /* Removes the journal, and a log with calls, that stand beside the locked file of a new store: they are those of another one, which is
  * gone. False on failure. */

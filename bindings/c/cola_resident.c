@@ -74,11 +74,11 @@ int32_t cola_resident_reopen(cola_file *file) {
 /* Opens the store that was read, and its log where there is to be one. */
 static int32_t open_read(cola_file *file, uint32_t flags) {
     resident *it = resident_of(file);
-    char header[COLA_HEADER];
-    memcpy(header, file->bytes, sizeof header); /* (the opening writes to it) */
+    char page[COLA_PAGE];
+    memcpy(page, file->bytes, sizeof page); /* (the opening writes to it; no store is shorter) */
     int32_t answer = cola_resident_reopen(file);
     if (answer != COLA_OK || (flags & (COLA_LOGGED | COLA_SYNCED)) == 0) return answer;
-    answer = cola_log_open(&it->log, &it->journal, &file->store, header, (flags & COLA_SYNCED) != 0);
+    answer = cola_log_open(&it->log, &it->journal, &file->store, page, (flags & COLA_SYNCED) != 0);
     file->store.is_logged = answer == COLA_OK;
     if (answer != COLA_OK) cola_close(&file->store); /* (in memory alone) */
     return answer;
@@ -113,7 +113,7 @@ static bool is_in_file(const cola_file *file, const resident *it) {
 }
 
 /* Makes the file have the closed store. Pages that a checkpoint holds have no mark then. Where the log would follow the new file as
- * it follows the old one, which a header of version 1 may tell by nothing, the log is kept in the place of a checkpoint. Behind a
+ * it follows the old one, whose first page may be the same in version 1, the log is kept in the place of a checkpoint. Behind a
  * checkpoint that may hold, and is not done, the log may follow no file: then nothing is appended to it. */
 static int32_t make_checkpoint(cola_file *file) {
     resident *it = resident_of(file);

@@ -1,6 +1,7 @@
 /* A hostile log beside a store's file, which is opened in each way, with the journal of its next checkpoint beside it or not: whatever
  * the bytes are, the store has the map of its last checkpoint behind the front of calls that the format's page says they are, computed
- * here by other means; none, where they follow another header. A file that can be no log is answered and left. Where a write, a cut
+ * here by other means; none, where they follow another file. One that an earlier library wrote, which follows the header alone, and a file
+ * that can be no log are answered and left. Where a write, a cut
  * or a sync is refused meanwhile, that is answered, and the next opening finds the same map. The store takes calls then, keeps them,
  * and is sound as it is closed.
  *
@@ -17,41 +18,54 @@ static plain map;            /* what the store is to have */
 /* What the format's page says of the log. */
 
 typedef struct told {
-    bool follows;
+    bool follows, is_earlier; /* the first page; the header alone, with a call */
     int calls;
     size_t whole; /* bytes, up to the first record that does not bear its sum */
 } told;
 
-static void first_sum(const uint8_t *header, uint8_t sum[SUM]) { sha256("COLA-LOG", 8, header, HEADER, sum); }
+static void first_sum(const uint8_t *page, size_t length, uint8_t sum[SUM]) { sha256("COLA-LOG", 8, page, length, sum); }
 
-/* A call on the map, which refuses it or not. */
-static bool is_made(unsigned kind, const uint8_t *key, size_t key_len, uint64_t seen, const uint8_t *value, size_t value_len) {
+static bool begins_with(const image *log, const uint8_t sum[SUM]) { return log->length >= SUM && memcmp(log->bytes, sum, SUM) == 0; }
+
+/* The length of the record that stands at a place, behind a sum, which becomes its own; 0 where there is none. */
+static size_t record_at(const image *log, size_t at, uint8_t chain[SUM]) {
+    uint8_t sum[SUM];
+    const uint8_t *body = log->bytes + at;
+    size_t left = log->length - at;
+    if (left < BODY + SUM || left < BODY + SUM + (size_t)body[1] + body[2]) return 0;
+    size_t size = BODY + (size_t)body[1] + body[2];
+    uint64_t seen = number_at(body + 3, 8);
+    sha256(chain, SUM, body, size, sum);
+    if (memcmp(body + size, sum, SUM) != 0) return 0;
+    if (body[0] != 2 && !(seen == 0 && (body[0] == 1 || (body[0] == 3 && body[2] == 0)))) return 0;
+    memcpy(chain, sum, SUM);
+    return size + SUM;
+}
+
+/* The call of a record on the map, which refuses it or not. */
+static void make_call(const uint8_t *body) {
     bool was;
     uint64_t stamp;
-    if (kind == 1 && seen == 0) plain_put(&map, key, key_len, value, value_len, &was);
-    else if (kind == 2) plain_put_if(&map, false, key, key_len, seen, value, value_len, &was, &stamp);
-    else if (kind == 3 && seen == 0 && value_len == 0) plain_delete(&map, key, key_len);
-    else return false;
-    return true;
+    const uint8_t *key = body + BODY, *value = key + body[1];
+    if (body[0] == 1) plain_put(&map, key, body[1], value, body[2], &was);
+    else if (body[0] == 2) plain_put_if(&map, false, key, body[1], number_at(body + 3, 8), value, body[2], &was, &stamp);
+    else plain_delete(&map, key, body[1]);
 }
 
 static told read_log(const image *log) {
-    uint8_t sum[SUM], chain[SUM];
-    told of = {false, 0, 0};
-    first_sum(holds->bytes, chain);
-    if (log->length < SUM || memcmp(log->bytes, chain, SUM) != 0) return of;
-    of.follows = true;
-    for (of.whole = SUM;; of.calls++) {
-        const uint8_t *body = log->bytes + of.whole;
-        size_t left = log->length - of.whole;
-        if (left < BODY + SUM || left < BODY + SUM + (size_t)body[1] + body[2]) return of;
-        size_t size = BODY + (size_t)body[1] + body[2];
-        sha256(chain, SUM, body, size, sum);
-        if (memcmp(body + size, sum, SUM) != 0) return of;
-        if (!is_made(body[0], body + BODY, body[1], number_at(body + 3, 8), body + BODY + body[1], body[2])) return of;
-        memcpy(chain, sum, SUM);
-        of.whole += size + SUM;
+    uint8_t chain[SUM];
+    told of = {false, false, 0, 0};
+    first_sum(holds->bytes, HEADER, chain);
+    of.is_earlier = begins_with(log, chain) && record_at(log, SUM, chain) > 0;
+    first_sum(holds->bytes, PAGE, chain);
+    of.follows = begins_with(log, chain);
+    if (!of.follows) return of;
+    of.whole = SUM;
+    for (size_t size; (size = record_at(log, of.whole, chain)) > 0; of.calls++) {
+        make_call(log->bytes + of.whole);
+        of.whole += size;
     }
+    return of;
 }
 
 /* Making the files of the input. */
@@ -113,11 +127,11 @@ static size_t make_body(input *in, unsigned kind, uint8_t body[BODY + 512]) {
 
 /* Record by record: calls, any bytes as a record, torn ones, and bytes that are others behind their sum. */
 static void make_records(input *in, image *to) {
-    uint8_t chain[SUM], body[BODY + 512], header[HEADER], breaks[2];
-    unsigned from = next(in) % 4;
-    memcpy(header, from == 1 ? it->files[holds == it->files].bytes : holds->bytes, HEADER);
-    if (from == 2) header[STATE] = 1;
-    first_sum(header, chain);
+    uint8_t chain[SUM], body[BODY + 512], page[PAGE], breaks[2];
+    unsigned how = next(in), from = how % 4;
+    memcpy(page, from == 1 ? it->files[holds == it->files].bytes : holds->bytes, PAGE);
+    if (from == 2) page[STATE] = 1;
+    first_sum(page, how / 4 % 4 == 3 ? HEADER : PAGE, chain);
     if (from < 3) add(to, chain, SUM);
     while (!is_over(in) && to->length < MOST / 4) {
         unsigned what = next(in), least = next(in);
@@ -178,7 +192,7 @@ static int32_t does(int way) {
     return answer;
 }
 
-/* The calls of a log of version 1 may give the header that it follows: then a log alone has them. */
+/* The calls of a log of version 1 may give the first page that it follows: then a log alone has them. */
 static bool is_kept_by_log(int32_t answer, int error, const told *of) {
     return answer == COLA_UNFINISHED && error == EEXIST && it->version == 1 && of->calls > 0;
 }
@@ -213,9 +227,9 @@ int LLVMFuzzerTestOneInput(const uint8_t *bytes, size_t length) {
     make_log(&in, form);
     write_file(log_path, &log_then);
     told of = read_log(&log_then);
-    bool is_refused = !of.follows && is_text(&log_then), is_broken = false;
+    bool is_refused = !of.follows && !of.is_earlier && is_text(&log_then), is_broken = false;
     int held = descriptors();
-    int32_t known = is_logged(way) && is_refused ? COLA_SYSTEM : COLA_OK;
+    int32_t known = of.is_earlier ? COLA_UNFINISHED : is_logged(way) && is_refused ? COLA_SYSTEM : COLA_OK;
     if (fails_at > 0) {
         refuse(fails_at);
         int32_t answer = does(way);
@@ -230,12 +244,14 @@ int LLVMFuzzerTestOneInput(const uint8_t *bytes, size_t length) {
     bool is_kept = is_kept_by_log(answer, error, &of);
     HOLDS(answer == known || is_kept);
     HOLDS(descriptors() == held && (way == READ || way == CHECKED || !is_there(journal_path)));
-    reaches((unsigned)way * 4 + of.follows * 2 + is_refused, of.calls < 3 ? (unsigned)of.calls : 3, (unsigned)(of.calls * 3 + fails_at));
+    reaches((unsigned)way * 4 + (of.is_earlier ? 3u : of.follows * 2u + is_refused), of.calls < 3 ? (unsigned)of.calls : 3, (unsigned)(of.calls * 3 + fails_at));
     if (is_refused) HOLDS((!is_logged(way) || error == EEXIST) && has_file(log_path, &log_then));
-    if (!is_broken && is_logged(way) && !is_refused) look_at_log(&of), HOLDS(has_file(store_path, holds));
-    if (!is_broken && !is_logged(way) && of.calls == 0) HOLDS(has_file(log_path, &log_then) && (way == GROWN || has_file(store_path, holds)));
+    if (of.is_earlier) HOLDS(error == ENOTSUP && has_file(log_path, &log_then) && has_file(store_path, holds));
+    if (!is_broken && is_logged(way) && !is_refused && !of.is_earlier) look_at_log(&of), HOLDS(has_file(store_path, holds));
+    if (!is_broken && !is_logged(way) && of.calls == 0)
+        HOLDS(has_file(log_path, &log_then) && ((way == GROWN && !of.is_earlier) || has_file(store_path, holds)));
     if (!is_broken && !is_logged(way) && of.calls > 0) HOLDS(is_there(log_path) == (is_kept || (way == RECOVERED && it->version == 1 && is_there(log_path))));
-    if (is_refused) unlink(log_path);
+    if (is_refused || of.is_earlier) unlink(log_path);
     goes_on(calls % 2 == 0 ? LOGGED : SYNCED, calls);
     HOLDS(descriptors() == held && !is_there(journal_path));
     look_at_folder();

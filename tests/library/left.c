@@ -5,7 +5,8 @@
  *     journal    killed as the pages of a checkpoint of 20 keys were written
  *     log        killed with 20 keys, 10 of them in the log
  *     both       with 20 keys in the journal, and 30 with the log behind that
- *     other      with a journal that follows another header
+ *     other      with a journal that follows another file
+ *     earlier    with ten keys in a log as an earlier library wrote it, which follows the header alone
  *     nothing    closed
  *
  * Link with -Wl,--wrap=fsync. */
@@ -19,6 +20,7 @@
 
 #include "cola_file.h"
 #include "cola_opening.h"
+#include "earlier.h"
 
 #define HOLDS(is) ((is) ? (void)0 : (fprintf(stderr, "left: line %d: not so: %s (%s)\n", __LINE__, #is, strerror(errno)), exit(1)))
 
@@ -78,8 +80,8 @@ int main(int count, char **words) {
     static char bytes[1 << 20];
     bool journal, log;
     if (count < 2) return fprintf(stderr, "left FOLDER\n"), 2;
-    static const char *const names[] = {"nothing", "journal", "log", "both", "other"};
-    for (int at = 0; at < 5; at++) make(path_of(words[1], names[at], ""));
+    static const char *const names[] = {"nothing", "journal", "log", "both", "other", "earlier"};
+    for (int at = 0; at < 6; at++) make(path_of(words[1], names[at], ""));
     dies(path_of(words[1], "journal", ""), COLA_RESIDENT, 10, true);
     dies(path_of(words[1], "log", ""), COLA_LOGGED, 10, false);
     dies(path_of(words[1], "both", ""), COLA_RESIDENT, 10, true);
@@ -99,5 +101,10 @@ int main(int count, char **words) {
         file = fopen(path_of(words[1], names[at], "-journal"), "wb");
         HOLDS(file != NULL && fwrite(bytes, 1, length, file) == length && fclose(file) == 0);
     }
+    file = fopen(path_of(words[1], "earlier", ""), "rb");
+    HOLDS(file != NULL && fread(bytes, 1, 512, file) == 512 && fclose(file) == 0);
+    length = earlier_log(bytes, 10, (uint8_t *)bytes + 512, sizeof bytes - 512);
+    file = fopen(path_of(words[1], "earlier", "-log"), "wb");
+    HOLDS(file != NULL && fwrite(bytes + 512, 1, length, file) == length && fclose(file) == 0);
     return 0;
 }

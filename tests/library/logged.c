@@ -1,5 +1,5 @@
 /* A store with a log: what each call answers and leaves, with a disk that is full or fails, with logs that are changed, cut, of an
- * older checkpoint or no logs, with batches, with openings of each kind beside it, and with another process.
+ * older checkpoint, of another store, of an earlier library or no logs, with batches, with openings of each kind beside it, and with another process.
  *
  *     logged FOLDER [full]    (full: the folder is that of a disk of 4 MiB, which is filled)
  *
@@ -19,6 +19,7 @@
 #include "cola_core.h"
 #include "cola_file.h"
 #include "cola_opening.h"
+#include "earlier.h"
 #include "plain.h"
 
 enum { KEYS = 300, FEW = 12, MOST = 1 << 22, ROOM = 1 << 20, SUM = 32, RECORD = 43 };
@@ -280,6 +281,101 @@ static void of_changed_logs(void) {
     HOLDS(has(path, 0, FEW, 20) && is_file(record, &log));
 }
 
+/* Puts of keys that begin so, on the store of the file. */
+static void puts_of(char begins, int from, int until, uint32_t flags) {
+    cola_file file;
+    char key[16];
+    open_logged(&file, flags);
+    for (int number = from; number < until; number++) {
+        snprintf(key, sizeof key, "%c%03d", begins, number);
+        HOLDS(cola_put(&file.store, key, 4, "v", 1, NULL) == COLA_OK);
+    }
+    HOLDS((flags == COLA_LOGGED ? cola_file_discard(&file) : cola_file_close(&file)) == COLA_OK);
+}
+
+/* Whether the file, opened so, has this many keys, and all of them begin so. */
+static bool begins_all(char begins, uint64_t keys, uint32_t flags) {
+    cola_file file;
+    cola_cursor cursor;
+    static cola_row rows[KEYS];
+    size_t given = 0;
+    open_logged(&file, flags);
+    HOLDS(cola_seek(&cursor, NULL, 0, NULL, 0) == COLA_OK);
+    cola_next(&file.store, &cursor, rows, KEYS, &given);
+    HOLDS(cola_file_discard(&file) == COLA_OK);
+    while (given > 0 && rows[given - 1].key[0] == (uint8_t)begins) given--, keys--;
+    return given == 0 && keys == 0;
+}
+
+/* The log of one store beside the file of another one with as many puts, whose header is the same: none of its calls is made again. */
+static void of_another_store(void) {
+    static image own, others, log;
+    static const uint32_t flags[] = {0, COLA_READ_ONLY, COLA_RESIDENT, COLA_LOGGED, COLA_SYNCED};
+    cola_verdict verdict;
+    bool found, is_log;
+    for (uint8_t version = 1; version <= 2; version++) {
+        make_store(KEYS, version);
+        puts_of('b', 0, 100, 0);
+        load(&others, path);
+        make_store(KEYS, version);
+        puts_of('a', 0, 100, 0);
+        load(&own, path);
+        HOLDS(memcmp(own.bytes, others.bytes, 512) == 0);
+        puts_of('a', 100, 120, COLA_LOGGED);
+        load(&log, record);
+        for (int way = 0; way < 7; way++) {
+            bool makes = way == 3 || way == 4;
+            save(&others, path);
+            save(&log, record);
+            if (way < 5) HOLDS(begins_all('b', 100, flags[way]));
+            else if (way == 5) HOLDS(cola_file_check(path, &verdict) == COLA_OK && verdict.flaw == COLA_SOUND && verdict.count == 100);
+            else HOLDS(cola_file_settle(path, &found, &is_log) == COLA_OK && !found && !is_log);
+            HOLDS(makes ? !is_there(record) : is_file(record, &log)); /* (one without a call is begun) */
+            HOLDS(way == 0 || way == 2 || is_file(path, &others));
+        }
+        save(&own, path);
+        save(&log, record);
+        HOLDS(begins_all('a', 120, COLA_LOGGED) && begins_all('a', 120, 0) && !is_there(record));
+    }
+}
+
+/* A log as an earlier library wrote it, which follows the header alone: where it has calls, they are neither made again nor lost. */
+static void of_earlier_logs(void) {
+    static image store, log;
+    static const uint32_t flags[] = {0, COLA_READ_ONLY, COLA_RESIDENT, COLA_LOGGED, COLA_SYNCED};
+    cola_file file = COLA_FILE_INIT;
+    cola_verdict verdict;
+    bool found, is_log;
+    uint64_t rows;
+    for (uint8_t version = 1; version <= 2; version++) {
+        make_store(KEYS, version);
+        puts_of('k', 0, 10, 0);
+        load(&store, path);
+        for (int calls = 1; calls <= 10; calls += 9) {
+            log.length = earlier_log(store.bytes, calls, log.bytes, sizeof log.bytes);
+            save(&log, record);
+            for (int way = 0; way < 8; way++) {
+                errno = 0;
+                int32_t answer = way < 5    ? cola_file_open_as(&file, path, flags[way])
+                                 : way == 5 ? cola_file_check(path, &verdict)
+                                 : way == 6 ? cola_file_grow(path, 2 * KEYS, 3, &rows)
+                                            : cola_file_settle(path, &found, &is_log);
+                HOLDS(answer == COLA_UNFINISHED && errno == ENOTSUP && file.bytes == NULL);
+                HOLDS(is_file(path, &store) && is_file(record, &log));
+            }
+        }
+        HOLDS(unlink(record) == 0);
+        puts_of('k', 10, 11, COLA_LOGGED);
+        HOLDS(cola_file_settle(path, &found, &is_log) == COLA_OK && is_log); /* (behind which the log follows nothing) */
+        save(&log, record);
+        HOLDS(begins_all('k', 11, COLA_READ_ONLY) && is_file(record, &log) && begins_all('k', 11, COLA_LOGGED) && !is_there(record));
+        save(&store, path);
+        log.length = SUM; /* (no call is lost) */
+        save(&log, record);
+        HOLDS(begins_all('k', 10, COLA_READ_ONLY) && begins_all('k', 10, COLA_LOGGED) && !is_there(record));
+    }
+}
+
 /* Other files of a log's name are not written to. */
 static void of_other_files(void) {
     static image text;
@@ -489,8 +585,9 @@ static void of_two_processes(void) {
     HOLDS(cola_put(&file.store, "l", 1, "v", 1, NULL) == COLA_OK && cola_file_close(&file) == COLA_OK && !is_there(record));
 }
 
-/* A header of version 1 that comes again behind so many puts: the log is kept where a checkpoint would tell it by nothing. */
-static void of_the_same_header(void) {
+/* A first page of version 1 that comes again, of which all that changed sank below: the log is kept where a checkpoint would tell it by
+ * nothing. */
+static void of_the_same_page(void) {
     cola_file file;
     uint64_t count;
     size_t length;
@@ -499,26 +596,29 @@ static void of_the_same_header(void) {
     int kept = 0;
     make_store(FEW, 1);
     open_logged(&file, COLA_LOGGED);
-    for (int number = 0; number < 600; number++) HOLDS(cola_put(&file.store, "k", 1, "v", 1, NULL) == COLA_OK);
-    HOLDS(cola_file_checkpoint(&file, NULL) == COLA_OK);
-    load(&was, path);
-    for (int number = 1; number <= 600; number++) {
+    for (int number = 0; number <= 600; number++) {
         snprintf(value, sizeof value, "%d", number);
-        HOLDS(cola_put(&file.store, "k", 1, value, strlen(value), NULL) == COLA_OK);
+        HOLDS(cola_put(&file.store, "a", 1, value, strlen(value), NULL) == COLA_OK);
+        for (int more = 0; more < 63; more++) HOLDS(cola_put(&file.store, "k", 1, "v", 1, NULL) == COLA_OK);
+        if (number == 100) {
+            HOLDS(cola_file_checkpoint(&file, NULL) == COLA_OK);
+            load(&was, path);
+        }
+        if (number <= 100) continue;
         HOLDS(cola_file_checkpoint(&file, copy) == COLA_OK);
         load(&now, copy);
-        if (memcmp(was.bytes, now.bytes, 512) != 0) continue;
+        if (memcmp(was.bytes, now.bytes, 4096) != 0) continue;
         kept++;
         HOLDS(cola_file_checkpoint(&file, NULL) == COLA_OK && is_file(path, &was) && cola_file_discard(&file) == COLA_OK);
         open_logged(&file, COLA_LOGGED);
-        HOLDS(cola_get(&file.store, "k", 1, value, &length) == COLA_OK && atoi(value) == number);
+        HOLDS(cola_get(&file.store, "a", 1, value, &length) == COLA_OK && atoi(value) == number);
         if (kept == 2) break;
     }
     HOLDS(kept == 2 && cola_file_close(&file) == COLA_OK && is_there(record) && is_file(path, &was));
     HOLDS(cola_file_open_as(&file, path, 0) == COLA_UNFINISHED && errno == EEXIST && is_there(record));
     open_logged(&file, COLA_LOGGED);
     HOLDS(cola_put(&file.store, "l", 1, "v", 1, NULL) == COLA_OK && cola_file_close(&file) == COLA_OK && !is_there(record));
-    HOLDS(cola_file_open(&file, path) == COLA_OK && cola_count(&file.store, &count) == COLA_OK && count == 2 && cola_file_close(&file) == COLA_OK);
+    HOLDS(cola_file_open(&file, path) == COLA_OK && cola_count(&file.store, &count) == COLA_OK && count == 3 && cola_file_close(&file) == COLA_OK);
 }
 
 int main(int count, char **words) {
@@ -531,6 +631,8 @@ int main(int count, char **words) {
     of_sessions();
     of_other_openings();
     of_changed_logs();
+    of_another_store();
+    of_earlier_logs();
     of_other_files();
     of_batches();
     of_a_failing_disk();
@@ -538,6 +640,6 @@ int main(int count, char **words) {
     of_failing_syncs();
     of_a_full_disk();
     of_two_processes();
-    of_the_same_header();
+    of_the_same_page();
     return 0;
 }

@@ -337,7 +337,7 @@ static void of_journals(void) {
     HOLDS(unlink(other) == 0);
 }
 
-/* What an opening of each kind leaves of a file with another header than the journal follows: the file, and no journal, but where it
+/* What an opening of each kind leaves of a file with another first page than the journal follows: the file, and no journal, but where it
  * reads alone. */
 static void is_passed_over(const image *file) {
     bool found;
@@ -422,7 +422,7 @@ static void leave_a_log(void) {
 }
 
 /* The journal and the log of a removed file do not outlive that another one is made in its place, in each way. Those of the first
- * checkpoint of a store for as many keys follow a new one's header too. */
+ * checkpoint of a store for as many keys follow a new one too. */
 static void of_made_files(void) {
     cola_file file = COLA_FILE_INIT;
     cola_file_load rows = COLA_FILE_LOAD_INIT;
@@ -440,7 +440,7 @@ static void of_made_files(void) {
             make_store(other, FEW);
             HOLDS(cola_file_open(&file, other) == COLA_OK && cola_file_checkpoint(&file, path) == COLA_OK && cola_file_close(&file) == COLA_OK);
         }
-        if (way == 4) { /* (the log follows another header) */
+        if (way == 4) { /* (the log follows another file) */
             save(&before, path);
             HOLDS(cola_file_grow(path, KEYS, 3, &count) == COLA_OK);
         }

@@ -537,7 +537,7 @@ static void has_come(void) {
 
 /* Whether a log would follow the second checkpoint as it follows the first: then it is kept in its place. */
 static bool is_kept_by_log(void) {
-    return is_logged() && memcmp(checkpoints[0].bytes, checkpoints[1].bytes, HEADER) == 0 && !is_same(&checkpoints[0], &checkpoints[1]);
+    return is_logged() && memcmp(checkpoints[0].bytes, checkpoints[1].bytes, PAGE) == 0 && !is_same(&checkpoints[0], &checkpoints[1]);
 }
 
 /* A checkpoint, or the close, of which the process may die. */

@@ -9,10 +9,12 @@
 #include <string.h>
 
 #include "cola.h"
+#include "cola_log.h"
 #include "cola_opening.h"
 
 static const char *why(int32_t answer) {
     return answer == COLA_UNFINISHED && errno == EINVAL ? "the pieces of its journal are none of this store"
+         : answer == COLA_UNFINISHED && errno == COLA_EARLIER ? "its log was written by an earlier library, which makes its calls again"
          : answer != COLA_SYSTEM && answer != COLA_UNFINISHED ? cola_strerror(answer)
          : errno == EWOULDBLOCK                          ? "it is open in another process"
                                                          : strerror(errno);

@@ -9,6 +9,7 @@ mod Started
 pub mod ToldBack
 pub mod Pieces
 pub mod Staying
+pub mod FewMarked
 pub mod Placing
 pub mod LoadValues
 pub mod LoadsTold

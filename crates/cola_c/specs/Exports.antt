@@ -22,7 +22,7 @@ use Rattle.cola_kv.specs.Opened as opened
 use Rattle.cola_handle.specs.Cursors.{NextSays, ByLength, Writes, GaveSome, Moves, is_good, ahead, gave}
 use Rattle.cola_handle.specs.Numbers.{number, was_told, other_told, value_told, length_told, stamp_told}
 use Rattle.cola_handle.specs.Marks.{AreMarked, marks_in, place_in}
-use Rattle.cola_handle.specs.Open.{lent_device, lent_with, HoldsMap, levels_of, Stays, place_of, device_of, WereLent, first_of, first_marks_of, marks_place_of, SameFirst}
+use Rattle.cola_handle.specs.Open.{lent_device, lent_with, HoldsMap, levels_of, Stays, place_of, device_of, WereLent, first_of, first_marks_of, closing_blocks, marks_place_of, SameFirst}
 use Rattle.cola_handle.specs.Walking.{RangeSays, Reads}
 use Rattle.cola_handle.specs.Created.{HasSize}
 use Rattle.cola_handle.specs.Stored.{StoredSays}
@@ -141,12 +141,12 @@ module _ (old : Session) where
 
   -- a checkpoint: the session holds each map that it held, and its bytes are those of the store that was closed in between,
   -- which stand for each such map, with the mark that it is in use. Of those each page with no mark is as it was when the store
-  -- was opened, and from these on pages are marked further
+  -- was opened, few have one, and from these on pages are marked further
   pub record Checkpoints (new : Session) : Type 0 where
     pub closed : List ℕ
     pub closes : HasClosed old closed
     pub marks : Option Lent
-    pub pages : AreMarked (first_marks_of old) (first_of old) (marks_in marks) closed
+    pub pages : AreMarked (first_marks_of old) (first_of old) (closing_blocks old) (marks_in marks) closed
     pub were_lent : WereLent new closed (marks_in marks)
     pub marks_place : marks_place_of new ≡ marks_place_of old
     pub stood : (m : Map) → HoldsMap old m → FileStandsFor closed m

@@ -27,8 +27,8 @@ done_told (Ok replayed) old = replayed.done
 done_told (Err why) old = old
 
 -- a log was made again on the store behind the handle, and how far is told
-pub record TellsReplayed (old : Session) (header bytes : List ℕ) (sum sum' : List ℕ) (whole whole' done done' : ℕ) (new : Session) (answer : Result Replayed Error) : Type 0 where
-  pub replays : Replays lent_device old.kv new.kv header bytes answer
+pub record TellsReplayed (old : Session) (page bytes : List ℕ) (sum sum' : List ℕ) (whole whole' done done' : ℕ) (new : Session) (answer : Result Replayed Error) : Type 0 where
+  pub replays : Replays lent_device old.kv new.kv page bytes answer
   pub sum_is : sum' ≡ sum_told answer sum
   pub whole_is : whole' ≡ whole_told answer whole
   pub done_is : done' ≡ done_told answer done

@@ -1,6 +1,8 @@
-//! What the exports tell, in plain terms. Each function does nothing: its clauses are the law.
-ghost use Rattle.cola_c.specs.Marked.{LentStays};
+//! What the exports tell, in plain terms. Each function does nothing, or looks: its clauses are the law.
+ghost use Rattle.cola_c.specs.Marked.{LentStays, FewPagesAreMarked};
 ghost use Rattle.cola_c.specs.Plain.{GetsAreTold, StampsAreTold, DeletesAreTold, PutsAreTold, PutsIfAreTold, NextsAreTold, SeeksAreTold, CountsAreTold, SizesAreTold, StoredSizesAreTold, CreationsAreTold, RefusalsAreTold, OpeningsAreTold, CheckpointsAreTold, ClosingsAreTold};
+
+use cola_handle::Session;
 
 /// What `cola_core_get` says of an open handle: the value or its absence, by its number, and nothing else.
 pub fn gets_are_told()
@@ -50,3 +52,11 @@ pub fn openings_are_told()
 pub fn what_was_lent_stays()
     ensures { LentStays }
 {}
+
+/// How many pages a checkpoint of the marked ones writes at most: between an opening with marks and a closing each block that the
+/// store writes marks at most 17, and it writes as many blocks as its steps and its file allow.
+pub fn few_pages_are_marked(session: &Session)
+    ensures { FewPagesAreMarked session.now }
+{
+    let _ = session.kv.writes();
+}

@@ -36,8 +36,8 @@ use cola_kv::Error;
 use cola_mapped::Region;
 use cola_outside::Steps;
 pub use laws::{
-    deletes_are_told, gets_are_told, openings_are_told, puts_are_told, rows_are_told,
-    sizes_are_told, stamps_are_told, what_was_lent_stays,
+    deletes_are_told, few_pages_are_marked, gets_are_told, openings_are_told, puts_are_told,
+    rows_are_told, sizes_are_told, stamps_are_told, what_was_lent_stays,
 };
 pub use laws_of_walks::{prevs_are_told, seeks_of_prefixes_are_told};
 use std::alloc::Global;

@@ -12,13 +12,13 @@ use cola_log::{Call, LogSum};
 use cola_replay::Replayed;
 use std::alloc::Global;
 
-/// Begins a log that follows a closed store of this header, which are its file's first 512 bytes: the log's first 32 bytes are
+/// Begins a log that follows a closed file with this first page, which are its first 4,096 bytes: the log's first 32 bytes are
 /// the state's.
 #[unsafe(no_mangle)]
-pub extern "C" fn cola_core_log_begin(header: &[u8], log: &mut LogSum)
-    ensures { log.new.sum ≡ first_sum header.now }
+pub extern "C" fn cola_core_log_begin(page: &[u8], log: &mut LogSum)
+    ensures { log.new.sum ≡ first_sum page.now }
 {
-    *log = LogSum::begin(header);
+    *log = LogSum::begin(page);
 }
 
 /// Writes the record of a call, and tells its length; 0 where there is none.
@@ -99,15 +99,15 @@ fn tell(
     }
 }
 
-/// Makes the calls of a log again on the store that was opened of the file with this header, as it lay closed, and tells the
-/// state behind the log's last whole record, how many of its bytes are whole, and how many calls were made. 0 bytes are whole
-/// of a log that follows another header: none of its calls is made. Where a damaged store refuses a call, some were made, and
+/// Makes the calls of a log again on the store that was opened of the file with this first page, as it lay closed, and tells
+/// the state behind the log's last whole record, how many of its bytes are whole, and how many calls were made. 0 bytes are whole
+/// of a log that follows another file: none of its calls is made. Where a damaged store refuses a call, some were made, and
 /// nothing is told.
 #[unsafe(no_mangle)]
 pub extern "C" fn cola_core_log_replay(
     alloc: Global,
     cola: &mut Cola,
-    header: &[u8],
+    page: &[u8],
     bytes: &[u8],
     log: &mut LogSum,
     whole: &mut usize,
@@ -116,12 +116,12 @@ pub extern "C" fn cola_core_log_replay(
     ensures closed { IfClosed cola.old (AnswersClosed cola.new result × (log.new ≡ log.old)
         × (whole.new ≡ whole.old) × (done.new ≡ done.old)) }
     ensures answered { IfOpen cola.old (λ session. Answered cola.new result made
-        (TellsReplayed session header.now bytes.now log.old.sum log.new.sum whole.old whole.new done.old done.new)) }
+        (TellsReplayed session page.now bytes.now log.old.sum log.new.sum whole.old whole.new done.old done.new)) }
 {
     let Some(mut session) = cola.take(alloc) else {
         return Answer::Closed.code();
     };
-    let answer = cola_replay::replay(&mut session.kv, header, bytes);
+    let answer = cola_replay::replay(&mut session.kv, page, bytes);
     cola.put(alloc, session);
     tell(answer, log, whole, done)
 }

@@ -10,4 +10,5 @@ pub mod Turned
 pub mod Taking
 pub mod Marking
 pub mod Lending
+pub mod FewMarks
 pub mod Between

@@ -18,7 +18,7 @@ use Rattle.cola_handle.specs.Lent.{HasTerms, OpenCause, AreLeft}
 use Rattle.cola_handle.specs.Numbers.{refused}
 use Rattle.cola_handle.specs.Open.{LentDevice, lent_device}
 
-no-rise : Rose 0 0 → ⊥
+pub no-rise : Rose 0 0 → ⊥
 no-rise rose = omega (arith, rose)
 
 pub refusal-cause : (before now : LentDevice) (e : Error) → kv.OpenCause lent_device before now e → OpenCause before.device.bytes (refused e)

@@ -1,5 +1,5 @@
 -- An open store in lent bytes: the map that it holds, its sizes, where its bytes lie, what was lent, and what no call changes.
-use Rattle.std.specs.Prelude.{◌≡◌, ℕ, List, Option, Some}
+use Rattle.std.specs.Prelude.{◌≡◌, ℕ, ◌+◌, List, Option, Some}
 use denote.RawPtr.{Ptr}
 use Rattle.cola_device.specs.declared.counts.Counts.{Counts}
 use Rattle.cola_device.specs.declared.device.Device as device
@@ -72,6 +72,10 @@ first_of session = (lent_of session).first.bytes
 
 abbrev pub first_marks_of : Session → List ℕ
 first_marks_of session = marks_in (lent_of session).first_marks
+
+-- how many blocks were written since then once it is closed: those that its device counts, two, and one for each level at most
+abbrev pub closing_blocks : Session → ℕ
+closing_blocks session = kv.writes_of lent_device session.kv + (levels_of session + 2)
 
 -- these bytes and these marks were lent to it
 pub record WereLent (session : Session) (bytes marks : List ℕ) : Type 0 where

@@ -10,8 +10,8 @@ ghost use Rattle.cola_mapped.specs.Mapped.{IsLent};
 ghost use Rattle.cola_mapped.specs.Region.{bytes_in};
 ghost use Rattle.cola_handle.specs.declared.answer.Answer.TheVariants.{Memory};
 ghost use Rattle.cola_handle.specs.Lent.{StandsFor, HasTerms, HasClosed, OpenCause, AreLeft};
-ghost use Rattle.cola_handle.specs.Marks.{AreMarked, marks_in, place_in};
-ghost use Rattle.cola_handle.specs.Open.{lent_device, lent_with, HoldsMap, place_of, device_of, first_of, first_marks_of, marks_place_of};
+ghost use Rattle.cola_handle.specs.Marks.{AreMarked, refused_blocks, marks_in, place_in};
+ghost use Rattle.cola_handle.specs.Open.{lent_device, lent_with, HoldsMap, place_of, device_of, first_of, first_marks_of, closing_blocks, marks_place_of};
 
 use crate::answer::Answer;
 use crate::marks::{LentDevice, LentMarks};
@@ -30,7 +30,7 @@ fn give_back(device: LentDevice) -> (Region, LentMarks)
     ensures at { result.0.at ≡ device.device.at }
     ensures len { result.0.len ≡ device.device.len }
     ensures marks { result.1 ≡ device.marks }
-    ensures marked { AreMarked (marks_in device.first_marks) device.first.bytes (marks_in result.1) device.device.bytes }
+    ensures marked { AreMarked (marks_in device.first_marks) device.first.bytes device.writes (marks_in result.1) device.device.bytes }
 {
     let (mapped, marks) = device.into_parts();
     (mapped.into_region(), marks)
@@ -56,7 +56,7 @@ fn open_device(
     ensures back_len { IfErr result (λ refusal. refusal.0.len ≡ device.device.len) }
     ensures back_marks { IfErr result (λ refusal. place_in refusal.1 ≡ place_in device.marks) }
     ensures back_marked { IfErr result
-        (λ refusal. AreMarked (marks_in device.first_marks) device.first.bytes (marks_in refusal.1) (bytes_in refusal.0.bytes)) }
+        (λ refusal. AreMarked (marks_in device.first_marks) device.first.bytes device.writes (marks_in refusal.1) (bytes_in refusal.0.bytes)) }
 {
     match Kv::open(alloc, device, CACHE) {
         Ok(kv) => Ok(kv),
@@ -98,7 +98,7 @@ fn open_lent(
     ensures back_len { IfErr result (λ refusal. refusal.0.len ≡ lent.len) }
     ensures back_marks { IfErr result (λ refusal. place_in refusal.1 ≡ place_in marks) }
     ensures back_marked { IfErr result
-        (λ refusal. AreMarked (marks_in marks) (bytes_in lent.bytes) (marks_in refusal.1) (bytes_in refusal.0.bytes)) }
+        (λ refusal. AreMarked (marks_in marks) (bytes_in lent.bytes) refused_blocks (marks_in refusal.1) (bytes_in refusal.0.bytes)) }
 {
     let device = MarkedDevice::over(MappedDevice::over(lent), marks);
     let kv = match open_device(alloc, device) {
@@ -150,7 +150,7 @@ pub fn open(
     ensures back_len { IfErr result (λ refusal. refusal.0.len ≡ region.len) }
     ensures back_marks { IfErr result (λ refusal. place_in refusal.1 ≡ place_in marks) }
     ensures back_marked { IfErr result
-        (λ refusal. AreMarked (marks_in marks) (bytes_in region.bytes) (marks_in refusal.1) (bytes_in refusal.0.bytes)) }
+        (λ refusal. AreMarked (marks_in marks) (bytes_in region.bytes) refused_blocks (marks_in refusal.1) (bytes_in refusal.0.bytes)) }
 {
     let lent = Lent::of(region);
     if lent.size() == 0 {
@@ -160,14 +160,14 @@ pub fn open(
 }
 
 /// Closes the store: the region has its file, and is where it was; so are the marks. A page that has no mark is as it was when
-/// the store was opened.
+/// the store was opened, and each block that was written since has marked at most 17.
 pub fn close(session: Session) -> (Region, LentMarks)
     ensures given { HasClosed session (bytes_in result.0.bytes) }
     ensures stands { (m : Map) → HoldsMap session m → StandsFor result.0.bytes m }
     ensures terms { HasTerms (terms_of session.kv.store) (bytes_in result.0.bytes) }
     ensures place { (result.0.at, result.0.len) ≡ place_of session }
     ensures lent { IsSome result.0.bytes }
-    ensures marked { AreMarked (first_marks_of session) (first_of session) (marks_in result.1) (bytes_in result.0.bytes) }
+    ensures marked { AreMarked (first_marks_of session) (first_of session) (closing_blocks session) (marks_in result.1) (bytes_in result.0.bytes) }
     ensures marks_place { place_in result.1 ≡ marks_place_of session }
 {
     let Session { kv } = session;

@@ -91,39 +91,39 @@ front_fits zero calls fit = tt
 front_fits (suc n) [] fit = tt
 front_fits (suc n) (it ∷ calls) fit = (fit.0, front_fits n calls fit.1)
 
-pub length_log : (header : List ℕ) (calls : List Logged) → length (log_of header calls) ≡ 32 + length (records_of (first_sum header) calls)
-length_log header calls = length-append (first_sum header) (records_of (first_sum header) calls) ∙ ap (λ (n : ℕ). n + length (records_of (first_sum header) calls)) (length-sha256 _)
+pub length_log : (page : List ℕ) (calls : List Logged) → length (log_of page calls) ≡ 32 + length (records_of (first_sum page) calls)
+length_log page calls = length-append (first_sum page) (records_of (first_sum page) calls) ∙ ap (λ (n : ℕ). n + length (records_of (first_sum page) calls)) (length-sha256 _)
 
-pub cut_is_front : (header : List ℕ) (calls : List Logged) (size : ℕ) (tail : List ℕ) → AllFit calls → 32 ≤ size → IsFrontRead header calls size (take size (log_of header calls) ++ tail)
-cut_is_front header calls size tail fit long =
-    let first = first_sum header in
+pub cut_is_front : (page : List ℕ) (calls : List Logged) (size : ℕ) (tail : List ℕ) → AllFit calls → 32 ≤ size → IsFrontRead page calls size (take size (log_of page calls) ++ tail)
+cut_is_front page calls size tail fit long =
+    let first = first_sum page in
     let left : ℕ = size - 32 in
     let all = records_of first calls in
-    let split : size ≡ length first + left = omega (arith, long, thirty_two header) in
+    let split : size ≡ length first + left = omega (arith, long, thirty_two page) in
     let f = front_of first calls left tail in
     let kept = take f.kept calls in
-    let bytes = take size (log_of header calls) ++ tail in
-    let bytes_are : bytes ≡ log_of header kept ++ f.behind =
+    let bytes = take size (log_of page calls) ++ tail in
+    let bytes_are : bytes ≡ log_of page kept ++ f.behind =
     ap (λ (n : ℕ). take n (first ++ all) ++ tail) split
     ∙ ap (λ (l : List ℕ). l ++ tail) (take_past first all left)
     ∙ append_assoc first (take left all) tail
     ∙ ap (λ (l : List ℕ). first ++ l) f.bytes_are
     ∙ sym (append_assoc first (records_of first kept) f.behind) in
-    let read : read_log header bytes ≡ kept ++ read_records (sums_after first kept) f.behind =
-    ap (read_log header) bytes_are ∙ log_read header kept f.behind (front_fits f.kept calls fit) in
+    let read : read_log page bytes ≡ kept ++ read_records (sums_after first kept) f.behind =
+    ap (read_log page) bytes_are ∙ log_read page kept f.behind (front_fits f.kept calls fit) in
     record {
       kept = f.kept;
       behind = f.behind;
       among = f.among;
-      whole = omega (arith, f.whole, long, length_log header kept);
-      torn = λ more. within size _ _ (f.torn more) (length_log header (take (f.kept + 1) calls)) long;
+      whole = omega (arith, f.whole, long, length_log page kept);
+      torn = λ more. within size _ _ (f.torn more) (length_log page (take (f.kept + 1) calls)) long;
       bytes_are = bytes_are;
       read = read;
       stops = λ none. read ∙ ap (λ (l : List Logged). kept ++ l) (read_none (sums_after first kept) f.behind none) ∙ append-nil kept;
     }
   where
-    thirty_two : (header : List ℕ) → length (first_sum header) ≡ 32
-    thirty_two header = length-sha256 _
+    thirty_two : (page : List ℕ) → length (first_sum page) ≡ 32
+    thirty_two page = length-sha256 _
 
     within : (size m n : ℕ) → size - 32 < m → n ≡ 32 + m → 32 ≤ size → size < n
     within size m n less is long = omega (arith, less, is, long)

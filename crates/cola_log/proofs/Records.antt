@@ -178,19 +178,19 @@ front_read sum (it ∷ calls) rest fit =
     ∙ ap (λ (l : List Logged). it ∷ l) (front_read after calls rest fit.1)
 
 -- a log
-pub log_read : (header : List ℕ) (calls : List Logged) (rest : List ℕ) → AllFit calls →
-    read_log header (log_of header calls ++ rest) ≡ calls ++ read_records (sums_after (first_sum header) calls) rest
-log_read header calls rest fit =
-    let first = first_sum header in
+pub log_read : (page : List ℕ) (calls : List Logged) (rest : List ℕ) → AllFit calls →
+    read_log page (log_of page calls ++ rest) ≡ calls ++ read_records (sums_after (first_sum page) calls) rest
+log_read page calls rest fit =
+    let first = first_sum page in
     let others = records_of first calls ++ rest in
     let long : length first ≡ 32 = length-sha256 _ in
-    let shape : log_of header calls ++ rest ≡ first ++ others = append_assoc first (records_of first calls) rest in
+    let shape : log_of page calls ++ rest ≡ first ++ others = append_assoc first (records_of first calls) rest in
     let same : bytes_eq (take 32 (first ++ others)) first ≡ true = ap (λ (l : List ℕ). bytes_eq l first) (take_at first others 32 long) ∙ bytes_self first in
-    ap (read_log header) shape
+    ap (read_log page) shape
     ∙ if_true (bytes_eq (take 32 (first ++ others)) first) (read_records first (drop 32 (first ++ others))) [] same
     ∙ ap (read_records first) (drop_at first others 32 long)
     ∙ front_read first calls rest fit
 
-pub whole_read : (header : List ℕ) (calls : List Logged) → AllFit calls → read_log header (log_of header calls) ≡ calls
-whole_read header calls fit =
-    ap (read_log header) (sym (append-nil (log_of header calls))) ∙ log_read header calls [] fit ∙ append-nil calls
+pub whole_read : (page : List ℕ) (calls : List Logged) → AllFit calls → read_log page (log_of page calls) ≡ calls
+whole_read page calls fit =
+    ap (read_log page) (sym (append-nil (log_of page calls))) ∙ log_read page calls [] fit ∙ append-nil calls

@@ -174,16 +174,16 @@ are_records (suc n) sum bytes are most = by_found n sum bytes are most (λ s b s
 pub records_are : (sum bytes : List ℕ) → AreBytes bytes → AreRecords sum bytes (read_records sum bytes)
 records_are sum bytes are = are_records (length bytes) sum bytes are (omega arith)
 
-pub is_spelled : (header bytes : List ℕ) → ((k : ℕ) → slice_index bytes k < 256) → IsSpelled header bytes
-is_spelled header bytes are =
-    let first = first_sum header in
+pub is_spelled : (page bytes : List ℕ) → ((k : ℕ) → slice_index bytes k < 256) → IsSpelled page bytes
+is_spelled page bytes are =
+    let first = first_sum page in
     let rest = drop 32 bytes in
     let a = records_are first rest (drop-bytes 32 bytes are) in
     let test = bytes_eq (take 32 bytes) first in
     record {
       begun = λ same.
-          let read : read_log header bytes ≡ read_records first rest = if_true test (read_records first rest) [] ((bytes_eq-Decides (take 32 bytes) first).1 same) in
-          subst (λ (l : List Logged). Begins header l bytes) (sym read)
+          let read : read_log page bytes ≡ read_records first rest = if_true test (read_records first rest) [] ((bytes_eq-Decides (take 32 bytes) first).1 same) in
+          subst (λ (l : List Logged). Begins page l bytes) (sym read)
           (record {
             behind = a.behind;
             bytes_are =

@@ -60,9 +60,9 @@ AllFit (it ∷ calls) = Fits it × AllFit calls
 
 -- Written
 
--- the sum with which the log begins that follows a store of this header
+-- the sum with which the log begins that follows a file with this first page
 abbrev pub first_sum : List ℕ → List ℕ
-first_sum header = sha256 (codes "COLA-LOG" ++ header)
+first_sum page = sha256 (codes "COLA-LOG" ++ page)
 
 -- what stands before the key: the kind, the lengths of the key and of the value, and the stamp seen
 abbrev pub head_of : Logged → List ℕ
@@ -91,8 +91,8 @@ sums_after sum [] = sum
 sums_after sum (it ∷ calls) = sums_after (sum_after sum it) calls
 
 -- the whole log
-abbrev pub log_of : (header : List ℕ) → List Logged → List ℕ
-log_of header calls = first_sum header ++ records_of (first_sum header) calls
+abbrev pub log_of : (page : List ℕ) → List Logged → List ℕ
+log_of page calls = first_sum page ++ records_of (first_sum page) calls
 
 -- Read
 
@@ -144,7 +144,7 @@ calls_in (suc n) sum bytes = further (record_at sum bytes) (calls_in n)
 abbrev pub read_records : (sum bytes : List ℕ) → List Logged
 read_records sum bytes = calls_in (length bytes) sum bytes
 
--- the calls of a log that follows a store of this header: none where it begins with another sum
-abbrev pub read_log : (header bytes : List ℕ) → List Logged
-read_log header bytes =
-    if bytes_eq (take 32 bytes) (first_sum header) then read_records (first_sum header) (drop 32 bytes) else []
+-- the calls of a log that follows a file with this first page: none where it begins with another sum
+abbrev pub read_log : (page bytes : List ℕ) → List Logged
+read_log page bytes =
+    if bytes_eq (take 32 bytes) (first_sum page) then read_records (first_sum page) (drop 32 bytes) else []

@@ -5,17 +5,17 @@ ghost use Rattle.cola_log.specs.Cut.{IsFrontRead, IsSpelled};
 
 /// With nothing cut, all calls are read.
 pub fn whole_logs_give_all()
-    ensures { (header : List ℕ) (calls : List Logged) → AllFit calls → read_log header (log_of header calls) ≡ calls }
+    ensures { (page : List ℕ) (calls : List Logged) → AllFit calls → read_log page (log_of page calls) ≡ calls }
 {}
 
 /// A log that is cut off anywhere and followed by any bytes is read as its calls up to the first record that does not bear its
 /// sum; what is read beyond them bears its sum behind them.
 pub fn cut_logs_give_a_front()
-    ensures { (header : List ℕ) (calls : List Logged) (size : ℕ) (behind : List ℕ) → AllFit calls → 32 ≤ size
-        → IsFrontRead header calls size (take size (log_of header calls) ++ behind) }
+    ensures { (page : List ℕ) (calls : List Logged) (size : ℕ) (behind : List ℕ) → AllFit calls → 32 ≤ size
+        → IsFrontRead page calls size (take size (log_of page calls) ++ behind) }
 {}
 
 /// What is read of a log is how the log begins: it has one spelling.
 pub fn what_is_read_was_written()
-    ensures { (header bytes : List ℕ) → ((k : ℕ) → slice_index bytes k < 256) → IsSpelled header bytes }
+    ensures { (page bytes : List ℕ) → ((k : ℕ) → slice_index bytes k < 256) → IsSpelled page bytes }
 {}

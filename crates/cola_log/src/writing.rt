@@ -49,12 +49,12 @@ fn write_on(into: &mut [u8], at: usize, from: &[u8])
 }
 
 impl LogSum {
-    /// The sum with which the log begins that follows a closed store of this header; the log's first 32 bytes.
-    pub fn begin(header: &[u8]) -> LogSum
-        ensures { result.sum ≡ first_sum header.now }
+    /// The sum with which the log begins that follows a closed file with this first page; the log's first 32 bytes.
+    pub fn begin(page: &[u8]) -> LogSum
+        ensures { result.sum ≡ first_sum page.now }
     {
         LogSum {
-            sum: chained(b"COLA-LOG", header),
+            sum: chained(b"COLA-LOG", page),
         }
     }
 

@@ -88,9 +88,9 @@ module _ {D : Type 0} (d : device.Ghosts D) where
       (stays-longer d old mid new before.0 carries.stays, subst (λ (x : Map). Holds d new x) lists led)
 
   pub are_made_again : AreMadeAgain d
-  are_made_again = λ old new again last m calls results header bytes replayed holds carries none same_map same_shape read replays.
+  are_made_again = λ old new again last m calls results page bytes replayed holds carries none same_map same_shape read replays.
       let first = follow_leads old new calls results m carries.made none holds in
-      let second : Holds d last (after_all (shape_of again) m (read_log header bytes)) = replays.map m same_map in
-      let lists : after_all (shape_of again) m (read_log header bytes) ≡ after_all (shape_of old) m (logged_of calls) =
-      ap (λ (s : Shape). after_all s m (read_log header bytes)) same_shape ∙ ap (after_all (shape_of old) m) read in
+      let second : Holds d last (after_all (shape_of again) m (read_log page bytes)) = replays.map m same_map in
+      let lists : after_all (shape_of again) m (read_log page bytes) ≡ after_all (shape_of old) m (logged_of calls) =
+      ap (λ (s : Shape). after_all s m (read_log page bytes)) same_shape ∙ ap (after_all (shape_of old) m) read in
       (first.1, subst (λ (x : Map). Holds d last x) lists second)

@@ -7,7 +7,7 @@ use Rattle.cola_journal.specs.Disk.{Contents, Same, Pages}
 use Rattle.cola_journal.specs.Runs as runs
 use Rattle.cola_journal.specs.Runs.{World, IsComing, Stands, IsSafe, IsSettled, under_way, recovered, held_after, coming_after}
 use Rattle.cola_log.specs.Format.{Logged, AllFit, first_sum, read_log}
-use Rattle.cola_replay.specs.Crash.{header_of, sum_of, IsFront, LogDisk, last_calls, seen, WasToHave, LeavesLog, Logs, follows, EventCanHappen, event_happens, FindsHeld, FindsNext}
+use Rattle.cola_replay.specs.Crash.{first_page, sum_of, IsFront, LogDisk, last_calls, seen, WasToHave, LeavesLog, Logs, follows, EventCanHappen, event_happens, FindsHeld, FindsNext}
 use Rattle.cola_replay.proofs.Leaving.{sum_same, followed, other_sum, front_nil, front_behind, were_to_have, front_found, read_same, passed_over}
 
 -- Choices
@@ -114,7 +114,7 @@ module _ (reads : List ℕ → Option Pages) (start : Contents) where
     pub begun : log.begun ≡ true
     pub follows_it : follows log held ≡ true
     pub synced : IsFront (base ++ log.calls) next
-    pub other : first_sum log.header ≢ sum_of c
+    pub other : first_sum log.page ≢ sum_of c
 
   -- what holds through a run, of the log beside a checkpoint that holds and one that comes
   pub record Holds (log : LogDisk) (base next : List Logged) (held : Contents) (coming : Option Contents) : Type 0 where
@@ -133,25 +133,25 @@ module _ (reads : List ℕ → Option Pages) (start : Contents) where
 
   module _ (log : LogDisk) (base next : List Logged) (held : Contents) (coming : Option Contents) (h : Holds log base next held coming) (bytes : List ℕ) where
     -- what is read of the log begins with what was synced
-    pub synced_read : LeavesLog log bytes → (b : Bool) → log.begun ≡ b → IsFront log.calls (read_log log.header bytes)
-    synced_read left true begun = let f = left.front begun in front_found log.header log.calls bytes f.0 h.fit f.1
-    synced_read left false begun = subst (λ (l : List Logged). IsFront l (read_log log.header bytes)) (sym (h.empty begun)) (front_nil (read_log log.header bytes))
+    pub synced_read : LeavesLog log bytes → (b : Bool) → log.begun ≡ b → IsFront log.calls (read_log log.page bytes)
+    synced_read left true begun = let f = left.front begun in front_found log.page log.calls bytes f.0 h.fit f.1
+    synced_read left false begun = subst (λ (l : List Logged). IsFront l (read_log log.page bytes)) (sym (h.empty begun)) (front_nil (read_log log.page bytes))
 
     -- a log that follows another checkpoint is passed over
-    none_read : LeavesLog log bytes → log.begun ≡ true → (file : Contents) → first_sum log.header ≢ sum_of file → read_log (header_of file) bytes ≡ []
-    none_read left begun file other = let f = left.front begun in passed_over log.header (header_of file) log.calls bytes f.0 f.1 other
+    none_read : LeavesLog log bytes → log.begun ≡ true → (file : Contents) → first_sum log.page ≢ sum_of file → read_log (first_page file) bytes ≡ []
+    none_read left begun file other = let f = left.front begun in passed_over log.page (first_page file) log.calls bytes f.0 f.1 other
 
-  pub held_found : (w : Logs) → Inv w → (file : Contents) (bytes : List ℕ) → Same file w.world.held → LeavesLog w.log bytes → (b : Bool) → follows w.log w.world.held ≡ b → FindsHeld w file (read_log (header_of file) bytes)
+  pub held_found : (w : Logs) → Inv w → (file : Contents) (bytes : List ℕ) → Same file w.world.held → LeavesLog w.log bytes → (b : Bool) → follows w.log w.world.held ≡ b → FindsHeld w file (read_log (first_page file) bytes)
   held_found w inv file bytes same left true is =
       let h = inv.holds in
       let log = w.log in
-      let read : read_log (header_of file) bytes ≡ read_log log.header bytes =
-      read_same (header_of file) log.header bytes (sum_same file w.world.held same ∙ sym (followed log w.world.held is)) in
-      let front : IsFront log.calls (read_log log.header bytes) = synced_read log w.base w.next w.world.held w.world.coming h bytes left log.begun refl in
+      let read : read_log (first_page file) bytes ≡ read_log log.page bytes =
+      read_same (first_page file) log.page bytes (sum_same file w.world.held same ∙ sym (followed log w.world.held is)) in
+      let front : IsFront log.calls (read_log log.page bytes) = synced_read log w.base w.next w.world.held w.world.coming h bytes left log.begun refl in
       record {
         file_is = same;
-        synced = front_behind w.base (if follows log w.world.held then log.calls else []) (read_log (header_of file) bytes)
-            (subst (λ (l : List Logged). IsFront l (read_log (header_of file) bytes)) (sym (chosen (follows log w.world.held) log.calls [] is))
+        synced = front_behind w.base (if follows log w.world.held then log.calls else []) (read_log (first_page file) bytes)
+            (subst (λ (l : List Logged). IsFront l (read_log (first_page file) bytes)) (sym (chosen (follows log w.world.held) log.calls [] is))
             (subst (λ (l : List Logged). IsFront log.calls l) (sym read) front));
         were = λ yes. subst (λ (l : List Logged). WasToHave log l) (sym read) (were_to_have log bytes left.are left.unforged).0;
         none = λ no. absurd (cc (is, no));
@@ -159,17 +159,17 @@ module _ (reads : List ℕ → Option Pages) (start : Contents) where
   held_found w inv file bytes same left false is =
       let h = inv.holds in
       let log = w.log in
-      let none : read_log (header_of file) bytes ≡ [] = none_read log w.base w.next w.world.held w.world.coming h bytes left (h.passed is) file
+      let none : read_log (first_page file) bytes ≡ [] = none_read log w.base w.next w.world.held w.world.coming h bytes left (h.passed is) file
       (λ e. other_sum log w.world.held is (e ∙ sum_same file w.world.held same)) in
       record {
         file_is = same;
-        synced = front_behind w.base (if follows log w.world.held then log.calls else []) (read_log (header_of file) bytes)
-            (subst (λ (l : List Logged). IsFront l (read_log (header_of file) bytes)) (sym (left_out (follows log w.world.held) log.calls [] is)) (front_nil (read_log (header_of file) bytes)));
+        synced = front_behind w.base (if follows log w.world.held then log.calls else []) (read_log (first_page file) bytes)
+            (subst (λ (l : List Logged). IsFront l (read_log (first_page file) bytes)) (sym (left_out (follows log w.world.held) log.calls [] is)) (front_nil (read_log (first_page file) bytes)));
         were = λ yes. absurd (cc (is, yes));
         none = λ no. none;
       }
 
-  pub next_found : (w : Logs) → Inv w → (file : Contents) (bytes : List ℕ) → IsComing w.world.coming file → LeavesLog w.log bytes → FindsNext w file (read_log (header_of file) bytes)
+  pub next_found : (w : Logs) → Inv w → (file : Contents) (bytes : List ℕ) → IsComing w.world.coming file → LeavesLog w.log bytes → FindsNext w file (read_log (first_page file) bytes)
   next_found w inv file bytes comes left =
       let h = inv.holds in
       let c = coming_some w.world.coming file comes in

@@ -9,7 +9,7 @@ use Rattle.cola_journal.specs.Runs as runs
 use Rattle.cola_journal.specs.Runs.{World, IsComing, under_way, recovered, coming_after}
 use Rattle.cola_image.specs.Standing.{FileStandsFor}
 use Rattle.cola_log.specs.Format.{Logged, read_log}
-use Rattle.cola_replay.specs.Crash.{header_of, IsFront, Logs, follows, durable, history, Happening, Turns, Begins, Fallen, Died, NewLog, Appends, Breaks, Syncs, CanHappen, base_after, happens, IsRun, behind, begin_with, Finds, IsKept, IsAnswered}
+use Rattle.cola_replay.specs.Crash.{first_page, IsFront, Logs, follows, durable, history, Happening, Turns, Begins, Fallen, Died, NewLog, Appends, Breaks, Syncs, CanHappen, base_after, happens, IsRun, behind, begin_with, Finds, IsKept, IsAnswered}
 use Rattle.cola_replay.specs.Made.{after, after_all}
 use Rattle.cola_replay.specs.Maps.{Stands, Saves, AllSave, LeadsTo, AreMapsKept, AreMapsAnswered}
 use Rattle.cola_replay.proofs.Leaving.{bytes_same, sum_same, follows_same, not_followed}
@@ -127,7 +127,7 @@ module _ (reads : List ℕ → Option Pages) (start : Contents) (safe : AreSafe 
   pub maps_kept : Stands size start m → (its : List Happening) → IsRun reads (begin_with start) its → AllSave reads size shape m (begin_with start) its → IsKept reads (behind reads (begin_with start) its) →
       AreMapsKept reads size shape m (behind reads (begin_with start) its)
   maps_kept stands its run saves are_kept file journal bytes left_file left_journal left_log =
-      found (behind reads (begin_with start) its) (at_end stands its run saves) (recovered (reads journal) file) (read_log (header_of (recovered (reads journal) file)) bytes)
+      found (behind reads (begin_with start) its) (at_end stands its run saves) (recovered (reads journal) file) (read_log (first_page (recovered (reads journal) file)) bytes)
       (are_kept file journal bytes left_file left_journal left_log)
 
   pub maps_answered : Stands size start m → (its : List Happening) → IsRun reads (begin_with start) its → AllSave reads size shape m (begin_with start) its → IsAnswered reads (behind reads (begin_with start) its) →
@@ -135,4 +135,4 @@ module _ (reads : List ℕ → Option Pages) (start : Contents) (safe : AreSafe 
   maps_answered stands its run saves answered file bytes left same =
       let w = behind reads (begin_with start) its in
       let s = at_end stands its run saves in
-      leads w (history w) w.base file (read_log (header_of file) bytes) (same_stand file w.world.held (after_all shape m w.base) same s.holds) (answered file bytes left same) (inl refl)
+      leads w (history w) w.base file (read_log (first_page file) bytes) (same_stand file w.world.held (after_all shape m w.base) same s.holds) (answered file bytes left same) (inl refl)

@@ -104,12 +104,12 @@ module _ {D : Type 0} (d : device.Ghosts D) where
 
   -- The whole log
 
-  pub replays_other : (kv : Kv D d) (header bytes sum : List ℕ) (replayed : Replayed) → sum ≡ first_sum header → bytes_eq (take 32 bytes) sum ≡ false →
-      replayed.sum.sum ≡ sum → replayed.whole ≡ 0 → replayed.done ≡ 0 → Replays d kv kv header bytes (Ok replayed)
-  replays_other kv header bytes sum replayed is other sum_is whole done =
-      let first = first_sum header in
+  pub replays_other : (kv : Kv D d) (page bytes sum : List ℕ) (replayed : Replayed) → sum ≡ first_sum page → bytes_eq (take 32 bytes) sum ≡ false →
+      replayed.sum.sum ≡ sum → replayed.whole ≡ 0 → replayed.done ≡ 0 → Replays d kv kv page bytes (Ok replayed)
+  replays_other kv page bytes sum replayed is other sum_is whole done =
+      let first = first_sum page in
       let apart : bytes_eq (take 32 bytes) first ≡ false = subst (λ (s : List ℕ). bytes_eq (take 32 bytes) s ≡ false) is other in
-      let none : read_log header bytes ≡ [] = if_false (bytes_eq (take 32 bytes) first) (read_records first (drop 32 bytes)) [] apart in
+      let none : read_log page bytes ≡ [] = if_false (bytes_eq (take 32 bytes) first) (read_records first (drop 32 bytes)) [] apart in
       record {
         map = λ m holds. subst (λ (l : List Logged). Holds d kv (after_all (shape_of kv) m l)) (sym none) holds;
         refusal = λ m holds. tt;
@@ -124,38 +124,38 @@ module _ {D : Type 0} (d : device.Ghosts D) where
         stays = stays-same d kv;
       }
 
-  begins_so : (header bytes sum rest : List ℕ) → sum ≡ first_sum header → (bytes_eq (take 32 bytes) sum ≡ true) × (rest ≡ drop 32 bytes) → take 32 bytes ≡ first_sum header
-  begins_so header bytes sum rest is same = (bytes_eq-Decides (take 32 bytes) sum).0 same.0 ∙ is
+  begins_so : (page bytes sum rest : List ℕ) → sum ≡ first_sum page → (bytes_eq (take 32 bytes) sum ≡ true) × (rest ≡ drop 32 bytes) → take 32 bytes ≡ first_sum page
+  begins_so page bytes sum rest is same = (bytes_eq-Decides (take 32 bytes) sum).0 same.0 ∙ is
 
-  pub replays_failed : (old new : Kv D d) (header bytes sum rest sum' : List ℕ) (e : Error) → sum ≡ first_sum header → (bytes_eq (take 32 bytes) sum ≡ true) × (rest ≡ drop 32 bytes) →
-      ReplaysRecords d old new sum sum' rest (Err e) → Replays d old new header bytes (Err e)
-  replays_failed old new header bytes sum rest sum' e is same r = record {
+  pub replays_failed : (old new : Kv D d) (page bytes sum rest sum' : List ℕ) (e : Error) → sum ≡ first_sum page → (bytes_eq (take 32 bytes) sum ≡ true) × (rest ≡ drop 32 bytes) →
+      ReplaysRecords d old new sum sum' rest (Err e) → Replays d old new page bytes (Err e)
+  replays_failed old new page bytes sum rest sum' e is same r = record {
     map = λ m holds. tt;
     refusal = r.refusal;
     told = tt;
-    others = λ differs. absurd (differs (begins_so header bytes sum rest is same));
+    others = λ differs. absurd (differs (begins_so page bytes sum rest is same));
     fault = λ fails. let fault : e ≡ Device = cc fails in r.fault (ap Err fault);
     stays = r.stays;
   }
 
-  pub replays_all : (old new : Kv D d) (header bytes sum rest sum' : List ℕ) (made : ℕ × ℕ) (replayed : Replayed) → sum ≡ first_sum header → (bytes_eq (take 32 bytes) sum ≡ true) × (rest ≡ drop 32 bytes) →
+  pub replays_all : (old new : Kv D d) (page bytes sum rest sum' : List ℕ) (made : ℕ × ℕ) (replayed : Replayed) → sum ≡ first_sum page → (bytes_eq (take 32 bytes) sum ≡ true) × (rest ≡ drop 32 bytes) →
       ReplaysRecords d old new sum sum' rest (Ok made) → replayed.sum.sum ≡ sum' → replayed.whole ≡ 32 + made.0 → replayed.done ≡ made.1 →
-      Replays d old new header bytes (Ok replayed)
-  replays_all old new header bytes sum rest sum' made replayed is same r sum_is whole done =
-      let first = first_sum header in
-      let begun = begins_so header bytes sum rest is same in
-      let read : read_records sum rest ≡ read_log header bytes =
+      Replays d old new page bytes (Ok replayed)
+  replays_all old new page bytes sum rest sum' made replayed is same r sum_is whole done =
+      let first = first_sum page in
+      let begun = begins_so page bytes sum rest is same in
+      let read : read_records sum rest ≡ read_log page bytes =
       ap (λ (s : List ℕ). read_records s rest) is ∙ ap (read_records first) same.1
       ∙ sym (if_true (bytes_eq (take 32 bytes) first) (read_records first (drop 32 bytes)) [] ((bytes_eq-Decides (take 32 bytes) first).1 begun)) in
-      let records : records_of sum (read_records sum rest) ≡ records_of first (read_log header bytes) =
+      let records : records_of sum (read_records sum rest) ≡ records_of first (read_log page bytes) =
       ap (λ (s : List ℕ). records_of s (read_records sum rest)) is ∙ ap (records_of first) read in
-      let sums : sums_after sum (read_records sum rest) ≡ sums_after first (read_log header bytes) =
+      let sums : sums_after sum (read_records sum rest) ≡ sums_after first (read_log page bytes) =
       ap (λ (s : List ℕ). sums_after s (read_records sum rest)) is ∙ ap (sums_after first) read in
       record {
         map = λ m holds. subst (λ (l : List Logged). Holds d new (after_all (shape_of old) m l)) read (r.map m holds);
         refusal = λ m holds. tt;
         told = record {
-          whole = λ so. whole ∙ ap (λ (n : ℕ). 32 + n) (r.passed.size_is ∙ ap (λ (l : List ℕ). length l) records) ∙ sym (length_log header (read_log header bytes));
+          whole = λ so. whole ∙ ap (λ (n : ℕ). 32 + n) (r.passed.size_is ∙ ap (λ (l : List ℕ). length l) records) ∙ sym (length_log page (read_log page bytes));
           none = λ differs. absurd (differs begun);
           sum_is = sum_is ∙ r.passed.sum_is ∙ sums;
           done = done ∙ r.done ∙ ap (λ (l : List Logged). length l) read;

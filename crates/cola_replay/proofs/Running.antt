@@ -7,7 +7,7 @@ use Rattle.cola_journal.specs.Disk.{Contents, Same, Pages, with_pages}
 use Rattle.cola_journal.specs.Runs as runs
 use Rattle.cola_journal.specs.Runs.{World, IsComing, Stands, under_way, recovered}
 use Rattle.cola_log.specs.Format.{Logged, AllFit, first_sum, read_log}
-use Rattle.cola_replay.specs.Crash.{header_of, sum_of, IsFront, LogDisk, seen, LeavesLog, ReadsLog, Logs, follows, durable, history, Happening, Turns, Begins, Fallen, Died, NewLog, Appends, Breaks, Syncs, CanHappen, base_after, log_after, happens, IsRun, behind, begin_with, Finds, IsKept, IsAnswered}
+use Rattle.cola_replay.specs.Crash.{first_page, sum_of, IsFront, LogDisk, seen, LeavesLog, ReadsLog, Logs, follows, durable, history, Happening, Turns, Begins, Fallen, Died, NewLog, Appends, Breaks, Syncs, CanHappen, base_after, log_after, happens, IsRun, behind, begin_with, Finds, IsKept, IsAnswered}
 use Rattle.cola_replay.proofs.Leaving.{sum_same, follows_same, followed, is_followed, not_followed, front_self, front_nil, front_more, front_longer, front_behind, fits_both, were_to_have, front_found, read_same}
 use Rattle.cola_replay.proofs.Keeping.{chosen, left_out, both_ways_front, not_both, turned, not_none, same_coming, coming_some, seen_fits, AllFitIn, Stays, AreSafe, AreSettled, AreTurns, Reached, reached_with, IsNext, Holds, Inv, held_found, next_found, synced_read, stays}
 
@@ -87,11 +87,11 @@ module _ (reads : List ℕ → Option Pages) (start : Contents) (safe : AreSafe 
   -- The others leave what holds
 
   -- the log is the same but for what it was to have
-  rewritten : (w : Logs) → Inv reads start w → (log : LogDisk) → log.header ≡ w.log.header → log.calls ≡ w.log.calls → (w.log.begun ≡ true → log.begun ≡ true) → (log.begun ≡ false → w.log.begun ≡ false) →
+  rewritten : (w : Logs) → Inv reads start w → (log : LogDisk) → log.page ≡ w.log.page → log.calls ≡ w.log.calls → (w.log.begun ≡ true → log.begun ≡ true) → (log.begun ≡ false → w.log.begun ≡ false) →
       AllFitIn log.written → IsFront log.calls (seen log) → Holds reads start log w.base w.next w.world.held w.world.coming
-  rewritten w inv log header calls begun not_begun all longer =
+  rewritten w inv log page calls begun not_begun all longer =
       let h = inv.holds in
-      let same : follows log w.world.held ≡ follows w.log w.world.held = ap (λ (l : List ℕ). bytes_eq (first_sum l) (sum_of w.world.held)) header in
+      let same : follows log w.world.held ≡ follows w.log w.world.held = ap (λ (l : List ℕ). bytes_eq (first_sum l) (sum_of w.world.held)) page in
       record {
         fit = subst (λ (l : List Logged). AllFit l) (sym calls) h.fit;
         written_fit = all;
@@ -104,7 +104,7 @@ module _ (reads : List ℕ → Option Pages) (start : Contents) (safe : AreSafe 
               begun = begun n.begun;
               follows_it = same ∙ n.follows_it;
               synced = subst (λ (l : List Logged). IsFront (w.base ++ l) w.next) (sym calls) n.synced;
-              other = λ e. n.other (ap first_sum (sym header) ∙ e);
+              other = λ e. n.other (ap first_sum (sym page) ∙ e);
             };
       }
 
@@ -124,36 +124,36 @@ module _ (reads : List ℕ → Option Pages) (start : Contents) (safe : AreSafe 
               follows_it = can.1.follows_it;
               synced = subst (λ (l : List Logged). IsFront (w.base ++ w.log.calls) (w.base ++ l)) (sym (chosen (follows w.log w.world.held) (seen w.log) [] can.1.follows_it))
                   (front_behind w.base w.log.calls (seen w.log) h.longer);
-              other = subst (λ (file : Contents). first_sum w.log.header ≢ sum_of file) same can.1.other;
+              other = subst (λ (file : Contents). first_sum w.log.page ≢ sum_of file) same can.1.other;
             };
       }
 
   fallen : (w : Logs) → Inv reads start w → (bytes : List ℕ) → LeavesLog w.log bytes → (log : LogDisk) → (b : Bool) →
-      log ≡ record w.log { begun = w.log.begun || b; written = read_log w.log.header bytes ∷ [] } → Holds reads start log w.base w.next w.world.held w.world.coming
+      log ≡ record w.log { begun = w.log.begun || b; written = read_log w.log.page bytes ∷ [] } → Holds reads start log w.base w.next w.world.held w.world.coming
   fallen w inv bytes left log b is =
       subst (λ (l : LogDisk). Holds reads start l w.base w.next w.world.held w.world.coming) (sym is)
-      (rewritten w inv (record w.log { begun = w.log.begun || b; written = read_log w.log.header bytes ∷ [] }) refl refl (or_left w.log.begun b) (λ no. (or_parts w.log.begun b no).0)
+      (rewritten w inv (record w.log { begun = w.log.begun || b; written = read_log w.log.page bytes ∷ [] }) refl refl (or_left w.log.begun b) (λ no. (or_parts w.log.begun b no).0)
       ((were_to_have w.log bytes left.are left.unforged).1, tt) (synced_read reads start w.log w.base w.next w.world.held w.world.coming inv.holds bytes left w.log.begun refl))
 
-  died : (w : Logs) → Inv reads start w → (bytes : List ℕ) → ReadsLog w.log bytes → Holds reads start (record w.log { written = read_log w.log.header bytes ∷ w.log.written }) w.base w.next w.world.held w.world.coming
+  died : (w : Logs) → Inv reads start w → (bytes : List ℕ) → ReadsLog w.log bytes → Holds reads start (record w.log { written = read_log w.log.page bytes ∷ w.log.written }) w.base w.next w.world.held w.world.coming
   died w inv bytes left =
       let h = inv.holds in
-      let all : IsFront (seen w.log) (read_log w.log.header bytes) =
-      front_found w.log.header (seen w.log) bytes left.front.0 (seen_fits w.log.calls w.log.written h.fit h.written_fit) left.front.1 in
-      rewritten w inv (record w.log { written = read_log w.log.header bytes ∷ w.log.written }) refl refl (λ e. e) (λ e. e)
-      ((were_to_have w.log bytes left.are left.unforged).1, h.written_fit) (front_longer w.log.calls (seen w.log) (read_log w.log.header bytes) h.longer all)
+      let all : IsFront (seen w.log) (read_log w.log.page bytes) =
+      front_found w.log.page (seen w.log) bytes left.front.0 (seen_fits w.log.calls w.log.written h.fit h.written_fit) left.front.1 in
+      rewritten w inv (record w.log { written = read_log w.log.page bytes ∷ w.log.written }) refl refl (λ e. e) (λ e. e)
+      ((were_to_have w.log bytes left.are left.unforged).1, h.written_fit) (front_longer w.log.calls (seen w.log) (read_log w.log.page bytes) h.longer all)
 
-  self_follows : (held : Contents) → follows (record { header = header_of held; begun = false; calls = []; written = [] }) held ≡ true
-  self_follows held = is_followed (record { header = header_of held; begun = false; calls = []; written = [] }) held refl
+  self_follows : (held : Contents) → follows (record { page = first_page held; begun = false; calls = []; written = [] }) held ≡ true
+  self_follows held = is_followed (record { page = first_page held; begun = false; calls = []; written = [] }) held refl
 
-  new_log : (held : Contents) (base next : List Logged) (coming : Option Contents) → coming ≡ None → Holds reads start (record { header = header_of held; begun = false; calls = []; written = [] }) base next held coming
+  new_log : (held : Contents) (base next : List Logged) (coming : Option Contents) → coming ≡ None → Holds reads start (record { page = first_page held; begun = false; calls = []; written = [] }) base next held coming
   new_log held base next coming none = record {
     fit = tt;
     written_fit = tt;
     longer = front_self [];
     empty = λ no. refl;
     passed = λ no. let yes = self_follows held in absurd (cc (yes, no));
-    coming_is = quiet (record { header = header_of held; begun = false; calls = []; written = [] }) base next held coming none;
+    coming_is = quiet (record { page = first_page held; begun = false; calls = []; written = [] }) base next held coming none;
   }
 
   appends : (w : Logs) → Inv reads start w → (calls : List Logged) → AllFit calls → Holds reads start (record w.log { written = (seen w.log ++ calls) ∷ w.log.written }) w.base w.next w.world.held w.world.coming
@@ -205,7 +205,7 @@ module _ (reads : List ℕ → Option Pages) (start : Contents) (safe : AreSafe 
   step w inv (Fallen file journal bytes) can = record {
     reached = reached_with reads start w.world inv.reached (Some (runs.Fallen file journal)) can.0;
     holds = with_base w (log_after reads w (Fallen file journal bytes)) w.next w.world.held w.world.coming refl
-        (fallen w inv bytes can.1 (log_after reads w (Fallen file journal bytes)) (bytes_eq (take 32 bytes) (first_sum w.log.header)) refl);
+        (fallen w inv bytes can.1 (log_after reads w (Fallen file journal bytes)) (bytes_eq (take 32 bytes) (first_sum w.log.page)) refl);
   }
   step w inv (Died file journal bytes) can = record {
     reached = reached_with reads start w.world inv.reached (Some (runs.Died file journal)) can.0;
@@ -238,7 +238,7 @@ module _ (reads : List ℕ → Option Pages) (start : Contents) (safe : AreSafe 
 
   -- The laws
 
-  kept_by : (w : Logs) → Inv reads start w → (file : Contents) (bytes : List ℕ) → Stands w.world file → LeavesLog w.log bytes → Finds w file (read_log (header_of file) bytes)
+  kept_by : (w : Logs) → Inv reads start w → (file : Contents) (bytes : List ℕ) → Stands w.world file → LeavesLog w.log bytes → Finds w file (read_log (first_page file) bytes)
   kept_by w inv file bytes (inl same) left = inl (held_found reads start w inv file bytes same left (follows w.log w.world.held) refl)
   kept_by w inv file bytes (inr comes) left = inr (next_found reads start w inv file bytes comes left)
 
@@ -249,19 +249,19 @@ module _ (reads : List ℕ → Option Pages) (start : Contents) (safe : AreSafe 
       kept_by w inv (recovered (reads journal) file) bytes (safe_at w.world inv.reached file journal left_file left_journal) left_log
 
   answered_by : (w : Logs) → Inv reads start w → (file : Contents) (bytes : List ℕ) → ReadsLog w.log bytes → Same file w.world.held → (b : Bool) → follows w.log w.world.held ≡ b →
-      IsFront (history w) (w.base ++ read_log (header_of file) bytes)
+      IsFront (history w) (w.base ++ read_log (first_page file) bytes)
   answered_by w inv file bytes left same true is =
       let h = inv.holds in
-      let read : read_log (header_of file) bytes ≡ read_log w.log.header bytes =
-      read_same (header_of file) w.log.header bytes (sum_same file w.world.held same ∙ sym (followed w.log w.world.held is)) in
-      let all : IsFront (seen w.log) (read_log w.log.header bytes) =
-      front_found w.log.header (seen w.log) bytes left.front.0 (seen_fits w.log.calls w.log.written h.fit h.written_fit) left.front.1 in
-      front_behind w.base (if follows w.log w.world.held then seen w.log else []) (read_log (header_of file) bytes)
-      (subst (λ (l : List Logged). IsFront l (read_log (header_of file) bytes)) (sym (chosen (follows w.log w.world.held) (seen w.log) [] is))
+      let read : read_log (first_page file) bytes ≡ read_log w.log.page bytes =
+      read_same (first_page file) w.log.page bytes (sum_same file w.world.held same ∙ sym (followed w.log w.world.held is)) in
+      let all : IsFront (seen w.log) (read_log w.log.page bytes) =
+      front_found w.log.page (seen w.log) bytes left.front.0 (seen_fits w.log.calls w.log.written h.fit h.written_fit) left.front.1 in
+      front_behind w.base (if follows w.log w.world.held then seen w.log else []) (read_log (first_page file) bytes)
+      (subst (λ (l : List Logged). IsFront l (read_log (first_page file) bytes)) (sym (chosen (follows w.log w.world.held) (seen w.log) [] is))
       (subst (λ (l : List Logged). IsFront (seen w.log) l) (sym read) all))
   answered_by w inv file bytes left same false is =
-      front_behind w.base (if follows w.log w.world.held then seen w.log else []) (read_log (header_of file) bytes)
-      (subst (λ (l : List Logged). IsFront l (read_log (header_of file) bytes)) (sym (left_out (follows w.log w.world.held) (seen w.log) [] is)) (front_nil (read_log (header_of file) bytes)))
+      front_behind w.base (if follows w.log w.world.held then seen w.log else []) (read_log (first_page file) bytes)
+      (subst (λ (l : List Logged). IsFront l (read_log (first_page file) bytes)) (sym (left_out (follows w.log w.world.held) (seen w.log) [] is)) (front_nil (read_log (first_page file) bytes)))
 
   pub are_answered : (its : List Happening) → IsRun reads (begin_with start) its → IsAnswered reads (behind reads (begin_with start) its)
   are_answered its run file bytes left same =
@@ -296,7 +296,7 @@ module _ (reads : List ℕ → Option Pages) (start : Contents) (safe : AreSafe 
   still_durable w inv (Fallen file journal bytes) can = same_durable w w.log.calls (front_self w.log.calls)
   still_durable w inv (Died file journal bytes) can = same_durable w w.log.calls (front_self w.log.calls)
   still_durable w inv NewLog can =
-      let log : LogDisk = record { header = header_of w.world.held; begun = false; calls = []; written = [] } in
+      let log : LogDisk = record { page = first_page w.world.held; begun = false; calls = []; written = [] } in
       let base_is = not_both (follows w.log w.world.held) (follows w.log w.world.held) w.next w.base refl in
       let none : durable w ≡ w.base = ap (λ (l : List Logged). w.base ++ l) (nothing_synced w inv can.1.1) ∙ append-nil w.base in
       subst (λ (l : List Logged). IsFront l (durable (happens reads w NewLog))) (sym none)

@@ -34,7 +34,7 @@ NoneFailed (result ∷ results) = (result ≢ Err Device) × NoneFailed results
 -- both hold the same map afterwards
 abbrev pub AreMadeAgain : {D : Type 0} → device.Ghosts D → Type 0
 AreMadeAgain {D} d =
-    (old new again last : Kv D d) (m : Map) (calls : List Call) (results : List (Result Answer Error)) (header bytes : List ℕ) (replayed : Replayed) →
+    (old new again last : Kv D d) (m : Map) (calls : List Call) (results : List (Result Answer Error)) (page bytes : List ℕ) (replayed : Replayed) →
     Holds d old m → CarriesAll d old new calls results → NoneFailed results →
-    Holds d again m → shape_of again ≡ shape_of old → read_log header bytes ≡ logged_of calls → Replays d again last header bytes (Ok replayed) →
+    Holds d again m → shape_of again ≡ shape_of old → read_log page bytes ≡ logged_of calls → Replays d again last page bytes (Ok replayed) →
     Holds d new (after_all (shape_of old) m (logged_of calls)) × Holds d last (after_all (shape_of old) m (logged_of calls))

@@ -11,13 +11,13 @@ unfoldable pub bytes_from : ℕ → ℕ → Contents → List ℕ
 bytes_from zero place file = []
 bytes_from (suc n) place file = file place ∷ bytes_from n (suc place) file
 
--- its header
-abbrev pub header_of : Contents → List ℕ
-header_of file = bytes_from 512 0 file
+-- its first page: the header, and the cells of the latest puts
+abbrev pub first_page : Contents → List ℕ
+first_page file = bytes_from 4096 0 file
 
 -- the sum with which its log begins
 abbrev pub sum_of : Contents → List ℕ
-sum_of file = first_sum (header_of file)
+sum_of file = first_sum (first_page file)
 
 -- these calls, and perhaps more
 abbrev pub IsFront : List Logged → List Logged → Type 0
@@ -25,10 +25,10 @@ IsFront calls all = (more : List Logged) × (all ≡ calls ++ more)
 
 -- The log on a disk
 
--- the header of the store that the log follows; whether its first sum is on the disk; the calls that it had as it was synced last; and
+-- the first page of the file that the log follows; whether its first sum is on the disk; the calls that it had as it was synced last; and
 -- those that it was to have since, each time that it was written to, the last one first
 pub record LogDisk : Type 0 where
-  pub header : List ℕ
+  pub page : List ℕ
   pub begun : Bool
   pub calls : List Logged
   pub written : List (List Logged)
@@ -53,19 +53,19 @@ WasToHave log calls = IsFront calls log.calls ⊎ AmongFronts calls log.written
 -- mixture of two, and no other bytes bear that sum
 abbrev pub IsUnforged : LogDisk → List ℕ → Type 0
 IsUnforged log bytes =
-    (calls : List Logged) (rest : List ℕ) (found : Found) → bytes ≡ log_of log.header calls ++ rest → WasToHave log calls →
-    record_at (sums_after (first_sum log.header) calls) rest ≡ Some found → WasToHave log (calls ++ found.0 ∷ [])
+    (calls : List Logged) (rest : List ℕ) (found : Found) → bytes ≡ log_of log.page calls ++ rest → WasToHave log calls →
+    record_at (sums_after (first_sum log.page) calls) rest ≡ Some found → WasToHave log (calls ++ found.0 ∷ [])
 
 -- a failure of the power may leave this of it: what was synced, once its first sum was, and any bytes behind it that meet the premise
 pub record LeavesLog (log : LogDisk) (bytes : List ℕ) : Type 0 where
   pub are : (k : ℕ) → slice_index bytes k < 256
-  pub front : log.begun ≡ true → (rest : List ℕ) × (bytes ≡ log_of log.header log.calls ++ rest)
+  pub front : log.begun ≡ true → (rest : List ℕ) × (bytes ≡ log_of log.page log.calls ++ rest)
   pub unforged : IsUnforged log bytes
 
 -- where only the process died, all that was written is read
 pub record ReadsLog (log : LogDisk) (bytes : List ℕ) : Type 0 where
   pub are : (k : ℕ) → slice_index bytes k < 256
-  pub front : (rest : List ℕ) × (bytes ≡ log_of log.header (seen log) ++ rest)
+  pub front : (rest : List ℕ) × (bytes ≡ log_of log.page (seen log) ++ rest)
   pub unforged : IsUnforged log bytes
 
 -- Runs
@@ -79,7 +79,7 @@ pub record Logs : Type 0 where
 
 -- the log follows the checkpoint that holds; any other is passed over
 abbrev pub follows : LogDisk → Contents → Bool
-follows log held = bytes_eq (first_sum log.header) (sum_of held)
+follows log held = bytes_eq (first_sum log.page) (sum_of held)
 
 -- the calls that are on the disk: those of the checkpoint, and those of the log as it was synced
 abbrev pub durable : Logs → List Logged
@@ -109,11 +109,11 @@ pub record TakesCalls (w : Logs) (calls : List Logged) : Type 0 where
   pub begun : w.log.begun ≡ true
   pub fit : AllFit calls
 
--- so it is at the begin of a checkpoint; and its header has another sum than that before it
+-- so it is at the begin of a checkpoint; and its first page has another sum than that before it
 pub record TakesCheckpoint (w : Logs) (pages : Pages) : Type 0 where
   pub follows_it : follows w.log w.world.held ≡ true
   pub begun : w.log.begun ≡ true
-  pub other : first_sum w.log.header ≢ sum_of (with_pages pages w.world.held)
+  pub other : first_sum w.log.page ≢ sum_of (with_pages pages w.world.held)
 
 -- an event of the checkpoint itself
 abbrev pub IsTurn : runs.Event → Type 0
@@ -163,9 +163,9 @@ module _ (reads : List ℕ → Option Pages) where
   log_after w (Turns event) = w.log
   log_after w (Begins pages journal) = w.log
   log_after w (Fallen file journal bytes) =
-      record w.log { begun = w.log.begun || bytes_eq (take 32 bytes) (first_sum w.log.header); written = read_log w.log.header bytes ∷ [] }
-  log_after w (Died file journal bytes) = record w.log { written = read_log w.log.header bytes ∷ w.log.written }
-  log_after w NewLog = record { header = header_of w.world.held; begun = false; calls = []; written = [] }
+      record w.log { begun = w.log.begun || bytes_eq (take 32 bytes) (first_sum w.log.page); written = read_log w.log.page bytes ∷ [] }
+  log_after w (Died file journal bytes) = record w.log { written = read_log w.log.page bytes ∷ w.log.written }
+  log_after w NewLog = record { page = first_page w.world.held; begun = false; calls = []; written = [] }
   log_after w (Appends calls) = record w.log { written = (seen w.log ++ calls) ∷ w.log.written }
   log_after w (Breaks calls) = record w.log { written = seen w.log ∷ (seen w.log ++ calls) ∷ w.log.written }
   log_after w Syncs = record w.log { begun = true; calls = seen w.log; written = [] }
@@ -206,7 +206,7 @@ abbrev pub begin_with : Contents → Logs
 begin_with file =
     record {
       world = runs.begin_with file;
-      log = record { header = header_of file; begun = false; calls = []; written = [] };
+      log = record { page = first_page file; begun = false; calls = []; written = [] };
       base = [];
       next = [];
     }
@@ -234,9 +234,9 @@ module _ (reads : List ℕ → Option Pages) where
   abbrev pub IsKept : Logs → Type 0
   IsKept w =
       (file : Contents) (journal bytes : List ℕ) → LeavesFile (under_way w.world) file → LeavesJournal reads (under_way w.world) journal → LeavesLog w.log bytes →
-      Finds w (recovered (reads journal) file) (read_log (header_of (recovered (reads journal) file)) bytes)
+      Finds w (recovered (reads journal) file) (read_log (first_page (recovered (reads journal) file)) bytes)
 
   -- where only the process died, and the checkpoint that holds is found, all calls are found that were made
   abbrev pub IsAnswered : Logs → Type 0
   IsAnswered w =
-      (file : Contents) (bytes : List ℕ) → ReadsLog w.log bytes → Same file w.world.held → IsFront (history w) (w.base ++ read_log (header_of file) bytes)
+      (file : Contents) (bytes : List ℕ) → ReadsLog w.log bytes → Same file w.world.held → IsFront (history w) (w.base ++ read_log (first_page file) bytes)

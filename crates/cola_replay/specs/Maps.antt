@@ -5,7 +5,7 @@ use Rattle.cola_image.specs.Standing.{FileStandsFor}
 use Rattle.cola_journal.specs.Disk.{Contents, Same, Pages, with_pages, LeavesFile, LeavesJournal}
 use Rattle.cola_journal.specs.Runs.{under_way, recovered}
 use Rattle.cola_log.specs.Format.{Logged, read_log}
-use Rattle.cola_replay.specs.Crash.{bytes_from, header_of, IsFront, LeavesLog, ReadsLog, Logs, durable, history, Happening, Turns, Begins, Fallen, Died, NewLog, Appends, Breaks, Syncs, happens}
+use Rattle.cola_replay.specs.Crash.{bytes_from, first_page, IsFront, LeavesLog, ReadsLog, Logs, durable, history, Happening, Turns, Begins, Fallen, Died, NewLog, Appends, Breaks, Syncs, happens}
 use Rattle.cola_replay.specs.Made.{after_all}
 
 -- a file of so many bytes stands for a map
@@ -44,8 +44,8 @@ module _ (reads : List ℕ → Option Pages) (size : ℕ) (shape : Shape) (m : M
   abbrev pub AreMapsKept : Logs → Type 0
   AreMapsKept w =
       (file : Contents) (journal bytes : List ℕ) → LeavesFile (under_way w.world) file → LeavesJournal reads (under_way w.world) journal → LeavesLog w.log bytes →
-      LeadsTo w (durable w) (recovered (reads journal) file) (read_log (header_of (recovered (reads journal) file)) bytes)
+      LeadsTo w (durable w) (recovered (reads journal) file) (read_log (first_page (recovered (reads journal) file)) bytes)
 
   -- where only the process died, and the checkpoint that holds is found, behind all that were made
   abbrev pub AreMapsAnswered : Logs → Type 0
-  AreMapsAnswered w = (file : Contents) (bytes : List ℕ) → ReadsLog w.log bytes → Same file w.world.held → LeadsTo w (history w) file (read_log (header_of file) bytes)
+  AreMapsAnswered w = (file : Contents) (bytes : List ℕ) → ReadsLog w.log bytes → Same file w.world.held → LeadsTo w (history w) file (read_log (first_page file) bytes)

@@ -28,16 +28,16 @@ abbrev pub failed : {A : Type 0} → Result A Error → Option Error
 failed (Ok answer) = None
 failed (Err error) = failed_by error
 
--- where the log follows this header, its first sum and its records are whole, up to the first that does not bear its sum
-abbrev pub IsWhole : (header bytes : List ℕ) → ℕ → Type 0
-IsWhole header bytes size = take 32 bytes ≡ first_sum header → size ≡ length (log_of header (read_log header bytes))
+-- where the log follows a file with this first page, its first sum and its records are whole, up to the first that does not bear its sum
+abbrev pub IsWhole : (page bytes : List ℕ) → ℕ → Type 0
+IsWhole page bytes size = take 32 bytes ≡ first_sum page → size ≡ length (log_of page (read_log page bytes))
 
 -- how far a log was read
-pub record IsTold (header bytes : List ℕ) (replayed : Replayed) : Type 0 where
-  pub whole : IsWhole header bytes replayed.whole
-  pub none : take 32 bytes ≢ first_sum header → replayed.whole ≡ 0
-  pub sum_is : replayed.sum.sum ≡ sums_after (first_sum header) (read_log header bytes)
-  pub done : replayed.done ≡ length (read_log header bytes)
+pub record IsTold (page bytes : List ℕ) (replayed : Replayed) : Type 0 where
+  pub whole : IsWhole page bytes replayed.whole
+  pub none : take 32 bytes ≢ first_sum page → replayed.whole ≡ 0
+  pub sum_is : replayed.sum.sum ≡ sums_after (first_sum page) (read_log page bytes)
+  pub done : replayed.done ≡ length (read_log page bytes)
 
 module _ {D : Type 0} (d : device.Ghosts D) (old new : Kv D d) where
   -- the store's own call was made, and this is told of its answer
@@ -64,10 +64,10 @@ module _ {D : Type 0} (d : device.Ghosts D) (old new : Kv D d) where
     pub stays : Stays d old new
 
   -- the calls of a log were made: on a store that holds a map, that after the calls that are read of it is held, and only the device fails
-  pub record Replays (header bytes : List ℕ) (result : Result Replayed Error) : Type 0 where
-    pub map : (m : Map) → Holds d old m → OnOk result (Holds d new (after_all (shape_of old) m (read_log header bytes)))
+  pub record Replays (page bytes : List ℕ) (result : Result Replayed Error) : Type 0 where
+    pub map : (m : Map) → Holds d old m → OnOk result (Holds d new (after_all (shape_of old) m (read_log page bytes)))
     pub refusal : (m : Map) → Holds d old m → IfErr result (λ error. error ≡ Device)
-    pub told : IfOk result (IsTold header bytes)
-    pub others : take 32 bytes ≢ first_sum header → new ≡ old
+    pub told : IfOk result (IsTold page bytes)
+    pub others : take 32 bytes ≢ first_sum page → new ≡ old
     pub fault : result ≡ Err Device → Rose (faults_of d old) (faults_of d new)
     pub stays : Stays d old new

@@ -12,7 +12,7 @@ use cola_log::{Call, LogSum};
 pub struct Replayed {
     /// The sum behind its last whole record, behind which the next one is written.
     pub sum: LogSum,
-    /// How many of its bytes are whole, in bytes from its first on; 0 where it follows another header.
+    /// How many of its bytes are whole, in bytes from its first on; 0 where it follows another file.
     pub whole: usize,
     /// How many calls were made.
     pub done: usize,
@@ -100,12 +100,12 @@ fn replay_records<D: Device>(
     Ok((bytes.len() - rest.len(), done))
 }
 
-/// Makes the calls of a log that follows a closed store of this header, on that store, which was opened. Of a log that follows
-/// another header none are made. An error is one of the device, or of a damaged store: then some were made.
-pub fn replay<D: Device>(kv: &mut Kv<D>, header: &[u8], log: &[u8]) -> Result<Replayed, Error>
-    ensures { Replays D.Device kv.old kv.new header.now log.now result }
+/// Makes the calls of a log that follows a closed file with this first page, on the store that was opened of it. Of a log that
+/// follows another one none are made. An error is one of the device, or of a damaged store: then some were made.
+pub fn replay<D: Device>(kv: &mut Kv<D>, page: &[u8], log: &[u8]) -> Result<Replayed, Error>
+    ensures { Replays D.Device kv.old kv.new page.now log.now result }
 {
-    let mut sum = LogSum::begin(header);
+    let mut sum = LogSum::begin(page);
     let Some(records) = sum.records(log) else {
         return Ok(Replayed {
             sum,

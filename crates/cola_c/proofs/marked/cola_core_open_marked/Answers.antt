@@ -3,7 +3,7 @@ use Rattle.std.proofs.lemmas.Option.{same_Some}
 use Rattle.cola_mapped.specs.declared.region.Region.{Region}
 use Rattle.cola_mapped.specs.Region.{bytes_in}
 use Rattle.cola_handle.specs.declared.session.Session.{Session}
-use Rattle.cola_handle.specs.Marks.{Place, AreMarked, marks_in}
+use Rattle.cola_handle.specs.Marks.{Place, AreMarked, refused_blocks, marks_in}
 use Rattle.cola_c.specs.Marked.{OpensMarked, IsMarkedRefused}
 use Rattle.cola_c.proofs.Placing.{some_there, placed}
 use Rattle.cola_c.proofs.marked.cola_core_open_marked.Goals as goal
@@ -55,8 +55,8 @@ returns-in-Err-clause-refused c = λ none closed.
               at_stays = c.in-Err.ensures.back_at;
               len_stays = c.in-Err.ensures.back_len;
             };
-            marked = subst (λ (ms : List ℕ). AreMarked ms (bytes_in c.replace-bytes.result.bytes) (bytes_in c.into_region.result.bytes) (bytes_in c.in-Err.bytes.bytes)) c.of-lent.ensures.marks
-                (subst (λ (ms : List ℕ). AreMarked (marks_in c.of-lent.result) (bytes_in c.replace-bytes.result.bytes) ms (bytes_in c.in-Err.bytes.bytes)) (sym c.into_region.ensures.marks) c.in-Err.ensures.back_marked);
+            marked = subst (λ (ms : List ℕ). AreMarked ms (bytes_in c.replace-bytes.result.bytes) refused_blocks (bytes_in c.into_region.result.bytes) (bytes_in c.in-Err.bytes.bytes)) c.of-lent.ensures.marks
+                (subst (λ (ms : List ℕ). AreMarked (marks_in c.of-lent.result) (bytes_in c.replace-bytes.result.bytes) refused_blocks ms (bytes_in c.in-Err.bytes.bytes)) (sym c.into_region.ensures.marks) c.in-Err.ensures.back_marked);
             lent = c.into_region.ensures.lent (some_there c.in-Err.lent there lay);
             at_stays = ap (λ (p : Place). p.0) same;
             len_stays = ap (λ (p : Place). p.1) same;

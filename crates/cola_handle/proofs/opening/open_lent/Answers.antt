@@ -10,6 +10,9 @@ use Rattle.cola_table.specs.Terms.{Terms}
 use Rattle.cola_handle.specs.Lent.{IsClosedStore, HasTerms, OpenCause}
 use Rattle.cola_handle.specs.Open.{LentDevice, lent_device, lent_with, HoldsMap}
 use Rattle.cola_handle.proofs.Openings.{left-same, same-terms}
+use Rattle.cola_handle.specs.Marks.{AreMarked, marks_in}
+use Rattle.cola_handle.specs.Open.{first_of, first_marks_of, closing_blocks}
+use Rattle.cola_handle.proofs.FewMarks.{lent-few, closed-few}
 use Rattle.cola_handle.proofs.Lending.{over-is}
 use Rattle.cola_handle.proofs.opening.open_lent.Goals as goal
 
@@ -62,3 +65,17 @@ pub returns-in-Ok-new-clause-opens : goal.returns-in-Ok-new-clause-opens
 returns-in-Ok-new-clause-opens c =
     subst (λ (s : Session). IsOpen lent_device (lent_with c.args.lent.at c.args.lent.len (bytes_in c.args.lent.bytes) c.args.marks) 0 s.kv) (sym c.in-Ok-new.ensures.ok)
     (subst (λ (d : LentDevice). IsOpen lent_device d 0 c.in-Ok.kv) (over-is c.over-device.result c.over.result c.args.lent.at c.args.lent.len (bytes_in c.args.lent.bytes) c.args.marks c.over-device.ensures c.over.ensures) c.in-Ok.ensures.opens)
+
+pub returns-in-Err-clause-back_marked : goal.returns-in-Err-clause-back_marked
+returns-in-Err-clause-back_marked c =
+    lent-few (marks_in c.in-Err.refusal.1) (bytes_in c.in-Err.refusal.0.bytes) c.args.lent.at c.args.lent.len (bytes_in c.args.lent.bytes) c.args.marks c.over-device.result
+    (over-is c.over-device.result c.over.result c.args.lent.at c.args.lent.len (bytes_in c.args.lent.bytes) c.args.marks c.over-device.ensures c.over.ensures) c.in-Err.ensures.back_marked
+
+pub returns-in-Err-new-clause-back_marked : goal.returns-in-Err-new-clause-back_marked
+returns-in-Err-new-clause-back_marked c =
+    let its = marks_in c.close-region.result.1 in
+    let now = bytes_in c.close-region.result.0.bytes in
+    let session : Session = record { kv = c.in-Ok.kv } in
+    closed-few its now c.args.lent.at c.args.lent.len (bytes_in c.args.lent.bytes) c.args.marks c.over-device.result
+    (over-is c.over-device.result c.over.result c.args.lent.at c.args.lent.len (bytes_in c.args.lent.bytes) c.args.marks c.over-device.ensures c.over.ensures) session c.in-Ok.ensures.opens c.in-Ok.ensures.kept
+    (subst (λ (s : Session). AreMarked (first_marks_of s) (first_of s) (closing_blocks s) its now) c.in-Err-new.ensures.value_returned c.close-region.ensures.marked)

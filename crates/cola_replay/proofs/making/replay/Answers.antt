@@ -9,5 +9,5 @@ returns g c =
     let records =
     subst (λ (r : Result (ℕ × ℕ) Error). ReplaysRecords g.D.Device c.args.kv.now c.replay_records.new.kv c.begin-sum.result.sum c.replay_records.new.sum.sum c.in-Some.records.now r)
     c.in_ok-size.was c.replay_records.ensures in
-    replays_all g.D.Device c.args.kv.now c.replay_records.new.kv c.args.header.now c.args.log.now c.begin-sum.result.sum c.in-Some.records.now c.replay_records.new.sum.sum
+    replays_all g.D.Device c.args.kv.now c.replay_records.new.kv c.args.page.now c.args.log.now c.begin-sum.result.sum c.in-Some.records.now c.replay_records.new.sum.sum
     (c.in_ok-size.size, c.in_ok-size.done) _ c.begin-sum.ensures c.in-Some.ensures.some records refl refl refl
