@@ -5,8 +5,8 @@
 #
 # KEYS distinct keys are put in an order of their own, in blocks of 32 cells; then RANGES ranges of ROWS rows are asked for, and as
 # many of none, each text under callgrind, which counts how often a cell is read (`RunStore::read_by`). What the ranges of no row
-# read is the seek. The least is each cell of the visible runs once: their lengths stand in the header. It wants the built program
-# (COLA names another one) and valgrind.
+# read is the seek, without the cells that it looks at where they lie. The least is each cell of the visible runs once: their lengths
+# stand in the header. It wants the built program (COLA names another one) and valgrind.
 set -euo pipefail
 root=$(cd "$(dirname "$0")/.." && pwd -P)
 keys=${1:-20000} ranges=${2:-400} rows=${3:-100}
@@ -34,7 +34,5 @@ seeks=$(reads 0)
 awk -v all="$all" -v seeks="$seeks" -v ranges="$ranges" -v rows="$rows" -v cells="$cells" -v keys="$keys" -v levels=$((bottom + 1)) 'BEGIN {
     least = cells / keys
     printf "%d keys in %d levels; the runs have %.3f cells a key\n", keys, levels, least
-    printf "a seek: %.1f cell accesses, %.2f a level\n", seeks / ranges, seeks / ranges / levels
     printf "a row behind it: %.3f cell accesses, %.2f times the least\n", (all - seeks) / ranges / rows, (all - seeks) / ranges / rows / least
-    printf "a row of a range of %d, its seek with it: %.3f, %.2f times the least\n", rows, all / ranges / rows, all / ranges / rows / least
 }'

@@ -256,9 +256,11 @@ def killed_between_batches(room):
         os.kill(room.process(store, 0), signal.SIGKILL)
         store.put_rows(rows[12000:], batch=1000)
         check("a worker that is killed between two batches", same(store, made(rows)))
+        room.whole()
         os.kill(room.process(store, 1), signal.SIGKILL)
         check("a worker that is killed before a question", same(store, made(rows)))
         keys = [b"key%07d" % random_.randrange(30_000) for _ in range(5000)]
+        room.whole()
         os.kill(room.process(store, 0), signal.SIGKILL)
         wanted = made(rows)
         check("and before many", store.get_many(keys, batch=200) == [wanted.get(key) for key in keys])
@@ -270,6 +272,7 @@ def killed_in_a_checkpoint(room):
     rows = list(rows_of(20_000, random_))
     store, journal = room.create(keys=100_000, splits=[b"key0010000"])
     for at in range(4):
+        room.whole()
         store.put_rows(rows[at * 5000:(at + 1) * 5000], batch=1000)
         process = room.process(store, at % 2)
         killer = threading.Timer(0.005 * at, os.kill, (process, signal.SIGKILL))

@@ -194,9 +194,22 @@ if command -v script >/dev/null; then
         check "at a terminal $mode says how far it is" grep -q 'cola: [0-9]* MiB read so far' "$room/out"
         check 'and clears that before the program writes' grep -q $'\e\\[K\r\e\\[Kdone 1' "$room/out"
     done
-    run script -qec "timeout 4.5 '$played/bin/cola' grow one two --keys 4; echo ended \$?" /dev/null
-    check 'and before it is said that a signal ended it' \
-        grep -q $'so far.*more than once\e\\[K\r\e\\[Kcola: the program was ended at once, by TERM' "$room/out"
+    # (it is ended once it has said how far it is, by a signal to it alone and by one to all that it started)
+    cat >"$room/ended" <<'ENDED'
+set -m
+"$1" grow one two --keys 4 &
+for _ in $(seq 600); do
+    ! grep -q 'so far' "$2" || break
+    sleep 0.1
+done
+kill -TERM -- "$3$!"
+wait "$!"
+ENDED
+    for whom in '' -; do
+        script -qec "bash '$room/ended' '$played/bin/cola' '$room/out' $whom" /dev/null </dev/null >"$room/out" 2>"$room/err"
+        check 'and before it is said that a signal ended it' \
+            grep -q $'so far.*more than once\e\\[K\r\e\\[Kcola: the program was ended at once, by TERM' "$room/out"
+    done
     run "$played/bin/cola" gen one
     check 'with no terminal nothing is said' is_silent
 else

@@ -344,6 +344,16 @@ impl<D: Device> Buffers<D> {
         )
     }
 
+    /// Whether a buffer holds this block.
+    #[inline(always)]
+    pub fn holds(&self, buffer: usize, block: u64) -> bool
+        requires { buffer < length self.now.lasts }
+        ensures yes { result ≡ true → last_in self.now.lasts buffer ≡ Some block }
+        ensures no { last_in self.now.lasts buffer ≡ Some block → result ≡ true }
+    {
+        self.lasts[buffer] == Some(block)
+    }
+
     /// The bytes of the block that a buffer holds, as the device lends them, or where the cache has them, or else from the
     /// buffer's own copy; any bytes where it holds none.
     #[inline(always)]

@@ -1,4 +1,4 @@
--- What a merge over the bytes of an object's cells does.
+-- What a merge or a search over the bytes of an object's cells does.
 use Rattle.std.specs.Prelude.{◌≡◌, ◌≢◌, ◌⊎◌, ℕ, ◌+◌, ◌-◌, ◌*◌, ◌%◌, ◌≤◌, ◌<◌, ◌==◌, Bool, true, false, if◌then◌else◌, List, length, take, drop}
 use Rattle.cola_cell.specs.declared.format.Format.{Format}
 use Rattle.cola_cell.specs.declared.sink.Shadow.{Shadow}
@@ -113,3 +113,27 @@ abbrev pub Weaves : {M J : Type 0} (wove : M → M → J → Format → Views �
     (before after : M) (job : J) (from to steps : ℕ) → Type 0
 Weaves wove old new level own incoming sample before after job from to steps =
     IsStill old new before after from to steps ⊎ Wove wove old new level own incoming sample before after job from to steps
+
+-- ---- searches
+
+-- a run of the object
+pub record IsRunIn (held : Held) (reach : Reach) : Type 0 where
+  pub level_in : reach.run.level < held.fixed.levels
+  pub slot_in : reach.run.slot < 2
+  pub within : reach.run.len ≤ slot_size reach.run.level
+
+-- a search ran over a window that shows the run from the index on: no cell changes, and of what is spent the ticks alone
+pub record Scanned {S P : Type 0} (sought : S → S → P → Format → List ℕ → ℕ → Type 0) (old new : State) (reach : Reach)
+    (before after : S) (probe : P) (from to ticks : ℕ) : Type 0 where
+  pub bytes : List ℕ
+  pub is_last : Bool
+  pub shown : IsShown old.held reach bytes is_last
+  pub sought_is : sought before after probe old.held.fixed.format bytes ticks
+  pub held_is : new.held ≡ old.held
+  pub only_ticks : OnlyTicks old new from to ticks
+
+-- a search ran over a window of the run, or did not run
+abbrev pub Scans : {S P : Type 0} (sought : S → S → P → Format → List ℕ → ℕ → Type 0) (old new : State) (reach : Reach)
+    (before after : S) (probe : P) (from to ticks : ℕ) → Type 0
+Scans sought old new reach before after probe from to ticks =
+    IsStill old new before after from to ticks ⊎ Scanned sought old new reach before after probe from to ticks

@@ -29,10 +29,11 @@ pub use format::Format;
 pub use key::Key;
 pub use law::{cell_is_one, decoding_gives_back, decoding_is_a_function, spelling_is_one};
 pub use packed::{
-    Packed, Pass, cmp_keys_in, is_cell, is_look_in, is_tombstone_in, is_young_in, look_in, renew_in,
+    Packed, Pass, cmp_keys_in, is_cell, is_look_in, is_tombstone_in, is_young_in, item_in,
+    key_cmp_in, link_in, look_in, renew_in,
 };
 pub use sink::{CellSink, Shadow};
 pub use source::CellSource;
 pub use spelling::{LAST_STAMP, decode, decode_wide, encode, encode_wide};
 pub use value::Value;
-pub use windows::{Passed, Reach, Window, WindowMerge, tick_all};
+pub use windows::{Passed, Reach, Window, WindowMerge, WindowSearch, tick_all};

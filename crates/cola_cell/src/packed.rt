@@ -437,7 +437,7 @@ pub fn is_cell(format: Format, bytes: &[u8]) -> bool
 
 /// The order of the key of the cell and this one.
 #[inline(always)]
-fn key_cmp_in(format: Format, bytes: &[u8], key: &Key) -> Ordering
+pub fn key_cmp_in(format: Format, bytes: &[u8], key: &Key) -> Ordering
     requires { IsSpelling format (standing format bytes.now) bytes.now }
     ensures { result ≡ key_cmp (key_of (standing format bytes.now)) key.now }
 {
@@ -507,7 +507,7 @@ fn stamp_there(format: Format, bytes: &[u8]) -> u64
 
 /// The item of the cell, if it has one.
 #[inline(always)]
-fn item_in(format: Format, bytes: &[u8]) -> Option<Item>
+pub fn item_in(format: Format, bytes: &[u8]) -> Option<Item>
     requires { IsSpelling format (standing format bytes.now) bytes.now }
     ensures { result ≡ item_of (standing format bytes.now) }
 {

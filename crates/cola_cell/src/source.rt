@@ -5,10 +5,12 @@ ghost use Rattle.cola_cell.specs.Packed.{given};
 ghost use Rattle.cola_cell.specs.Reads.{Reads};
 ghost use Rattle.cola_cell.specs.Spent.{Search, By};
 ghost use Rattle.cola_cell.specs.State.{State};
+ghost use Rattle.cola_cell.specs.Windows.{IsRunIn, Scans};
 
 use crate::cell::{Cell, Reader};
 use crate::fault::ReadFault;
 use crate::packed::Packed;
+use crate::windows::{Reach, WindowSearch};
 use cola_outside::Steps;
 use std::sync::ledger::Ledger;
 
@@ -90,6 +92,24 @@ pub trait CellSource {
         ensures one_tick { steps.new ≡ steps.old + 1 }
         ensures reads { Reads (state self.old) (state self.new) (By reader level) level slot index
             (given into.new result) };
+
+    /// Lets a search run over the bytes of a run from an index on, where the object has them at hand, and says how many
+    /// cells that accessed: none where it lets it run over nothing, as an object does that lends no bytes. It asks no
+    /// device for anything, turns to no block, keeps the blocks that were read last, and ticks once for each cell accessed.
+    fn scan<S: WindowSearch, L: Ledger>(
+        &mut self,
+        reach: Reach,
+        search: &mut S,
+        probe: &S::Probe,
+        steps: &mut Steps<L>,
+    ) -> u32
+        requires { IsRunIn (state self.old).held reach }
+        ensures kept { kept self.new ≡ kept self.old }
+        ensures scans { Scans S.sought (state self.old) (state self.new) reach
+            search.old search.new probe.now steps.old steps.new result }
+    {
+        0
+    }
 
     /// How many ticks it has made, modulo `2^64`.
     fn ticked(&self) -> u64

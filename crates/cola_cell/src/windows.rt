@@ -1,4 +1,4 @@
-//! Windows of bytes: what an object of cells lends a merge, and what runs over them.
+//! Windows of bytes: what an object of cells lends a merge or a search, and what runs over them.
 ghost use Rattle.std.specs.Prelude.{◌≡◌, ℕ, ◌+◌, ◌*◌, ◌≤◌, List, length};
 ghost use Rattle.cola_cell.specs.declared.format.Format.{Format};
 ghost use Rattle.cola_cell.specs.Format.{width};
@@ -62,6 +62,19 @@ pub trait WindowMerge {
         ensures spelled { AreSpelled format result.cells room.new }
         ensures wove { wove self.old self.new job.now format
             (views_of own.entry incoming.entry sample.entry) room.new result };
+}
+
+/// A search that runs over a window.
+pub trait WindowSearch {
+    /// What it is told beside the window: the key that it looks for.
+    type Probe;
+
+    /// What it does, by the bytes of the window; the number is how many cells it accessed.
+    ghost sought: { Self → Self → Self.Probe → Format → List ℕ → ℕ → Type 0 };
+
+    /// Looks for the key in a window, and says how many cells it accessed.
+    fn seek(&mut self, probe: &Self::Probe, format: Format, bytes: &[u8]) -> u32
+        ensures sought { sought self.old self.new probe.now format bytes.now result };
 }
 
 /// Counts so many steps: for proofs alone, so the loop does nothing.

@@ -1,5 +1,5 @@
 -- The account of a chain: counted from other numbers it is the same, a step keeps it, and it gives the bounds.
-use Rattle.std.proofs.Common.{◌≡◌, ◌≢◌, ℕ, suc, ◌+◌, ◌-◌, ◌*◌, ◌/◌, ◌%◌, ◌^◌, ◌<◌, ◌≤◌, min, Bool, true, false, ◌||◌, nat_lt, List, [], ◌∷◌, length, take, drop, Option, refl, ap, sym, subst, ◌∙◌, arith}
+use Rattle.std.proofs.Common.{◌≡◌, ◌≢◌, inl, inr, ℕ, suc, ◌+◌, ◌-◌, ◌*◌, ◌/◌, ◌%◌, ◌^◌, ◌<◌, ◌≤◌, min, Bool, true, false, ◌||◌, nat_lt, List, [], ◌∷◌, length, take, drop, Option, refl, ap, sym, subst, ◌∙◌, arith}
 use Rattle.std.specs.List.{refill}
 use Rattle.std.proofs.lemmas.List.{take-append-le}
 use Rattle.std.proofs.Math.Seq.{take-length}
@@ -10,6 +10,10 @@ use Rattle.cola_cell.specs.declared.cell.Reader.TheVariants.{Own, Incoming, Samp
 use Rattle.cola_cell.specs.Held.{Held, Fixed, span}
 use Rattle.cola_cell.specs.Places.{slot_size}
 use Rattle.cola_cell.specs.Spent.{Spent, Buffer, Search, By}
+use Rattle.cola_cell.specs.State.{State}
+use Rattle.cola_cell.specs.Windows.{Scans}
+use Rattle.cola_cell.specs.declared.format.Format.{Format}
+use Rattle.cola_cell.specs.declared.windows.Reach.{Reach}
 use Rattle.cola_device.specs.declared.counts.Counts.{Counts}
 use Rattle.cola_layout.specs.declared.geometry.Geometry.{Geometry}
 use Rattle.cola_merge.specs.Blocks.{is_last}
@@ -257,6 +261,16 @@ read-sound {D} {K} bytes counts kept old store held_is kept_is lasts sound =
       stands = subst (λ (h : Held). IsChain h old.clock old.levels) (sym held_is) sound.stands;
       paid = λ counted. paid-stays bytes counts kept old new held_is same lasts (sound.paid counted);
     }
+
+-- a search over windows changes no cell, and no block that a buffer holds
+module _ {S P : Type 0} {sought : S → S → P → Format → List ℕ → ℕ → Type 0} {old new : State} {reach : Reach} {before after : S} {probe : P} {from to ticks : ℕ} where
+  pub held-scanned : Scans sought old new reach before after probe from to ticks → new.held ≡ old.held
+  held-scanned (inl still) = ap (λ (x : State). x.held) still.state_is
+  held-scanned (inr s) = s.held_is
+
+  pub lasts-scanned : Scans sought old new reach before after probe from to ticks → (buffer : Buffer) → new.spent.lasts buffer ≡ old.spent.lasts buffer
+  lasts-scanned (inl still) buffer = ap (λ (x : State). x.spent.lasts buffer) still.state_is
+  lasts-scanned (inr s) buffer = s.only_ticks.lasts_are buffer
 
 -- ---- a chain after a step
 

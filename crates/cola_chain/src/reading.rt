@@ -1,12 +1,14 @@
 //! Reads of a chain's cells.
-ghost use Rattle.std.specs.Prelude.{◌≡◌, ◌+◌, ◌%◌, ◌^◌, ◌≤◌, false};
+ghost use Rattle.std.specs.Prelude.{◌≡◌, ◌+◌, ◌%◌, ◌^◌, ◌≤◌, true, false, None};
 ghost use Rattle.cola_cell.specs.Held.{HasPlace};
 ghost use Rattle.cola_cell.specs.Packed.{given};
 ghost use Rattle.cola_cell.specs.Spent.{Search, By};
+ghost use Rattle.cola_cell.specs.Windows.{IsRunIn, Scans};
+ghost use Rattle.cola_run.specs.Weaving.{ScansBelow, IsOpen, is_at_hand};
 ghost use Rattle.cola_chain.specs.Contents.{held_of, state_of, Kept, kept_of, ReadsCell};
 
 use crate::chains::Chain;
-use cola_cell::{Cell, CellSource, Packed, ReadFault, Reader};
+use cola_cell::{Cell, CellSource, Packed, Reach, ReadFault, Reader, WindowSearch};
 use cola_device::Device;
 use cola_outside::Steps;
 use std::sync::ledger::Ledger;
@@ -101,6 +103,29 @@ impl<D: Device> CellSource for Chain<D> {
         self.counted = false;
         self.runs
             .read_for_into(reader, level, slot, index, into, steps)
+    }
+
+    /// As the chain's store lets a search run over the bytes of a run: no block is turned to, so the steps of the chain stay
+    /// counted as they were.
+    #[inline(always)]
+    fn scan<S: WindowSearch, L: Ledger>(
+        &mut self,
+        reach: Reach,
+        search: &mut S,
+        probe: &S::Probe,
+        steps: &mut Steps<L>,
+    ) -> u32
+        requires { IsRunIn (held_of D.bytes self.old) reach }
+        ensures kept { kept_of D.bytes D.counts D.kept self.new ≡ kept_of D.bytes D.counts D.kept self.old }
+        ensures scans { Scans S.sought (state_of D.bytes D.counts self.old) (state_of D.bytes D.counts self.new) reach
+            search.old search.new probe.now steps.old steps.new result }
+        ensures runs { is_at_hand self.old.store.geometry self.old.store.shadows reach ≡ true →
+            IsOpen D.lends self.old.store.geometry self.old.store.buffers.lasts None reach →
+            ScansBelow S.sought D.lends (D.bytes self.old.store.buffers.cache.device) self.old.store.geometry self.old.store.front reach search.old search.new
+            probe.now result }
+        ensures counted { self.new.counted ≡ self.old.counted }
+    {
+        self.runs.scan(reach, search, probe, steps)
     }
 
     fn ticked(&self) -> u64 {

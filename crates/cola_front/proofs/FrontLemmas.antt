@@ -1,15 +1,15 @@
 -- The bytes of places: how many they are, and how a block is filled with them.
-use Rattle.std.proofs.Common.{◌≡◌, ℕ, suc, ◌+◌, ◌-◌, ◌*◌, ◌<◌, ◌≤◌, List, [], ◌∷◌, ◌++◌, length, take, drop, get_or, set, Option, None, Some, Bool, true, false, refl, sym, ap, subst, ◌∙◌, inl, inr, arith, append-nil, append_assoc, length-append}
-use Rattle.std.proofs.lemmas.List.{length-replicate, take_at, drop_at, drop-drop, take_more, drop_all, get_or-take, get_or-drop, get_or_past, length-take-le, length-take, length-drop, length-set, get_or-set_same, get_or-set_other}
-use Rattle.std.proofs.lemmas.Bool.{cases_lt, cases_eq}
+use Rattle.std.proofs.Common.{◌≡◌, ℕ, suc, ◌+◌, ◌-◌, ◌*◌, ◌<◌, ◌≤◌, List, [], ◌∷◌, ◌++◌, length, take, drop, get_or, Option, None, Some, Bool, true, false, refl, sym, ap, subst, ◌∙◌, inl, inr, arith, append-nil, append_assoc, length-append}
+use Rattle.std.proofs.lemmas.List.{length-replicate, take_at, drop_at, drop-drop, get_or-take, get_or-drop, get_or_past, length-take}
+use Rattle.std.proofs.lemmas.Bool.{cases_lt}
 use Rattle.cola_cell.specs.declared.format.Format.{Format}
 use Rattle.cola_cell.specs.declared.format.Format.TheVariants.{One, Two}
 use Rattle.cola_cell.specs.declared.cell.Cell.{Cell}
 use Rattle.cola_cell.specs.Format.{width}
-use Rattle.std.specs.Prelude.{if◌then◌else◌}
+use Rattle.std.specs.Prelude.{if◌then◌else◌, is_some}
 use Rattle.std.specs.Bool.{MatchBool}
 use Rattle.cola_cell.specs.Spelling.{IsSpelling, IsNoSpelling}
-use Rattle.cola_cell.specs.Decoded.{decoded, spelling}
+use Rattle.cola_cell.specs.Decoded.{decoded, standing, spelling}
 use Rattle.cola_cell.proofs.Unique as unique
 use Rattle.cola_cell.proofs.DecodedLemmas.{spelled-so, decoded_spells, decoded_is, decoding_is}
 use Rattle.cola_device.specs.Bytes.{splice}
@@ -112,59 +112,6 @@ put_behind done new old at wide long whole =
     ∙ (ap (λ (xs : List ℕ). done ++ (new ++ xs)) (drop-drop (length new) at old ∙ ap (λ (n : ℕ). drop (at + n) old) whole)
     ∙ sym (append_assoc done new (drop (at + wide) old))))
 
--- a block whose first places are put, and one place more
-module _ (format : Format) (cells : List (Option Cell)) (first : ℕ) (old : List ℕ) (back : (n : ℕ) → ComesBack format (get_or cells n None)) where
-  pub done_many : (place : ℕ) → first + place ≤ length cells → length (stored_all format (take place (drop first cells))) ≡ width format * place
-  done_many place within =
-      stored_all_many format (take place (drop first cells)) (back_taken format (drop first cells) place (back_dropped format cells first back))
-      ∙ ap (λ (n : ℕ). width format * n) (length-take-le place (drop first cells) (let long = length-drop first cells in omega (arith, long, within)))
-
-  pub put_next : (place : ℕ) (block : List ℕ) → first + place < length cells
-      → block ≡ stored_all format (take place (drop first cells)) ++ drop (width format * place) old
-      → splice block (width format * place) (stored format (get_or cells (first + place) None)) ≡ stored_all format (take (place + 1) (drop first cells)) ++ drop (width format * (place + 1)) old
-  put_next place block within is =
-      let done : List (Option Cell) = take place (drop first cells) in
-      let cell : Option Cell = get_or cells (first + place) None in
-      let more : take (place + 1) (drop first cells) ≡ done ++ cell ∷ [] =
-      take_more (drop first cells) place None (let long = length-drop first cells in omega (arith, long, within))
-      ∙ ap (λ (x : Option Cell). done ++ x ∷ []) (get_or-drop first cells place None) in
-      ap (λ (xs : List ℕ). splice xs (width format * place) (stored format cell)) is
-      ∙ (put_behind (stored_all format done) (stored format cell) old (width format * place) (width format) (done_many place (omega (arith, within))) (stored_many format cell (back (first + place)))
-      ∙ (ap (λ (n : ℕ). (stored_all format done ++ stored format cell) ++ drop n old) (width_next format place)
-      ∙ ap (λ (xs : List ℕ). xs ++ drop (width format * (place + 1)) old) (sym (ap (stored_all format) more ∙ stored_all_push format done cell))))
-
-  -- all places are put
-  pub put_all : (count : ℕ) (block : List ℕ) → length old ≡ width format * count
-      → block ≡ stored_all format (take count (drop first cells)) ++ drop (width format * count) old
-      → block ≡ stored_all format (take count (drop first cells))
-  put_all count block whole is =
-      is ∙ (ap (λ (xs : List ℕ). stored_all format (take count (drop first cells)) ++ xs) (drop_all (width format * count) old (omega (arith, whole)))
-      ∙ append-nil (stored_all format (take count (drop first cells))))
-
--- the places from one up to another have what the bytes of a block spell, and all others are as before
-pub record Taken (format : Format) (block : List ℕ) (first from to : ℕ) (before now : List (Option Cell)) : Type 0 where
-  pub taken : (n : ℕ) → from ≤ n → n < to → get_or now n None ≡ decoded format (cell_bytes format block (n - first))
-  pub below : (n : ℕ) → n < from → get_or now n None ≡ get_or before n None
-  pub above : (n : ℕ) → from ≤ n → to ≤ n → get_or now n None ≡ get_or before n None
-  pub many : length now ≡ length before
-
-pub taken_none : (format : Format) (block : List ℕ) (first from : ℕ) (cells : List (Option Cell)) → Taken format block first from from cells cells
-taken_none format block first from cells =
-    record { taken = λ n above below. absurd (omega (arith, above, below)); below = λ n low. refl; above = λ n a b. refl; many = refl }
-
-pub taken_more : (format : Format) (block : List ℕ) (first from to : ℕ) (before now : List (Option Cell)) (cell : Option Cell) → Taken format block first from to before now → from ≤ to → to < length now
-    → cell ≡ decoded format (cell_bytes format block (to - first)) → Taken format block first from (to + 1) before (set now to cell)
-taken_more format block first from to before now cell t begin within is =
-    record {
-      taken = λ n above below. elim (cases_eq n to) [
-        | inl e ↦ ap (λ (k : ℕ). get_or (set now to cell) k None) e ∙ (get_or-set_same now to cell None within ∙ (is ∙ ap (λ (k : ℕ). decoded format (cell_bytes format block (k - first))) (sym e)))
-        | inr d ↦ get_or-set_other now to n cell None d ∙ t.taken n above (let b = below in elim (cases_lt n to) [ inl h ↦ h | inr h ↦ absurd (d (omega (arith, h, b))) ])
-      ];
-      below = λ n low. get_or-set_other now to n cell None (λ e. absurd (omega (arith, e, low, begin))) ∙ t.below n low;
-      above = λ n a b. get_or-set_other now to n cell None (λ e. absurd (omega (arith, e, b))) ∙ t.above n a (omega (arith, b));
-      many = length-set now to cell ∙ t.many;
-    }
-
 -- the bytes of a place, where code found them
 pub narrow-place : (format : Format) (block : List ℕ) (place : ℕ) → format ≡ One → take (64 * place + 64 - 64 * place) (drop (64 * place) block) ≡ cell_bytes format block place
 narrow-place One block place is = let e : 64 * place + 64 - 64 * place ≡ 64 = omega arith in ap (λ (n : ℕ). take n (drop (64 * place) block)) e
@@ -179,3 +126,8 @@ pub refilled : (format : Format) (bytes : List ℕ) (took : Bool) (cell : Cell) 
     → (if took then Some cell else None) ≡ decoded format bytes
 refilled format bytes true cell h = decoding_is format bytes (Some cell) h
 refilled format bytes false cell h = decoding_is format bytes None h
+
+-- whether bytes spell a cell
+pub tested : (format : Format) (bytes : List ℕ) (test : Bool) → MatchBool test (IsSpelling format (standing format bytes) bytes) (IsNoSpelling format bytes) → test ≡ is_some (decoded format bytes)
+tested format bytes true h = ap is_some (sym (decoded_is format (standing format bytes) bytes h))
+tested format bytes false h = ap is_some (decoding_is format bytes None h)

@@ -1,4 +1,5 @@
 pub mod FrontLemmas
+pub mod Places
 pub mod Stored
 pub mod Image
 pub mod Writes

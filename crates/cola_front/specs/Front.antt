@@ -1,5 +1,6 @@
 -- Blocks 0 and 1 in memory: what contracts see of them, and their bytes on a device.
-use Rattle.std.specs.Prelude.{◌≡◌, ℕ, ◌-◌, ◌*◌, ◌^◌, ◌≤◌, ◌<◌, List, [], ◌∷◌, ◌++◌, take, drop, length, replicate, Option, None, Some, IfSome, Result, OnErr, ◌⊎◌, slice_index_or, slice_set}
+use Rattle.std.specs.Prelude.{◌≡◌, ℕ, ◌-◌, ◌*◌, ◌^◌, ◌≤◌, ◌<◌, nat_lt, if◌then◌else◌, List, [], ◌∷◌, ◌++◌, take, drop, map, length, replicate, Option, None, Some, IfSome, Result, OnErr, ◌⊎◌, slice_index_or, slice_set}
+use Rattle.std.specs.List.{range_with_len}
 use Rattle.cola_cell.specs.declared.format.Format.{Format}
 use Rattle.cola_cell.specs.declared.cell.Cell.{Cell}
 use Rattle.cola_cell.specs.Format.{width}
@@ -29,6 +30,24 @@ cell_bytes format bytes number = part bytes (width format * number) (width forma
 -- the cell that bytes spell at the place of this number, or none
 abbrev pub spelled_at : Format → List ℕ → ℕ → Option Cell
 spelled_at format bytes number = decoded format (cell_bytes format bytes number)
+
+-- what the bytes of both blocks spell at a place: no cell at the eight places of the header
+abbrev pub place_in : Format → List ℕ → ℕ → Option Cell
+place_in format bytes place = if nat_lt place 8 then None else spelled_at format bytes place
+
+-- what they spell at so many places, from one on
+abbrev pub places_in : Format → List ℕ → (first count : ℕ) → List (Option Cell)
+places_in format bytes first count = map (place_in format bytes) (range_with_len first count)
+
+-- the front that the bytes of both blocks spell
+abbrev pub front_of : Format → ℕ → List ℕ → FrontCells
+front_of format block bytes = record { format = format; block = block; cells = places_in format bytes 0 (2 * block) }
+
+-- these are the bytes of both blocks
+pub record AreBlocks (format : Format) (block : ℕ) (bytes : List ℕ) : Type 0 where
+  pub some : 8 ≤ block
+  pub few : block ≤ 512
+  pub whole : length bytes ≡ width format * (2 * block)
 
 -- the bytes as which a place is stored: zeros where no cell stands
 abbrev pub stored : Format → Option Cell → List ℕ

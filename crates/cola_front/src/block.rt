@@ -1,11 +1,12 @@
 //! The cells of one block as its bytes.
-ghost use Rattle.std.specs.Prelude.{◌≡◌, ℕ, ◌+◌, ◌-◌, ◌*◌, ◌≤◌, ◌++◌, Option, None, Some, if◌then◌else◌, length, take, drop, slice_index_or};
+ghost use Rattle.std.specs.Prelude.{◌≡◌, ◌+◌, ◌*◌, ◌≤◌, ◌++◌, nat_lt, Option, None, Some, is_some, if◌then◌else◌, length, drop};
+ghost use Rattle.cola_cell.specs.Decoded.{decoded};
 ghost use Rattle.cola_cell.specs.Format.{width, CellFits};
 ghost use Rattle.cola_cell.specs.Packed.{passed, MayPass};
-ghost use Rattle.cola_device.specs.Bytes.{splice};
-ghost use Rattle.cola_front.specs.Front.{IsSpelled, AreTaken, SameBelow, spelled_at, stored, stored_all, ComesBack};
+ghost use Rattle.cola_device.specs.Bytes.{part, splice};
+ghost use Rattle.cola_front.specs.Front.{IsSpelled, cell_bytes, spelled_at, place_in, places_in, stored, stored_all};
 
-use cola_cell::{Cell, Format, Packed, Pass};
+use cola_cell::{Cell, Format, Packed, Pass, is_cell};
 
 /// The cell at a place of a block, which is counted in cells, packed; or none where its bytes spell none.
 #[inline]
@@ -32,28 +33,98 @@ pub fn refill_from(format: Format, block: &[u8], place: usize, into: &mut Packed
     }
 }
 
-/// Fills the room of a cell with the bytes of a place: zeros where no cell stands.
-fn fill(format: Format, cell: &Option<Packed>, into: &mut [u8])
-    requires size { length into.old ≡ width format }
-    requires comes_back { ComesBack format cell.now }
-    ensures { into.new ≡ stored format cell.now }
+/// The bytes of a cell at a place of a block, which is counted in cells.
+#[inline(always)]
+fn cell_in(format: Format, block: &[u8], place: usize) -> &[u8]
+    requires { width format * place + width format ≤ length block.now }
+    ensures { result.now ≡ cell_bytes format block.now place }
 {
-    match cell {
-        Some(cell) => cell.write(format, into),
-        None => into.fill(0),
+    match format {
+        Format::One => &block[64 * place..64 * place + 64],
+        Format::Two => &block[128 * place..128 * place + 128],
     }
 }
 
-/// Puts the bytes of a place into a block, which is counted in cells: zeros where no cell stands.
-#[inline]
-pub(crate) fn put_place(format: Format, block: &mut [u8], place: usize, cell: &Option<Packed>)
-    requires inside { width format * place + width format ≤ length block.old }
-    requires comes_back { ComesBack format cell.now }
-    ensures { block.new ≡ splice block.old (width format * place) (stored format cell.now) }
+/// The bytes of so many cells from a place of a block on, which is counted in cells.
+#[inline(always)]
+pub(crate) fn cells_in(format: Format, block: &[u8], place: usize, count: usize) -> &[u8]
+    requires { width format * place + width format * count ≤ length block.now }
+    ensures { result.now ≡ part block.now (width format * place) (width format * count) }
 {
     match format {
-        Format::One => fill(format, cell, &mut block[64 * place..64 * place + 64]),
-        Format::Two => fill(format, cell, &mut block[128 * place..128 * place + 128]),
+        Format::One => &block[64 * place..64 * place + 64 * count],
+        Format::Two => &block[128 * place..128 * place + 128 * count],
+    }
+}
+
+/// Whether the bytes of a place of a block spell a cell.
+#[inline]
+pub(crate) fn is_cell_in(format: Format, block: &[u8], place: usize) -> bool
+    requires { width format * place + width format ≤ length block.now }
+    ensures { result ≡ is_some (spelled_at format block.now place) }
+{
+    is_cell(format, cell_in(format, block, place))
+}
+
+/// Copies so many cells, from the cell `first` of those on, to a place of both blocks and the places behind it.
+#[inline]
+pub(crate) fn copy_cells(
+    format: Format,
+    bytes: &mut [u8],
+    place: usize,
+    cells: &[u8],
+    first: usize,
+    count: usize,
+)
+    requires room { width format * place + width format * count ≤ length bytes.old }
+    requires there { width format * first + width format * count ≤ length cells.now }
+    ensures { bytes.new ≡ splice bytes.old (width format * place)
+        (part cells.now (width format * first) (width format * count)) }
+{
+    let new = cells_in(format, cells, first, count);
+    match format {
+        Format::One => bytes[64 * place..64 * place + 64 * count].copy_from_slice(new),
+        Format::Two => bytes[128 * place..128 * place + 128 * count].copy_from_slice(new),
+    }
+}
+
+/// Fills the room of a cell with the bytes of a place of both blocks: zeros at the header's places, and where they spell
+/// no cell.
+#[inline]
+fn fill(format: Format, place: usize, cell: &[u8], into: &mut [u8])
+    requires cell { length cell.now ≡ width format }
+    requires size { length into.old ≡ width format }
+    ensures { into.new ≡
+        stored format (if nat_lt place 8 then None else decoded format cell.now) }
+{
+    if place < 8 {
+        into.fill(0);
+        return;
+    }
+    if !is_cell(format, cell) {
+        into.fill(0);
+        return;
+    }
+    into.copy_from_slice(cell);
+}
+
+/// Puts the bytes of the place `from` of both blocks at a place of one: zeros where no cell stands.
+#[inline]
+pub(crate) fn put_place(format: Format, block: &mut [u8], place: usize, bytes: &[u8], from: usize)
+    requires inside { width format * place + width format ≤ length block.old }
+    requires there { width format * from + width format ≤ length bytes.now }
+    ensures { block.new ≡ splice block.old (width format * place)
+        (stored format (place_in format bytes.now from)) }
+{
+    let cell = cell_in(format, bytes, from);
+    match format {
+        Format::One => fill(format, from, cell, &mut block[64 * place..64 * place + 64]),
+        Format::Two => fill(
+            format,
+            from,
+            cell,
+            &mut block[128 * place..128 * place + 128],
+        ),
     }
 }
 
@@ -110,46 +181,14 @@ pub(crate) fn put_header(block: &mut [u8], header: &[u8; 512])
     block[..512].copy_from_slice(header);
 }
 
-/// Gives the places from `from` up to `to` what a block's bytes spell, where the block begins at the place `first`.
-pub(crate) fn take_cells(
-    format: Format,
-    cells: &mut [Option<Packed>],
-    block: &[u8],
-    first: usize,
-    from: usize,
-    to: usize,
-)
-    requires begin { first ≤ from }
-    requires order { from ≤ to }
-    requires end { to ≤ length cells.old }
-    requires whole { width format * (to - first) ≤ length block.now }
-    ensures taken { AreTaken format cells.new first from to block.now }
-    ensures below { SameBelow cells.old cells.new from }
-    ensures above { (place : ℕ) → from ≤ place → to ≤ place →
-        slice_index_or cells.new place None ≡ slice_index_or cells.old place None }
-    ensures many { length cells.new ≡ length cells.old }
-    ensures whole { width format * (to - first) ≤ length block.now }
-{
-    for place in from..to {
-        cells[place] = packed_in(format, block, place - first);
-    }
-}
-
-/// Puts the bytes of so many places from the place `first` on into a block, one behind the other.
-pub(crate) fn put_cells(
-    format: Format,
-    block: &mut [u8],
-    cells: &[Option<Packed>],
-    first: usize,
-    count: usize,
-)
+/// Puts the bytes of so many places of both blocks, from the place `first` on, into a block, one behind the other.
+pub(crate) fn put_cells(format: Format, block: &mut [u8], bytes: &[u8], first: usize, count: usize)
     requires whole { length block.old ≡ width format * count }
-    requires inside { first + count ≤ length cells.now }
-    requires come_back { (place : ℕ) → ComesBack format (slice_index_or cells.now place None) }
-    ensures put { block.new ≡ stored_all format (take count (drop first cells.now)) }
+    requires inside { width format * (first + count) ≤ length bytes.now }
+    ensures put { block.new ≡ stored_all format (places_in format bytes.now first count) }
     ensures many { length block.new ≡ length block.old }
 {
     for place in 0..count {
-        put_place(format, block, place, &cells[first + place]);
+        put_place(format, block, place, bytes, first + place);
     }
 }

@@ -1,46 +1,42 @@
 //! The front of a store: its blocks 0 and 1 in memory.
-ghost use Rattle.std.specs.Prelude.{◌≡◌, ◌⊎◌, ◌+◌, ◌*◌, ◌^◌, ◌≤◌, ◌<◌, Option, None, Some, is_some, if◌then◌else◌, IfOk, IfSome, OnOk, OnErr, length, replicate};
+ghost use Rattle.std.specs.Prelude.{◌≡◌, ℕ, ◌⊎◌, ◌+◌, ◌*◌, ◌^◌, ◌≤◌, ◌<◌, Option, None, Some, is_some, if◌then◌else◌, IfOk, IfSome, OnOk, OnErr, length, replicate};
 ghost use Rattle.std.specs.Box.{boxed_slice_items};
 ghost use Rattle.cola_outside.specs.Told.{Both};
-ghost use Rattle.cola_cell.specs.Format.{CellFits};
+ghost use Rattle.cola_cell.specs.Decoded.{standing};
+ghost use Rattle.cola_cell.specs.Format.{width, CellFits};
 ghost use Rattle.cola_cell.specs.Packed.{passed, MayPass};
+ghost use Rattle.cola_cell.specs.Windows.{cell_bytes_at, AreSpelled as AreCells};
 ghost use Rattle.cola_device.specs.Bytes.{HasRange, Wrote};
 ghost use Rattle.cola_device.specs.Counts.{Called};
-ghost use Rattle.cola_front.specs.Front.{FrontCells, IsFront, AreSpelled, AreTaken, AreRead, SameBelow, SameFrom, SameShape, IsLoaded, cell_at, front_with, block_size, image, InOrder, new_front, first_block, second_block};
+ghost use Rattle.cola_front.specs.Front.{FrontCells, IsFront, AreSpelled, AreTaken, AreRead, SameBelow, SameFrom, SameShape, IsLoaded, cell_at, spelled_at, front_with, block_size, image, InOrder, new_front, first_block, second_block};
 
-use crate::block::{put_cells, put_header, take_cells};
+use crate::block::{
+    cells_in, copy_cells, is_cell_in, packed_in, put_as, put_cells, put_header, refill_from,
+};
 use cola_cell::{Cell, Format, Packed, Pass};
 use cola_device::{Device, DeviceFault, MAX_TRANSFER};
 use std::alloc::{AllocError, Global};
 use std::boxed::BoxedSlice;
 use std::marker::Model;
 
-/// Blocks 0 and 1 of a store in memory: what stands at each place behind the header, by the number of the cell. Reads
-/// and writes of cells make no call of a device; `load` and `store` go block by block.
+/// Blocks 0 and 1 of a store in memory, as their bytes: what stands at each place behind the header, by the number of the
+/// cell. Reads and writes of cells make no call of a device; `load` and `store` go block by block.
 #[derive(Drop)]
 pub struct Front {
     format: Format,
     block: usize,
-    cells: BoxedSlice<Option<Packed>>,
+    bytes: BoxedSlice<u8>,
 }
 
 impl Model for Front {
     ghost use Rattle.std.specs.Box.{boxed_slice_items};
-    ghost use Rattle.cola_front.specs.Front.{FrontCells, IsFront};
+    ghost use Rattle.cola_front.specs.Front.{FrontCells, AreBlocks, front_of};
 
     ghost Value = { FrontCells };
 
-    ghost view = { λ f. record {
-      format = f.format;
-      block = f.block;
-      cells = boxed_slice_items f.cells;
-    } };
+    ghost view = { λ f. front_of f.format f.block (boxed_slice_items f.bytes) };
 
-    ghost invariant = { λ f. IsFront (record {
-      format = f.format;
-      block = f.block;
-      cells = boxed_slice_items f.cells;
-    }) };
+    ghost invariant = { λ f. AreBlocks f.format f.block (boxed_slice_items f.bytes) };
 }
 
 /// The number of cells of a block.
@@ -54,15 +50,11 @@ fn cells_of_block(block_exp: u8) -> usize
     1 << block_exp
 }
 
-/// So many places without a cell.
-fn no_cells(alloc: Global, many: usize) -> Result<BoxedSlice<Option<Packed>>, AllocError>
-    ensures { IfOk result (λ cells. boxed_slice_items cells ≡ replicate many None) }
+/// So many zeros, which spell no cell.
+fn zeros(alloc: Global, size: usize) -> Result<BoxedSlice<u8>, AllocError>
+    ensures { IfOk result (λ bytes. boxed_slice_items bytes ≡ replicate size 0) }
 {
-    let mut cells = Vec::with_capacity(alloc, many)?;
-    for _ in 0..many {
-        cells.push(None)?;
-    }
-    Ok(cells.into_boxed_slice())
+    Ok(vec![in alloc; 0u8; size]?.into_boxed_slice())
 }
 
 impl Front {
@@ -74,11 +66,11 @@ impl Front {
         ensures { IfOk result (λ front. front ≡ new_front block_exp format) }
     {
         let block = cells_of_block(block_exp);
-        let cells = no_cells(alloc, 2 * block)?;
+        let bytes = zeros(alloc, format.width() * (2 * block))?;
         Ok(Front {
             format,
             block,
-            cells,
+            bytes,
         })
     }
 
@@ -106,8 +98,9 @@ impl Front {
         ensures shape { SameShape self.old self.new }
         ensures whole { length block.now ≡ block_size self.old }
     {
-        let to = first + self.block;
-        take_cells(self.format, &mut self.cells, block, first, from, to);
+        let begin = from - first;
+        let count = self.block - begin;
+        copy_cells(self.format, &mut self.bytes, from, block, begin, count);
     }
 
     /// Gives the places behind the header what the bytes of block 0 spell.
@@ -199,7 +192,7 @@ impl Front {
         ensures value { result ≡ cell_at self.now place }
         ensures sound { IsFront self.now }
     {
-        match &self.cells[place as usize] {
+        match packed_in(self.format, &self.bytes, place as usize) {
             Some(cell) => Some(cell.cell()),
             None => None,
         }
@@ -211,7 +204,7 @@ impl Front {
         requires within { place < 2 * self.now.block }
         ensures { result ≡ is_some (cell_at self.now place) }
     {
-        self.cells[place as usize].is_some()
+        is_cell_in(self.format, &self.bytes, place as usize)
     }
 
     /// Takes what stands at a place, which is the number of a cell behind the header, into a packed cell: false exactly
@@ -223,13 +216,7 @@ impl Front {
         ensures value { (if result then Some into.new else None) ≡ cell_at self.now place }
         ensures sound { IsFront self.now }
     {
-        match &self.cells[place as usize] {
-            Some(cell) => {
-                into.copy_from(cell);
-                true
-            }
-            None => false,
-        }
+        refill_from(self.format, &self.bytes, place as usize, into)
     }
 
     /// Puts what becomes of a cell at a place behind the header. The device has it after the next `store`.
@@ -242,18 +229,7 @@ impl Front {
         ensures after { self.new ≡ front_with self.old place (passed pass cell.now) }
         ensures sound { IsFront self.old }
     {
-        let format = self.format;
-        match &mut self.cells[place as usize] {
-            Some(room) => {
-                room.take_as(cell, pass);
-                room.know(format);
-            }
-            None => {
-                let cell = cell.copy_as(pass);
-                cell.know(format);
-                self.cells[place as usize] = Some(cell);
-            }
-        }
+        put_as(self.format, &mut self.bytes, place as usize, cell, pass);
     }
 
     /// Puts a cell at a place behind the header. The device has it after the next `store`.
@@ -268,6 +244,44 @@ impl Front {
         self.write_as(place, &packed, Pass::keeping(cell));
     }
 
+    /// The bytes of so many cells from a place on, which is the number of a cell behind the header.
+    #[inline(always)]
+    pub fn window(&self, place: u64, count: u32) -> &[u8]
+        requires behind_header { 8 ≤ place }
+        requires within { place + count ≤ 2 * self.now.block }
+        ensures size { length result.now ≡ count * width self.now.format }
+        ensures shown { (n : ℕ) → n < count →
+            cell_at self.now (place + n) ≡ spelled_at self.now.format result.now n }
+        ensures sound { IsFront self.now }
+    {
+        cells_in(self.format, &self.bytes, place as usize, count as usize)
+    }
+
+    /// Puts so many cells, of which each is spelled behind the one before, at a place behind the header and those behind
+    /// it. The device has them after the next `store`.
+    pub fn put_spelled(&mut self, place: u64, count: u32, cells: &[u8])
+        requires behind_header { 8 ≤ place }
+        requires within { place + count ≤ 2 * self.old.block }
+        requires size { count * width self.old.format ≤ length cells.now }
+        requires spelled { AreCells self.old.format count cells.now }
+        ensures placed { (k : ℕ) → k < count → cell_at self.new (place + k) ≡
+            Some (standing self.old.format (cell_bytes_at self.old.format k cells.now)) }
+        ensures others { (p : ℕ) → p < place ⊎ place + count ≤ p →
+            cell_at self.new p ≡ cell_at self.old p }
+        ensures shape { SameShape self.old self.new }
+        ensures sound { IsFront self.new }
+    {
+        let place = place as usize;
+        copy_cells(
+            self.format,
+            &mut self.bytes,
+            place,
+            cells,
+            0,
+            count as usize,
+        );
+    }
+
     /// Fills a block with the bytes of block 1. Places without a cell are zeros.
     pub fn put_second(&self, block: &mut [u8])
         requires { length block.old ≡ block_size self.now }
@@ -275,7 +289,7 @@ impl Front {
         ensures many { length block.new ≡ block_size self.now }
         ensures sound { IsFront self.now }
     {
-        put_cells(self.format, block, &self.cells, self.block, self.block);
+        put_cells(self.format, block, &self.bytes, self.block, self.block);
     }
 
     /// Fills a block with the bytes of block 0: the header, zeros up to cell 8, and what stands behind it.
@@ -284,7 +298,7 @@ impl Front {
         ensures put { block.new ≡ first_block self.now header.now }
         ensures many { length block.new ≡ block_size self.now }
     {
-        put_cells(self.format, block, &self.cells, 0, self.block);
+        put_cells(self.format, block, &self.bytes, 0, self.block);
         put_header(block, header);
     }
 

@@ -3,3 +3,5 @@ pub mod RunLists
 pub mod TurnLemmas
 pub mod SeekLemmas
 pub mod Seats
+pub mod ScanLemmas
+pub mod Sights

@@ -152,6 +152,11 @@ module _ (held : Held) (run : Run) (next_len start : ℕ) (key : List ℕ) (resu
 abbrev pub GoesOn : {A : Type 0} → Outcome A → Outcome A → Type 0
 GoesOn whole rest = (whole ≡ Open) ⊎ (whole ≡ rest)
 
+pub joined : {A : Type 0} {whole middle rest : Outcome A} → GoesOn whole middle → GoesOn middle rest → GoesOn whole rest
+joined (inl e) g = inl e
+joined (inr e) (inl f) = inl (e ∙ f)
+joined (inr e) (inr f) = inr (e ∙ f)
+
 pub answers_whole : {A T : Type 0} (whole rest : Outcome A) (view : T → A) (result : Result T ReadFault) → GoesOn whole rest → Answers rest view result → Answers whole view result
 answers_whole {A} whole rest view result (inl e) h = let E : Outcome A → Type 0 = λ x. Answers x view result in subst E (sym e) tt
 answers_whole {A} whole rest view result (inr e) h = let E : Outcome A → Type 0 = λ x. Answers x view result in subst E (sym e) h
@@ -302,11 +307,6 @@ module _ {run : Run} {next_len start : ℕ} {key : List ℕ} {old mid new : Stat
 
       le_then : {a b c : ℕ} → a ≤ b → b ≤ c → a ≤ c
       le_then h k = omega arith
-
-      joined : {A : Type 0} {whole middle rest : Outcome A} → GoesOn whole middle → GoesOn middle rest → GoesOn whole rest
-      joined (inl e) g = inl e
-      joined (inr e) (inl f) = inl (e ∙ f)
-      joined (inr e) (inr f) = inr (e ∙ f)
 
 -- what it spent in all, where its last read is made here
 pub seeking_costs : {run : Run} {next_len start : ℕ} {key : List ℕ} {old mid new : State} {before between after i : ℕ} {result : Result Cell ReadFault} →

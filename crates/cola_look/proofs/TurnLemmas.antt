@@ -2,7 +2,7 @@
 use Rattle.std.proofs.Common.{◌≡◌, ◌⊎◌, inl, inr, ℕ, suc, ◌+◌, ◌-◌, ◌*◌, ◌/◌, ◌^◌, ◌≤◌, ◌<◌, ◌==◌, ◌&&◌, Bool, true, false, if◌then◌else◌, Option, None, Some, Result, Ok, refl, sym, ap, ◌∙◌, arith}
 use Rattle.std.proofs.Math.Nat.{div-div-eq-div-mul, div-eq_of_lt-le, lt-div-mul-add, div-mul-le_self}
 use Rattle.std.proofs.lemmas.Nat.{le-div}
-use Rattle.std.proofs.lemmas.Bool.{eqb-true, eq-eqb}
+use Rattle.std.proofs.lemmas.Bool.{eqb-true, eq-eqb, cases_order}
 use Rattle.cola_cell.specs.declared.cell.Cell.{Cell}
 use Rattle.cola_cell.specs.declared.fault.ReadFault.{ReadFault}
 use Rattle.cola_cell.specs.Places.{Block, block_of}
@@ -99,6 +99,25 @@ turn_once turned turned' last last' block next size i end h l same r =
           (λ f. ((held f).0, ap (is_in block) (held f).1 ∙ f)) (λ f. ap (is_in block) (r.moves f) ∙ in_itself block))
       | inr e ↦ rw e (other_group turned turned' ((end + (size - 1)) / size) (i / size) (is_in block last) (is_in next last') some r.rises (λ f. (held f).0))
     ]
+
+-- who goes on and turns to none has no more turns left
+pub turns_on : (last : Option Block) (block next : Block) (size i j end : ℕ) → 0 < size → i ≤ j → (j / size ≡ i / size → next ≡ block) → turns_left last next size j end ≤ turns_left last block size i end
+turns_on last block next size i j end h l same =
+    let low : i / size * size ≤ i = div-mul-le_self i size in
+    let more : i / size ≤ j / size = le-div (i / size) j size h (omega (arith, low, l)) in
+    elim (cases_order (i / size) (j / size)) [
+      | inl e ↦ rw (sym e, same (sym e)) (omega arith)
+      | inr d ↦ elim d [
+        | inl k ↦ fewer ((end + (size - 1)) / size) (i / size) (j / size) (is_in block last) (is_in next last) k
+        | inr k ↦ absurd (omega (arith, more, k))
+      ]
+    ]
+  where
+    fewer : (most at to : ℕ) (x y : Bool) → at < to → most - to - (if y then 1 else 0) ≤ most - at - (if x then 1 else 0)
+    fewer most at to true true k = omega (arith, k)
+    fewer most at to true false k = omega (arith, k)
+    fewer most at to false true k = omega (arith, k)
+    fewer most at to false false k = omega (arith, k)
 
 -- of an accepted read
 pub read_turned : {old new : State} {buffer : Buffer} {level slot index : ℕ} {cell : Cell} → Reads old new buffer level slot index (Ok cell) →

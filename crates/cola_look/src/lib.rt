@@ -7,6 +7,7 @@
 #![tactic(auto)]
 
 pub mod laws;
+mod scanning;
 mod seeking;
 mod windowing;
 

@@ -1,15 +1,17 @@
 //! The search of one run.
-ghost use Rattle.std.specs.Prelude.{◌≡◌};
+ghost use Rattle.std.specs.Prelude.{◌≡◌, ◌-◌, ◌*◌, ◌/◌, ◌≤◌, None};
 ghost use Rattle.cola_cell.specs.Cell.{key_of};
 ghost use Rattle.cola_cell.specs.Held.{as_cell};
 ghost use Rattle.cola_cell.specs.Looks.{OnlyLooks};
 ghost use Rattle.cola_cell.specs.Order.{key_cmp};
 ghost use Rattle.cola_look.specs.Runs.{HasRun};
+ghost use Rattle.cola_look.specs.Scanning.{IsSeen, reach_of};
 ghost use Rattle.cola_look.specs.Seek.{seat_at, as_seat};
 ghost use Rattle.cola_look.specs.Seeks.{Seeks};
 
+use crate::scanning::Sight;
 use crate::windowing::window;
-use cola_cell::{CellSource, Item, Key, Packed, ReadFault, Run};
+use cola_cell::{CellSource, Item, Key, Packed, Reach, ReadFault, Run};
 use cola_outside::Steps;
 use std::cmp::Ordering;
 use std::sync::ledger::Ledger;
@@ -23,9 +25,53 @@ pub struct Seat {
     pub link: u32,
 }
 
+/// Where a search is that stopped at no cell: at the run's end, and its link is the last whole eight of the next run.
+#[inline]
+fn seat_at_end(run: &Run, next_len: u32) -> Seat
+    ensures { as_seat result ≡ record { pos = run.now.len; hit = None; link = 8 * (next_len / 8) } }
+{
+    Seat {
+        pos: run.len,
+        hit: None,
+        link: 8 * (next_len / 8),
+    }
+}
+
+/// What a search sees of the cells of a run from an index on, before `last`, where the object has their bytes at hand; and
+/// nothing where it is not to be asked.
+#[inline(always)]
+fn look<W: CellSource, L: Ledger>(
+    work: &mut W,
+    run: &Run,
+    index: u32,
+    last: u32,
+    key: &Key,
+    is_asked: bool,
+    steps: &mut Steps<L>,
+) -> Sight
+    requires run { HasRun (W.state work.old).held run.now }
+    requires index { index ≤ last }
+    ensures kept { W.kept work.new ≡ W.kept work.old }
+    ensures sees { IsSeen (W.state work.old) (W.state work.new) (reach_of run.now index) (last - index) key.now result
+        steps.old steps.new }
+{
+    let mut sight = Sight::of(last - index);
+    if !is_asked {
+        return sight;
+    }
+    let reach = Reach {
+        run: *run,
+        from: index,
+    };
+    work.scan(reach, &mut sight, key, steps);
+    sight
+}
+
 /// Searches a run for a key, from index `start` on, which is the link of the run above: it reads at most
 /// eight cells in rising order and stops at the first whose key is at least `key`. Where none of them is, it
-/// is at the run's end, and the link is the last whole eight of the next run, of `next_len` cells.
+/// is at the run's end, and the link is the last whole eight of the next run, of `next_len` cells. Cells whose bytes the
+/// object has at hand it looks at where they lie; it reads the others, and any whose bytes spell none. An object that has
+/// none at hand is asked once more behind the first read, which may have brought the others.
 #[inline(always)]
 pub fn seek<W: CellSource, L: Ledger>(
     work: &mut W,
@@ -42,18 +88,31 @@ pub fn seek<W: CellSource, L: Ledger>(
 {
     let (first, last) = window(start, run.len);
     let mut cell = Packed::blank();
-    for index in first..last {
+    let mut index = first;
+    let mut asks: u32 = 2;
+    while index < last {
+        let sight = look(work, run, index, last, key, asks > 0, steps);
+        asks = asks.saturating_sub(1);
+        index += sight.passed;
+        if sight.stops {
+            let (hit, link) = (sight.hit, sight.link);
+            return Ok(Seat {
+                pos: index,
+                hit,
+                link,
+            });
+        }
+        if index == last {
+            return Ok(seat_at_end(run, next_len));
+        }
         work.read_into(run.level, run.slot, index, &mut cell, steps)?;
         let order = cell.key_cmp(key);
         if !order.is_lt() {
             return Ok(seat_at(&cell, index, key, order));
         }
+        index += 1;
     }
-    Ok(Seat {
-        pos: run.len,
-        hit: None,
-        link: 8 * (next_len / 8),
-    })
+    Ok(seat_at_end(run, next_len))
 }
 
 /// What a search finds that stops at this cell, whose key has this order to the key sought.

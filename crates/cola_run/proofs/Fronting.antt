@@ -48,7 +48,7 @@ module _ {D K : Type 0} (bytes : D → Option (List ℕ)) (counts : D → Counts
       around-by bytes store now level same (ap (λ (b : Blocks D). b.made) buffers) (λ l apart. one.others l apart)
       (subst (λ (x : Option (List ℕ)). Both (bytes store.buffers.cache.device) x (λ _ _. Unit {0})) (sym told-same) (both-same (bytes store.buffers.cache.device) (λ _ _. Unit {0}) (λ _. tt)))
 
-  spots-now : (l s i : ℕ) → spots_of (cells_of (bytes now.buffers.cache.device) now) l s i ≡ spots_of (cells_by g now.front lower-now) l s i
+  pub spots-now : (l s i : ℕ) → spots_of (cells_of (bytes now.buffers.cache.device) now) l s i ≡ spots_of (cells_by g now.front lower-now) l s i
   spots-now l s i = ap (λ (x : Geometry). spots_of (cells_by x now.front lower-now) l s i) same
 
   front-now : now.front ≡ store.front → (l s i : ℕ) → spots_of (cells_of (bytes now.buffers.cache.device) now) l s i ≡ spots_of (cells_by g store.front lower-now) l s i

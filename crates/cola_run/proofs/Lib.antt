@@ -22,3 +22,4 @@ pub mod Firsts
 pub mod News
 pub mod Shown
 pub mod Sounding
+pub mod Fronted

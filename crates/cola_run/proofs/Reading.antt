@@ -56,7 +56,7 @@ on-ok : {T E P : Type 0} (result : Result T E) → P → OnOk result P
 on-ok (Ok x) p = p
 on-ok (Err e) p = tt
 
-if-told : {P : List ℕ → Type 0} (x : Option (List ℕ)) → ((b : List ℕ) → P b) → IfSome x P
+pub if-told : {P : List ℕ → Type 0} (x : Option (List ℕ)) → ((b : List ℕ) → P b) → IfSome x P
 if-told None f = tt
 if-told (Some b) f = f b
 

@@ -1,10 +1,9 @@
 -- A store stays sound behind a merge over lent bytes.
-use Rattle.std.proofs.Common.{◌≡◌, ◌≢◌, ◌⊎◌, inl, inr, ℕ, zero, suc, ◌+◌, ◌-◌, ◌*◌, ◌/◌, ◌%◌, ◌^◌, ◌≤◌, ◌<◌, ◌==◌, min, Bool, true, false, if◌then◌else◌, List, length, take, drop, Option, None, Some, IfSome, refl, ap, sym, subst, ◌∙◌, arith}
+use Rattle.std.proofs.Common.{◌≡◌, ◌≢◌, ◌⊎◌, inl, inr, ℕ, zero, suc, ◌+◌, ◌-◌, ◌*◌, ◌/◌, ◌%◌, ◌≤◌, ◌<◌, ◌==◌, Bool, true, false, if◌then◌else◌, List, length, take, drop, Option, None, Some, refl, ap, sym, subst, ◌∙◌, arith}
 use Rattle.std.proofs.Math.Nat.{mul-add, mod-lt, mul-le-mul_left, div-add-mod, mul_comm}
 use Rattle.std.proofs.lemmas.Nat.{pow_pos, mod-mul-add, div-mul-add}
 use Rattle.std.proofs.lemmas.Bool.{true≢false}
 use Rattle.std.proofs.lemmas.Bool.Decides.{eqb_tells, leb_tells}
-use Rattle.cola_cell.specs.declared.format.Format.{Format}
 use Rattle.cola_cell.specs.declared.sink.Shadow.{Shadow}
 use Rattle.cola_cell.specs.Flat.{shadow_at}
 use Rattle.cola_cell.specs.Format.{width}
@@ -13,12 +12,12 @@ use Rattle.cola_device.specs.Bytes.{splice}
 use Rattle.cola_device.proofs.BytesLemmas.{length-splice}
 use Rattle.cola_front.specs.Front.{FrontCells, cell_bytes}
 use Rattle.cola_layout.specs.declared.geometry.Geometry.{Geometry}
-use Rattle.cola_run.specs.Cells.{Lower, cells_by, spots_of, device_cell, IsOnDevice, IsShape, IsShadow, IsBacked, IsSaved, block_cells, tail_number, tails_bytes, is_in_tail}
+use Rattle.cola_run.specs.Cells.{Lower, cells_by, spots_of, device_cell, IsOnDevice, IsShape, IsShadow, IsBacked, IsSaved, block_cells, tail_number, is_in_tail}
 use Rattle.cola_run.specs.Parts.{OneShadow}
 use Rattle.cola_run.specs.Weaving.{room_cells}
 use Rattle.cola_run.proofs.Bytes.{cell-below, cell-above, cell-inside}
 use Rattle.cola_run.proofs.Numbers.{block-before}
-use Rattle.cola_run.proofs.Spots.{in-tail, tail-is, IsInTail, spot-there, spot-device, device-in, device-out, device-is, spots-stay, both-same}
+use Rattle.cola_run.proofs.Spots.{in-tail, IsInTail, spot-there, spot-device, device-in, device-out, device-is, spots-stay, both-same}
 use Rattle.cola_run.proofs.Steps.{tail-room}
 use Rattle.cola_cell.specs.Windows.{grown, cell_bytes_at}
 use Rattle.cola_cell.specs.Decoded.{standing, spot_of_bytes}

@@ -1,14 +1,13 @@
 //! Reads, pushes, restarts and finishes of the cells of a store.
-ghost use Rattle.std.specs.Prelude.{◌≡◌, ◌+◌, ◌*◌, ◌≤◌, ◌<◌, true, Option, length};
+ghost use Rattle.std.specs.Prelude.{◌≡◌, ◌+◌, ◌*◌, ◌≤◌, ◌<◌, true, Option, None, length};
 ghost use Rattle.cola_cell.specs.Places.{slot_size, IsPlace};
 ghost use Rattle.cola_cell.specs.Format.{CellFits};
 ghost use Rattle.cola_cell.specs.Packed.{given, passed, MayPass};
 ghost use Rattle.cola_cell.specs.Shadows.{Restarts, Pushes, PushSpends, push_ticks, Finishes, FinishSpends};
 ghost use Rattle.cola_run.specs.Cells.{IsOnDevice};
-ghost use Rattle.cola_run.specs.Store.{IsStore, held_of, state_of, Kept, kept_of, buffer_number, reader_number};
-ghost use Rattle.cola_run.specs.Turns.{buffer_index};
-ghost use Rattle.cola_cell.specs.Windows.{IsReach, Weaves};
-ghost use Rattle.cola_run.specs.Weaving.{RunsBelow, is_at_hand};
+ghost use Rattle.cola_run.specs.Store.{IsStore, held_of, state_of, Kept, kept_of};
+ghost use Rattle.cola_cell.specs.Windows.{IsReach, Weaves, IsRunIn, Scans};
+ghost use Rattle.cola_run.specs.Weaving.{RunsBelow, RunsInFront, ScansBelow, IsOpen, AreOpen, AreAtHand, is_at_hand};
 ghost use Rattle.cola_run.specs.Calls.{IsInTail, MemoryAnswers, ReadsBy};
 
 use crate::device_cells::{
@@ -16,42 +15,16 @@ use crate::device_cells::{
     read_by_buffer, saved, set_shadow, shadow_of, taken_or_bad,
 };
 use crate::run_store::RunStore;
-use crate::weaving::weave_on_device;
+use crate::weaving::{buffer_of, window_of};
 use cola_cell::{
     Cell, CellSink, CellSource, Packed, Pass, PushFault, Reach, ReadFault, Reader, Shadow,
-    WindowMerge, tick_all,
+    WindowMerge, WindowSearch, tick_all,
 };
 use cola_device::Device;
 use cola_front::block::refill_from;
 use cola_layout::Geometry;
 use cola_outside::Steps;
 use std::sync::ledger::Ledger;
-
-/// Which of the three buffers of a level a reader has.
-#[inline]
-fn number_of_reader(reader: Reader) -> usize
-    ensures { result ≡ reader_number reader }
-{
-    match reader {
-        Reader::Own => 0,
-        Reader::Incoming => 1,
-        Reader::Sample => 2,
-    }
-}
-
-/// The buffer of a reader at a level on the device, or that of searches.
-#[inline]
-fn buffer_of(geometry: &Geometry, reader: Option<Reader>, level: u8) -> usize
-    requires { IsOnDevice geometry.now level }
-    ensures { result ≡ buffer_index geometry.now reader level }
-{
-    match reader {
-        Some(reader) => {
-            1 + 3 * (level + 2 - geometry.block_exp) as usize + number_of_reader(reader)
-        }
-        None => 0,
-    }
-}
 
 impl<D: Device> RunStore<D> {
     /// The cell at a place of a level that is in memory.
@@ -195,6 +168,35 @@ impl<D: Device> CellSource for RunStore<D> {
         self.read_by(Some(reader), level, slot, index, into, steps)
     }
 
+    #[inline(always)]
+    fn scan<S: WindowSearch, L: Ledger>(
+        &mut self,
+        reach: Reach,
+        search: &mut S,
+        probe: &S::Probe,
+        steps: &mut Steps<L>,
+    ) -> u32
+        requires { IsRunIn (state_of D.bytes D.counts self.old).held reach }
+        ensures kept { kept_of D.bytes D.counts D.kept self.new ≡ kept_of D.bytes D.counts D.kept self.old }
+        ensures scans { Scans S.sought (state_of D.bytes D.counts self.old) (state_of D.bytes D.counts self.new) reach
+            search.old search.new probe.now steps.old steps.new result }
+        ensures runs { is_at_hand self.old.geometry self.old.shadows reach ≡ true → IsOpen D.lends self.old.geometry self.old.buffers.lasts None reach →
+            ScansBelow S.sought D.lends (D.bytes self.old.buffers.cache.device) self.old.geometry self.old.front reach search.old search.new probe.now result }
+    {
+        if !self.is_at_hand(reach) {
+            return 0;
+        }
+        match window_of(&self.front, &self.buffers, &self.geometry, None, reach) {
+            Some(window) => {
+                let ticks = search.seek(probe, self.geometry.format, window.bytes);
+                self.ticked = self.ticked.wrapping_add(ticks as u64);
+                tick_all(steps, ticks);
+                ticks
+            }
+            None => 0,
+        }
+    }
+
     fn ticked(&self) -> u64 {
         self.ticked
     }
@@ -292,39 +294,21 @@ impl<D: Device> CellSink for RunStore<D> {
         ensures kept { kept_of D.bytes D.counts D.kept self.new ≡ kept_of D.bytes D.counts D.kept self.old }
         ensures weaves { Weaves M.wove (state_of D.bytes D.counts self.old) (state_of D.bytes D.counts self.new) level own incoming sample
             merge.old merge.new job.now steps.old steps.new result }
-        ensures runs { D.lends ≡ true → IsOnDevice self.old.geometry level →
-            is_at_hand self.old.geometry self.old.shadows own ≡ true →
-            is_at_hand self.old.geometry self.old.shadows incoming ≡ true →
-            is_at_hand self.old.geometry self.old.shadows sample ≡ true →
-            RunsBelow M.wove (D.bytes self.old.buffers.cache.device) self.old.geometry self.old.shadows self.new.shadows
+        ensures runs { IsOnDevice self.old.geometry level → AreAtHand self.old.geometry self.old.shadows own incoming sample →
+            AreOpen D.lends self.old.geometry self.old.buffers.lasts own incoming sample →
+            RunsBelow M.wove D.lends (D.bytes self.old.buffers.cache.device) self.old.geometry self.old.front self.old.shadows self.new.shadows
             self.old.tails self.new.tails level own incoming sample merge.old merge.new job.now result }
+        ensures runs_in_front { level + 2 < self.old.geometry.block_exp → AreAtHand self.old.geometry self.old.shadows own incoming sample →
+            AreOpen D.lends self.old.geometry self.old.buffers.lasts own incoming sample →
+            RunsInFront M.wove D.lends (D.bytes self.old.buffers.cache.device) self.old.geometry self.old.front self.new.front
+            self.old.shadows self.new.shadows level own incoming sample merge.old merge.new job.now result }
     {
-        if level < self.geometry.front_levels()
-            || !self.is_at_hand(own)
-            || !self.is_at_hand(incoming)
-            || !self.is_at_hand(sample)
-        {
+        if !self.is_at_hand(own) || !self.is_at_hand(incoming) || !self.is_at_hand(sample) {
             return 0;
         }
-        let woven = weave_on_device(
-            &self.buffers,
-            &self.geometry,
-            &mut self.shadows,
-            &mut self.tails,
-            level,
-            own,
-            incoming,
-            sample,
-            merge,
-            job,
-        );
-        match woven {
-            Some(passed) => {
-                self.ticked = self.ticked.wrapping_add(passed.ticks as u64);
-                tick_all(steps, passed.ticks);
-                passed.steps
-            }
-            None => 0,
+        if level < self.geometry.front_levels() {
+            return self.weave_in_front(level, own, incoming, sample, merge, job, steps);
         }
+        self.weave_below(level, own, incoming, sample, merge, job, steps)
     }
 }

@@ -1,41 +1,172 @@
-//! A merge over the bytes of runs that a device lends.
-ghost use Rattle.std.specs.Prelude.{◌≡◌, ℕ, ◌+◌, ◌*◌, ◌^◌, ◌≤◌, ◌<◌, true, Option, None, Some, IfSome, length};
+//! The bytes of runs where they lie, as a device lends them or a buffer has them, and a merge over them.
+ghost use Rattle.std.specs.Prelude.{◌≡◌, ℕ, ◌+◌, ◌*◌, ◌^◌, ◌≤◌, ◌<◌, false, Option, None, Some, IfSome, length};
 ghost use Rattle.cola_cell.specs.Flat.{shadow_at};
 ghost use Rattle.cola_cell.specs.Places.{slot_size};
-ghost use Rattle.cola_cell.specs.Windows.{grown};
-ghost use Rattle.cola_run.specs.Cells.{IsOnDevice, block_bytes, file_blocks, tails_bytes};
-ghost use Rattle.cola_run.specs.Weaving.{IsRunThere, IsLent, WoveBelow, room_cells, is_at_hand};
+ghost use Rattle.cola_cell.specs.Format.{width};
+ghost use Rattle.cola_cell.specs.Windows.{AreSpelled, IsReach, Weaves, grown};
+ghost use Rattle.cola_device.specs.Bytes.{part};
+ghost use Rattle.cola_run.specs.Cells.{IsOnDevice, block_bytes, block_cells, device_levels, file_blocks, tails_bytes};
+ghost use Rattle.cola_run.specs.Store.{kept_of, reader_number, state_of};
+ghost use Rattle.cola_run.specs.Turns.{buffer_index};
+ghost use Rattle.cola_run.specs.Weaving.{IsRunHere, IsBelow, IsInFront, IsFound, IsTurnedTo, IsOpen, AreOpen, AreAtHand, PutInFront, WoveBelow, WoveInFront, RunsBelow, RunsInFront, room_cells, is_at_hand};
 
-use crate::device_cells::{cells_of_block, cells_of_slot, place_in_tails, set_shadow, shadow_of};
+use crate::device_cells::{
+    block_at, cells_of_block, cells_of_slot, place_in_tails, set_shadow, shadow_of,
+};
 use crate::run_store::RunStore;
 use cola_cache::Buffers;
-use cola_cell::{Passed, Reach, Shadow, Window, WindowMerge};
+use cola_cell::{Passed, Reach, Reader, Shadow, Window, WindowMerge, tick_all};
 use cola_device::Device;
+use cola_front::Front;
 use cola_layout::Geometry;
+use cola_outside::Steps;
+use std::sync::ledger::Ledger;
 
-/// The bytes of a run from an index on, where the device lends them.
+/// How many bytes of cells a merge puts into the front at once: 32 cells, or 16 of format Two.
+const FRONT_ROOM: usize = 2048;
+
+/// Which of the three buffers of a level a reader has.
+#[inline]
+fn number_of_reader(reader: Reader) -> usize
+    ensures { result ≡ reader_number reader }
+{
+    match reader {
+        Reader::Own => 0,
+        Reader::Incoming => 1,
+        Reader::Sample => 2,
+    }
+}
+
+/// The buffer of a reader at a level on the device, or that of searches.
+#[inline]
+pub(crate) fn buffer_of(geometry: &Geometry, reader: Option<Reader>, level: u8) -> usize
+    requires { IsOnDevice geometry.now level }
+    ensures { result ≡ buffer_index geometry.now reader level }
+{
+    match reader {
+        Some(reader) => {
+            1 + 3 * (level + 2 - geometry.block_exp) as usize + number_of_reader(reader)
+        }
+        None => 0,
+    }
+}
+
+/// So many cells of a block, from one on.
 #[inline(always)]
-fn window_of<'a, D: Device>(
+fn cells_in(block: &[u8], at: usize, count: usize, width: usize) -> &[u8]
+    requires { at * width + count * width ≤ length block.now }
+    ensures { result.now ≡ part block.now (at * width) (count * width) }
+{
+    let at = at * width;
+    &block[at..at + count * width]
+}
+
+/// The bytes of a run from an index on, in the block that a buffer holds: as many as lie in that.
+#[inline(always)]
+fn window_in_block<'a, D: Device>(
     buffers: &'a Buffers<D>,
     geometry: &Geometry,
+    reader: Option<Reader>,
     reach: Reach,
 ) -> Option<Window<'a>>
-    requires there { reach.from < reach.run.len → IsRunThere geometry.now reach }
+    requires some { reach.from < reach.run.len }
+    requires there { IsRunHere geometry.now reach }
+    requires whole { geometry.now.block_exp ≤ reach.run.level + 2 }
+    requires size { buffers.now.cache.size ≡ block_bytes geometry.now }
+    requires buffers { length buffers.now.lasts ≡ 1 + 3 * device_levels geometry.now }
+    ensures found { IfSome result (λ window. IsBelow false (D.bytes buffers.now.cache.device) geometry.now reach window.bytes.now window.is_last) }
+    ensures none { result ≡ None → IsTurnedTo geometry.now buffers.now.lasts reader reach → ⊥ }
+{
+    let Reach { run, from } = reach;
+    let buffer = buffer_of(geometry, reader, run.level);
+    if !buffers.holds(buffer, block_at(geometry, run.level, run.slot, from)) {
+        return None;
+    }
+    let block = cells_of_block(geometry);
+    let at = from % block;
+    let ahead = run.len - from;
+    let count = ahead.min(block - at);
+    let bytes = cells_in(
+        buffers.copy(buffer),
+        at as usize,
+        count as usize,
+        geometry.format.width(),
+    );
+    let is_last = count == ahead;
+    Some(Window { bytes, is_last })
+}
+
+/// The bytes of a run of the front from an index on.
+#[inline(always)]
+fn window_in_front<'a>(front: &'a Front, geometry: &Geometry, reach: Reach) -> Window<'a>
+    requires some { reach.from < reach.run.len }
+    requires there { IsRunHere geometry.now reach }
+    requires level { reach.run.level + 2 < geometry.now.block_exp }
+    requires block { front.now.block ≡ block_cells geometry.now }
+    ensures { IsInFront front.now reach result.bytes.now result.is_last }
+{
+    let Reach { run, from } = reach;
+    let bytes = front.window(geometry.place(run.level, run.slot, from), run.len - from);
+    let is_last = true;
+    Window { bytes, is_last }
+}
+
+/// The bytes of a run on the device from an index on: all, where the device lends them, and else those in the block that a
+/// reader's buffer holds; none where that is another block.
+#[inline(always)]
+fn window_below<'a, D: Device>(
+    buffers: &'a Buffers<D>,
+    geometry: &Geometry,
+    reader: Option<Reader>,
+    reach: Reach,
+) -> Option<Window<'a>>
+    requires some { reach.from < reach.run.len }
+    requires there { IsRunHere geometry.now reach }
+    requires whole { geometry.now.block_exp ≤ reach.run.level + 2 }
     requires size { buffers.now.cache.size ≡ block_bytes geometry.now }
     requires many { buffers.now.many ≡ file_blocks geometry.now }
-    ensures lent { IfSome result (λ window. IsLent (D.bytes buffers.now.cache.device) geometry.now reach window.bytes.now window.is_last) }
-    ensures none { result ≡ None → D.lends ≡ true → ⊥ }
+    requires buffers { length buffers.now.lasts ≡ 1 + 3 * device_levels geometry.now }
+    ensures found { IfSome result (λ window. IsBelow D.lends (D.bytes buffers.now.cache.device) geometry.now reach window.bytes.now window.is_last) }
+    ensures none { result ≡ None → IsOpen D.lends geometry.now buffers.now.lasts reader reach → ⊥ }
 {
-    let count = reach.run.len.saturating_sub(reach.from);
-    let bytes: &'a [u8] = if reach.from >= reach.run.len {
-        &[]
-    } else {
-        let width = geometry.format.width();
-        let number = geometry.place(reach.run.level, reach.run.slot, reach.from);
-        buffers.lent(number * width as u64, count as usize * width)?
-    };
-    let is_last = true;
-    Some(Window { bytes, is_last })
+    let count = reach.run.len - reach.from;
+    let width = geometry.format.width();
+    let number = geometry.place(reach.run.level, reach.run.slot, reach.from);
+    match buffers.lent(number * width as u64, count as usize * width) {
+        Some(bytes) => {
+            let is_last = true;
+            Some(Window { bytes, is_last })
+        }
+        None => window_in_block(buffers, geometry, reader, reach),
+    }
+}
+
+/// The bytes of cells of a run from an index on, where they can be looked at.
+#[inline(always)]
+pub(crate) fn window_of<'a, D: Device>(
+    front: &'a Front,
+    buffers: &'a Buffers<D>,
+    geometry: &Geometry,
+    reader: Option<Reader>,
+    reach: Reach,
+) -> Option<Window<'a>>
+    requires there { reach.from < reach.run.len → IsRunHere geometry.now reach }
+    requires block { front.now.block ≡ block_cells geometry.now }
+    requires size { buffers.now.cache.size ≡ block_bytes geometry.now }
+    requires many { buffers.now.many ≡ file_blocks geometry.now }
+    requires buffers { length buffers.now.lasts ≡ 1 + 3 * device_levels geometry.now }
+    ensures found { IfSome result (λ window. IsFound D.lends (D.bytes buffers.now.cache.device) geometry.now front.now reach window.bytes.now window.is_last) }
+    ensures none { result ≡ None → IsOpen D.lends geometry.now buffers.now.lasts reader reach → ⊥ }
+{
+    if reach.from >= reach.run.len {
+        let bytes: &'a [u8] = &[];
+        let is_last = true;
+        return Some(Window { bytes, is_last });
+    }
+    if reach.run.level + 2 < geometry.block_exp {
+        return Some(window_in_front(front, geometry, reach));
+    }
+    window_below(buffers, geometry, reader, reach)
 }
 
 /// How many cells the shadow of a level takes before the push that fills a block.
@@ -65,9 +196,10 @@ fn longer_by(shadow: Shadow, count: u32) -> Shadow
     }
 }
 
-/// Lets a merge run over the runs as the device lends them, into the tail of a level on the device.
+/// Lets a merge run over the runs where their bytes lie, into the tail of a level on the device.
 #[inline(always)]
-pub(crate) fn weave_on_device<D: Device, M: WindowMerge>(
+fn weave_on_device<D: Device, M: WindowMerge>(
+    front: &Front,
     buffers: &Buffers<D>,
     geometry: &Geometry,
     shadows: &mut [Shadow],
@@ -83,20 +215,22 @@ pub(crate) fn weave_on_device<D: Device, M: WindowMerge>(
     requires level { IsOnDevice geometry.now level }
     requires shadows { level < length shadows.old }
     requires within { (shadow_at shadows.old level).len ≤ slot_size level }
-    requires own { own.from < own.run.len → IsRunThere geometry.now own }
-    requires incoming { incoming.from < incoming.run.len → IsRunThere geometry.now incoming }
-    requires sample { sample.from < sample.run.len → IsRunThere geometry.now sample }
+    requires own { own.from < own.run.len → IsRunHere geometry.now own }
+    requires incoming { incoming.from < incoming.run.len → IsRunHere geometry.now incoming }
+    requires sample { sample.from < sample.run.len → IsRunHere geometry.now sample }
     requires tails { length tails.old ≡ tails_bytes geometry.now }
+    requires block { front.now.block ≡ block_cells geometry.now }
     requires size { buffers.now.cache.size ≡ block_bytes geometry.now }
     requires many { buffers.now.many ≡ file_blocks geometry.now }
-    ensures wove { IfSome result (λ passed. WoveBelow M.wove (D.bytes buffers.now.cache.device) geometry.now shadows.old shadows.new
+    requires buffers { length buffers.now.lasts ≡ 1 + 3 * device_levels geometry.now }
+    ensures wove { IfSome result (λ passed. WoveBelow M.wove D.lends (D.bytes buffers.now.cache.device) geometry.now front.now shadows.old shadows.new
         tails.old tails.new level own incoming sample merge.old merge.new job.now passed) }
     ensures still { result ≡ None → (shadows.new ≡ shadows.old) × (tails.new ≡ tails.old) × (merge.new ≡ merge.old) }
-    ensures lends { D.lends ≡ true → result ≡ None → ⊥ }
+    ensures runs { AreOpen D.lends geometry.now buffers.now.lasts own incoming sample → result ≡ None → ⊥ }
 {
-    let own = window_of(buffers, geometry, own)?;
-    let incoming = window_of(buffers, geometry, incoming)?;
-    let sample = window_of(buffers, geometry, sample)?;
+    let own = window_of(front, buffers, geometry, Some(Reader::Own), own)?;
+    let incoming = window_of(front, buffers, geometry, Some(Reader::Incoming), incoming)?;
+    let sample = window_of(front, buffers, geometry, Some(Reader::Sample), sample)?;
     let shadow = shadow_of(shadows, level);
     let width = geometry.format.width();
     let at = width * place_in_tails(geometry, level, shadow.len);
@@ -113,18 +247,191 @@ pub(crate) fn weave_on_device<D: Device, M: WindowMerge>(
     Some(passed)
 }
 
+/// Puts spelled cells behind the shadow of a level of the front.
+fn put_woven(
+    front: &mut Front,
+    geometry: &Geometry,
+    shadows: &mut [Shadow],
+    level: u8,
+    count: u32,
+    cells: &[u8],
+)
+    requires level { level + 2 < geometry.now.block_exp }
+    requires low { level ≤ geometry.now.bottom }
+    requires shadows { level < length shadows.old }
+    requires slot { (shadow_at shadows.old level).slot < 2 }
+    requires room { (shadow_at shadows.old level).len + count ≤ slot_size level }
+    requires format { front.old.format ≡ geometry.now.format }
+    requires block { front.old.block ≡ block_cells geometry.now }
+    requires size { count * width geometry.now.format ≤ length cells.now }
+    requires spelled { AreSpelled geometry.now.format count cells.now }
+    ensures { PutInFront geometry.now front.old front.new shadows.old shadows.new level count cells.now }
+{
+    if count == 0 {
+        return;
+    }
+    let shadow = shadow_of(shadows, level);
+    front.put_spelled(geometry.place(level, shadow.slot, shadow.len), count, cells);
+    set_shadow(shadows, level, longer_by(shadow, count));
+}
+
+/// Lets a merge run over the runs where their bytes lie, into a level of the front.
+#[inline(always)]
+fn weave_into_front<D: Device, M: WindowMerge>(
+    front: &mut Front,
+    buffers: &Buffers<D>,
+    geometry: &Geometry,
+    shadows: &mut [Shadow],
+    level: u8,
+    own: Reach,
+    incoming: Reach,
+    sample: Reach,
+    merge: &mut M,
+    job: &M::Job,
+) -> Option<Passed>
+    requires can { M.can merge.old job.now }
+    requires level { level + 2 < geometry.now.block_exp }
+    requires low { level ≤ geometry.now.bottom }
+    requires shadows { level < length shadows.old }
+    requires slot { (shadow_at shadows.old level).slot < 2 }
+    requires within { (shadow_at shadows.old level).len ≤ slot_size level }
+    requires own { own.from < own.run.len → IsRunHere geometry.now own }
+    requires incoming { incoming.from < incoming.run.len → IsRunHere geometry.now incoming }
+    requires sample { sample.from < sample.run.len → IsRunHere geometry.now sample }
+    requires format { front.old.format ≡ geometry.now.format }
+    requires block { front.old.block ≡ block_cells geometry.now }
+    requires size { buffers.now.cache.size ≡ block_bytes geometry.now }
+    requires many { buffers.now.many ≡ file_blocks geometry.now }
+    requires buffers { length buffers.now.lasts ≡ 1 + 3 * device_levels geometry.now }
+    ensures wove { IfSome result (λ passed. WoveInFront M.wove D.lends (D.bytes buffers.now.cache.device) geometry.now front.old front.new
+        shadows.old shadows.new level own incoming sample merge.old merge.new job.now passed) }
+    ensures still { result ≡ None → (front.new ≡ front.old) × (shadows.new ≡ shadows.old) × (merge.new ≡ merge.old) }
+    ensures runs { AreOpen D.lends geometry.now buffers.now.lasts own incoming sample → result ≡ None → ⊥ }
+{
+    let mut bytes = [0u8; FRONT_ROOM];
+    let width = geometry.format.width();
+    let len = shadow_of(shadows, level).len;
+    let cells = (cells_of_room(geometry, level, len) as usize).min(FRONT_ROOM / width);
+    let room = &mut bytes[..width * cells];
+    let passed = merge.pass(
+        job,
+        geometry.format,
+        window_of(front, buffers, geometry, Some(Reader::Own), own)?,
+        window_of(front, buffers, geometry, Some(Reader::Incoming), incoming)?,
+        window_of(front, buffers, geometry, Some(Reader::Sample), sample)?,
+        room,
+    );
+    put_woven(front, geometry, shadows, level, passed.cells, room);
+    Some(passed)
+}
+
 impl<D: Device> RunStore<D> {
-    /// Whether the cells of a run that lie ahead are all on the device.
+    /// Whether the cells of a run that lie ahead are all in the front or on the device.
     #[inline]
     pub(crate) fn is_at_hand(&self, reach: Reach) -> bool
         requires level { reach.from < reach.run.len → reach.run.level < self.now.geometry.bottom + 1 }
         ensures { result ≡ is_at_hand self.now.geometry self.now.shadows reach }
     {
-        if reach.from >= reach.run.len {
+        if reach.from >= reach.run.len || reach.run.level + 2 < self.geometry.block_exp {
             return true;
         }
         let shadow = shadow_of(&self.shadows, reach.run.level);
-        reach.run.level + 2 >= self.geometry.block_exp
-            && (reach.run.slot != shadow.slot || shadow.saved)
+        reach.run.slot != shadow.slot || shadow.saved
+    }
+
+    /// A merge over the bytes of runs that are at hand, into a level on the device.
+    #[inline(always)]
+    pub(crate) fn weave_below<M: WindowMerge, L: Ledger>(
+        &mut self,
+        level: u8,
+        own: Reach,
+        incoming: Reach,
+        sample: Reach,
+        merge: &mut M,
+        job: &M::Job,
+        steps: &mut Steps<L>,
+    ) -> u32
+        requires level { IsOnDevice self.old.geometry level }
+        requires can { M.can merge.old job.now }
+        requires own { IsReach (state_of D.bytes D.counts self.old).held level own }
+        requires incoming { IsReach (state_of D.bytes D.counts self.old).held level incoming }
+        requires sample { IsReach (state_of D.bytes D.counts self.old).held level sample }
+        requires there { AreAtHand self.old.geometry self.old.shadows own incoming sample }
+        ensures kept { kept_of D.bytes D.counts D.kept self.new ≡ kept_of D.bytes D.counts D.kept self.old }
+        ensures weaves { Weaves M.wove (state_of D.bytes D.counts self.old) (state_of D.bytes D.counts self.new) level own incoming sample
+            merge.old merge.new job.now steps.old steps.new result }
+        ensures runs { AreOpen D.lends self.old.geometry self.old.buffers.lasts own incoming sample →
+            RunsBelow M.wove D.lends (D.bytes self.old.buffers.cache.device) self.old.geometry self.old.front self.old.shadows self.new.shadows
+            self.old.tails self.new.tails level own incoming sample merge.old merge.new job.now result }
+    {
+        let woven = weave_on_device(
+            &self.front,
+            &self.buffers,
+            &self.geometry,
+            &mut self.shadows,
+            &mut self.tails,
+            level,
+            own,
+            incoming,
+            sample,
+            merge,
+            job,
+        );
+        match woven {
+            Some(passed) => {
+                self.ticked = self.ticked.wrapping_add(passed.ticks as u64);
+                tick_all(steps, passed.ticks);
+                passed.steps
+            }
+            None => 0,
+        }
+    }
+
+    /// A merge over the bytes of runs that are at hand, into a level of the front.
+    #[inline(always)]
+    pub(crate) fn weave_in_front<M: WindowMerge, L: Ledger>(
+        &mut self,
+        level: u8,
+        own: Reach,
+        incoming: Reach,
+        sample: Reach,
+        merge: &mut M,
+        job: &M::Job,
+        steps: &mut Steps<L>,
+    ) -> u32
+        requires level { level + 2 < self.old.geometry.block_exp }
+        requires low { level ≤ self.old.geometry.bottom }
+        requires can { M.can merge.old job.now }
+        requires own { IsReach (state_of D.bytes D.counts self.old).held level own }
+        requires incoming { IsReach (state_of D.bytes D.counts self.old).held level incoming }
+        requires sample { IsReach (state_of D.bytes D.counts self.old).held level sample }
+        requires there { AreAtHand self.old.geometry self.old.shadows own incoming sample }
+        ensures kept { kept_of D.bytes D.counts D.kept self.new ≡ kept_of D.bytes D.counts D.kept self.old }
+        ensures weaves { Weaves M.wove (state_of D.bytes D.counts self.old) (state_of D.bytes D.counts self.new) level own incoming sample
+            merge.old merge.new job.now steps.old steps.new result }
+        ensures runs { AreOpen D.lends self.old.geometry self.old.buffers.lasts own incoming sample →
+            RunsInFront M.wove D.lends (D.bytes self.old.buffers.cache.device) self.old.geometry self.old.front self.new.front
+            self.old.shadows self.new.shadows level own incoming sample merge.old merge.new job.now result }
+    {
+        let woven = weave_into_front(
+            &mut self.front,
+            &self.buffers,
+            &self.geometry,
+            &mut self.shadows,
+            level,
+            own,
+            incoming,
+            sample,
+            merge,
+            job,
+        );
+        match woven {
+            Some(passed) => {
+                self.ticked = self.ticked.wrapping_add(passed.ticks as u64);
+                tick_all(steps, passed.ticks);
+                passed.steps
+            }
+            None => 0,
+        }
     }
 }

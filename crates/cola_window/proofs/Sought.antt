@@ -1,6 +1,5 @@
 -- The cells of a window that a search looks at.
-use Rattle.std.proofs.Common.{◌≡◌, ℕ, ◌+◌, ◌*◌, ◌≤◌, ◌<◌, inl, inr, nat_le, Bool, true, false, List, length, take, drop, refl, ap, sym, subst, ◌∙◌, arith}
-use Rattle.std.specs.declared.cmp.Ordering.{Ordering}
+use Rattle.std.proofs.Common.{◌≡◌, ℕ, ◌+◌, ◌*◌, ◌≤◌, ◌<◌, inl, inr, nat_le, Bool, true, false, List, length, take, drop, ap, sym, subst, ◌∙◌, arith}
 use Rattle.std.specs.declared.cmp.Ordering.TheVariants.{Less}
 use Rattle.std.proofs.lemmas.Bool.{true≢false}
 use Rattle.std.proofs.lemmas.Bool.Decides.{leb_tells}
@@ -11,7 +10,7 @@ use Rattle.cola_cell.specs.Format.{width}
 use Rattle.cola_cell.specs.Decoded.{standing}
 use Rattle.cola_cell.specs.Order.{key_cmp}
 use Rattle.cola_window.specs.Windows.{Spells}
-use Rattle.cola_window.specs.Seeking.{nth, HasCell, IsBelow, AllBelow}
+use Rattle.cola_window.specs.Seeking.{nth, HasCell, IsOrdered, AllBelow}
 use Rattle.cola_window.proofs.Fronts.{long_front}
 use Rattle.cola_window.proofs.Merging.{next_place}
 
@@ -32,10 +31,10 @@ pub next_left : (f : Format) (window left next : List ℕ) (n w : ℕ) → left 
 next_left f window left next n w e g h =
     h ∙ ap (λ (k : ℕ). drop k left) g ∙ ap (drop (width f)) e ∙ drop-drop (width f) (n * width f) window ∙ ap (λ (m : ℕ). drop m window) (sym (next_place n (width f)))
 
-pub below_next : (f : Format) (probe window cell : List ℕ) (n : ℕ) → AllBelow f probe window n → HasCell f window n → cell ≡ nth f window n → Spells f cell → key_cmp (key_of (standing f cell)) (key_of (standing f probe)) ≡ Less →
-    AllBelow f probe window (n + 1)
-below_next f probe window cell n below there e s o k l = elim (leb_tells (k + 1) n) [
+pub below_next : (f : Format) (key window cell : List ℕ) (n : ℕ) → AllBelow f key window n → HasCell f window n → cell ≡ nth f window n → Spells f cell → key_cmp (key_of (standing f cell)) key ≡ Less →
+    AllBelow f key window (n + 1)
+below_next f key window cell n below there e s o k l = elim (leb_tells (k + 1) n) [
   | inl d ↦ below k (let z : k < n = omega (arith, d.1) in z)
-  | inr d ↦ subst (λ (x : ℕ). HasCell f window x × IsBelow f probe (nth f window x)) (let z : n ≡ k = omega (arith, d.1, l) in z)
-      (there, subst (IsBelow f probe) e (record { spells = s; less = o }))
+  | inr d ↦ subst (λ (x : ℕ). HasCell f window x × IsOrdered f key (nth f window x) Less) (let z : n ≡ k = omega (arith, d.1, l) in z)
+      (there, subst (λ (x : List ℕ). IsOrdered f key x Less) e (record { spells = s; order_is = o }))
 ]

@@ -4,5 +4,5 @@
 mod seeking;
 mod windows;
 
-pub use seeking::{Stop, seek_window};
+pub use seeking::{Stop, nth_cell, seek_window};
 pub use windows::{Lasts, Rules, Taken, merge_windows};

@@ -1,11 +1,10 @@
 //! A search of a window of cells where their bytes lie.
 ghost use Rattle.std.specs.Prelude.{◌≡◌, ◌≤◌, ◌<◌, ◌+◌, ◌*◌, ℕ, length, take, drop};
 ghost use Rattle.cola_cell.specs.Format.{width};
-ghost use Rattle.cola_window.specs.Windows.{Spells};
-ghost use Rattle.cola_window.specs.Seeking.{SeekStops, AllBelow};
+ghost use Rattle.cola_window.specs.Seeking.{SeekStops, AllBelow, HasCell, nth};
 
 use crate::windows::{front, has_front, rest};
-use cola_cell::{Format, cmp_keys_in, is_cell};
+use cola_cell::{Format, Key, is_cell, key_cmp_in};
 use std::cmp::Ordering;
 
 /// Why a search of a window stopped.
@@ -21,14 +20,13 @@ pub enum Stop {
     End,
 }
 
-/// The first of at most `most` cells of a window whose key is at least that of the probe, which is a cell too: how many
-/// are before it, and why the search stopped there.
+/// The first of at most `most` cells of a window whose key is at least this one: how many are before it, and why the
+/// search stopped there.
 #[inline(always)]
-fn seek_in<const COPY: usize>(format: Format, window: &[u8], probe: &[u8], most: u32) -> (u32, Stop)
-    requires probe { Spells format probe.now }
+fn seek_in<const COPY: usize>(format: Format, window: &[u8], key: &Key, most: u32) -> (u32, Stop)
     ensures few { result.0 ≤ most }
-    ensures below { AllBelow format probe.now window.now result.0 }
-    ensures stops { SeekStops format probe.now window.now most result.0 result.1 }
+    ensures below { AllBelow format key.now window.now result.0 }
+    ensures stops { SeekStops format key.now window.now most result.0 result.1 }
 {
     let mut left = window;
     for index in 0..most {
@@ -39,7 +37,7 @@ fn seek_in<const COPY: usize>(format: Format, window: &[u8], probe: &[u8], most:
         if !is_cell(format, cell) {
             return (index, Stop::Bad);
         }
-        match cmp_keys_in(format, cell, probe) {
+        match key_cmp_in(format, cell, key) {
             Ordering::Less => {}
             Ordering::Equal => return (index, Stop::Equal),
             Ordering::Greater => return (index, Stop::Above),
@@ -49,17 +47,25 @@ fn seek_in<const COPY: usize>(format: Format, window: &[u8], probe: &[u8], most:
     (most, Stop::End)
 }
 
-/// The first of at most `most` cells of a window whose key is at least that of the probe, which is a cell too: how many
-/// are before it, and why the search stopped there.
+/// The first of at most `most` cells of a window whose key is at least this one: how many are before it, and why the
+/// search stopped there.
 #[inline(never)]
-pub fn seek_window(format: Format, window: &[u8], probe: &[u8], most: u32) -> (u32, Stop)
-    requires probe { Spells format probe.now }
+pub fn seek_window(format: Format, window: &[u8], key: &Key, most: u32) -> (u32, Stop)
     ensures few { result.0 ≤ most }
-    ensures below { AllBelow format probe.now window.now result.0 }
-    ensures stops { SeekStops format probe.now window.now most result.0 result.1 }
+    ensures below { AllBelow format key.now window.now result.0 }
+    ensures stops { SeekStops format key.now window.now most result.0 result.1 }
 {
     match format {
-        Format::One => seek_in::<1>(Format::One, window, probe, most),
-        Format::Two => seek_in::<2>(Format::Two, window, probe, most),
+        Format::One => seek_in::<1>(Format::One, window, key, most),
+        Format::Two => seek_in::<2>(Format::Two, window, key, most),
     }
+}
+
+/// The bytes of the cell of this number in a window.
+#[inline(always)]
+pub fn nth_cell(format: Format, window: &[u8], n: u32) -> &[u8]
+    requires { HasCell format window.now n }
+    ensures { result.now ≡ nth format window.now n }
+{
+    front(format, rest(window, n as usize * format.width()))
 }

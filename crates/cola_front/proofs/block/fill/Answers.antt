@@ -1,12 +1,11 @@
-use Rattle.std.proofs.Common.{Option, sym, subst, ◌∙◌, ap}
-use Rattle.cola_cell.specs.declared.cell.Cell.{Cell}
-use Rattle.cola_front.specs.Front.{stored, ComesBack}
-use Rattle.cola_front.proofs.FrontLemmas.{spelling_is, spelled_back}
+use Rattle.std.proofs.Common.{ℕ, replicate, ap, ◌∙◌}
+use Rattle.cola_front.proofs.Places.{stored_bad, stored_cell}
 use Rattle.cola_front.proofs.block.fill.Goals as goal
 
-pub write-requires-clause-fits : goal.write-requires-clause-fits
-write-requires-clause-fits c = let s = spelled_back c.args.format c.in-Some.cell (subst (ComesBack c.args.format) c.in-Some.is c.requires.comes_back) in s.fits
+pub returns-then-not-is_cell : goal.returns-then-not-is_cell
+returns-then-not-is_cell c =
+    stored_bad c.args.format c.args.place c.args.cell.now c.fill-then-not-is_cell.new.self c.if-place-lt8.false c.if-not-is_cell.ensures
+    (c.fill-then-not-is_cell.ensures.after (λ y is. is) ∙ ap (λ (n : ℕ). replicate n 0) c.requires.size)
 
-pub returns-in-Some : goal.returns-in-Some
-returns-in-Some c =
-    spelling_is c.args.format c.in-Some.cell c.write.new.into c.write.ensures ∙ ap (λ (x : Option Cell). stored c.args.format x) (sym c.in-Some.is)
+pub returns : goal.returns
+returns c = stored_cell c.args.format c.args.place c.args.cell.now c.copy_from_slice.new.self c.if-place-lt8.false c.if-not-is_cell.ensures c.copy_from_slice.ensures.after

@@ -1,52 +1,70 @@
-use Rattle.std.proofs.Common.{◌*◌, ◌/◌, ℕ, None, refl, sym, subst, arith}
-use Rattle.cola_cell.specs.Held.{Held, HasPlace}
+-- Each look and each read goes on with the search, or ends it.
+use Rattle.std.proofs.Common.{◌+◌, ◌<◌, ◌≤◌, refl, ◌∙◌, arith}
+use Rattle.cola_look.specs.declared.seeking.Seat.{Seat}
 use Rattle.cola_look.specs.Seek.{first_of, last_of}
-use Rattle.cola_look.proofs.Looking.{err_is, looked_none, looks_as, looks_then, looks_refused, looks_read}
-use Rattle.cola_look.proofs.SeekLemmas.{Seeking, seeking_begins, seeking_goes_on, compared, seeks_refused, seeks_found, seeks_end}
+use Rattle.cola_look.proofs.Looking.{Looked, err_is, looks_then, looks_read}
+use Rattle.cola_look.proofs.ScanLemmas.{looked_at, seeking_on, seeks_on, passed_within}
+use Rattle.cola_look.proofs.SeekLemmas.{seeking_goes_on, compared, seeks_refused, seeks_found, seeks_end}
 use Rattle.cola_look.proofs.seeking.seek.Goals as goal
 
-pub read_into-requires : goal.read_into-requires
-read_into-requires g c =
-    let P : Held → Type 0 = λ h. HasPlace h c.args.run.now.level c.args.run.now.slot c.loop-index.index in
-    subst P (sym c.loop-index.invariant.looks.cells_stay) (record { level_in = c.requires.level_in; slot_in = c.requires.slot_in; index_in = omega (arith, c.requires.within) })
+pub returns-then-sight-clause-seeks : goal.returns-then-sight-clause-seeks
+returns-then-sight-clause-seeks g c =
+    let i = c.loop-index.invariant in
+    let sight = c.look-sight.result in
+    let seat : Seat = record { pos = c.loop-index.index + sight.passed; hit = sight.hit; link = sight.link } in
+    seeks_on i.seeking i.low c.window-first.ensures.last c.loop-index-test.true c.look-sight.ensures.sees c.if-sight.true seat refl
 
-pub loop-index-init : goal.loop-index-init
-loop-index-init g c =
-    let old = g.W.CellSource.state c.args.work.now in
-    let P : ℕ → Type 0 = λ i. Seeking c.args.run.now c.args.next_len c.args.start c.args.key.now old old
-    c.args.steps.now c.args.steps.now (first_of c.args.start c.args.run.now.len) (last_of c.args.start c.args.run.now.len) i in
-    record { looks = looked_none; seeking = subst P (sym c.window-first.ensures.first) (seeking_begins c.args.run.now c.args.next_len c.args.start c.args.key.now old c.args.steps.now) }
+pub returns-then-index-last-clause-seeks : goal.returns-then-index-last-clause-seeks
+returns-then-index-last-clause-seeks g c =
+    let i = c.loop-index.invariant in
+    seeks_end c.seat_at_end.result (seeking_on i.seeking i.low c.window-first.ensures.last c.loop-index-test.true c.look-sight.ensures.sees c.if-sight.false) (c.if-index-last.true ∙ c.window-first.ensures.last) c.seat_at_end.ensures
+
+pub returns-in_err-read_into-clause-seeks : goal.returns-in_err-read_into-clause-seeks
+returns-in_err-read_into-clause-seeks g c =
+    let i = c.loop-index.invariant in
+    let sees = c.look-sight.ensures.sees in
+    let last = c.window-first.ensures.last in
+    let fault = c.in_err-read_into.field-0.0 in
+    let read = c.in_err-read_into.ensures in
+    let low : first_of c.args.start c.args.run.now.len ≤ c.loop-index.index + c.look-sight.result.passed = let l = i.low in omega (arith, l) in
+    let within : c.loop-index.index + c.look-sight.result.passed ≤ last_of c.args.start c.args.run.now.len = passed_within i.seeking i.low last c.loop-index-test.true sees in
+    let below : c.loop-index.index + c.look-sight.result.passed < last_of c.args.start c.args.run.now.len = omega (arith, within, c.if-index-last.false, last) in
+    let there : Looked g.W.CellSource c.loop-index.work c.look-sight.new.work = looked_at c.look-sight.ensures.kept sees in
+    seeks_refused fault c.from_residual.result (seeking_on i.seeking i.low last c.loop-index-test.true sees c.if-sight.false) low below (there.calm ∙ i.looks.calm) read.reads read.one_tick
+    (err_is c.from_residual.result fault c.from_residual.ensures.1)
+
+pub returns-then-not-is_lt-clause-seeks : goal.returns-then-not-is_lt-clause-seeks
+returns-then-not-is_lt-clause-seeks g c =
+    let i = c.loop-index.invariant in
+    let sees = c.look-sight.ensures.sees in
+    let last = c.window-first.ensures.last in
+    let read = c.in_ok-read_into.ensures in
+    let low : first_of c.args.start c.args.run.now.len ≤ c.loop-index.index + c.look-sight.result.passed = let l = i.low in omega (arith, l) in
+    let within : c.loop-index.index + c.look-sight.result.passed ≤ last_of c.args.start c.args.run.now.len = passed_within i.seeking i.low last c.loop-index-test.true sees in
+    let below : c.loop-index.index + c.look-sight.result.passed < last_of c.args.start c.args.run.now.len = omega (arith, within, c.if-index-last.false, last) in
+    seeks_found c.read_into.new.into c.seat_at.result (seeking_on i.seeking i.low last c.loop-index-test.true sees c.if-sight.false) low below read.reads read.one_tick
+    (compared c.args.key.now _ _ c.key_cmp-order.result c.is_lt.result _ refl c.key_cmp-order.ensures c.is_lt.ensures c.if-not-is_lt.true) c.seat_at.ensures
 
 pub loop-index-preserved : goal.loop-index-preserved
 loop-index-preserved g c =
+    let i = c.loop-index.invariant in
+    let sees = c.look-sight.ensures.sees in
+    let last = c.window-first.ensures.last in
     let read = c.in_ok-read_into.ensures in
+    let low : first_of c.args.start c.args.run.now.len ≤ c.loop-index.index + c.look-sight.result.passed = let l = i.low in omega (arith, l) in
+    let within : c.loop-index.index + c.look-sight.result.passed ≤ last_of c.args.start c.args.run.now.len = passed_within i.seeking i.low last c.loop-index-test.true sees in
+    let below : c.loop-index.index + c.look-sight.result.passed < last_of c.args.start c.args.run.now.len = omega (arith, within, c.if-index-last.false, last) in
     record {
-      looks = looks_then c.loop-index.invariant.looks (looks_read read.kept read.reads);
-      seeking = seeking_goes_on {first = first_of c.args.start c.args.run.now.len} {last = last_of c.args.start c.args.run.now.len} c.read_into.new.into c.loop-index.invariant.seeking (omega arith) (omega arith) read.reads
+      looks = looks_then (looks_then i.looks (looked_at c.look-sight.ensures.kept sees)) (looks_read read.kept read.reads);
+      seeking = seeking_goes_on c.read_into.new.into (seeking_on i.seeking i.low last c.loop-index-test.true sees c.if-sight.false) low below read.reads
           (compared c.args.key.now _ _ c.key_cmp-order.result c.is_lt.result _ refl c.key_cmp-order.ensures c.is_lt.ensures c.if-not-is_lt.false) read.one_tick;
+      low = omega (arith, low);
+      high = omega (arith, below);
     }
 
-pub returns-in_err-read_into : goal.returns-in_err-read_into
-returns-in_err-read_into g c =
-    let fault = c.in_err-read_into.field-0.0 in
-    let read = c.in_err-read_into.ensures in
-    let is = err_is c.from_residual.result fault c.from_residual.ensures.1 in
-    record {
-      looks = looks_refused fault c.from_residual.result c.loop-index.invariant.looks (looks_read read.kept read.reads) is;
-      seeks = seeks_refused fault c.from_residual.result c.loop-index.invariant.seeking (omega arith) (omega arith) c.loop-index.invariant.looks.calm read.reads read.one_tick is;
-    }
-
-pub returns-then-not-is_lt : goal.returns-then-not-is_lt
-returns-then-not-is_lt g c =
-    let read = c.in_ok-read_into.ensures in
-    record {
-      looks = looks_then c.loop-index.invariant.looks (looks_read read.kept read.reads);
-      seeks = seeks_found c.read_into.new.into c.seat_at.result c.loop-index.invariant.seeking (omega arith) (omega arith) read.reads read.one_tick
-          (compared c.args.key.now _ _ c.key_cmp-order.result c.is_lt.result _ refl c.key_cmp-order.ensures c.is_lt.ensures c.if-not-is_lt.true) c.seat_at.ensures;
-    }
-
-pub returns : goal.returns
-returns g c = record {
-  looks = looks_as c.loop-index.invariant.looks;
-  seeks = seeks_end (record { pos = c.args.run.now.len; hit = None; link = 8 * (c.args.next_len / 8) }) c.loop-index.invariant.seeking (omega arith) refl;
-}
+pub returns-clause-seeks : goal.returns-clause-seeks
+returns-clause-seeks g c =
+    let i = c.loop-index.invariant in
+    let high = i.high in
+    let last = c.window-first.ensures.last in
+    seeks_end c.seat_at_end-2.result i.seeking (omega (arith, high, last, c.loop-index-test.false)) c.seat_at_end-2.ensures

@@ -1,11 +1,10 @@
 -- A cell is the one that the device has at its number.
-use Rattle.std.proofs.Common.{◌≡◌, ◌+◌, ◌*◌, ◌/◌, ◌%◌, ◌≤◌, ap, subst, sym, ◌∙◌, ℕ, List, length, Option, Some, None, refl}
+use Rattle.std.proofs.Common.{◌≡◌, ◌+◌, ◌*◌, ◌/◌, ◌%◌, ◌≤◌, ap, subst, sym, ◌∙◌, ℕ, length, Option, Some, None, refl}
 use Rattle.std.proofs.lemmas.Nat.{pow_pos}
 use Rattle.std.specs.Prelude.{if◌then◌else◌}
 use Rattle.cola_cell.specs.declared.cell.Cell.{Cell}
 use Rattle.cola_cell.specs.Decoded.{decoded}
 use Rattle.cola_cell.specs.Flat.{found}
-use Rattle.cola_cell.specs.Format.{width}
 use Rattle.cola_device.specs.Bytes.{Gives}
 use Rattle.cola_front.specs.Front.{cell_bytes}
 use Rattle.cola_run.specs.Cells.{block_cells, block_bytes}

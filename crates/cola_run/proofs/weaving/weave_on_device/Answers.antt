@@ -1,11 +1,10 @@
 -- The room lies in the level's tail.
-use Rattle.std.proofs.Common.{◌≡◌, ◌+◌, ◌-◌, ◌*◌, ◌%◌, ◌^◌, ◌≤◌, ◌<◌, min, ℕ, length, ap, sym, ◌∙◌, arith, rules}
+use Rattle.std.proofs.Common.{◌≡◌, ◌+◌, ◌-◌, ◌*◌, ◌%◌, ◌≤◌, ◌<◌, min, ℕ, length, ap, arith}
 use Rattle.std.proofs.Math.Nat.{mul-add, mod-lt, mul-le-mul_left}
 use Rattle.std.proofs.lemmas.Nat.{pow_pos}
 use Rattle.cola_cell.specs.Format.{width}
 use Rattle.cola_cell.specs.Places.{slot_size}
-use Rattle.cola_run.specs.Cells.{block_cells, block_bytes, tail_number, tails_bytes}
-use Rattle.cola_run.specs.Weaving.{room_cells}
+use Rattle.cola_run.specs.Cells.{block_cells, tail_number}
 use Rattle.cola_run.proofs.Steps.{tail-room}
 use Rattle.cola_run.proofs.weaving.weave_on_device.Goals as goal
 

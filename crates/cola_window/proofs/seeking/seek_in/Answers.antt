@@ -1,13 +1,9 @@
 -- The first cell of a window whose key is not below.
-use Rattle.std.proofs.Common.{◌≡◌, ℕ, ◌+◌, ◌*◌, ◌≤◌, ◌<◌, inl, inr, List, length, take, drop, refl, ap, sym, subst, ◌∙◌, arith}
-use Rattle.std.specs.declared.cmp.Ordering.TheVariants.{Less, Equal, Greater}
-use Rattle.cola_cell.specs.Cell.{key_of}
+use Rattle.std.proofs.Common.{◌≡◌, ℕ, ◌*◌, inr, List, drop, ap, sym, subst, ◌∙◌, arith}
+use Rattle.std.specs.declared.cmp.Ordering.TheVariants.{Equal, Greater}
 use Rattle.cola_cell.specs.Format.{width}
-use Rattle.cola_cell.specs.Decoded.{standing}
-use Rattle.cola_cell.specs.Order.{key_cmp}
 use Rattle.cola_cell.specs.Spelling.{IsNoSpelling}
-use Rattle.cola_window.specs.Windows.{Spells}
-use Rattle.cola_window.specs.Seeking.{AllBelow}
+use Rattle.cola_window.specs.Seeking.{AllBelow, IsOrdered}
 use Rattle.cola_window.proofs.Sought.{has, ended, nth_is, next_left, below_next}
 use Rattle.cola_window.proofs.seeking.seek_in.Goals as goal
 
@@ -38,33 +34,35 @@ returns-in-Equal-clause-below g c = c.loop-index.invariant.below
 
 pub returns-in-Equal-clause-stops : goal.returns-in-Equal-clause-stops
 returns-in-Equal-clause-stops g c =
-    let e = nth_is c.args.format c.args.window.now c.loop-index.left.now c.front-cell.result.now c.loop-index.index c.loop-index.invariant.left_is c.front-cell.ensures in (
-      has c.args.format c.args.window.now c.loop-index.left.now c.loop-index.index c.loop-index.invariant.left_is c.has_front.result c.has_front.ensures c.if-not-has_front.false,
-      subst (Spells c.args.format) e c.if-not-is_cell.ensures,
-      subst (λ (x : List ℕ). key_cmp (key_of (standing c.args.format x)) (key_of (standing c.args.format c.args.probe.now)) ≡ Equal) e (sym c.cmp_keys_in.ensures ∙ c.in-Equal.is),
-    )
+    let e = nth_is c.args.format c.args.window.now c.loop-index.left.now c.front-cell.result.now c.loop-index.index c.loop-index.invariant.left_is c.front-cell.ensures in
+    record {
+      within = c.loop-index-test.true;
+      has = has c.args.format c.args.window.now c.loop-index.left.now c.loop-index.index c.loop-index.invariant.left_is c.has_front.result c.has_front.ensures c.if-not-has_front.false;
+      ordered = subst (λ (x : List ℕ). IsOrdered c.args.format c.args.key.now x Equal) e (record { spells = c.if-not-is_cell.ensures; order_is = sym c.key_cmp_in.ensures ∙ c.in-Equal.is });
+    }
 
 pub returns-in-Greater-clause-below : goal.returns-in-Greater-clause-below
 returns-in-Greater-clause-below g c = c.loop-index.invariant.below
 
 pub returns-in-Greater-clause-stops : goal.returns-in-Greater-clause-stops
 returns-in-Greater-clause-stops g c =
-    let e = nth_is c.args.format c.args.window.now c.loop-index.left.now c.front-cell.result.now c.loop-index.index c.loop-index.invariant.left_is c.front-cell.ensures in (
-      has c.args.format c.args.window.now c.loop-index.left.now c.loop-index.index c.loop-index.invariant.left_is c.has_front.result c.has_front.ensures c.if-not-has_front.false,
-      subst (Spells c.args.format) e c.if-not-is_cell.ensures,
-      subst (λ (x : List ℕ). key_cmp (key_of (standing c.args.format x)) (key_of (standing c.args.format c.args.probe.now)) ≡ Greater) e (sym c.cmp_keys_in.ensures ∙ c.in-Greater.is),
-    )
+    let e = nth_is c.args.format c.args.window.now c.loop-index.left.now c.front-cell.result.now c.loop-index.index c.loop-index.invariant.left_is c.front-cell.ensures in
+    record {
+      within = c.loop-index-test.true;
+      has = has c.args.format c.args.window.now c.loop-index.left.now c.loop-index.index c.loop-index.invariant.left_is c.has_front.result c.has_front.ensures c.if-not-has_front.false;
+      ordered = subst (λ (x : List ℕ). IsOrdered c.args.format c.args.key.now x Greater) e (record { spells = c.if-not-is_cell.ensures; order_is = sym c.key_cmp_in.ensures ∙ c.in-Greater.is });
+    }
 
 pub loop-index-preserved : goal.loop-index-preserved
 loop-index-preserved g c =
     let e = nth_is c.args.format c.args.window.now c.loop-index.left.now c.front-cell.result.now c.loop-index.index c.loop-index.invariant.left_is c.front-cell.ensures in
     record {
       left_is = next_left c.args.format c.args.window.now c.loop-index.left.now c.rest-left.result.now c.loop-index.index c.width.result c.loop-index.invariant.left_is c.width.ensures c.rest-left.ensures;
-      below = below_next c.args.format c.args.probe.now c.args.window.now c.front-cell.result.now c.loop-index.index c.loop-index.invariant.below
+      below = below_next c.args.format c.args.key.now c.args.window.now c.front-cell.result.now c.loop-index.index c.loop-index.invariant.below
           (has c.args.format c.args.window.now c.loop-index.left.now c.loop-index.index c.loop-index.invariant.left_is c.has_front.result c.has_front.ensures c.if-not-has_front.false)
-          e c.if-not-is_cell.ensures (sym c.cmp_keys_in.ensures ∙ c.in-Less.is);
+          e c.if-not-is_cell.ensures (sym c.key_cmp_in.ensures ∙ c.in-Less.is);
     }
 
 pub returns-clause-below : goal.returns-clause-below
 returns-clause-below g c =
-    subst (λ (n : ℕ). AllBelow c.args.format c.args.probe.now c.args.window.now n) (let z : c.loop-index.index ≡ c.args.most = omega (arith, c.loop-index-test.false, c.loop-index.auto.index-end) in z) c.loop-index.invariant.below
+    subst (λ (n : ℕ). AllBelow c.args.format c.args.key.now c.args.window.now n) (let z : c.loop-index.index ≡ c.args.most = omega (arith, c.loop-index-test.false, c.loop-index.auto.index-end) in z) c.loop-index.invariant.below

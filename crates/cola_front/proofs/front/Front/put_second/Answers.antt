@@ -1,13 +1,16 @@
-use Rattle.std.proofs.Common.{List, Option, take, drop, ap, ◌∙◌}
-use Rattle.cola_cell.specs.declared.cell.Cell.{Cell}
-use Rattle.cola_front.specs.Front.{stored_all, second_block}
-use Rattle.cola_front.proofs.Writes.{second_taken}
+use Rattle.std.proofs.Common.{ℕ, List, ap, ◌∙◌}
+use Rattle.cola_front.specs.Front.{places_in, stored_all, second_block}
+use Rattle.cola_front.proofs.Places.{second_stored}
+use Rattle.cola_front.proofs.Stored.{sound_of}
 use Rattle.cola_front.proofs.front.Front.put_second.Goals as goal
 
 pub returns-clause-put : goal.returns-clause-put
 returns-clause-put c =
     let i = c.self.inside in
     c.put_cells.ensures.put
-    ∙ (ap (λ (xs : List (Option Cell)). stored_all i.format (take i.block (drop i.block xs))) c.deref.ensures.value
-    ∙ (second_taken (record { format = i.format; block = i.block; cells = i.cells.items.items }) c.self.invariant
+    ∙ (ap (λ (xs : List ℕ). stored_all i.format (places_in i.format xs i.block i.block)) c.deref.ensures.value
+    ∙ (ap (stored_all i.format) (second_stored i.format i.block i.bytes.items.items)
     ∙ ap second_block c.self.view_is))
+
+pub returns-clause-sound : goal.returns-clause-sound
+returns-clause-sound c = let i = c.self.inside in sound_of i.format i.block i.bytes.items.items c.args.self.now c.self.view_is c.self.invariant

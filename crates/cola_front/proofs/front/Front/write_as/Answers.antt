@@ -1,29 +1,20 @@
-use Rattle.std.proofs.Common.{List, Option, Some, ◌<◌, ◌*◌, set-set, subst, sym, ap}
-use Rattle.cola_cell.specs.declared.cell.Cell.{Cell}
-use Rattle.cola_cell.specs.declared.format.Format.{Format}
-use Rattle.cola_cell.specs.Format.{CellFits}
-use Rattle.cola_front.specs.Front.{FrontCells, IsFront}
-use Rattle.cola_front.proofs.Stored.{written_is}
+use Rattle.std.proofs.Common.{◌≡◌, ◌*◌, ℕ, List, Some, ap, ◌∙◌}
+use Rattle.std.proofs.lemmas.List.{with_items_is}
+use Rattle.std.specs.Vec.{with_items}
+use Rattle.cola_cell.specs.Format.{width}
+use Rattle.cola_cell.specs.Packed.{passed}
+use Rattle.cola_device.specs.Bytes.{splice}
+use Rattle.cola_front.specs.Front.{stored}
+use Rattle.cola_front.proofs.Stored.{sound_of, written}
 use Rattle.cola_front.proofs.front.Front.write_as.Goals as goal
 
-pub know-requires : goal.know-requires
-know-requires c =
-    subst (λ (f : Format). CellFits f c.take_as.new.self) (sym (ap (λ (f : FrontCells). f.format) c.self.view_is)) (c.take_as.ensures.fits c.args.self.now.format c.requires.fits)
-
-pub invariant_of-self : goal.invariant_of-self
-invariant_of-self c =
+pub returns-clause-after : goal.returns-clause-after
+returns-clause-after c =
     let i = c.self.inside in
-    let within : c.args.place < 2 * i.block = subst (λ (f : FrontCells). c.args.place < 2 * f.block) (sym c.self.view_is) c.requires.within in
-    written_is i.format i.block i.cells.items.items c.args.place c.take_as.new.self c.self.invariant c.requires.behind_header within c.know.ensures
+    let cell = passed c.args.pass c.args.cell.now in
+    let back : (with_items i.bytes.items c.put_as.new.block).items ≡ c.put_as.new.block = with_items_is i.bytes.items c.put_as.new.block (c.put_as.auto.block ∙ c.deref_mut.ensures.len) in
+    written i.format i.block i.bytes.items.items c.args.self.now c.self.view_is c.args.place cell (with_items i.bytes.items c.put_as.new.block).items c.self.invariant c.requires.behind_header c.requires.within c.put_as.ensures.spelled
+    (back ∙ c.put_as.ensures.put ∙ ap (λ (xs : List ℕ). splice xs (width i.format * c.args.place) (stored i.format (Some cell))) c.deref_mut.ensures.value)
 
-pub know-requires-in-None : goal.know-requires-in-None
-know-requires-in-None c =
-    subst (λ (f : Format). CellFits f c.copy_as-cell.result) (sym (ap (λ (f : FrontCells). f.format) c.self.view_is)) (c.copy_as-cell.ensures.fits c.args.self.now.format c.requires.fits)
-
-pub invariant_of-self-in-None : goal.invariant_of-self-in-None
-invariant_of-self-in-None c =
-    let i = c.self.inside in
-    let within : c.args.place < 2 * i.block = subst (λ (f : FrontCells). c.args.place < 2 * f.block) (sym c.self.view_is) c.requires.within in
-    subst (λ (cells : List (Option Cell)). IsFront (record { format = i.format; block = i.block; cells = cells }))
-    (sym (set-set i.cells.items.items c.args.place c.index_mut.result.now (Some c.copy_as-cell.result)))
-    (written_is i.format i.block i.cells.items.items c.args.place c.copy_as-cell.result c.self.invariant c.requires.behind_header within c.know-in-None.ensures)
+pub returns-clause-sound : goal.returns-clause-sound
+returns-clause-sound c = let i = c.self.inside in sound_of i.format i.block i.bytes.items.items c.args.self.now c.self.view_is c.self.invariant

@@ -1,10 +1,10 @@
--- What a store's weave leaves.
-use Rattle.std.proofs.Common.{◌≡◌, ◌≤◌, ◌<◌, ◌+◌, ◌%◌, ◌^◌, ℕ, List, Option, Some, None, IfSome, true, inl, inr, refl, ap, sym, subst, ◌∙◌, arith, length}
+-- What a weave leaves of a store, into a level on the device.
+use Rattle.std.proofs.Common.{◌≡◌, ◌<◌, ◌+◌, ◌%◌, ◌^◌, ℕ, List, Option, Some, None, IfSome, true, inl, inr, refl, ap, sym, subst, ◌∙◌, arith}
 use Rattle.std.proofs.lemmas.List.{with_items_is}
 use Rattle.std.specs.Vec.{with_items}
 use Rattle.cola_cell.specs.declared.sink.Shadow.{Shadow}
 use Rattle.cola_cell.specs.State.{State}
-use Rattle.cola_run.proofs.Shown.{lent_shows, at_hand}
+use Rattle.cola_run.proofs.Shown.{found_shown}
 use Rattle.cola_run.proofs.Sounding.{woven_shape, woven_backed, woven_cell, woven_stays}
 use Rattle.cola_run.proofs.Sinks.{sound-by, around-by}
 use Rattle.cola_run.proofs.Reading.{span-is}
@@ -16,9 +16,9 @@ use Rattle.cola_cell.specs.Flat.{shadow_at}
 use Rattle.cola_cell.specs.Windows.{IsReach, IsShown, Grown, Wove, Weaves}
 use Rattle.cola_cell.specs.declared.windows.Reach.{Reach}
 use Rattle.cola_run.specs.Cells.{IsOnDevice, IsBacked}
-use Rattle.cola_run.specs.Store.{Store, IsStore, held_of, state_of, cells_of}
-use Rattle.cola_run.specs.Weaving.{RunsBelow, WoveBelow, IsLent, ahead, is_at_hand}
-use Rattle.cola_run.proofs.traits.RunStoreCellSink.weave.Goals as goal
+use Rattle.cola_run.specs.Store.{Store, IsStore, held_of, state_of}
+use Rattle.cola_run.specs.Weaving.{WoveBelow, IsFound, is_at_hand}
+use Rattle.cola_run.proofs.run_store.RunStore.weave_below.Goals as goal
 
 abbrev view-old : (g : _) (c : goal.After-tick_all g) → Store g.row.D.Denot
 view-old g c =
@@ -37,7 +37,7 @@ if-some None P Q f h = tt
 if-some (Some b) P Q f h = f b h
 
 below : (g : _) (c : goal.After-tick_all g) →
-    WoveBelow g.M.WindowMerge.wove (g.D.Device.bytes c.self.inside.buffers.cache.device) c.self.inside.geometry (view-old g c).shadows (view-new g c).shadows (view-old g c).tails (view-new g c).tails
+    WoveBelow g.M.WindowMerge.wove g.D.Device.lends (g.D.Device.bytes c.self.inside.buffers.cache.device) c.self.inside.geometry c.self.inside.front (view-old g c).shadows (view-new g c).shadows (view-old g c).tails (view-new g c).tails
     c.args.level c.args.own c.args.incoming c.args.sample c.args.merge.now c.weave_on_device-woven.new.merge c.args.job.now c.in-Some.passed
 below g c =
     let i = c.self.inside in
@@ -45,7 +45,7 @@ below g c =
     let w = c.weave_on_device-woven in
     let back : (view-new g c).shadows ≡ w.new.shadows = with_items_is i.shadows.items w.new.shadows (w.auto.shadows ∙ c.deref_mut.ensures.len) in
     let back_tails : (view-new g c).tails ≡ w.new.tails = with_items_is i.tails.items w.new.tails (w.auto.tails ∙ c.deref_mut-2.ensures.len) in
-    let is : (shadows now : List Shadow) (tails after : List ℕ) → Type 0 = λ shadows now tails after. WoveBelow g.M.WindowMerge.wove told i.geometry shadows now tails after
+    let is : (shadows now : List Shadow) (tails after : List ℕ) → Type 0 = λ shadows now tails after. WoveBelow g.M.WindowMerge.wove g.D.Device.lends told i.geometry i.front shadows now tails after
     c.args.level c.args.own c.args.incoming c.args.sample c.args.merge.now w.new.merge c.args.job.now c.in-Some.passed in
     subst (λ (xs : List Shadow). is (view-old g c).shadows xs (view-old g c).tails (view-new g c).tails) (sym back)
     (subst (λ (ts : List ℕ). is (view-old g c).shadows w.new.shadows (view-old g c).tails ts) (sym back_tails)
@@ -54,12 +54,7 @@ below g c =
     c.in-Some.ensures.wove)))
 
 on-device : (g : _) (c : goal.After-tick_all g) → IsOnDevice c.self.inside.geometry c.args.level
-on-device g c =
-    let i = c.self.inside in
-    let first = c.front_levels.ensures.value in
-    let some = c.front_levels.ensures.some in
-    let levels : c.args.level < i.geometry.bottom + 1 = subst (λ (s : Store _). c.args.level < s.geometry.bottom + 1) (sym c.self.view_is) c.requires.level_in in
-    record { within = omega (arith, levels); whole = omega (arith, first, some, c.if-level-front_levels.false) }
+on-device g c = subst (λ (s : Store _). IsOnDevice s.geometry c.args.level) (sym c.self.view_is) c.requires.level
 
 pub invariant_of-self : goal.invariant_of-self
 invariant_of-self g c =
@@ -96,21 +91,10 @@ invariant_of-self-in-None g c =
     subst (λ (xs : List Shadow). IsStore told (record (view-same g c) { shadows = xs; tails = (with_items c.self.inside.tails.items c.weave_on_device-woven.new.tails).items })) (sym (shadows-same g c))
     (subst (λ (ts : List ℕ). IsStore told (record (view-same g c) { tails = ts })) (sym (tails-same g c)) c.self.invariant)
 
-shown-of : (g : _) (c : goal.After-tick_all g) (reach : Reach) (window : List ℕ) (last : Bool) → IsLent (g.D.Device.bytes c.self.inside.buffers.cache.device) c.self.inside.geometry reach window last →
+shown-of : (g : _) (c : goal.After-tick_all g) (reach : Reach) (window : List ℕ) (last : Bool) → IsFound g.D.Device.lends (g.D.Device.bytes c.self.inside.buffers.cache.device) c.self.inside.geometry c.self.inside.front reach window last →
     IsReach (held_of g.D.Device.bytes (view-old g c)) c.args.level reach → is_at_hand c.self.inside.geometry (view-old g c).shadows reach ≡ true → IsShown (held_of g.D.Device.bytes (view-old g c)) reach window last
-shown-of g c reach window last lent req hand = record {
-  many = ahead reach;
-  size = lent.size;
-  within = omega arith;
-  ends = λ _. refl;
-  shows = λ n h.
-      let there : reach.from < reach.run.len = omega (arith, h) in
-      let r = req there in
-      let a = at_hand c.self.inside.geometry (view-old g c).shadows reach hand there in
-      let level = r.level_in in
-      lent_shows (cells_of (g.D.Device.bytes c.self.inside.buffers.cache.device) (view-old g c)) (g.D.Device.bytes c.self.inside.buffers.cache.device) reach window last n refl c.self.invariant.cells.backed lent
-      (record { there = record { within = omega (arith, level); whole = a.0 }; slot_in = r.slot_in; within = r.within }) a.1 h;
-}
+shown-of g c reach window last found req hand =
+    found_shown g.D.Device.bytes (view-old g c) g.D.Device.lends reach window last c.self.invariant found (λ there. record { level_in = (req there).level_in; slot_in = (req there).slot_in; within = (req there).within }) hand
 
 grown-of : (g : _) (c : goal.After-tick_all g) → Grown (held_of g.D.Device.bytes (view-old g c)) (held_of g.D.Device.bytes (view-new g c)) c.args.level (below g c).room c.in-Some.passed.cells
 grown-of g c =
@@ -128,8 +112,8 @@ grown-of g c =
           let f = w.few in
           let r = mod-lt (shadow_at old.shadows c.args.level).len (pow_pos i.geometry.block_exp) in
           subst (λ (n : ℕ). (shadow_at old.shadows c.args.level).len % n + c.in-Some.passed.cells < n) (sym (span-is i.geometry shape.block)) (omega (arith, f, r));
-      spelled = w.spelled;
-      cells_are = λ k h. woven_cell i.geometry i.front old.shadows now.shadows old.tails now.tails c.args.level c.in-Some.passed.cells w.room (on-device g c) shape w.shadow w.few w.room_is w.tails_are told k h (w.spelled k h);
+      spelled = w.over.spelled;
+      cells_are = λ k h. woven_cell i.geometry i.front old.shadows now.shadows old.tails now.tails c.args.level c.in-Some.passed.cells w.room (on-device g c) shape w.shadow w.few w.room_is w.tails_are told k h (w.over.spelled k h);
       others_stay = woven_stays i.geometry i.front old.shadows now.shadows old.tails now.tails c.args.level c.in-Some.passed.cells w.room (on-device g c) shape w.shadow w.few w.room_is w.tails_are told;
     }
 
@@ -145,10 +129,10 @@ returns-in-Some-clause-weaves g c =
       views = w.views;
       room = w.room;
       passed = c.in-Some.passed;
-      own_shown = shown-of g c c.args.own w.views.own w.views.own_last w.own_lent (required g c c.args.own c.requires.own) (subst (λ (s : Store _). is_at_hand s.geometry s.shadows c.args.own ≡ true) (sym c.self.view_is) (sym c.is_at_hand.ensures ∙ c.if-not-is_at_hand.false));
-      incoming_shown = shown-of g c c.args.incoming w.views.incoming w.views.incoming_last w.incoming_lent (required g c c.args.incoming c.requires.incoming) (subst (λ (s : Store _). is_at_hand s.geometry s.shadows c.args.incoming ≡ true) (sym c.self.view_is) (sym c.is_at_hand-else-not-is_at_hand.ensures ∙ c.if-not-is_at_hand-2.false));
-      sample_shown = shown-of g c c.args.sample w.views.sample w.views.sample_last w.sample_lent (required g c c.args.sample c.requires.sample) (subst (λ (s : Store _). is_at_hand s.geometry s.shadows c.args.sample ≡ true) (sym c.self.view_is) (sym c.is_at_hand-else-not-is_at_hand-2.ensures ∙ c.if-not-is_at_hand-3.false));
-      wove_is = w.wove_is;
+      own_shown = shown-of g c c.args.own w.views.own w.views.own_last w.over.own_found (required g c c.args.own c.requires.own) (subst (λ (s : Store _). is_at_hand s.geometry s.shadows c.args.own ≡ true) (sym c.self.view_is) c.requires.there.own_there);
+      incoming_shown = shown-of g c c.args.incoming w.views.incoming w.views.incoming_last w.over.incoming_found (required g c c.args.incoming c.requires.incoming) (subst (λ (s : Store _). is_at_hand s.geometry s.shadows c.args.incoming ≡ true) (sym c.self.view_is) c.requires.there.incoming_there);
+      sample_shown = shown-of g c c.args.sample w.views.sample w.views.sample_last w.over.sample_found (required g c c.args.sample c.requires.sample) (subst (λ (s : Store _). is_at_hand s.geometry s.shadows c.args.sample ≡ true) (sym c.self.view_is) c.requires.there.sample_there);
+      wove_is = w.over.wove_is;
       grown_is = grown-of g c;
       only_ticks = record { steps_are = c.tick_all.ensures; ticked_are = omega arith; faults_are = refl; turned_is = refl; written_is = refl; lasts_are = λ _. refl };
       steps_is = refl;
@@ -157,9 +141,9 @@ returns-in-Some-clause-weaves g c =
     c.args.merge.now c.weave_on_device-woven.new.merge c.args.job.now c.args.steps.now c.tick_all.new.steps c.in-Some.passed.steps) c.self.view_is (inr wove)
 
 pub returns-in-Some-clause-runs : goal.returns-in-Some-clause-runs
-returns-in-Some-clause-runs g c = λ lends device own incoming sample. (
+returns-in-Some-clause-runs g c = λ lie. (
   c.in-Some.passed,
-  subst (λ (s : Store _). WoveBelow g.M.WindowMerge.wove (g.D.Device.bytes s.buffers.cache.device) s.geometry s.shadows (view-new g c).shadows s.tails (view-new g c).tails
+  subst (λ (s : Store _). WoveBelow g.M.WindowMerge.wove g.D.Device.lends (g.D.Device.bytes s.buffers.cache.device) s.geometry s.front s.shadows (view-new g c).shadows s.tails (view-new g c).tails
       c.args.level c.args.own c.args.incoming c.args.sample c.args.merge.now c.weave_on_device-woven.new.merge c.args.job.now c.in-Some.passed) c.self.view_is (below g c),
   refl,
 )

@@ -1,0 +1,49 @@
+-- What a search of a window sees.
+use Rattle.std.specs.Prelude.{◌≡◌, ℕ, ◌+◌, ◌≤◌, ◌<◌, ◌⊎◌, true, false, if◌then◌else◌, List}
+use Rattle.std.specs.Ordering.{is_lt}
+use Rattle.cola_cell.specs.declared.format.Format.{Format}
+use Rattle.cola_cell.specs.Cell.{key_of}
+use Rattle.cola_cell.specs.Decoded.{standing}
+use Rattle.cola_cell.specs.Held.{as_cell}
+use Rattle.cola_cell.specs.Order.{key_cmp}
+use Rattle.cola_cell.specs.Spelling.{IsNoSpelling}
+use Rattle.cola_cell.specs.State.{State}
+use Rattle.cola_cell.specs.Windows.{Scans}
+use Rattle.cola_cell.specs.declared.cell.Run.{Run}
+use Rattle.cola_cell.specs.declared.windows.Reach.{Reach}
+use Rattle.cola_window.specs.Seeking.{nth, HasCell, AllBelow}
+use Rattle.cola_window.specs.Windows.{Spells}
+use Rattle.cola_look.specs.declared.scanning.Sight.{Sight}
+use Rattle.cola_look.specs.Seek.{seat_at, as_seat}
+
+-- the search of so many cells stops at the one behind those that it passed: its key is not below the key sought, and the seat there is the one
+-- that was seen
+pub record StopsThere (most : ℕ) (key : List ℕ) (format : Format) (bytes : List ℕ) (sight : Sight) : Type 0 where
+  pub within : sight.passed < most
+  pub has : HasCell format bytes sight.passed
+  pub spells : Spells format (nth format bytes sight.passed)
+  pub not_below : is_lt (key_cmp (key_of (standing format (nth format bytes sight.passed))) key) ≡ false
+  pub seat : (pos : ℕ) → as_seat (record { pos = pos; hit = sight.hit; link = sight.link })
+      ≡ seat_at key pos (as_cell (standing format (nth format bytes sight.passed)))
+
+-- a search of a window passes cells below the key, as many as it may at most, and stops at the one behind them: but where it passed as
+-- many, or where no cell is spelled there, which is left to who goes on. Each cell passed is an access, and the one at which it stops
+pub record Sees (before after : Sight) (key : List ℕ) (format : Format) (bytes : List ℕ) (ticks : ℕ) : Type 0 where
+  pub few : after.passed ≤ before.most
+  pub below : AllBelow format key bytes after.passed
+  pub stops : after.stops ≡ true → StopsThere before.most key format bytes after
+  pub goes_on : after.stops ≡ false → (after.passed ≡ before.most) ⊎ (HasCell format bytes after.passed → IsNoSpelling format (nth format bytes after.passed))
+  pub ticks_are : ticks ≡ (if after.stops then after.passed + 1 else after.passed)
+
+-- a run from an index on
+abbrev pub reach_of : Run → ℕ → Reach
+reach_of run index = record { run = run; from = index }
+
+-- a search of so many cells at most saw what the object has at hand of them
+pub record IsSeen (old new : State) (reach : Reach) (most : ℕ) (key : List ℕ) (sight : Sight) (from to : ℕ) : Type 0 where
+  pub blank : Sight
+  pub most_is : blank.most ≡ most
+  pub none_passed : blank.passed ≡ 0
+  pub goes_on : blank.stops ≡ false
+  pub ticks : ℕ
+  pub scans : Scans Sees old new reach blank sight key from to ticks
