@@ -172,7 +172,14 @@ cp "$root/docs/COMMANDS.md" "$played/share/cola/COMMANDS.md"
 cat >"$played/libexec/cola/cola" <<'PLAYED'
 #!/bin/sh
 case $1 in
-gen | check) sleep 4.5; echo 'done 1' ;;
+gen | check)
+    sleep 4.5
+    for it in $(seq 300); do
+        [ -n "$typed" ] && ! grep -q 'so far' "$typed" || break
+        sleep 0.2
+    done
+    echo 'done 1'
+    ;;
 grow) exec sleep 60 ;;
 create) exit 20 ;;
 *) kill -"$2" $$; sleep 5 ;;
@@ -190,7 +197,7 @@ run "$played/bin/cola" create
 check 'a status that is not known' tells 20 'it is none of the statuses that this launcher knows: it is older than the program'
 if command -v script >/dev/null; then
     for mode in gen check; do
-        script -qec "'$played/bin/cola' $mode one" /dev/null </dev/null >"$room/out" 2>"$room/err"
+        typed=$room/out script -qec "'$played/bin/cola' $mode one" /dev/null </dev/null >"$room/out" 2>"$room/err"
         check "at a terminal $mode says how far it is" grep -q 'cola: [0-9]* MiB read so far' "$room/out"
         check 'and clears that before the program writes' grep -q $'\e\\[K\r\e\\[Kdone 1' "$room/out"
     done

@@ -17,3 +17,4 @@ pub mod KeyWords
 pub mod Packs
 pub mod CellLists
 pub mod ToldRuns
+mod Standing

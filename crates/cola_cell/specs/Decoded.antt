@@ -50,3 +50,7 @@ decoded format bytes =
 -- what the bytes of a cell tell of it in the format: bad where they spell none
 abbrev pub spot_of_bytes : Format → List ℕ → Spot
 spot_of_bytes format bytes = spot_of (decoded format bytes)
+
+-- the cell that stands at the beginning of bytes, where they spell one
+abbrev pub stands : Format → List ℕ → Option Cell
+stands format bytes = if nat_le (width format) (length bytes) then decoded format (take (width format) bytes) else None

@@ -1,5 +1,5 @@
 -- What calls on cells spend, and what a read answers and spends.
-use Rattle.std.specs.Prelude.{◌≡◌, ◌≢◌, ◌⊎◌, ℕ, ◌+◌, ◌%◌, ◌^◌, ◌≤◌, ◌<◌, ⊤, Option, Some, Result, Ok, Err, OnOk}
+use Rattle.std.specs.Prelude.{◌≡◌, ◌≢◌, ◌⊎◌, ℕ, ◌+◌, ◌%◌, ◌^◌, ◌≤◌, ◌<◌, ⊤, Option, None, Some, Result, Ok, Err, OnOk}
 use Rattle.cola_outside.specs.Faults.{Rose}
 use Rattle.cola_cell.specs.declared.cell.Cell.{Cell}
 use Rattle.cola_cell.specs.declared.cell.Reader.{Reader}
@@ -13,6 +13,11 @@ use Rattle.cola_cell.specs.Held.{Held, Bad, Told, Tells, as_cell, span}
 pub data Buffer : Type 0 where
   Search : Buffer
   By : Reader → ℕ → Buffer
+
+-- the buffer of a reader at a level, or that of searches
+abbrev pub buffer_for : Option Reader → ℕ → Buffer
+buffer_for None level = Search
+buffer_for (Some reader) level = By reader level
 
 -- the faults met, the ticks, the blocks turned to and written, and for each buffer the block that was read last
 pub record Spent : Type 0 where

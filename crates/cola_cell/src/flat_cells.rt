@@ -4,13 +4,10 @@ ghost use Rattle.cola_cell.specs.declared.format.Format.TheVariants.{One};
 ghost use Rattle.cola_cell.specs.Format.{CellFits};
 ghost use Rattle.cola_cell.specs.Places.{slot_size, number_of, IsPlace};
 ghost use Rattle.cola_cell.specs.Shadows.{emptied, push_ticks};
-ghost use Rattle.cola_cell.specs.Packed.{given, passed, MayPass};
 ghost use Rattle.cola_cell.specs.Flat.{IsFlat, new_cells, state_of, next_fails, after_access, read_answer, with_cell_at, with_shadow, longer, shadow_at, push_answer, after_push, after_finish};
 
 use crate::cell::{Cell, Item, Reader};
 use crate::fault::{PushFault, ReadFault};
-use crate::format::Format;
-use crate::packed::{Packed, Pass};
 use crate::sink::{CellSink, Shadow};
 use crate::source::CellSource;
 use cola_outside::Steps;
@@ -182,43 +179,6 @@ impl CellSource for FlatCells {
         self.read(level, slot, index, steps)
     }
 
-    fn read_into<L: Ledger>(
-        &mut self,
-        level: u8,
-        slot: u8,
-        index: u32,
-        into: &mut Packed,
-        steps: &mut Steps<L>,
-    ) -> Result<(), ReadFault>
-        requires { IsPlace self.old.levels level slot index }
-        ensures answer { given into.new result ≡ read_answer self.old level slot index }
-        ensures after { self.new ≡ after_access self.old }
-        ensures one_tick { steps.new ≡ steps.old + 1 }
-        ensures sound { IsFlat self.old }
-    {
-        let cell = self.read(level, slot, index, steps)?;
-        *into = Packed::of_cell(Format::One, &cell);
-        Ok(())
-    }
-
-    fn read_for_into<L: Ledger>(
-        &mut self,
-        _reader: Reader,
-        level: u8,
-        slot: u8,
-        index: u32,
-        into: &mut Packed,
-        steps: &mut Steps<L>,
-    ) -> Result<(), ReadFault>
-        requires { IsPlace self.old.levels level slot index }
-        ensures answer { given into.new result ≡ read_answer self.old level slot index }
-        ensures after { self.new ≡ after_access self.old }
-        ensures one_tick { steps.new ≡ steps.old + 1 }
-        ensures sound { IsFlat self.old }
-    {
-        self.read_into(level, slot, index, into, steps)
-    }
-
     fn ticked(&self) -> u64
         ensures value { result ≡ self.now.ticked }
         ensures sound { IsFlat self.now }
@@ -272,26 +232,6 @@ impl CellSink for FlatCells {
         let saved = len % 8 == 0;
         self.set_shadow(level, Shadow { slot, len, saved });
         Ok(())
-    }
-
-    fn push_as<L: Ledger>(
-        &mut self,
-        level: u8,
-        slot: u8,
-        cell: &Packed,
-        pass: Pass,
-        steps: &mut Steps<L>,
-    ) -> Result<(), PushFault>
-        requires level_in { level < self.old.levels }
-        requires in_slot { slot ≡ (shadow_at self.old.shadows level).slot }
-        requires may { MayPass pass cell.now }
-        requires fits { CellFits One cell.now }
-        ensures answer { result ≡ push_answer self.old level }
-        ensures after { self.new ≡ after_push self.old level (passed pass cell.now) }
-        ensures ticks { steps.new ≡ steps.old + push_ticks result }
-        ensures sound { IsFlat self.old }
-    {
-        self.push(level, slot, &cell.cell_as(pass), steps)
     }
 
     fn finish(&mut self, level: u8) -> Result<(), PushFault>

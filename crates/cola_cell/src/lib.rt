@@ -7,6 +7,7 @@
 #![tactic(auto)]
 
 mod cell;
+mod cell_room;
 mod fault;
 mod flat_cells;
 mod format;
@@ -23,6 +24,7 @@ mod value;
 mod windows;
 
 pub use cell::{Cell, Item, MOST_LEVELS, Reader, Run};
+pub use cell_room::CellRoom;
 pub use fault::{PushFault, ReadFault, StepFault};
 pub use flat_cells::FlatCells;
 pub use format::Format;

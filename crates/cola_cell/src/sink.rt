@@ -54,7 +54,8 @@ pub trait CellSink: CellSource {
         ensures pushes { Pushes (Self.state self.old) (Self.state self.new) level cell.now result }
         ensures spends { PushSpends (Self.state self.old) (Self.state self.new) level result };
 
-    /// As `push`, of what becomes of a packed cell.
+    /// As `push`, of what becomes of a packed cell. An object whose cells are bytes is faster with a body of
+    /// its own.
     fn push_as<L: Ledger>(
         &mut self,
         level: u8,
@@ -71,7 +72,10 @@ pub trait CellSink: CellSource {
         ensures ticks { steps.new ≡ steps.old + push_ticks result }
         ensures pushes { Pushes (Self.state self.old) (Self.state self.new) level
             (passed pass cell.now) result }
-        ensures spends { PushSpends (Self.state self.old) (Self.state self.new) level result };
+        ensures spends { PushSpends (Self.state self.old) (Self.state self.new) level result }
+    {
+        self.push(level, slot, &cell.cell_as(pass), steps)
+    }
 
     /// Writes to the device what is not yet there of the level's shadow. It is refused only where the device
     /// failed, and changes no cell of the shadow.
@@ -89,8 +93,9 @@ pub trait CellSink: CellSource {
         ensures slot { ((Self.state self.now).held.shadows level).slot < 2 };
 
     /// Lets a merge run over the bytes of its sources, where the object has them at hand, into the end of the level's
-    /// shadow, and says how many source cells that consumed: none where it lets it run over nothing, as an object does
-    /// that lends no bytes. It asks no device for anything, fills no block, and ticks as single steps would.
+    /// shadow, and says how many source cells that consumed: none where it lets it run over nothing, as one does that has
+    /// no bytes at hand. It asks no device for anything and fills no block. In sum it ticks as single steps would, but a
+    /// tick may come a call earlier: at its end the next cell of a source is read where it lies.
     fn weave<M: WindowMerge, L: Ledger>(
         &mut self,
         level: u8,

@@ -1,18 +1,35 @@
 //! Objects of cells that are read.
-ghost use Rattle.std.specs.Prelude.{◌≡◌, ◌+◌, ◌%◌, ◌^◌, ◌≤◌};
+ghost use Rattle.std.specs.Prelude.{◌≡◌, ◌+◌, ◌%◌, ◌^◌, ◌≤◌, IfOk};
+ghost use Rattle.cola_cell.specs.declared.format.Format.TheVariants.{Two};
+ghost use Rattle.cola_cell.specs.Format.{CellFits};
 ghost use Rattle.cola_cell.specs.Held.{HasPlace};
 ghost use Rattle.cola_cell.specs.Packed.{given};
 ghost use Rattle.cola_cell.specs.Reads.{Reads};
-ghost use Rattle.cola_cell.specs.Spent.{Search, By};
+ghost use Rattle.cola_cell.specs.Spent.{Search, By, buffer_for};
 ghost use Rattle.cola_cell.specs.State.{State};
 ghost use Rattle.cola_cell.specs.Windows.{IsRunIn, Scans};
 
 use crate::cell::{Cell, Reader};
 use crate::fault::ReadFault;
+use crate::format::Format;
 use crate::packed::Packed;
 use crate::windows::{Reach, WindowSearch};
 use cola_outside::Steps;
 use std::sync::ledger::Ledger;
+
+/// Packs the cell that a read gave, in the format in which every cell has a spelling.
+fn pack(read: Result<Cell, ReadFault>, into: &mut Packed) -> Result<(), ReadFault>
+    requires { IfOk read (CellFits Two) }
+    ensures { given into.new result ≡ read }
+{
+    match read {
+        Ok(cell) => {
+            *into = Packed::of_cell(Format::Two, &cell);
+            Ok(())
+        }
+        Err(fault) => Err(fault),
+    }
+}
 
 /// An object of cells: levels from 0 on, of two slots each, where a slot of level `j` has `2^(j+2)` cells.
 /// There are at most 23 levels. What is said of cells holds where the object tells them.
@@ -62,9 +79,11 @@ pub trait CellSource {
         ensures reads { Reads (state self.old) (state self.new)
             (By reader level) level slot index result };
 
-    /// As `read`, into a packed cell. Where it is refused, that has any cell.
-    fn read_into<L: Ledger>(
+    /// As `read`, or as `read_for` where a reader is named, into a packed cell. Where it is refused, that has any cell. An
+    /// object whose cells are bytes is faster with a body of its own.
+    fn read_packed<L: Ledger>(
         &mut self,
+        by: Option<Reader>,
         level: u8,
         slot: u8,
         index: u32,
@@ -74,27 +93,17 @@ pub trait CellSource {
         requires { HasPlace (state self.old).held level slot index }
         ensures kept { kept self.new ≡ kept self.old }
         ensures one_tick { steps.new ≡ steps.old + 1 }
-        ensures reads { Reads (state self.old) (state self.new) Search level slot index
-            (given into.new result) };
-
-    /// As `read_for`, into a packed cell. Where it is refused, that has any cell.
-    fn read_for_into<L: Ledger>(
-        &mut self,
-        reader: Reader,
-        level: u8,
-        slot: u8,
-        index: u32,
-        into: &mut Packed,
-        steps: &mut Steps<L>,
-    ) -> Result<(), ReadFault>
-        requires { HasPlace (state self.old).held level slot index }
-        ensures kept { kept self.new ≡ kept self.old }
-        ensures one_tick { steps.new ≡ steps.old + 1 }
-        ensures reads { Reads (state self.old) (state self.new) (By reader level) level slot index
-            (given into.new result) };
+        ensures reads { Reads (state self.old) (state self.new) (buffer_for by level) level slot index
+            (given into.new result) }
+    {
+        match by {
+            Some(reader) => pack(self.read_for(reader, level, slot, index, steps), into),
+            None => pack(self.read(level, slot, index, steps), into),
+        }
+    }
 
     /// Lets a search run over the bytes of a run from an index on, where the object has them at hand, and says how many
-    /// cells that accessed: none where it lets it run over nothing, as an object does that lends no bytes. It asks no
+    /// cells that accessed: none where it lets it run over nothing, as one does that has no bytes at hand. It asks no
     /// device for anything, turns to no block, keeps the blocks that were read last, and ticks once for each cell accessed.
     fn scan<S: WindowSearch, L: Ledger>(
         &mut self,
@@ -109,6 +118,14 @@ pub trait CellSource {
             search.old search.new probe.now steps.old steps.new result }
     {
         0
+    }
+
+    /// Does nothing: it says that an object has at most 23 levels.
+    #[inline(always)]
+    fn known(&self)
+        ensures { (state self.now).held.fixed.levels ≤ 23 }
+    {
+        let _ = self.ticked();
     }
 
     /// How many ticks it has made, modulo `2^64`.

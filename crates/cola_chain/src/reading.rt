@@ -1,10 +1,10 @@
 //! Reads of a chain's cells.
-ghost use Rattle.std.specs.Prelude.{◌≡◌, ◌+◌, ◌%◌, ◌^◌, ◌≤◌, true, false, None};
+ghost use Rattle.std.specs.Prelude.{◌≡◌, ◌+◌, ◌%◌, ◌^◌, ◌≤◌, true, false, if◌then◌else◌, None, is_some};
 ghost use Rattle.cola_cell.specs.Held.{HasPlace};
 ghost use Rattle.cola_cell.specs.Packed.{given};
-ghost use Rattle.cola_cell.specs.Spent.{Search, By};
+ghost use Rattle.cola_cell.specs.Spent.{Search, By, buffer_for};
 ghost use Rattle.cola_cell.specs.Windows.{IsRunIn, Scans};
-ghost use Rattle.cola_run.specs.Weaving.{ScansBelow, IsOpen, is_at_hand};
+ghost use Rattle.cola_run.specs.Weaving.{ScansBelow, HasWindow, is_at_hand};
 ghost use Rattle.cola_chain.specs.Contents.{held_of, state_of, Kept, kept_of, ReadsCell};
 
 use crate::chains::Chain;
@@ -61,10 +61,11 @@ impl<D: Device> CellSource for Chain<D> {
         self.runs.read_for(reader, level, slot, index, steps)
     }
 
-    /// As `read`, into a packed cell.
+    /// As `read` or `read_for`, into a packed cell.
     #[inline(always)]
-    fn read_into<L: Ledger>(
+    fn read_packed<L: Ledger>(
         &mut self,
+        by: Option<Reader>,
         level: u8,
         slot: u8,
         index: u32,
@@ -76,33 +77,16 @@ impl<D: Device> CellSource for Chain<D> {
             kept_of D.bytes D.counts D.kept self.old }
         ensures one_tick { steps.new ≡ steps.old + 1 }
         ensures reads { ReadsCell D.Device self.old self.new
-            Search level slot index (given into.new result) }
-        ensures counted { self.new.counted ≡ self.old.counted }
+            (buffer_for by level) level slot index (given into.new result) }
+        ensures counted { self.new.counted ≡ (if is_some by then false else self.old.counted) }
     {
-        self.runs.read_into(level, slot, index, into, steps)
-    }
-
-    /// As `read_for`, into a packed cell.
-    fn read_for_into<L: Ledger>(
-        &mut self,
-        reader: Reader,
-        level: u8,
-        slot: u8,
-        index: u32,
-        into: &mut Packed,
-        steps: &mut Steps<L>,
-    ) -> Result<(), ReadFault>
-        requires { HasPlace (held_of D.bytes self.old) level slot index }
-        ensures kept { kept_of D.bytes D.counts D.kept self.new ≡
-            kept_of D.bytes D.counts D.kept self.old }
-        ensures one_tick { steps.new ≡ steps.old + 1 }
-        ensures reads { ReadsCell D.Device self.old self.new
-            (By reader level) level slot index (given into.new result) }
-        ensures counted { self.new.counted ≡ false }
-    {
-        self.counted = false;
-        self.runs
-            .read_for_into(reader, level, slot, index, into, steps)
+        match by {
+            Some(_) => {
+                self.counted = false;
+                self.runs.read_packed(by, level, slot, index, into, steps)
+            }
+            None => self.runs.read_packed(None, level, slot, index, into, steps),
+        }
     }
 
     /// As the chain's store lets a search run over the bytes of a run: no block is turned to, so the steps of the chain stay
@@ -120,7 +104,7 @@ impl<D: Device> CellSource for Chain<D> {
         ensures scans { Scans S.sought (state_of D.bytes D.counts self.old) (state_of D.bytes D.counts self.new) reach
             search.old search.new probe.now steps.old steps.new result }
         ensures runs { is_at_hand self.old.store.geometry self.old.store.shadows reach ≡ true →
-            IsOpen D.lends self.old.store.geometry self.old.store.buffers.lasts None reach →
+            HasWindow D.lends self.old.store.geometry self.old.store.buffers.lasts None reach →
             ScansBelow S.sought D.lends (D.bytes self.old.store.buffers.cache.device) self.old.store.geometry self.old.store.front reach search.old search.new
             probe.now result }
         ensures counted { self.new.counted ≡ self.old.counted }

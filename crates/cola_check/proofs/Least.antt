@@ -33,7 +33,7 @@ less_not x y e = ap is_lt (key_total.antisymm y x) ∙ ap (λ r. is_lt (ordering
 itself : (x : List ℕ) → is_lt (key_cmp x x) ≡ false
 itself x = ap is_lt (tied_itself key_total x)
 
-itself_equal : (x : List ℕ) → is_eq (key_cmp x x) ≡ true
+pub itself_equal : (x : List ℕ) → is_eq (key_cmp x x) ≡ true
 itself_equal x = ap is_eq (tied_itself key_total x)
 
 -- ---- one head more

@@ -1,5 +1,5 @@
 -- Lists of levels, level by level.
-use Rattle.std.proofs.Common.{◌≡◌, inl, inr, ℕ, zero, suc, ◌+◌, ◌≤◌, ◌<◌, List, [], ◌∷◌, ◌++◌, length, drop, take, get_or, Option, None, Some, Result, Ok, Err, IfErr, IsErrAnd, refl, sym, ap, subst, ◌∙◌, arith, length-append}
+use Rattle.std.proofs.Common.{◌≡◌, inl, inr, ℕ, zero, suc, ◌+◌, ◌≤◌, ◌<◌, List, [], ◌∷◌, ◌++◌, length, drop, take, get_or, Option, None, Some, IfSome, Result, Ok, Err, IfErr, IsErrAnd, refl, sym, ap, subst, ◌∙◌, arith, length-append}
 use Rattle.std.specs.List.{refill}
 use Rattle.std.proofs.Math.Seq.{take-length}
 use Rattle.std.proofs.lemmas.List.{take-append-le}
@@ -10,7 +10,8 @@ use Rattle.cola_cell.specs.Held.{Held}
 use Rattle.cola_check.specs.declared.level_walks.LevelRuns.{LevelRuns}
 use Rattle.cola_check.specs.declared.level_walks.LevelWalks.{LevelWalks}
 use Rattle.cola_check.specs.Reading.{HasBadRun, PassCause}
-use Rattle.cola_check.specs.LevelWalks.{with_shadow, runs_of, cells_in, level_unread, all_unread, Each}
+use Rattle.cola_check.specs.LevelWalks.{shadow_or_none, with_shadow, runs_of, cells_in, level_unread, unread_level_begun, all_unread, Each}
+use Rattle.cola_look.specs.Runs.{HasRun}
 
 module _ {X : Type 0} where
   taken_suc : (xs : List X) (i : ℕ) (x : X) → i < length xs → x ≡ get_or xs i x → take (suc i) xs ≡ take i xs ++ x ∷ []
@@ -86,6 +87,26 @@ begun_one levels begun now i level new before later whole e l is h k =
     let b : cells_in (runs_of (drop i levels)) ≡ cells_in (runs_of (level ∷ drop (i + 1) levels)) = ap (λ (ls : List LevelRuns). cells_in (runs_of ls)) (left_next levels i level l is) in
     let d = with_cells level.shadow (runs_of (drop (i + 1) levels)) in
     omega arith
+
+-- ---- a shadow, or an empty run in its place
+
+pub shadow_has : (held : Held) (shadow : Option Run) (visible : Run) → HasRun held visible → IfSome shadow (HasRun held) → HasRun held (shadow_or_none shadow visible)
+shadow_has held None visible v s = record { level_in = v.level_in; slot_in = v.slot_in; within = omega arith }
+shadow_has held (Some run) visible v s = s
+
+pub shadow_cells : (shadow : Option Run) (visible : Run) (runs : List Run) → cells_in (with_shadow shadow runs) ≡ (shadow_or_none shadow visible).len + cells_in runs
+shadow_cells None visible runs = omega arith
+shadow_cells (Some run) visible runs = refl
+
+pub shadow_bad : (held : Held) (number : ℕ) (shadow : Option Run) (visible : Run) → HasBadRun held number (shadow_or_none shadow visible ∷ []) → HasBadRun held number (visible ∷ with_shadow shadow [])
+shadow_bad held number None visible (inl b) = let w = b.within in absurd (omega arith)
+shadow_bad held number None visible (inr b) = absurd b
+shadow_bad held number (Some run) visible b = inr b
+
+-- nothing is asked of walks that were not begun
+pub none_unread : (result : Result LevelWalks ReadFault) (fault : ReadFault) → IsErrAnd result (λ e. e ≡ fault) → unread_level_begun result ≡ 0
+none_unread (Ok walks) fault h = absurd h
+none_unread (Err e) fault h = refl
 
 -- ---- causes
 

@@ -1,5 +1,7 @@
+mod Adding
 mod After
 mod AllBlocks
+mod BadAt
 mod BadRuns
 mod Behind
 mod Bounds
@@ -14,8 +16,10 @@ mod FileLevels
 mod FinishedTests
 mod Following
 mod Fronts
+mod Hearing
 mod Judging
 mod Keys
+mod Leading
 mod Least
 mod LevelBlocks
 mod LevelLists

@@ -21,6 +21,7 @@ use Rattle.cola_check.specs.Reading.{HasBadRun, HasBadIn}
 use Rattle.cola_check.specs.Walks.{rest, least_from}
 use Rattle.cola_check.specs.Beside.{IsInOrder}
 use Rattle.cola_check.specs.LevelWalks.{HasLevel, shadow_or_none, shadow_run, with_shadow, runs_of, cells_in, AreRunsInOrder, cells_of, walks_in, runs_in, LevelFits, IsLevelReady, all_unread, all_ahead, Each, BeginsLevel, Hears, PassesLevel, all_left, AllReadOn}
+use Rattle.cola_check.specs.Leasts.{FirstStay}
 use Rattle.cola_check.specs.Chains.{LevelCells, visible_runs, AreLiveCounts, AreStamped}
 use Rattle.cola_check.specs.Tally.{IsWithin, visible_said, no_count, counted}
 use Rattle.cola_check.proofs.Fronts.{ahead_stays, ahead_falls}
@@ -373,5 +374,5 @@ refilled_blocks held {old} {new} k {xs} {olds} news f h r =
     let q = ap (all_left old) f in
     omega (arith, x, p, q)
 
-pub same_least : {xs ys : List LevelWalks} {answer wanted : Option (List ℕ)} → xs ≡ ys → answer ≡ least_from None (walks_in xs) → answer ≡ wanted → least_from None (walks_in ys) ≡ wanted
-same_least {xs} {ys} e f g = ap (λ (z : List LevelWalks). least_from None (walks_in z)) (sym e) ∙ sym f ∙ g
+pub refilled_stay : (held : Held) (k : List ℕ) {xs olds : List LevelWalks} (news : List LevelWalks) (n : ℕ) → xs ≡ olds → Each (PassesLevel held k) xs news → FirstStay n xs news → FirstStay n olds (refill (length olds) olds news)
+refilled_stay held k {xs} {olds} news n f h s = subst (FirstStay n olds) (sym (refilled_walks held k news f h)) (subst (λ (ws : List LevelWalks). FirstStay n ws news) f s)

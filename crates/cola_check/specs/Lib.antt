@@ -9,6 +9,7 @@ pub mod Cut
 pub mod Firsts
 pub mod Found
 pub mod Kinds
+pub mod Leasts
 pub mod LevelWalks
 pub mod Living
 pub mod Others

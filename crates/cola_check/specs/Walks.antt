@@ -1,5 +1,7 @@
 -- A walk over one run: how it stands there, what is left of the run, and what it passes.
 use Rattle.std.specs.Prelude.{◌≡◌, ◌≢◌, ℕ, ◌+◌, ◌-◌, ◌≤◌, ◌<◌, Bool, false, cond, List, [], ◌∷◌, drop, Option, None, Some, Result, Ok, Err, ⊤, IsTrue}
+use Rattle.std.specs.Borrow.{Bor}
+use Rattle.std.specs.Option.{option_map}
 use Rattle.std.specs.Ordering.{is_eq, is_lt}
 use Rattle.cola_runs.specs.Cells as laws
 use Rattle.cola_runs.specs.Seen as seen
@@ -46,6 +48,10 @@ found_of (Some (cell.Look key link)) = Nothing
 abbrev pub has_key : List ℕ → Option Cell → Bool
 has_key key None = false
 has_key key (Some cell) = is_eq (key_cmp key (key_of cell))
+
+-- the key of a cell that is lent, if there is one
+abbrev pub key_in : Option (Bor Cell) → Option (List ℕ)
+key_in = option_map (λ cell. key_of cell.now)
 
 -- the lesser of a key and that of a head, where there is one of them or both
 abbrev pub lesser : Option (List ℕ) → Option Cell → Option (List ℕ)

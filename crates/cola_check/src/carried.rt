@@ -65,11 +65,12 @@ impl Beside {
     fn least_key(&self) -> Option<Key>
         ensures { result ≡ least_from None (walks_of self.now) }
     {
-        let mut least = None;
-        self.above.lower(&mut least);
-        self.own.lower(&mut least);
-        self.shadow.lower(&mut least);
-        least
+        let above = self.above.lesser(None);
+        let own = self.own.lesser(above);
+        match self.shadow.lesser(own) {
+            Some(cell) => Some(cell.key()),
+            None => None,
+        }
     }
 
     /// Passes the cells at the fronts of the walks that have this key; what the runs have of it there.

@@ -8,16 +8,17 @@ ghost use Rattle.cola_check.specs.Blocks.{GoesOn, TurnsTo, run_blocks, level_blo
 ghost use Rattle.cola_check.specs.Reading.{ReadsRuns};
 
 use crate::runs::run_at;
-use cola_cell::{CellSource, ReadFault, Reader, Run};
+use cola_cell::{CellSource, Packed, ReadFault, Reader, Run};
 use cola_layout::Header;
 use cola_outside::Steps;
 use std::sync::ledger::Ledger;
 
-/// The number of the cell at an index of a run, where its bytes spell none.
+/// The number of the cell at an index of a run, where its bytes spell none. It is read into a room of the caller's.
 fn bad_at<W: CellSource, L: Ledger>(
     work: &mut W,
     run: &Run,
     index: u32,
+    cell: &mut Packed,
     steps: &mut Steps<L>,
 ) -> Result<Option<u64>, ReadFault>
     requires run { HasRun (W.state work.old).held run.now }
@@ -29,8 +30,8 @@ fn bad_at<W: CellSource, L: Ledger>(
         GoesOn (W.state work.old) (W.state work.new) Own run.now index (index + 1)) }
     ensures looks { OnlyLooks W.CellSource work.old work.new result }
 {
-    match work.read_for(Reader::Own, run.level, run.slot, index, steps) {
-        Ok(_) => Ok(None),
+    match work.read_packed(Some(Reader::Own), run.level, run.slot, index, cell, steps) {
+        Ok(()) => Ok(None),
         Err(ReadFault::BadCell(number)) => Ok(Some(number)),
         Err(ReadFault::Device) => Err(ReadFault::Device),
     }
@@ -50,8 +51,9 @@ pub(crate) fn bad_in_run<W: CellSource, L: Ledger>(
         (run_blocks (W.state work.old).held run.now) }
     ensures looks { OnlyLooks W.CellSource work.old work.new result }
 {
+    let mut cell = Packed::blank();
     for index in 0..run.len {
-        if let Some(number) = bad_at(work, run, index, steps)? {
+        if let Some(number) = bad_at(work, run, index, &mut cell, steps)? {
             return Ok(Some(number));
         }
     }

@@ -1,16 +1,16 @@
 //! Walks over the runs of several levels at once.
-ghost use Rattle.std.specs.Prelude.{◌≡◌, ℕ, ◌≤◌, length, None, IfOk, OnOk};
+ghost use Rattle.std.specs.Prelude.{◌≡◌, ℕ, ◌≤◌, length, IfOk, OnOk};
 ghost use Rattle.std.specs.List.{AllByRecursion};
 ghost use Rattle.cola_cell.specs.Looks.{OnlyLooks};
 ghost use Rattle.cola_check.specs.Reading.{ReadsAhead};
-ghost use Rattle.cola_check.specs.Walks.{least_from};
+ghost use Rattle.cola_check.specs.Leasts.{AreAwayFrom, FirstStay};
 ghost use Rattle.cola_check.specs.LevelWalks.{HasLevel, runs_of, cells_in, Each, BeginsLevel, AllBegan, ReadFrom, AllReadOn};
-ghost use Rattle.cola_check.specs.LevelWalks.{runs_in, walks_in, LevelFits, IsLevelReady, all_unread, all_unread_begun, all_unread_after, PassesLevel};
+ghost use Rattle.cola_check.specs.LevelWalks.{runs_in, LevelFits, IsLevelReady, all_unread, all_unread_begun, all_unread_after, PassesLevel};
 
 use crate::tally::Said;
 use crate::walk::Walk;
 use arrayvec::ArrayVec;
-use cola_cell::{CellSource, Key, MOST_LEVELS, ReadFault, Reader, Run};
+use cola_cell::{CellRoom, CellSource, Key, MOST_LEVELS, ReadFault, Reader, Run};
 use cola_outside::Steps;
 use std::sync::ledger::Ledger;
 
@@ -45,7 +45,7 @@ fn empty_walk(reader: Reader) -> Heard {
             run: Run::default(),
             reader,
             at: 0,
-            head: None,
+            head: CellRoom::empty(),
         },
         said: Said::Nothing,
     }
@@ -82,12 +82,14 @@ impl LevelRuns {
 }
 
 impl Heard {
-    ghost use Rattle.std.specs.Prelude.{[], ◌∷◌, OnOk};
+    ghost use Rattle.std.specs.Prelude.{◌≡◌, [], ◌∷◌, OnOk};
     ghost use Rattle.cola_check.specs.Reading.{ReadsAhead};
-    ghost use Rattle.cola_check.specs.Walks.{ReadsOn, WalkFits, IsReady, unread, unread_after};
+    ghost use Rattle.cola_check.specs.Tally.{said_of};
+    ghost use Rattle.cola_check.specs.Walks.{found_of, ReadsOn, WalkFits, IsReady, unread, unread_after};
     ghost use Rattle.cola_check.specs.LevelWalks.{Hears};
 
     /// Passes the cells at the front of its walk that have this key, and hears what the run has of it there.
+    #[inline(always)]
     fn pass<W: CellSource, L: Ledger>(
         &mut self,
         work: &mut W,
@@ -111,7 +113,19 @@ impl Heard {
         self.hear(work, key, steps)
     }
 
-    /// Passes them where there are some. It is apart, so that a walk that stays where it is takes no room for what is found.
+    /// What the next cell says of its key.
+    #[inline]
+    fn front(&self) -> Said
+        ensures { result ≡ said_of (found_of self.now.walk.head) }
+    {
+        match self.walk.head.cell() {
+            Some(cell) => Said::of_cell(cell),
+            None => Said::Nothing,
+        }
+    }
+
+    /// Passes them where there are some. It is a call of its own, since few walks stand at a key.
+    #[inline(never)]
     fn hear<W: CellSource, L: Ledger>(
         &mut self,
         work: &mut W,
@@ -128,8 +142,13 @@ impl Heard {
             self.old.walk self.new.walk) }
         ensures looks { OnlyLooks W.CellSource work.old work.new result }
     {
-        let found = self.walk.pass(work, key, steps)?;
-        self.said = Said::of(&found);
+        let mut said = Said::Nothing;
+        while self.walk.has_key(key) {
+            said = said.or(self.front());
+            self.walk.advance();
+            self.walk.fetch(work, steps)?;
+        }
+        self.said = said;
         Ok(())
     }
 }
@@ -137,7 +156,7 @@ impl Heard {
 impl LevelWalks {
     ghost use Rattle.std.specs.Prelude.{◌≡◌, ℕ, [], ◌∷◌, IfOk, OnOk};
     ghost use Rattle.cola_check.specs.Reading.{ReadsAhead};
-    ghost use Rattle.cola_check.specs.Walks.{lesser};
+    ghost use Rattle.cola_check.specs.Leasts.{level_lesser, Stays, IsHushed};
     ghost use Rattle.cola_check.specs.LevelWalks.{HasLevel, runs_of, cells_in, BeginsLevel, StandsAt, LevelBegan, ReadsAt, LevelReadsOn};
     ghost use Rattle.cola_check.specs.LevelWalks.{runs_in, LevelFits, IsLevelReady, level_unread, unread_level_begun, level_unread_after, PassesLevel};
 
@@ -172,13 +191,24 @@ impl LevelWalks {
         })
     }
 
-    /// Leaves the least of a key and those of the next cells, where there is one of them.
-    fn lower(&self, least: &mut Option<Key>)
-        ensures { least.new ≡
-            lesser (lesser least.old self.now.visible.walk.head) self.now.shadow.walk.head }
+    /// The least of a key and those of the next cells, where there is one of them.
+    pub(crate) fn lower(&self, before: &Option<Key>) -> Option<Key>
+        ensures { result ≡ level_lesser before.now self.now }
     {
-        self.visible.walk.lower(least);
-        self.shadow.walk.lower(least);
+        let mut least = *before;
+        self.visible.walk.lower(&mut least);
+        self.shadow.walk.lower(&mut least);
+        least
+    }
+
+    /// Leaves its walks where they are, and hears nothing.
+    #[inline(always)]
+    fn stay(&mut self)
+        ensures stays { Stays self.old self.new }
+        ensures hushed { IsHushed self.old self.new }
+    {
+        self.visible.said = Said::Nothing;
+        self.shadow.said = Said::Nothing;
     }
 
     /// Passes the cells at the fronts of its walks that have this key, and hears what the runs have of it there.
@@ -226,20 +256,9 @@ pub(crate) fn begin_all<W: CellSource, L: Ledger>(
     Ok(begun)
 }
 
-/// The least of the next keys of all walks, if there is one.
-pub(crate) fn least_key(levels: &[LevelWalks]) -> Option<Key>
-    ensures { result ≡ least_from None (walks_in levels.now) }
-{
-    let mut least: Option<Key> = None;
-    for i in 0..levels.len() {
-        levels[i].lower(&mut least);
-    }
-    least
-}
-
 /// Passes the cells at the fronts of all walks that have this key, and hears what the runs have of it there. A walk whose
 /// next cell has another key stays where it is. After a refusal the walks are not asked again.
-pub(crate) fn pass_all<W: CellSource, L: Ledger>(
+fn pass_all<W: CellSource, L: Ledger>(
     work: &mut W,
     levels: &mut [LevelWalks],
     key: &Key,
@@ -259,4 +278,34 @@ pub(crate) fn pass_all<W: CellSource, L: Ledger>(
     };
     level.pass(work, key, steps)?;
     pass_all(work, below, key, steps)
+}
+
+/// The same where it is known of so many levels, the first ones, that their walks do not stand at the key: these are not
+/// looked at.
+pub(crate) fn pass_below<W: CellSource, L: Ledger>(
+    work: &mut W,
+    levels: &mut [LevelWalks],
+    away: usize,
+    key: &Key,
+    steps: &mut Steps<L>,
+) -> Result<(), ReadFault>
+    requires fit { AllByRecursion (LevelFits (W.state work.old).held) levels.old }
+    requires ready { AllByRecursion IsLevelReady levels.old }
+    requires away { AreAwayFrom away key.now levels.old }
+    ensures passes { OnOk result (Each (PassesLevel (W.state work.old).held key.now) levels.old levels.new) }
+    ensures reads { ReadsAhead (W.state work.old) (W.state work.new) steps.old steps.new
+        (runs_in levels.old) (all_unread levels.old) (all_unread_after levels.new result) result }
+    ensures blocks { OnOk result ((n : ℕ) → ReadFrom n levels.old →
+        AllReadOn (W.state work.old) (W.state work.new) n levels.old levels.new) }
+    ensures stay { OnOk result (FirstStay away levels.old levels.new) }
+    ensures looks { OnlyLooks W.CellSource work.old work.new result }
+{
+    if away == 0 {
+        return pass_all(work, levels, key, steps);
+    }
+    let Some((level, below)) = levels.split_first_mut() else {
+        return Ok(());
+    };
+    level.stay();
+    pass_below(work, below, away - 1, key, steps)
 }

@@ -15,6 +15,7 @@ mod firsts;
 mod fitting;
 mod kinds;
 mod laws;
+mod leasts;
 mod level_walks;
 mod live;
 mod living;

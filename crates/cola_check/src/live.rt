@@ -8,7 +8,8 @@ ghost use Rattle.cola_check.specs.Reading.{ReadsRuns};
 ghost use Rattle.cola_check.specs.Chains.{visible_runs, AreLiveCounts, AreStamped};
 ghost use Rattle.cola_check.specs.LevelWalks.{HasLevel, runs_of, cells_in, cells_of, AreRunsInOrder, StandFrom, blocks_of};
 
-use crate::level_walks::{LevelRuns, begin_all, least_key, pass_all};
+use crate::leasts::{first_with, least_of, leasts_of, lower_all};
+use crate::level_walks::{LevelRuns, begin_all, pass_below};
 use crate::tally::Tally;
 use cola_cell::{CellSource, ReadFault};
 use cola_outside::Steps;
@@ -37,12 +38,15 @@ pub(crate) fn count_live<W: CellSource, L: Ledger>(
     ensures looks { OnlyLooks W.CellSource work.old work.new result }
 {
     // every object has at most 23 levels, so that no count is too large for its type
-    let _ = work.ticked();
+    work.known();
     let mut walks = begin_all(work, levels, steps)?;
+    let mut leasts = leasts_of(walks.as_slice());
     let mut tally = Tally::none(levels.len());
-    while let Some(key) = least_key(walks.as_slice()) {
-        pass_all(work, walks.as_mut_slice(), &key, steps)?;
+    while let Some(key) = least_of(leasts.as_slice()) {
+        let first = first_with(leasts.as_slice(), &key);
+        pass_below(work, walks.as_mut_slice(), first, &key, steps)?;
         tally.count(walks.as_slice(), last);
+        lower_all(leasts.as_mut_slice(), walks.as_slice(), first, &None);
     }
     Ok(tally)
 }

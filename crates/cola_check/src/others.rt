@@ -55,20 +55,9 @@ impl<'a, W: CellSource> CellSource for ByOthers<'a, W> {
             .read_for(other_reader(reader), level, slot, index, steps)
     }
 
-    fn read_into<L: Ledger>(
+    fn read_packed<L: Ledger>(
         &mut self,
-        level: u8,
-        slot: u8,
-        index: u32,
-        into: &mut Packed,
-        steps: &mut Steps<L>,
-    ) -> Result<(), ReadFault> {
-        self.object.read_into(level, slot, index, into, steps)
-    }
-
-    fn read_for_into<L: Ledger>(
-        &mut self,
-        reader: Reader,
+        by: Option<Reader>,
         level: u8,
         slot: u8,
         index: u32,
@@ -76,7 +65,7 @@ impl<'a, W: CellSource> CellSource for ByOthers<'a, W> {
         steps: &mut Steps<L>,
     ) -> Result<(), ReadFault> {
         self.object
-            .read_for_into(other_reader(reader), level, slot, index, into, steps)
+            .read_packed(by.map(other_reader), level, slot, index, into, steps)
     }
 
     fn ticked(&self) -> u64 {

@@ -3,10 +3,10 @@ ghost use Rattle.std.specs.Prelude.{◌≤◌, ◌<◌, IfSome};
 ghost use Rattle.std.proofs.Props.{props};
 
 use crate::kinds::{has_link, looks_of, stands_behind, young_of};
-use cola_cell::Cell;
+use cola_cell::{CellRoom, Packed};
 
 /// What is known of the first cells of a run.
-#[derive(Clone, Copy, Drop)]
+#[derive(Drop)]
 pub(crate) struct Prefix {
     /// How many cells they are.
     pub place: u32,
@@ -15,7 +15,7 @@ pub(crate) struct Prefix {
     /// How many of them are young items.
     pub young: u32,
     /// The last of them.
-    pub last: Option<Cell>,
+    pub last: CellRoom,
     /// The index of the first that does not go on the order, where there is one.
     pub disorder: Option<u32>,
     /// Whether a run that passes the test of its sample may begin with them.
@@ -41,21 +41,21 @@ impl Prefix {
             place: 0,
             looks: 0,
             young: 0,
-            last: None,
+            last: CellRoom::empty(),
             disorder: None,
             is_sampled: true,
         }
     }
 
     /// Whether a cell goes on the order of these.
-    fn is_next(&self, cell: &Cell) -> bool
+    fn is_next(&self, cell: &Packed) -> bool
         ensures { IsTrue result ↔ ComesNext self.now.last self.now.looks (as_cell cell.now) }
     {
         stands_behind(&self.last, cell) && has_link(cell, self.looks)
     }
 
     /// Where the order ends in these and the next cell.
-    fn disorder_with(&self, cell: &Cell) -> Option<u32>
+    fn disorder_with(&self, cell: &Packed) -> Option<u32>
         ensures order { (lists : List (List LawCell)) (cells : List LawCell) → IsSeen lists cells self.now →
             OrderIs (cells ++ as_cell cell.now ∷ []) result }
         ensures within { IfSome result (λ index. index < self.now.place + 1) }
@@ -73,21 +73,21 @@ impl Prefix {
         self.is_sampled && suits
     }
 
-    /// What is known of these and the next cell, which is what the test of the sample asks there or not.
-    pub(crate) fn with(&self, cell: &Cell, suits: bool) -> Prefix
-        requires { self.now.place < 2 ^ 32 - 1 }
-        ensures seen { (lists : List (List LawCell)) (cells : List LawCell) → IsSeen lists cells self.now →
-            (IsTrue suits ↔ Suits lists self.now.looks (as_cell cell.now)) → IsSeen lists (cells ++ as_cell cell.now ∷ []) result }
-        ensures place { result.place ≡ self.now.place + 1 }
-        ensures looks { result.looks ≡ self.now.looks + count_looks (as_cell cell.now ∷ []) }
+    /// Takes the next cell, which is what the test of the sample asks there or not.
+    pub(crate) fn take(&mut self, cell: &Packed, suits: bool)
+        requires { self.old.place < 2 ^ 32 - 1 }
+        ensures seen { (lists : List (List LawCell)) (cells : List LawCell) → IsSeen lists cells self.old →
+            (IsTrue suits ↔ Suits lists self.old.looks (as_cell cell.now)) → IsSeen lists (cells ++ as_cell cell.now ∷ []) self.new }
+        ensures place { self.new.place ≡ self.old.place + 1 }
+        ensures looks { self.new.looks ≡ self.old.looks + count_looks (as_cell cell.now ∷ []) }
     {
-        Prefix {
-            place: self.place + 1,
-            looks: self.looks + looks_of(cell),
-            young: self.young + young_of(cell),
-            last: Some(*cell),
-            disorder: self.disorder_with(cell),
-            is_sampled: self.is_sampled_with(suits),
-        }
+        let disorder = self.disorder_with(cell);
+        let is_sampled = self.is_sampled_with(suits);
+        self.place += 1;
+        self.looks += looks_of(cell);
+        self.young += young_of(cell);
+        self.last.put(cell);
+        self.disorder = disorder;
+        self.is_sampled = is_sampled;
     }
 }

@@ -4,9 +4,8 @@ ghost use Rattle.std.specs.List.{AllByRecursion};
 ghost use Rattle.cola_check.specs.Tally.{HasRoom, visible_said, shadow_said, counted};
 
 use crate::level_walks::LevelWalks;
-use crate::walk::Found;
 use arrayvec::ArrayVec;
-use cola_cell::{Item, MOST_LEVELS};
+use cola_cell::{Item, MOST_LEVELS, Packed};
 
 /// What runs have of a key: nothing, a tombstone, or a value with this stamp.
 #[derive(Clone, Copy, Debug, Drop)]
@@ -40,21 +39,23 @@ pub(crate) struct Tally {
 }
 
 impl Said {
-    ghost use Rattle.std.specs.Prelude.{◌≡◌, ◌↔◌, IsTrue};
+    ghost use Rattle.std.specs.Prelude.{◌≡◌, ◌↔◌, Some, IsTrue};
+    ghost use Rattle.cola_check.specs.Walks.{found_of};
     ghost use Rattle.cola_check.specs.Tally.{said_of_item, said_of, said_or, live_one, IsWithin};
 
-    /// What a run has of a key, by what was found of it there.
-    pub(crate) fn of(found: &Found) -> Said
-        ensures { result ≡ said_of found.now }
+    /// What a cell says of its key. The value is not looked at.
+    #[inline]
+    pub(crate) fn of_cell(cell: &Packed) -> Said
+        ensures { result ≡ said_of (found_of (Some cell.now)) }
     {
-        match found {
-            Found::Nothing => Said::Nothing,
-            Found::Old(item) => Said::of_item(item),
-            Found::Young(item) => Said::of_item(item),
+        match cell.item() {
+            Some(item) => Said::of_item(&item),
+            None => Said::Nothing,
         }
     }
 
     /// What an item says of its key.
+    #[inline]
     fn of_item(item: &Item) -> Said
         ensures { result ≡ said_of_item item.now }
     {
@@ -64,8 +65,9 @@ impl Said {
         }
     }
 
-    /// This, or what runs further down have where these have nothing.
-    fn or(self, below: Said) -> Said
+    /// This, or what is found later where this is nothing.
+    #[inline]
+    pub(crate) fn or(self, below: Said) -> Said
         ensures { result ≡ said_or self below }
     {
         match self {
@@ -141,18 +143,18 @@ fn add_live(counts: &mut [LiveCount], levels: &[LevelWalks]) -> Answers
     ensures shadow { result.shadow ≡ shadow_said levels.now }
     ensures counted { counts.new ≡ counted counts.old levels.now }
 {
-    let none = Answers {
+    let mut answers = Answers {
         visible: Said::Nothing,
         shadow: Said::Nothing,
     };
-    let Some((level, below)) = levels.split_first() else {
-        return none;
-    };
-    let Some((count, counts_below)) = counts.split_first_mut() else {
-        return none;
-    };
-    let answers = add_live(counts_below, below).under(level);
-    *count = count.with(&answers);
+    let mut left = levels.len();
+    while left > 0 {
+        left -= 1;
+        let level = &levels[left];
+        answers = answers.under(level);
+        let count = counts[left];
+        counts[left] = count.with(&answers);
+    }
     answers
 }
 

@@ -4,16 +4,16 @@ ghost use Rattle.std.specs.Option.{option_to_list};
 ghost use Rattle.cola_cell.specs.Held.{Held, LawCell, as_cell};
 ghost use Rattle.cola_cell.specs.Looks.{OnlyLooks};
 ghost use Rattle.cola_look.specs.Runs.{HasRun};
-ghost use Rattle.cola_runs.specs.Cells.{sample, count_looks};
+ghost use Rattle.cola_runs.specs.Cells.{key_of, sample, count_looks};
 ghost use Rattle.cola_cell.specs.ToldCells.{run_cells};
 ghost use Rattle.cola_verdict.specs.Tests.{HasSample};
 ghost use Rattle.cola_check.specs.Blocks.{TurnsTo, SampleReadsOn, run_blocks, run_blocks_or};
 ghost use Rattle.cola_check.specs.Prefix.{AreBothTold, OrderIs, IsFew, lists_below, sample_len, sample_reads, Suits, IsSeen};
 ghost use Rattle.cola_check.specs.Reading.{IsRunTold, ReadsRuns};
 
-use crate::kinds::{has_key, is_look, is_old_value};
+use crate::kinds::{has_key_of, is_look, is_old_value};
 use crate::prefix::Prefix;
-use cola_cell::{Cell, CellSource, Key, ReadFault, Reader, Run};
+use cola_cell::{CellSource, Packed, ReadFault, Reader, Run};
 use cola_outside::Steps;
 use std::sync::ledger::Ledger;
 
@@ -85,17 +85,17 @@ fn tests_of(seen: &Prefix, below: Option<Run>, few: Few) -> RunTests
     }
 }
 
-/// Whether the key of this number in the sample of a run is this one.
+/// Whether the key of this number in the sample of a run is that of a cell.
 fn has_sampled<W: CellSource, L: Ledger>(
     work: &mut W,
-    key: &Key,
+    cell: &Packed,
     run: &Run,
     number: u32,
     steps: &mut Steps<L>,
 ) -> Result<bool, ReadFault>
     requires { HasRun (W.state work.old).held run.now }
     ensures sampled { IfOk result (λ is. IsRunTold (W.state work.old).held run.now →
-        (IsTrue is ↔ (slice_get (sample (run_cells (W.state work.old).held run.now)) number ≡ Some key.now))) }
+        (IsTrue is ↔ (slice_get (sample (run_cells (W.state work.old).held run.now)) number ≡ Some (key_of (as_cell cell.now))))) }
     ensures reads { ReadsRuns (W.state work.old) (W.state work.new) steps.old steps.new
         (run.now ∷ []) (min 1 (run.now.len / 8 - number)) result }
     ensures blocks { OnOk result (SampleReadsOn (W.state work.old) (W.state work.new)
@@ -106,14 +106,22 @@ fn has_sampled<W: CellSource, L: Ledger>(
         return Ok(false);
     }
     let index = 8 * number + 7;
-    let cell = work.read_for(Reader::Sample, run.level, run.slot, index, steps)?;
-    Ok(has_key(&cell, key))
+    let mut sampled = Packed::blank();
+    work.read_packed(
+        Some(Reader::Sample),
+        run.level,
+        run.slot,
+        index,
+        &mut sampled,
+        steps,
+    )?;
+    Ok(has_key_of(&sampled, cell))
 }
 
 /// Whether a cell is what the test of the sample asks behind so many lookahead cells.
 fn suits_at<W: CellSource, L: Ledger>(
     work: &mut W,
-    cell: &Cell,
+    cell: &Packed,
     below: Option<Run>,
     looks: u32,
     steps: &mut Steps<L>,
@@ -131,7 +139,7 @@ fn suits_at<W: CellSource, L: Ledger>(
     match below {
         Some(run) => {
             if is_look(cell) {
-                has_sampled(work, cell.key(), &run, looks, steps)
+                has_sampled(work, cell, &run, looks, steps)
             } else {
                 Ok(true)
             }
@@ -160,10 +168,18 @@ fn read_all<W: CellSource, L: Ledger>(
     ensures looks { OnlyLooks W.CellSource work.old work.new result }
 {
     let mut seen = Prefix::empty();
+    let mut cell = Packed::blank();
     for index in 0..run.len {
-        let cell = work.read_for(Reader::Own, run.level, run.slot, index, steps)?;
+        work.read_packed(
+            Some(Reader::Own),
+            run.level,
+            run.slot,
+            index,
+            &mut cell,
+            steps,
+        )?;
         let suits = suits_at(work, &cell, below, seen.looks, steps)?;
-        seen = seen.with(&cell, suits);
+        seen.take(&cell, suits);
     }
     Ok(seen)
 }

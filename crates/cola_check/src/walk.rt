@@ -1,7 +1,10 @@
 //! A walk over one run, cell by cell.
+ghost use Rattle.std.specs.Prelude.{◌≡◌, Some, cond};
+ghost use Rattle.cola_cell.specs.Cell.{key_of};
 ghost use Rattle.cola_cell.specs.Looks.{OnlyLooks};
+ghost use Rattle.cola_check.specs.Walks.{found_of, lesser};
 
-use cola_cell::{Cell, CellSource, Item, Key, ReadFault, Reader, Run};
+use cola_cell::{CellRoom, CellSource, Item, Key, Packed, ReadFault, Reader, Run};
 use cola_outside::Steps;
 use std::sync::ledger::Ledger;
 
@@ -15,12 +18,38 @@ pub(crate) enum Found {
 
 /// Where a walk stands in a run: how many cells lie behind it, and the next cell, once it is read. A walk reads by one
 /// reader, and each cell once. After a refusal it is not asked again.
-#[derive(Clone, Copy, Debug, Drop)]
+#[derive(Drop)]
 pub(crate) struct Walk {
     pub run: Run,
     pub reader: Reader,
     pub at: u32,
-    pub head: Option<Cell>,
+    pub head: CellRoom,
+}
+
+/// What a cell has of its key.
+#[inline]
+fn found_in(cell: &Packed) -> Found
+    ensures { result ≡ found_of (Some cell.now) }
+{
+    match cell.item() {
+        Some(item) => {
+            if cell.is_young() {
+                Found::Young(item)
+            } else {
+                Found::Old(item)
+            }
+        }
+        None => Found::Nothing,
+    }
+}
+
+/// Whether a cell has a lesser key than another.
+#[inline(always)]
+fn leads(cell: &Packed, other: &Packed) -> bool
+    ensures { cond result (Some (key_of cell.now)) (Some (key_of other.now))
+        ≡ lesser (Some (key_of other.now)) (Some cell.now) }
+{
+    cell.cmp_keys(other).is_lt()
 }
 
 impl Found {
@@ -56,7 +85,8 @@ impl Walk {
     ghost use Rattle.std.specs.Prelude.{◌≡◌, ◌+◌, ◌<◌, [], ◌∷◌, IfOk, OnOk, None};
     ghost use Rattle.cola_look.specs.Runs.{HasRun};
     ghost use Rattle.cola_check.specs.Reading.{ReadsAhead};
-    ghost use Rattle.cola_check.specs.Walks.{WalkFits, IsReady, unread, unread_after, unread_begun, unbegun, ReadsOn, Begins, Fetches, Passes, has_key, found_of, lesser};
+    ghost use Rattle.cola_check.specs.Walks.{WalkFits, IsReady, unread, unread_after, unread_begun, unbegun};
+    ghost use Rattle.cola_check.specs.Walks.{ReadsOn, Begins, Fetches, Passes, has_key, found_of, key_in, lesser};
 
     /// A walk before the first cell of a run, with that cell read, if there is one.
     pub(crate) fn begin<W: CellSource, L: Ledger>(
@@ -77,14 +107,14 @@ impl Walk {
             run: *run,
             reader,
             at: 0,
-            head: None,
+            head: CellRoom::empty(),
         };
         walk.fetch(work, steps)?;
         Ok(walk)
     }
 
     /// Reads the next cell, unless it is read or the walk is at the end.
-    fn fetch<W: CellSource, L: Ledger>(
+    pub(crate) fn fetch<W: CellSource, L: Ledger>(
         &mut self,
         work: &mut W,
         steps: &mut Steps<L>,
@@ -96,24 +126,30 @@ impl Walk {
         ensures blocks { OnOk result (ReadsOn (W.state work.old) (W.state work.new) self.old self.new) }
         ensures looks { OnlyLooks W.CellSource work.old work.new result }
     {
-        if self.head.is_some() || self.at == self.run.len {
+        if self.head.has_cell() || self.at == self.run.len {
             return Ok(());
         }
-        match work.read_for(self.reader, self.run.level, self.run.slot, self.at, steps) {
-            Ok(cell) => {
-                self.head = Some(cell);
-                Ok(())
-            }
-            Err(fault) => Err(fault),
-        }
+        let (level, slot) = (self.run.level, self.run.slot);
+        let room = &mut self.head;
+        work.read_packed(
+            Some(self.reader),
+            level,
+            slot,
+            self.at,
+            &mut room.packed,
+            steps,
+        )?;
+        room.is_filled = true;
+        Ok(())
     }
 
     /// Whether the next cell has this key.
+    #[inline(always)]
     pub(crate) fn has_key(&self, key: &Key) -> bool
         ensures { result ≡ has_key key.now self.now.head }
     {
-        match &self.head {
-            Some(cell) => key.cmp(cell.key()).is_eq(),
+        match self.head.cell() {
+            Some(cell) => cell.key_cmp(key).is_eq(),
             None => false,
         }
     }
@@ -122,39 +158,53 @@ impl Walk {
     fn found(&self) -> Found
         ensures { result ≡ found_of self.now.head }
     {
-        match &self.head {
-            Some(cell) => match cell {
-                Cell::Item { item, young, .. } => {
-                    if *young {
-                        Found::Young(*item)
-                    } else {
-                        Found::Old(*item)
-                    }
-                }
-                Cell::Look { .. } => Found::Nothing,
-            },
+        match self.head.cell() {
+            Some(cell) => found_in(cell),
             None => Found::Nothing,
         }
     }
 
+    /// The cell with the lesser key, of one and the next cell, where there is one of them or both: the first where the keys
+    /// are equal.
+    #[inline]
+    pub(crate) fn lesser<'a>(&'a self, least: Option<&'a Packed>) -> Option<&'a Packed>
+        ensures { key_in result ≡ lesser (key_in least.entry) self.now.head }
+    {
+        match self.head.cell() {
+            Some(cell) => match least {
+                Some(least) => {
+                    if leads(cell, least) {
+                        Some(cell)
+                    } else {
+                        Some(least)
+                    }
+                }
+                None => Some(cell),
+            },
+            None => least,
+        }
+    }
+
     /// Leaves the lesser of a key and the next cell's, where there is one of them or both.
+    #[inline]
     pub(crate) fn lower(&self, least: &mut Option<Key>)
         ensures { least.new ≡ lesser least.old self.now.head }
     {
-        let Some(cell) = &self.head else {
+        let Some(cell) = self.head.cell() else {
             return;
         };
         let is_less = match least {
-            Some(least) => cell.key().cmp(least).is_lt(),
+            Some(least) => cell.key_cmp(least).is_lt(),
             None => true,
         };
         if is_less {
-            *least = Some(*cell.key());
+            *least = Some(cell.key());
         }
     }
 
     /// Goes behind the next cell.
-    fn advance(&mut self)
+    #[inline]
+    pub(crate) fn advance(&mut self)
         requires { self.old.at < self.old.run.len }
         ensures run { self.new.run ≡ self.old.run }
         ensures reader { self.new.reader ≡ self.old.reader }
@@ -163,7 +213,7 @@ impl Walk {
     {
         let _len = self.run.len;
         self.at += 1;
-        self.head = None;
+        self.head.clear();
     }
 
     /// Passes the cells at its front that have this key, and reads its next cell; what the first item among them is.

@@ -76,8 +76,9 @@ impl Line {
             return Ok(());
         }
         let mut cell = Packed::blank();
-        let index = index_at(self.run.len, self.place, falls);
-        work.read_into(self.run.level, self.run.slot, index, &mut cell, steps)?;
+        let run = self.run;
+        let index = index_at(run.len, self.place, falls);
+        work.read_packed(None, run.level, run.slot, index, &mut cell, steps)?;
         self.head = Some(cell);
         Ok(())
     }

@@ -58,7 +58,7 @@ fn stop_over<W: CellSource, L: Ledger>(
     let (first, last) = window(start, run.len);
     let mut cell = Packed::blank();
     for index in first..last {
-        work.read_into(run.level, run.slot, index, &mut cell, steps)?;
+        work.read_packed(None, run.level, run.slot, index, &mut cell, steps)?;
         let order = cell.key_cmp(key);
         if order.is_gt() {
             return Ok(Stop {

@@ -6,7 +6,7 @@ ghost use Rattle.cola_cell.specs.Packed.{passed, MayPass};
 ghost use Rattle.cola_device.specs.Bytes.{part, splice};
 ghost use Rattle.cola_front.specs.Front.{IsSpelled, cell_bytes, spelled_at, place_in, places_in, stored, stored_all};
 
-use cola_cell::{Cell, Format, Packed, Pass, is_cell};
+use cola_cell::{Format, Packed, Pass, is_cell};
 
 /// The cell at a place of a block, which is counted in cells, packed; or none where its bytes spell none.
 #[inline]
@@ -159,18 +159,6 @@ pub fn put_as(format: Format, block: &mut [u8], place: usize, cell: &Packed, pas
             &mut block[128 * place..128 * place + 128],
         ),
     }
-}
-
-/// Puts the bytes of a cell at a place of a block, which is counted in cells.
-pub fn put_cell(format: Format, block: &mut [u8], place: usize, cell: &Cell)
-    requires inside { width format * place + width format ≤ length block.old }
-    requires fits { CellFits format cell.now }
-    ensures put { block.new ≡
-        splice block.old (width format * place) (stored format (Some cell.now)) }
-    ensures spelled { IsSpelled format cell.now }
-{
-    let packed = Packed::of_cell(format, cell);
-    put_as(format, block, place, &packed, Pass::keeping(cell));
 }
 
 /// Puts the header at the start of a block.

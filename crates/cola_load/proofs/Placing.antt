@@ -1,8 +1,8 @@
 -- Where a cell stands, and what putting one leaves of the others.
-use Rattle.std.proofs.Common.{eq-eqb, ◌≡◌, ◌≢◌, ◌⊎◌, inl, inr, ℕ, ◌+◌, ◌-◌, ◌*◌, ◌/◌, ◌%◌, ◌<◌, ◌≤◌, ◌==◌, nat_lt, true, false, Bool, if◌then◌else◌, List, length, take, drop, set, Option, None, Some, Result, Ok, Err, refl, sym, ap, subst, ◌∙◌, arith}
+use Rattle.std.proofs.Common.{eq-eqb, ◌≡◌, ◌≢◌, ◌⊎◌, inl, inr, ℕ, ◌+◌, ◌*◌, ◌/◌, ◌%◌, ◌<◌, ◌≤◌, ◌==◌, nat_lt, true, false, Bool, if◌then◌else◌, List, length, take, set, Option, None, Some, Result, Ok, Err, refl, sym, ap, subst, ◌∙◌, arith}
 use Rattle.std.proofs.lemmas.Bool.{lt-ltb, le-ltb, ne_eqb, eqb-true, false≢true, cases_lt, cases_eq}
 use Rattle.std.proofs.Math.Nat.{mul-le-mul_right}
-use Rattle.std.proofs.lemmas.List.{length-take-le, length-drop, get_or-set_same, get_or-set_other}
+use Rattle.std.proofs.lemmas.List.{get_or-set_same, get_or-set_other}
 use Rattle.std.proofs.lemmas.Nat.{pow_pos}
 use Rattle.cola_outside.specs.Told.{Both}
 use Rattle.cola_cell.specs.declared.cell.Cell.{Cell}
@@ -20,7 +20,7 @@ use Rattle.cola_run.specs.Cells.{IsOnDevice, block_cells, block_bytes, block_num
 use Rattle.cola_run.specs.Parts.{tail_of, fills, WroteTail, TailPushed}
 use Rattle.cola_run.proofs.Numbers.{IsMore, IsFull, next-split, one-place, first-place, block-behind}
 use Rattle.cola_run.proofs.Spots.{choose-then, choose-else, both-same}
-use Rattle.cola_run.proofs.Steps.{block-fits, tail-many, tail-cell, put-many, put-there, put-stays, written-many, written-there, written-stays}
+use Rattle.cola_run.proofs.Steps.{block-fits, tail_many, tail-cell, put-many, put-there, put-stays, written-many, written-there, written-stays}
 use Rattle.cola_load.specs.Loading.{Loading, HasMore, Puts, StaysInFront, standing_cell}
 
 -- a level is on the device
@@ -31,16 +31,13 @@ pub in-slot : (bottom level index : ℕ) → level ≤ bottom → index < slot_s
 in-slot bottom level index low within = record { level_in = omega (arith, low); slot_in = omega arith; index_in = within }
 
 -- a block that is written lies in the file
-pub write-inside : (told : Option (List ℕ)) (g : Geometry) (level index : ℕ) (tails : List ℕ) (from size at : ℕ) → IsOnDevice g level → index < slot_size level
-    → length tails ≡ tails_bytes g → HasRange told 0 (file_bytes g) → from + size ≤ length tails
-    → size ≡ block_bytes g → at ≡ block_number g level 0 index * block_bytes g → HasRange told at (length (take (from + size - from) (drop from tails)))
-write-inside None g level index tails from size at device within many inside fits size_is at_is = tt
-write-inside (Some bytes) g level index tails from size at device within many inside fits size_is at_is =
-    let part_is : length (take (from + size - from) (drop from tails)) ≡ size =
-    length-take-le (from + size - from) (drop from tails) (let d = length-drop from tails in omega (arith, d, fits)) ∙ (let e : from + size - from ≡ size = omega arith in e) in
-    let tail = tail-many g tails level g.block_fits device many in
+pub write_inside : (told : Option (List ℕ)) (g : Geometry) (level index : ℕ) (tails : List ℕ) (at : ℕ) → IsOnDevice g level → index < slot_size level
+    → length tails ≡ tails_bytes g → HasRange told 0 (file_bytes g) → at ≡ block_number g level 0 index * block_bytes g → HasRange told at (length (tail_of g tails level))
+write_inside None g level index tails at device within many inside at_is = tt
+write_inside (Some bytes) g level index tails at device within many inside at_is =
+    let tail = tail_many g tails level g.block_fits device many in
     let ends = block-fits g g.block_fits level 0 index device.whole (in-slot g.bottom level index device.within within) bytes (tail_of g tails level) (omega (arith, inside)) tail in
-    omega (arith, part_is, tail, ends, at_is, size_is, inside)
+    omega (arith, tail, ends, at_is, inside)
 
 -- where a cell of a level stands
 module _ (loading : Loading) (bytes : List ℕ) (len level index : ℕ) where
@@ -182,7 +179,7 @@ module _ (loading : Loading) (tails x y : List ℕ) (level index : ℕ) (cell : 
   -- the block is full and was written
   pub put-last : IsFull (block_cells h) index → y ≡ splice x (block_number h level 0 index * block_bytes h) (tail_of h tails level) → HasMore loading put-tail level index cell x y
   put-last full stays =
-      let tail = tail-many h tails level h.block_fits on tails-long in
+      let tail = tail_many h tails level h.block_fits on tails-long in
       let place = in-slot h.bottom level index low within in
       let behind : (i : ℕ) → i < index + 1 → i / block_cells h ≢ (index + 1) / block_cells h =
       λ i before e. (let f = first-place (block_cells h) i (index + 1) some e full.place_is in omega (arith, f, before)) in
@@ -273,7 +270,7 @@ module _ {T E : Type 0} (g : Geometry) (tails : List ℕ) (level index : ℕ) (l
   front-written result (Some x) None inside wrote = absurd wrote
   front-written result (Some x) (Some y) inside wrote =
       let w : WroteSome result (block_number g level 0 index * block_bytes g) (tail_of g tails level) x y = wrote in
-      let tail = tail-many g tails level g.block_fits (on-level g level high low) many in
+      let tail = tail_many g tails level g.block_fits (on-level g level high low) many in
       let place = in-slot g.bottom level index low within in
       let whole : length w.left ≡ block_bytes g = w.as_many ∙ tail in
       let ends = block-fits g g.block_fits level 0 index high place x w.left (omega (arith, inside)) whole in

@@ -30,7 +30,7 @@ use Rattle.cola_run.proofs.Flushes.{image-many, written-loaded}
 use Rattle.cola_run.proofs.Heads.{head-long, block-least}
 use Rattle.cola_run.proofs.Numbers.{first-place}
 use Rattle.cola_run.proofs.Spots.{both-same, both-so}
-use Rattle.cola_run.proofs.Steps.{tail-many, tail-cell, written-there, written-stays}
+use Rattle.cola_run.proofs.Steps.{tail_many, tail-cell, written-there, written-stays}
 use Rattle.cola_load.specs.Filled.{Row, run_len, filled_cell, filled_header, IsFilled}
 use Rattle.cola_load.specs.Loading.{Loading, IsLoading, IsHeadless, HoldsRows, HasSaved, Finishes, FrontWaited, FrontWaits, StaysInFront, standing_cell}
 use Rattle.cola_load.proofs.Lengths.{run-fits}
@@ -90,7 +90,7 @@ module _ (loading : Loading) (level : ℕ) (high : loading.geometry.block_exp �
       → now ≡ splice old (block_number h level 0 n * block_bytes h) (tail_of h loading.tails level) → HasSaved loading level before old → HasSaved loading (level + 1) before now
   save-part before old now within_n long many front stays was =
       let on = on-level h level high low in
-      let tail = tail-many h loading.tails level h.block_fits on many in
+      let tail = tail_many h loading.tails level h.block_fits on many in
       let place = in-slot h.bottom level n low within_n in
       let others : (l i : ℕ) → h.block_exp ≤ l + 2 → l ≤ h.bottom → i < slot_size l → (l ≢ level) ⊎ (0 ≢ 0) ⊎ (i / block_cells h ≢ n / block_cells h) →
       cell_bytes h.format now (number_of l 0 i) ≡ cell_bytes h.format old (number_of l 0 i) =

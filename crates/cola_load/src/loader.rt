@@ -1,29 +1,29 @@
 //! A new file filled with rows, from the bottom up, in one pass.
-ghost use Rattle.std.specs.Prelude.{◌≡◌, ℕ, ◌+◌, ◌-◌, ◌*◌, ◌^◌, ◌≤◌, ◌<◌, List, Some, IfOk, OnOk, length, replicate};
-ghost use Rattle.std.specs.Box.{boxed_slice_items};
+ghost use Rattle.std.specs.Prelude.{◌≡◌, ℕ, ◌+◌, ◌-◌, ◌^◌, ◌≤◌, ◌<◌, List, Some, IfOk, OnOk, length};
 ghost use Rattle.cola_outside.specs.Told.{Both};
-ghost use Rattle.cola_cell.specs.Format.{KeyFits, ValueFits, CellFits, stamp_limit, width};
+ghost use Rattle.cola_cell.specs.Format.{KeyFits, ValueFits, CellFits, stamp_limit};
 ghost use Rattle.cola_cell.specs.Places.{slot_size};
 ghost use Rattle.cola_device.specs.Bytes.{HasRange};
 ghost use Rattle.cola_device.specs.Counts.{Called};
 ghost use Rattle.cola_device.specs.Settling.{IsSettled};
 ghost use Rattle.cola_front.specs.Front.{new_front};
 ghost use Rattle.cola_opening.specs.Counted.{Spends};
-ghost use Rattle.cola_run.specs.Cells.{block_cells, device_levels, file_bytes, tails_bytes};
+ghost use Rattle.cola_run.specs.Cells.{device_levels, file_bytes};
 ghost use Rattle.cola_run.specs.Saving.{SameLevels};
+ghost use Rattle.cola_run.specs.Store.{new_tails};
 ghost use Rattle.cola_load.specs.Loading.{Begins, Pushes, Finishes, FrontWaits, StaysInFront, IsAbove, IsLoading, SameRows};
 ghost use Rattle.cola_load.specs.Loading.{Puts, PutsRow, HasSaved, row_cell, full_blocks, filled_by};
 
 use crate::fault::LoadFault;
 use crate::loader_header::{header_of, len_of_run};
-use crate::tails::{cells_of_block, put_on_device, write_tail};
+use crate::tails::{put_on_device, write_tail};
 use cola_cell::{Cell, Item, Key, Value};
 use cola_device::{Device, DeviceFault};
 use cola_front::Front;
 use cola_layout::Geometry;
 use cola_opening::size_of;
+use cola_run::{Tails, cells_of_block};
 use std::alloc::{AllocError, Global};
-use std::boxed::BoxedSlice;
 use std::marker::Model;
 
 /// Fills a new file with rows by rising keys, in one pass: each row is put at the end of the bottom's run, and after each
@@ -38,11 +38,10 @@ pub struct Loader {
     rows: u64,
     key: Option<Key>,
     front: Front,
-    tails: BoxedSlice<u8>,
+    tails: Tails,
 }
 
 impl Model for Loader {
-    ghost use Rattle.std.specs.Box.{boxed_slice_items};
     ghost use Rattle.cola_load.specs.Loading.{Loading, IsLoading};
 
     ghost Value = { Loading };
@@ -53,7 +52,7 @@ impl Model for Loader {
       rows = l.rows;
       key = l.key;
       front = l.front;
-      tails = boxed_slice_items l.tails;
+      tails = l.tails;
     } };
 
     ghost invariant = { λ l. IsLoading (record {
@@ -62,28 +61,18 @@ impl Model for Loader {
       rows = l.rows;
       key = l.key;
       front = l.front;
-      tails = boxed_slice_items l.tails;
+      tails = l.tails;
     }) };
 }
 
-/// How many levels are on the device.
-fn levels_on_device(geometry: &Geometry) -> u8
-    ensures value { result ≡ device_levels geometry.now }
-    ensures most { result ≤ 22 }
-{
-    geometry.bottom + 3 - geometry.block_exp
-}
-
 /// A front and tails in which no cell stands.
-fn no_cells(alloc: Global, geometry: &Geometry) -> Result<(Front, BoxedSlice<u8>), AllocError>
+fn no_cells(alloc: Global, geometry: &Geometry) -> Result<(Front, Tails), AllocError>
     ensures front { IfOk result (λ made.
         made.0 ≡ new_front geometry.now.block_exp geometry.now.format) }
-    ensures tails { IfOk result (λ made.
-        boxed_slice_items made.1 ≡ replicate (tails_bytes geometry.now) 0) }
+    ensures tails { IfOk result (λ made. made.1 ≡ new_tails geometry.now) }
 {
     let front = Front::new(alloc, geometry.block_exp, geometry.format)?;
-    let cells = cells_of_block(geometry) as usize * levels_on_device(geometry) as usize;
-    let tails = vec![in alloc; 0u8; geometry.format.width() * cells]?.into_boxed_slice();
+    let tails = Tails::new(alloc, geometry)?;
     Ok((front, tails))
 }
 

@@ -105,7 +105,7 @@ pub fn seek<W: CellSource, L: Ledger>(
         if index == last {
             return Ok(seat_at_end(run, next_len));
         }
-        work.read_into(run.level, run.slot, index, &mut cell, steps)?;
+        work.read_packed(None, run.level, run.slot, index, &mut cell, steps)?;
         let order = cell.key_cmp(key);
         if !order.is_lt() {
             return Ok(seat_at(&cell, index, key, order));

@@ -8,13 +8,13 @@ use Rattle.std.proofs.Math.Pow.{pow_mono}
 use Rattle.std.proofs.Math.Nat.{div-le_self}
 use Rattle.cola_runs.specs.Cells as laws
 use Rattle.cola_cell.specs.declared.cell.Cell.TheVariants as cell
-use Rattle.cola_cell.specs.Decoded.{decoded, spot_of_bytes}
+use Rattle.cola_cell.specs.Decoded.{decoded, spot_of_bytes, stands}
 use Rattle.cola_cell.specs.Flat.{spot_of}
 use Rattle.cola_cell.proofs.DecodedLemmas.{decoded_fits}
 use Rattle.cola_cell.specs.Held.{Fixed}
 use Rattle.cola_merge.specs.Heads.{IsHeldCell, fetched_of}
 use Rattle.cola_merge.specs.Feeds.{IsFeed}
-use Rattle.cola_merge.specs.Weaving.{stands, gone_cell, gone}
+use Rattle.cola_merge.specs.Weaving.{gone_cell, gone}
 use Rattle.cola_merge.proofs.Sums.{took_none}
 use Rattle.std.proofs.lemmas.Nat.{le-div, mod-mul-add, pow_pos}
 use Rattle.std.proofs.Math.Nat.{div-mul-le_self, div-add-mod, mul_comm, lt_of_mul-lt-mul_right}

@@ -5,7 +5,7 @@ use Rattle.cola_merge.specs.declared.aims.Feed.TheVariants as feed
 use Rattle.cola_cell.specs.declared.windows.Reach.{Reach}
 use Rattle.cola_cell.specs.declared.cell.Cell.{Cell}
 use Rattle.cola_cell.specs.declared.format.Format.{Format}
-use Rattle.cola_cell.specs.Decoded.{decoded}
+use Rattle.cola_cell.specs.Decoded.{stands}
 use Rattle.cola_cell.specs.Format.{width}
 use Rattle.cola_window.specs.declared.windows.Taken.{Taken}
 use Rattle.cola_window.specs.declared.windows.Lasts.{Lasts}
@@ -20,10 +20,6 @@ use Rattle.cola_merge.specs.Feeds.{takes_young}
 use Rattle.cola_merge.specs.Heads.{held_head}
 use Rattle.cola_cell.specs.Windows.{Views}
 use Rattle.cola_cell.specs.declared.windows.Passed.{Passed}
-
--- the cell that stands at the beginning of bytes, where they spell one
-abbrev pub stands : Format → List ℕ → Option Cell
-stands format bytes = if nat_le (width format) (length bytes) then decoded format (take (width format) bytes) else None
 
 -- what a head holds that went on by so many cells: what it held, where it went on by none; else what stands there
 abbrev pub gone_cell : Format → ℕ → List ℕ → Option Cell → Option Cell

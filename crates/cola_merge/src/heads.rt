@@ -5,7 +5,7 @@ ghost use Rattle.cola_cell.specs.Format.{CellFits};
 ghost use Rattle.cola_cell.specs.Held.{Held};
 
 use crate::aims::Feed;
-use cola_cell::{Cell, CellSource, Format, Packed, ReadFault, Reader};
+use cola_cell::{Cell, CellRoom, CellSource, Format, Packed, ReadFault, Reader};
 use cola_outside::Steps;
 use std::marker::Model;
 use std::sync::ledger::Ledger;
@@ -14,23 +14,21 @@ use std::sync::ledger::Ledger;
 #[derive(Drop)]
 pub(crate) struct Head {
     at: u32,
-    is_held: bool,
-    packed: Packed,
+    room: CellRoom,
 }
 
 impl Model for Head {
-    ghost use Rattle.std.specs.Prelude.{if◌then◌else◌, Some, None};
     ghost use Rattle.cola_merge.specs.Fetched.{Head};
 
     ghost Value = { Head };
 
-    ghost view = { λ h. record { at = h.at; cell = if h.is_held then Some h.packed else None } };
+    ghost view = { λ h. record { at = h.at; cell = h.room } };
 }
 
 impl Head {
     ghost use Rattle.cola_merge.specs.Feeds.{IsFeed, feed_len};
     ghost use Rattle.cola_merge.specs.Heads.{head_at, held_at, IsHead, held_head};
-    ghost use Rattle.cola_merge.specs.Weaving.{gone, standing_head};
+    ghost use Rattle.cola_merge.specs.Weaving.{gone};
     ghost use Rattle.cola_merge.specs.States.{Fetch};
 
     /// The head behind so many consumed cells, not read yet.
@@ -40,8 +38,7 @@ impl Head {
     {
         Head {
             at,
-            is_held: false,
-            packed: Packed::blank(),
+            room: CellRoom::empty(),
         }
     }
 
@@ -58,11 +55,7 @@ impl Head {
     pub(crate) fn cell(&self) -> Option<&Packed>
         ensures { option_copied result ≡ self.now.cell }
     {
-        if self.is_held {
-            Some(&self.packed)
-        } else {
-            None
-        }
+        self.room.cell()
     }
 
     /// Holds this cell, where it stands. It is a call of its own, so that no fetch makes room for a cell that it seldom packs.
@@ -71,8 +64,8 @@ impl Head {
         requires { CellFits Format.Two cell.now }
         ensures { self.new ≡ held_at self.old.at cell.now }
     {
-        self.packed = Packed::of_cell(Format::Two, cell);
-        self.is_held = true;
+        self.room.packed = Packed::of_cell(Format::Two, cell);
+        self.room.is_filled = true;
     }
 
     /// Goes on behind the cell, where it stands.
@@ -82,7 +75,7 @@ impl Head {
         ensures { self.new ≡ head_at (self.old.at + 1) }
     {
         self.at += 1;
-        self.is_held = false;
+        self.room.clear();
     }
 
     /// Goes on by so many cells of a window, which stand so many bytes behind one another, and holds the cell that stands
@@ -95,23 +88,14 @@ impl Head {
         ensures gone { self.new ≡ gone format step count window.now self.old }
         ensures ticks { result + held_head self.old.cell ≡ count + held_head self.new.cell }
     {
-        if count == 0 && self.is_held {
+        if count == 0 && self.room.has_cell() {
             return 0;
         }
-        let was_held = self.is_held;
+        let was_held = self.room.has_cell();
         self.at += count;
         let begin = (count as usize * step).min(window.len());
-        self.hold_front(format, &window[begin..]);
-        count + u32::from(self.is_held) - u32::from(was_held)
-    }
-
-    /// Holds the cell that stands at the beginning of these bytes, where they spell one, and else none.
-    #[inline(always)]
-    fn hold_front(&mut self, format: Format, bytes: &[u8])
-        ensures { self.new ≡ standing_head format self.old.at bytes.now }
-    {
-        self.is_held = bytes.len() >= format.width()
-            && self.packed.refill(format, &bytes[..format.width()]);
+        self.room.refill(format, &window[begin..]);
+        count + u32::from(self.room.has_cell()) - u32::from(was_held)
     }
 
     /// Reads the head where it is not held and the feed, which has so many cells, has one.
@@ -131,7 +115,7 @@ impl Head {
         ensures fetch { Fetch (W.state work.old) (W.state work.new) reader feed.now self.old self.new
             steps.old steps.new result }
     {
-        if self.is_held || self.at >= len {
+        if self.room.has_cell() || self.at >= len {
             return Ok(());
         }
         self.read(reader, feed, work, steps)
@@ -158,15 +142,31 @@ impl Head {
         match feed {
             Feed::Run(run) => {
                 let index = self.at;
-                work.read_for_into(reader, run.level, run.slot, index, &mut self.packed, steps)?;
-                self.is_held = true;
+                let room = &mut self.room;
+                work.read_packed(
+                    Some(reader),
+                    run.level,
+                    run.slot,
+                    index,
+                    &mut room.packed,
+                    steps,
+                )?;
+                room.is_filled = true;
             }
             Feed::Sampled(run) => {
                 // it is below the length, which fits its type
                 let _len = run.len;
                 let index = 8 * self.at + 7;
-                work.read_for_into(reader, run.level, run.slot, index, &mut self.packed, steps)?;
-                self.is_held = true;
+                let room = &mut self.room;
+                work.read_packed(
+                    Some(reader),
+                    run.level,
+                    run.slot,
+                    index,
+                    &mut room.packed,
+                    steps,
+                )?;
+                room.is_filled = true;
             }
             Feed::One(cell) => self.hold(cell),
             Feed::Nothing => {}

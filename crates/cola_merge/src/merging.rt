@@ -143,7 +143,7 @@ impl Merger {
             self.old self.new steps.old steps.new quota result }
     {
         // every object has at most 23 levels, and its shadows stand in slot 0 or 1 and fit it
-        let _ = work.ticked();
+        work.known();
         let _ = work.shadow_len(aim.level);
         self.run(work, aim, quota, steps)
     }
@@ -165,7 +165,7 @@ impl Merger {
             self.old self.new steps.old steps.new result }
     {
         // every object has at most 23 levels
-        let _ = work.ticked();
+        work.known();
         self.draw(work, aim, steps)
     }
 
@@ -268,7 +268,7 @@ impl Merger {
 
     /// Takes steps until so many are taken or no source cell is left: as many as the object takes over its own bytes, and
     /// between these single ones, which read and write blocks. An object that took none three times is not asked again,
-    /// since most that lend no bytes never do.
+    /// since most that have no bytes at hand never do.
     fn run<W: CellSink, L: Ledger>(
         &mut self,
         work: &mut W,

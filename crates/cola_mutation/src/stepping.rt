@@ -82,7 +82,7 @@ pub fn step<W: CellSink, L: Ledger>(
         clock key.now item.now levels.old levels.new result }
 {
     // every object has at most 23 levels
-    let _ = work.ticked();
+    work.known();
     let cell = Cell::Item {
         key: *key,
         item: *item,

@@ -11,6 +11,8 @@ mod levels;
 #[cfg(test)]
 mod merges;
 #[cfg(test)]
+mod required;
+#[cfg(test)]
 mod rows;
 #[cfg(test)]
 mod runs;

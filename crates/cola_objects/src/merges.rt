@@ -248,7 +248,7 @@ fn a_bottom_merge_stops_and_resumes(rt: HostRuntime) {
     bottom_merges::<Brand>(&rt, rt.alloc(), Blank::new(1));
 }
 
-const PARTS: [PlainPart; 3] = [
+pub const PARTS: [PlainPart; 3] = [
     PlainPart {
         only_young: false,
         marks_young: true,
@@ -268,7 +268,7 @@ const PARTS: [PlainPart; 3] = [
 
 /// Three cells of the level's own run, two of the run above and eight of the run below, of which the last is sampled: six
 /// steps.
-fn small_runs(alloc: Global) -> Result<Vec<Vec<Row>>, AllocError>
+pub fn small_runs(alloc: Global) -> Result<Vec<Vec<Row>>, AllocError>
     ensures { IfOk result (λ runs. length runs.items ≡ 3) }
 {
     let own = [
@@ -285,7 +285,11 @@ fn small_runs(alloc: Global) -> Result<Vec<Vec<Row>>, AllocError>
 }
 
 /// What the plain slow program makes of the six cells; nothing where they are not six.
-fn plain_weave(alloc: Global, runs: &[Vec<Row>], part: &PlainPart) -> Result<Vec<Row>, AllocError>
+pub fn plain_weave(
+    alloc: Global,
+    runs: &[Vec<Row>],
+    part: &PlainPart,
+) -> Result<Vec<Row>, AllocError>
     requires { length runs.now ≡ 3 }
 {
     let keys = sample(alloc, &runs[2])?;
@@ -311,7 +315,7 @@ fn quotas_of(alloc: Global, ends: u32) -> Result<Vec<u32>, AllocError> {
 
 /// Whether the cells of a build in these quotas are the plain program's, so many calls are refused, and the last one alone
 /// leaves no cell.
-fn builds<W: CellSink, L: Ledger>(
+pub fn builds<W: CellSink, L: Ledger>(
     work: &mut W,
     runs: &[Vec<Row>],
     wanted: &[Row],

@@ -454,7 +454,7 @@ fn ranges_few<W: CellSource, L: Ledger>(
 }
 
 /// Whether the searches of the worked chain find what they should, and cost no more, and its ranges.
-fn answers_worked<W: CellSink, L: Ledger>(
+pub fn answers_worked<W: CellSink, L: Ledger>(
     alloc: Global,
     work: &mut W,
     chain: &[Vec<Row>],

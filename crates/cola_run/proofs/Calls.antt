@@ -6,22 +6,21 @@ use Rattle.cola_cell.specs.declared.fault.ReadFault.{ReadFault}
 use Rattle.cola_cell.specs.declared.sink.Shadow.{Shadow}
 use Rattle.cola_cell.specs.declared.fault.PushFault.{PushFault}
 use Rattle.cola_cell.specs.declared.fault.PushFault.TheVariants as push
-use Rattle.cola_cell.specs.Decoded.{decoded, spelling}
+use Rattle.cola_cell.specs.Decoded.{decoded}
 use Rattle.cola_cell.specs.Shadows.{after_push}
-use Rattle.cola_cell.specs.Spelling.{IsSpelling}
 use Rattle.cola_layout.specs.declared.geometry.Geometry.{Geometry}
 use Rattle.cola_cell.specs.Flat.{found, shadow_at}
 use Rattle.cola_cell.specs.Format.{width, CellFits}
 use Rattle.cola_cell.specs.Spent.{ReadCalm}
 use Rattle.cola_cell.proofs.DecodedLemmas.{decoded_fits}
-use Rattle.cola_device.specs.Bytes.{part, splice, Gives}
+use Rattle.cola_device.specs.Bytes.{part, Gives}
 use Rattle.cola_device.specs.declared.counts.Counts.{Counts}
 use Rattle.cola_device.specs.Counts.{Called}
 use Rattle.cola_layout.proofs.Powers.{power-le}
 use Rattle.cola_front.specs.Front.{cell_bytes}
 use Rattle.cola_cache.specs.Blocks.{Blocks, Stays, last_in}
-use Rattle.cola_run.specs.Cells.{block_cells, tail_number}
-use Rattle.cola_run.specs.Parts.{Finds, OneShadow, fills, TailPushed, MetFault, IsPushed}
+use Rattle.cola_run.specs.Cells.{block_cells}
+use Rattle.cola_run.specs.Parts.{Finds, OneShadow, fills, TailPushed, MetFault, IsLengthened}
 use Rattle.cola_run.specs.Turns.{HasReadCause, turned_last, Turns}
 use Rattle.cola_run.proofs.Bytes.{block-cell}
 
@@ -105,18 +104,15 @@ one-again first second third level shadow last a b = record {
 pub slot-most : (level len : ℕ) → level ≤ 22 → len < 2 ^ (level + 2) → len < 2 ^ 24
 slot-most level len low h = let more : 2 ^ (level + 2) ≤ 2 ^ 24 = power-le (level + 2) 24 (omega (arith, low)) in omega (arith, h, more)
 
--- a push, by what its steps leave
-pub pushed-by : (g : Geometry) (told now : Option (List ℕ)) (shadows shadows_now : List Shadow) (tails tails_now : List ℕ) (level : ℕ) (cell : Cell) (shadow : Shadow) {T : Type 0} (result : Result T PushFault)
-    → shadow ≡ shadow_at shadows level → tails_now ≡ splice tails (width g.format * tail_number g level shadow.len) (spelling g.format cell)
-    → OneShadow shadows shadows_now level (after_push (block_cells g) shadow result) → TailPushed (fills g shadow.len) result g tails_now level shadow.slot shadow.len told now
-    → MetFault result → IsSpelling g.format cell (spelling g.format cell)
-    → IsPushed g (record { told = told; shadows = shadows; tails = tails }) (record { told = now; shadows = shadows_now; tails = tails_now }) level cell result
-pushed-by g told now shadows shadows_now tails tails_now level cell shadow result is put one device fault spelled = record {
-  tails = subst (λ (x : Shadow). tails_now ≡ splice tails (width g.format * tail_number g level x.len) (spelling g.format cell)) is put;
+-- a shadow that was to be lengthened, by what the steps of that leave
+pub lengthened-by : (g : Geometry) (told now : Option (List ℕ)) (shadows shadows_now : List Shadow) (tails : List ℕ) (level : ℕ) (shadow : Shadow) {T : Type 0} (result : Result T PushFault)
+    → shadow ≡ shadow_at shadows level → OneShadow shadows shadows_now level (after_push (block_cells g) shadow result)
+    → TailPushed (fills g shadow.len) result g tails level shadow.slot shadow.len told now → MetFault result
+    → IsLengthened g (record { told = told; shadows = shadows; tails = tails }) (record { told = now; shadows = shadows_now; tails = tails }) level result
+lengthened-by g told now shadows shadows_now tails level shadow result is one device fault = record {
   shadow = subst (λ (x : Shadow). OneShadow shadows shadows_now level (after_push (block_cells g) x result)) is one;
-  device = subst (λ (x : Shadow). TailPushed (fills g x.len) result g tails_now level x.slot x.len told now) is device;
+  device = subst (λ (x : Shadow). TailPushed (fills g x.len) result g tails level x.slot x.len told now) is device;
   fault = fault;
-  spelled = spelled;
 }
 
 -- the shadow after a push that met the device's fault

@@ -13,7 +13,7 @@ use Rattle.cola_layout.proofs.Places.{slot-blocks}
 use Rattle.cola_run.specs.Cells.{IsOnDevice, Lower, block_cells, block_bytes, file_bytes, block_number, tail_number, is_in_tail, device_cell, spots_of, IsShadow, IsShape, IsSaved, IsBacked, cells_by}
 use Rattle.cola_run.specs.Parts.{tail_of, TailFinished, IsFinished}
 use Rattle.cola_run.proofs.Spots.{both-so, both-same, both-with, both-second, in-tail, device-in, device-out, device-is, spots-stay}
-use Rattle.cola_run.proofs.Steps.{tail-many, tail-cell, written-there}
+use Rattle.cola_run.proofs.Steps.{tail_many, tail-cell, written-there}
 use Rattle.cola_run.proofs.Lowers.{IsAround, around-same, around-written, TailsStay, other-cell, backed-by, shape-by}
 
 -- a shadow that ends within a block does not fill its slot
@@ -65,7 +65,7 @@ module _ (g : Geometry) (front : FrontCells) (old new : Lower) (level : ℕ) {T 
   tails-stay l i on apart = ap (λ (xs : List ℕ). cell_bytes g.format xs (tail_number g l i)) finished.tails
 
   whole : length (tail_of g old.tails level) ≡ block_bytes g
-  whole = tail-many g old.tails level shape.block device shape.tails_many
+  whole = tail_many g old.tails level shape.block device shape.tails_many
 
   way-told : Both old.told new.told (λ b c. Way g old.tails b c level shadow (is_ok result))
   way-told = by-test shadow.saved refl finished.device

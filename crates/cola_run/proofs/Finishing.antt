@@ -18,7 +18,7 @@ use Rattle.cola_run.specs.Cells.{IsOnDevice, Lower, block_bytes, block_number, s
 use Rattle.cola_run.specs.Store.{Store, IsStore, cells_of, held_of, state_of, kept_of, beside}
 use Rattle.cola_run.specs.Parts.{TailFinished, tail_of, MetFault, IsFinished}
 use Rattle.cola_run.specs.Turns.{Writing}
-use Rattle.cola_run.proofs.Steps.{tail-many}
+use Rattle.cola_run.proofs.Steps.{tail_many}
 use Rattle.cola_run.proofs.Reading.{span-is}
 use Rattle.cola_run.proofs.Spots.{both-so, both-same}
 use Rattle.cola_run.proofs.Finishes.{ends-within, finish-stays, finish-shape, finish-backed}
@@ -72,7 +72,7 @@ module _ {D K T : Type 0} (bytes : D → Option (List ℕ)) (counts : D → Coun
           → option_map (beside g) (bytes now.buffers.cache.device) ≡ option_map (beside g) (bytes store.buffers.cache.device)
       by-test false e w =
           beside-tail result g store.tails level shadow.slot shadow.len (bytes store.buffers.cache.device) (bytes now.buffers.cache.device) shape.block device.whole (ends-within g store.front store.shadows store.tails level shape device e)
-          (tail-many g store.tails level shape.block device shape.tails_many) (long-of g store.shadows store.tails (bytes store.buffers.cache.device) sound.cells.backed) w
+          (tail_many g store.tails level shape.block device shape.tails_many) (long-of g store.shadows store.tails (bytes store.buffers.cache.device) sound.cells.backed) w
       by-test true e w = ap (λ (x : Option (List ℕ)). option_map (beside g) x) w.0
 
   spots-now : (l s i : ℕ) → spots_of (cells_of (bytes now.buffers.cache.device) now) l s i ≡ spots_of (cells_by g store.front lower-now) l s i

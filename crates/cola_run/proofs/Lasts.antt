@@ -8,14 +8,14 @@ use Rattle.cola_cell.specs.declared.cell.Reader.{Reader}
 use Rattle.cola_cell.specs.declared.cell.Reader.TheVariants.{Own, Incoming, Sample}
 use Rattle.cola_cell.specs.Places.{IsPlace, Block, block_of}
 use Rattle.cola_cell.specs.Shadows.{Forgets}
-use Rattle.cola_cell.specs.Spent.{Buffer, Search, By}
+use Rattle.cola_cell.specs.Spent.{Buffer, Search, By, buffer_for}
 use Rattle.cola_layout.specs.declared.geometry.Geometry.{Geometry}
 use Rattle.cola_layout.specs.Geometry.{IsBlock}
 use Rattle.cola_layout.proofs.Powers.{next_power, power-le}
 use Rattle.cola_cache.specs.Blocks.{last_in, forgotten}
 use Rattle.cola_run.specs.Cells.{IsOnDevice, block_cells, block_number, device_levels}
 use Rattle.cola_run.specs.Store.{slot_block, as_block, last_block, last_of, buffer_number, reader_number}
-use Rattle.cola_run.specs.Turns.{buffer_for, buffer_index}
+use Rattle.cola_run.specs.Turns.{buffer_index}
 use Rattle.cola_run.proofs.Numbers.{split, block-is, block-within, block-behind}
 use Rattle.cola_run.proofs.Spots.{choose-then, choose-else}
 

@@ -25,7 +25,7 @@ use Rattle.cola_run.specs.Loading.{IsReading, IsWriting, StaySound, StayRead}
 use Rattle.cola_run.proofs.Bytes.{block-from, block-cell, block-stays, block-is_new}
 use Rattle.cola_run.proofs.Numbers.{same-block, place-is, tail-block, first-place}
 use Rattle.cola_run.proofs.Spots.{in-tail, both-so, both-same}
-use Rattle.cola_run.proofs.Steps.{tail-first, tail-holds, tail-many}
+use Rattle.cola_run.proofs.Steps.{tail-first, tail-holds, tail_many}
 use Rattle.cola_run.proofs.Lowers.{around-same, TailsStay, backed-by, shape-by}
 use Rattle.cola_run.proofs.Standing.{shadow-shape, shadow-backed}
 use Rattle.cola_run.specs.Turns.{Writing}
@@ -233,7 +233,7 @@ module _ (g : Geometry) (old new : Lower) (level : ℕ) {T : Type 0} (result : R
       by-test : (t : Bool) → shadow.saved ≡ t → TailFinished t result g old.tails level shadow.slot shadow.len old.told new.told → option_map (beside g) new.told ≡ option_map (beside g) old.told
       by-test false e w =
           beside-tail result g old.tails level shadow.slot shadow.len old.told new.told shape.block device.whole (ends-within g front old.shadows old.tails level shape device e)
-          (tail-many g old.tails level shape.block device shape.tails_many) (long-of g old.shadows old.tails old.told backed) w
+          (tail_many g old.tails level shape.block device shape.tails_many) (long-of g old.shadows old.tails old.told backed) w
       by-test true e w = ap (λ (x : Option (List ℕ)). option_map (beside g) x) w.0
 
   pub finish-read : StayRead g old new

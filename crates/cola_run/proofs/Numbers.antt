@@ -130,11 +130,12 @@ block-ends bottom b k fits within =
     let e : 2 ^ (bottom + 4) ≡ 2 ^ b * 2 ^ (bottom + 4 - b) = file-parts bottom b fits ∙ mul_comm (2 ^ (bottom + 4 - b)) (2 ^ b) in
     omega (arith, h, e)
 
--- the block of a place is one of the file
+-- the block of a cell of the file is one of the file
+pub number_in_file : (bottom b n : ℕ) → b ≤ bottom + 2 → n < 2 ^ (bottom + 4) → n / 2 ^ b < 2 ^ (bottom + 4 - b)
+number_in_file bottom b n fits h = (div-lt_iff_lt-mul (pow_pos b)).1 (subst (λ (m : ℕ). n < m) (file-parts bottom b fits) h)
+
 pub block-in_file : (bottom b l s i : ℕ) → b ≤ bottom + 2 → IsPlace (bottom + 1) l s i → number_of l s i / 2 ^ b < 2 ^ (bottom + 4 - b)
-block-in_file bottom b l s i fits p =
-    let h : number_of l s i < 2 ^ (bottom + 4) = place-within bottom l s i p in
-    (div-lt_iff_lt-mul (pow_pos b)).1 (subst (λ (n : ℕ). number_of l s i < n) (file-parts bottom b fits) h)
+block-in_file bottom b l s i fits p = number_in_file bottom b (number_of l s i) fits (place-within bottom l s i p)
 
 -- cells of the tails of different levels lie in different blocks of them
 pub tail-block : (b d i : ℕ) → ((2 ^ b * d + i % 2 ^ b) / 2 ^ b ≡ d) × ((2 ^ b * d + i % 2 ^ b) % 2 ^ b ≡ i % 2 ^ b)

@@ -22,7 +22,7 @@ use Rattle.cola_run.specs.Cells.{IsOnDevice, Lower, block_cells, block_bytes, fi
 use Rattle.cola_run.specs.Parts.{tail_of, fills, TailPushed, MetFault, IsPushed}
 use Rattle.cola_run.proofs.Numbers.{IsMore, IsFull, next-split, one-place, last-place, first-place}
 use Rattle.cola_run.proofs.Spots.{both-so, both-same, both-with, both-second, with-told, IsInTail, in-tail, device-in, device-out, device-is, spot-there, spot-device, spots-stay, known-told}
-use Rattle.cola_run.proofs.Steps.{tail-many, tail-cell, put-many, put-there, put-stays, written-there}
+use Rattle.cola_run.proofs.Steps.{tail_many, tail-cell, put-many, put-there, put-stays, written-there}
 use Rattle.cola_run.proofs.Lowers.{IsAround, around-same, around-written, TailsStay, other-cell, backed-by, shape-by}
 
 -- the three ways of a push: the cell stays in the tail; the block that it fills was not written; and it was
@@ -85,7 +85,7 @@ module _ (g : Geometry) (front : FrontCells) (old new : Lower) (level : ℕ) (ce
   tail-there = ap (λ (xs : List ℕ). cell_bytes g.format xs (tail_number g level shadow.len)) pushed.tails ∙ put-there g old.tails (spelling g.format cell) level shadow.len shape.block device shape.tails_many long
 
   whole : length (tail_of g new.tails level) ≡ block_bytes g
-  whole = tail-many g new.tails level shape.block device (tails-many ∙ shape.tails_many)
+  whole = tail_many g new.tails level shape.block device (tails-many ∙ shape.tails_many)
 
   more-of : fills g shadow.len ≡ false → IsMore (block_cells g) shadow.len
   more-of e = elim (next-split (block_cells g) shadow.len some) [
@@ -194,7 +194,7 @@ module _ (g : Geometry) (front : FrontCells) (old new : Lower) (level : ℕ) (ce
       ∙ tail-there
   end-cell b c holds value ok (Refused e left many at is) =
       let lens : now.len ≡ shadow.len = ap (λ (x : Shadow). x.len) is in
-      let longer : now.len ≡ shadow.len + 1 = ap (λ (x : Shadow). x.len) (pushed.shadow.is ∙ ap (λ (r : Result T PushFault). after_push (block_cells g) shadow r) ok) in
+      let longer : now.len ≡ shadow.len + 1 = ap (λ (x : Shadow). x.len) (pushed.longer.shadow.is ∙ ap (λ (r : Result T PushFault). after_push (block_cells g) shadow r) ok) in
       absurd (omega (arith, lens, longer))
   end-cell b c holds value ok (Full e at is) =
       let full = full-of e in
@@ -210,18 +210,18 @@ module _ (g : Geometry) (front : FrontCells) (old new : Lower) (level : ℕ) (ce
 
   -- what the device tells after the push
   way-told : Both old.told new.told (λ b c. Way g new.tails b c level shadow now)
-  way-told = by-test (fills g shadow.len) refl pushed.device
+  way-told = by-test (fills g shadow.len) refl pushed.longer.device
     where
       back : (b c : List ℕ) → Way g new.tails b c level shadow (after_push (block_cells g) shadow result) → Way g new.tails b c level shadow now
-      back b c w = subst (λ (x : Shadow). Way g new.tails b c level shadow x) (sym pushed.shadow.is) w
+      back b c w = subst (λ (x : Shadow). Way g new.tails b c level shadow x) (sym pushed.longer.shadow.is) w
 
       by-test : (t : Bool) → fills g shadow.len ≡ t → TailPushed t result g new.tails level shadow.slot shadow.len old.told new.told → Both old.told new.told (λ b c. Way g new.tails b c level shadow now)
       by-test true e w =
           both-so old.told new.told (WroteSome result (block_number g level shadow.slot shadow.len * block_bytes g) (tail_of g new.tails level)) (λ b c. Way g new.tails b c level shadow now)
-          (λ b c v. back b c (way-by g new.tails b c level shadow result true e pushed.fault v)) w
+          (λ b c v. back b c (way-by g new.tails b c level shadow result true e pushed.longer.fault v)) w
       by-test false e w =
           subst (λ (x : Option (List ℕ)). Both old.told x (λ b c. Way g new.tails b c level shadow now)) (sym w.0)
-          (both-same old.told (λ b c. Way g new.tails b c level shadow now) (λ b. back b b (way-by g new.tails b b level shadow result false e pushed.fault (refl, w.1))))
+          (both-same old.told (λ b c. Way g new.tails b c level shadow now) (λ b. back b b (way-by g new.tails b b level shadow result false e pushed.longer.fault (refl, w.1))))
 
   abbrev ways : IfSome old.told (IsBacked g old.shadows old.tails) → Both old.told new.told (λ b c. IsBacked g old.shadows old.tails b × Way g new.tails b c level shadow now)
   ways backed = both-with old.told new.told (IsBacked g old.shadows old.tails) (λ b c. Way g new.tails b c level shadow now) backed way-told
@@ -234,7 +234,7 @@ module _ (g : Geometry) (front : FrontCells) (old new : Lower) (level : ℕ) (ce
       (both-so old.told new.told (λ b c. IsBacked g old.shadows old.tails b × Way g new.tails b c level shadow now)
       (λ b c. IsPlace (g.bottom + 1) l s i → g.block_exp ≤ l + 2 → device_cell g new.shadows new.tails c l s i ≡ device_cell g old.shadows old.tails b l s i)
       (λ b c w p high. elim (cases_eq l level) [
-        | inr other ↦ other-cell g old.shadows new.shadows old.tails new.tails b c level shadow.slot shadow.len (after_push (block_cells g) shadow result) pushed.shadow (around b c now w.0.long w.1) tails-stay l s i p high other
+        | inr other ↦ other-cell g old.shadows new.shadows old.tails new.tails b c level shadow.slot shadow.len (after_push (block_cells g) shadow result) pushed.longer.shadow (around b c now w.0.long w.1) tails-stay l s i p high other
         | inl same ↦
             let here : (s ≢ shadow.slot) ⊎ (i ≢ shadow.len) = elim apart [ inl h ↦ absurd (h same) | inr h ↦ h ] in
             subst (λ (x : ℕ). device_cell g new.shadows new.tails c x s i ≡ device_cell g old.shadows old.tails b x s i) (sym same)
@@ -275,7 +275,7 @@ module _ (g : Geometry) (front : FrontCells) (old new : Lower) (level : ℕ) (ce
       by-result (Err (Overfull l)) = stands
 
   after-unsaved : (after_push (block_cells g) shadow result).saved ≡ false → (after_push (block_cells g) shadow result).len % block_cells g ≢ 0
-  after-unsaved = by-result result (fills g shadow.len) refl pushed.fault pushed.device
+  after-unsaved = by-result result (fills g shadow.len) refl pushed.longer.fault pushed.longer.device
     where
       by-result : (r : Result T PushFault) (t : Bool) → fills g shadow.len ≡ t → MetFault r → TailPushed t r g new.tails level shadow.slot shadow.len old.told new.told → (after_push (block_cells g) shadow r).saved ≡ false
           → (after_push (block_cells g) shadow r).len % block_cells g ≢ 0
@@ -288,12 +288,12 @@ module _ (g : Geometry) (front : FrontCells) (old new : Lower) (level : ℕ) (ce
       by-result (Err (Overfull l)) t e fault w is = absurd fault
 
   pub push-shape : IsShape g front new.shadows new.tails
-  push-shape = shape-by g front old.shadows new.shadows old.tails new.tails level (after_push (block_cells g) shadow result) shape pushed.shadow tails-many after-stands (λ on. after-unsaved)
+  push-shape = shape-by g front old.shadows new.shadows old.tails new.tails level (after_push (block_cells g) shadow result) shape pushed.longer.shadow tails-many after-stands (λ on. after-unsaved)
 
   -- what is saved is on the device
   after-saved : (b c : List ℕ) → Way g new.tails b c level shadow now → (after_push (block_cells g) shadow result).saved ≡ true → IsSaved g new.shadows new.tails c level
-  after-saved b c (More e same is) saved = absurd (false≢true (sym e ∙ sym (ap (λ (x : Shadow). x.saved) (sym pushed.shadow.is ∙ is)) ∙ saved))
-  after-saved b c (Refused e left many at is) saved = absurd (false≢true (sym (ap (λ (x : Shadow). x.saved) (sym pushed.shadow.is ∙ is)) ∙ saved))
+  after-saved b c (More e same is) saved = absurd (false≢true (sym e ∙ sym (ap (λ (x : Shadow). x.saved) (sym pushed.longer.shadow.is ∙ is)) ∙ saved))
+  after-saved b c (Refused e left many at is) saved = absurd (false≢true (sym (ap (λ (x : Shadow). x.saved) (sym pushed.longer.shadow.is ∙ is)) ∙ saved))
   after-saved b c (Full e at is) saved =
       λ i t.
       let q = in-tail (block_cells g) now now.slot i t in
@@ -306,5 +306,5 @@ module _ (g : Geometry) (front : FrontCells) (old new : Lower) (level : ℕ) (ce
   push-backed backed =
       both-second old.told new.told (λ b c. IsBacked g old.shadows old.tails b × Way g new.tails b c level shadow now) (IsBacked g new.shadows new.tails)
       (λ b c w.
-      backed-by g front old.shadows new.shadows old.tails new.tails b c level shadow.slot shadow.len (after_push (block_cells g) shadow result) shape w.0 pushed.shadow (around b c now w.0.long w.1) tails-stay (λ on. after-saved b c w.1))
+      backed-by g front old.shadows new.shadows old.tails new.tails b c level shadow.slot shadow.len (after_push (block_cells g) shadow result) shape w.0 pushed.longer.shadow (around b c now w.0.long w.1) tails-stay (λ on. after-saved b c w.1))
       (ways backed)

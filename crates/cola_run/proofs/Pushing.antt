@@ -19,7 +19,7 @@ use Rattle.cola_run.specs.Cells.{IsOnDevice, Lower, block_cells, block_bytes, de
 use Rattle.cola_run.specs.Store.{Store, IsStore, cells_of, held_of, state_of, kept_of, beside}
 use Rattle.cola_run.specs.Parts.{fills, TailPushed, tail_of, MetFault, IsPushed}
 use Rattle.cola_run.specs.Turns.{Writing}
-use Rattle.cola_run.proofs.Steps.{tail-many}
+use Rattle.cola_run.proofs.Steps.{tail_many}
 use Rattle.cola_run.proofs.Reading.{span-is}
 use Rattle.cola_run.proofs.Spots.{both-so, both-same}
 use Rattle.cola_run.proofs.Pushes.{push-stays, push-end, push-shape, push-backed}
@@ -48,7 +48,7 @@ module _ {D K T : Type 0} (bytes : D → Option (List ℕ)) (counts : D → Coun
       record { level_in = omega (arith, low); slot_in = stands.slot_in; index_in = room }
 
   told-both : Both (bytes store.buffers.cache.device) (bytes now.buffers.cache.device) (λ _ _. Unit {0})
-  told-both = by-test (fills g shadow.len) pushed.device
+  told-both = by-test (fills g shadow.len) pushed.longer.device
     where
       by-test : (t : Bool) → TailPushed t result g now.tails level shadow.slot shadow.len (bytes store.buffers.cache.device) (bytes now.buffers.cache.device) → Both (bytes store.buffers.cache.device) (bytes now.buffers.cache.device) (λ _ _. Unit {0})
       by-test true w = both-so (bytes store.buffers.cache.device) (bytes now.buffers.cache.device) (WroteSome result (block_number g level shadow.slot shadow.len * block_bytes g) (tail_of g now.tails level)) (λ _ _. Unit {0}) (λ _ _ _. tt) w
@@ -66,7 +66,7 @@ module _ {D K T : Type 0} (bytes : D → Option (List ℕ)) (counts : D → Coun
       writing.stays.size writing.stays.many (lasts-many (fills g shadow.len) (block_number g level shadow.slot shadow.len) store.buffers.lasts now.buffers.lasts writing.lasts_are)
 
   pub pushed-keeps : kept_of bytes counts kept now ≡ kept_of bytes counts kept store
-  pushed-keeps = kept-by bytes counts kept store now same writing.stays.blocks writing.kept_is (by-test (fills g shadow.len) pushed.device) (let low = writing.called.others_stay in let high = writing.called.others_rise in omega (arith, low, high))
+  pushed-keeps = kept-by bytes counts kept store now same writing.stays.blocks writing.kept_is (by-test (fills g shadow.len) pushed.longer.device) (let low = writing.called.others_stay in let high = writing.called.others_rise in omega (arith, low, high))
     where
       tails-now : length now.tails ≡ width g.format * (block_cells g * device_levels g)
       tails-now = (push-shape g store.front lower lower-now level cell result shape device room pushed).tails_many
@@ -75,7 +75,7 @@ module _ {D K T : Type 0} (bytes : D → Option (List ℕ)) (counts : D → Coun
           → option_map (beside g) (bytes now.buffers.cache.device) ≡ option_map (beside g) (bytes store.buffers.cache.device)
       by-test true w =
           beside-tail result g now.tails level shadow.slot shadow.len (bytes store.buffers.cache.device) (bytes now.buffers.cache.device) shape.block device.whole place
-          (tail-many g now.tails level shape.block device tails-now) (long-of g store.shadows store.tails (bytes store.buffers.cache.device) sound.cells.backed) w
+          (tail_many g now.tails level shape.block device tails-now) (long-of g store.shadows store.tails (bytes store.buffers.cache.device) sound.cells.backed) w
       by-test false w = ap (λ (x : Option (List ℕ)). option_map (beside g) x) w.0
 
   -- what the cells of the store were and are, with one geometry and one front
@@ -83,7 +83,7 @@ module _ {D K T : Type 0} (bytes : D → Option (List ℕ)) (counts : D → Coun
   spots-now l s i = ap (λ (x : Geometry). spots_of (cells_by x now.front lower-now) l s i) same ∙ ap (λ (x : FrontCells). spots_of (cells_by g x lower-now) l s i) front
 
   pub pushed-around : StaysAround (held_of bytes store) (held_of bytes now) level
-  pushed-around = around-by bytes store now level same writing.stays.made (λ l apart. pushed.shadow.others l apart) told-both
+  pushed-around = around-by bytes store now level same writing.stays.made (λ l apart. pushed.longer.shadow.others l apart) told-both
 
   answers : (r : Result T PushFault) → r ≡ result → MetFault r → HasCauseOf r (counts store.buffers.cache.device).faults (counts now.buffers.cache.device).faults → PushAnswers (state_of bytes counts store) (state_of bytes counts now) level cell r
   answers (Ok value) e fault cause = (room, spots-now level shadow.slot shadow.len ∙ push-end g store.front lower lower-now level cell result shape device room pushed sound.cells.backed value (sym e))
@@ -93,9 +93,9 @@ module _ {D K T : Type 0} (bytes : D → Option (List ℕ)) (counts : D → Coun
   pub pushed-meets : Pushes (state_of bytes counts store) (state_of bytes counts now) level cell result
   pushed-meets = record {
     around = pushed-around;
-    answer = answers result refl pushed.fault (cause-of result writing.called);
-    calm = calm-of result pushed.fault writing.called;
-    shadow_is = pushed.shadow.is ∙ ap (λ (n : ℕ). after_push n shadow result) (sym (span-is g shape.block));
+    answer = answers result refl pushed.longer.fault (cause-of result writing.called);
+    calm = calm-of result pushed.longer.fault writing.called;
+    shadow_is = pushed.longer.shadow.is ∙ ap (λ (n : ℕ). after_push n shadow result) (sym (span-is g shape.block));
     others_stay = λ l s i apart. spots-now l s i ∙ push-stays g store.front lower lower-now level cell result shape device room pushed sound.cells.backed l s i apart;
   }
 

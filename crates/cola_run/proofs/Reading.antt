@@ -12,7 +12,7 @@ use Rattle.cola_cell.specs.Flat.{found, spot_of, shadow_at}
 use Rattle.cola_cell.specs.Format.{CellFits}
 use Rattle.cola_cell.specs.Held.{Held, Spot, Bad, Told, Tells, as_cell, span}
 use Rattle.cola_cell.specs.Places.{slot_size, number_of, IsPlace, block_of}
-use Rattle.cola_cell.specs.Spent.{Buffer, Ticks, StaysAt, ReadAnswers, ReadCalm}
+use Rattle.cola_cell.specs.Spent.{Buffer, buffer_for, Ticks, StaysAt, ReadAnswers, ReadCalm}
 use Rattle.cola_cell.specs.Reads.{Reads}
 use Rattle.cola_cell.specs.State.{State}
 use Rattle.cola_device.specs.declared.counts.Counts.{Counts}
@@ -25,7 +25,7 @@ use Rattle.cola_cache.specs.Blocks.{Blocks, Made, last_in}
 use Rattle.cola_run.specs.Cells.{IsOnDevice, Cells, block_cells, block_number, tail_number, known_spot, told_spot, spots_of, device_levels}
 use Rattle.cola_run.specs.Store.{Store, cells_of, held_of, spent_of, state_of, last_block, last_of}
 use Rattle.cola_run.specs.Parts.{Finds}
-use Rattle.cola_run.specs.Turns.{buffer_for, buffer_index, turned_last, Turns}
+use Rattle.cola_run.specs.Turns.{buffer_index, turned_last, Turns}
 use Rattle.cola_run.proofs.Calls.{spelled-fits}
 use Rattle.cola_run.proofs.Lasts.{block-number-is, held-is, others-stay, own-set, own-is, buffer-within}
 use Rattle.cola_run.proofs.Spots.{IsInTail, device-in, device-out, spot-there, spot-front, spot-device}

@@ -18,7 +18,7 @@ use Rattle.cola_run.specs.Weaving.{room_cells}
 use Rattle.cola_run.proofs.Bytes.{cell-below, cell-above, cell-inside}
 use Rattle.cola_run.proofs.Numbers.{block-before}
 use Rattle.cola_run.proofs.Spots.{in-tail, IsInTail, spot-there, spot-device, device-in, device-out, device-is, spots-stay, both-same}
-use Rattle.cola_run.proofs.Steps.{tail-room}
+use Rattle.cola_run.proofs.Steps.{tail_room}
 use Rattle.cola_cell.specs.Windows.{grown, cell_bytes_at}
 use Rattle.cola_cell.specs.Decoded.{standing, spot_of_bytes}
 use Rattle.cola_cell.specs.Held.{Spot, is_untold, with_cell, as_cell}
@@ -67,7 +67,7 @@ module _ (g : Geometry) (front : FrontCells) (shadows now : List Shadow) (tails 
       let more : width g.format * (tail_number g level len + room_cells g level len) ≤ width g.format * (tail_number g level 0 + b) = mul-le-mul_left (width g.format) inside in
       let left = mul-add (width g.format) (tail_number g level len) (room_cells g level len) in
       let right = mul-add (width g.format) (tail_number g level 0) b in
-      let all = tail-room g level device in
+      let all = tail_room g level device in
       let many = shape.tails_many in
       omega (arith, more, left, right, all, many, size)
 

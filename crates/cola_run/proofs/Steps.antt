@@ -34,8 +34,8 @@ tail-first g level =
     omega (arith, z)
 
 -- the tail of a level is one block
-pub tail-room : (g : Geometry) (level : ℕ) → IsOnDevice g level → width g.format * tail_number g level 0 + block_bytes g ≤ width g.format * (block_cells g * device_levels g)
-tail-room g level device =
+pub tail_room : (g : Geometry) (level : ℕ) → IsOnDevice g level → width g.format * tail_number g level 0 + block_bytes g ≤ width g.format * (block_cells g * device_levels g)
+tail_room g level device =
     let low : level ≤ g.bottom = device.within in
     let high : g.block_exp ≤ level + 2 = device.whole in
     let first = tail-first g level in
@@ -48,11 +48,18 @@ tail-room g level device =
 
 pub tail-holds : (g : Geometry) (tails : List ℕ) (level : ℕ) → IsOnDevice g level → length tails ≡ width g.format * (block_cells g * device_levels g)
     → width g.format * tail_number g level 0 + block_bytes g ≤ length tails
-tail-holds g tails level device many = let h = tail-room g level device in omega (arith, h, many)
+tail-holds g tails level device many = let h = tail_room g level device in omega (arith, h, many)
 
-pub tail-many : (g : Geometry) (tails : List ℕ) (level : ℕ) → IsBlock g.block_exp g.bottom → IsOnDevice g level → length tails ≡ width g.format * (block_cells g * device_levels g)
+-- and for a cell of it
+pub cell_holds : (g : Geometry) (place many : ℕ) → place < block_cells g * device_levels g → many ≡ width g.format * (block_cells g * device_levels g) → width g.format * place + width g.format ≤ many
+cell_holds g place many within is =
+    let more = room-of g.format (place + 1) (block_cells g * device_levels g) (omega (arith, within)) in
+    let sum = room-sum g.format place 1 in
+    omega (arith, more, sum, is)
+
+pub tail_many : (g : Geometry) (tails : List ℕ) (level : ℕ) → IsBlock g.block_exp g.bottom → IsOnDevice g level → length tails ≡ width g.format * (block_cells g * device_levels g)
     → length (tail_of g tails level) ≡ block_bytes g
-tail-many g tails level fits device many = length-part tails (width g.format * tail_number g level 0) (block_bytes g) (tail-holds g tails level device many)
+tail_many g tails level fits device many = length-part tails (width g.format * tail_number g level 0) (block_bytes g) (tail-holds g tails level device many)
 
 -- a cell of a tail among those of the tails
 pub tail-cell : (g : Geometry) (tails : List ℕ) (level i : ℕ) → cell_bytes g.format (tail_of g tails level) (i % block_cells g) ≡ cell_bytes g.format tails (tail_number g level i)

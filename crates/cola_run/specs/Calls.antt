@@ -8,9 +8,8 @@ use Rattle.cola_cell.specs.declared.fault.ReadFault.{ReadFault}
 use Rattle.cola_cell.specs.declared.sink.Shadow.{Shadow}
 use Rattle.cola_cell.specs.Flat.{shadow_at, found}
 use Rattle.cola_cell.specs.Held.{Held}
-use Rattle.cola_cell.specs.Places.{number_of}
 use Rattle.cola_cell.specs.Reads.{Reads}
-use Rattle.cola_cell.specs.Spent.{ReadAnswers}
+use Rattle.cola_cell.specs.Spent.{ReadAnswers, buffer_for}
 use Rattle.cola_device.specs.declared.device.Device as device
 use Rattle.cola_device.specs.Bytes.{Wrote}
 use Rattle.cola_device.specs.Counts.{Called}
@@ -20,8 +19,8 @@ use Rattle.cola_layout.specs.declared.geometry.Geometry.{Geometry}
 use Rattle.cola_layout.specs.declared.header.Header.{Header}
 use Rattle.cola_run.specs.Cells.{Cells, IsOnDevice, HasRoom, block_cells, block_number, end_block, is_in_tail, spots_of}
 use Rattle.cola_run.specs.Store.{Store, device_of, held_of, lower_of, state_of}
-use Rattle.cola_run.specs.Parts.{Finds, OneShadow, WroteTail, IsPushed, IsFinished, fills, lengthened}
-use Rattle.cola_run.specs.Turns.{Writing, buffer_for}
+use Rattle.cola_run.specs.Parts.{Finds, OneShadow, WroteTail, IsLengthened, IsFinished, fills, lengthened}
+use Rattle.cola_run.specs.Turns.{Writing}
 use Rattle.cola_run.specs.Saving.{AreHeaderShadows, LoadAnswers, LoadSpends, IsLoaded, IsFlushed, IsFrontLast, SettlesTwice, SameBehind}
 use Rattle.cola_run.specs.Loading.{IsReading, IsWriting}
 
@@ -44,10 +43,9 @@ abbrev pub FindsIn : {D : Type 0} (d : device.Ghosts D) → Blocks D → Geometr
 FindsIn d buffers geometry number cell =
     Finds (d.bytes buffers.cache.device) geometry.format number (found number cell)
 
--- what a read finds at a place in the bytes of the device of these buffers
-abbrev pub FindsAt : {D : Type 0} (d : device.Ghosts D) → Blocks D → Geometry → (level slot index : ℕ) → Result Cell ReadFault → Type 0
-FindsAt d buffers geometry level slot index result =
-    Finds (d.bytes buffers.cache.device) geometry.format (number_of level slot index) result
+-- what a read finds at this number in the bytes of the device of these buffers
+abbrev pub FindsAt : {D : Type 0} (d : device.Ghosts D) → Blocks D → Geometry → (number : ℕ) → Result Cell ReadFault → Type 0
+FindsAt d buffers geometry number result = Finds (d.bytes buffers.cache.device) geometry.format number result
 
 -- the tail of a level was to be written to the block in which an index of a slot lies
 abbrev pub WritesTail : {D T E : Type 0} (d : device.Ghosts D) → (before now : Blocks D) → Geometry → List ℕ →
@@ -60,11 +58,11 @@ abbrev pub WritesAt : {D T E : Type 0} (d : device.Ghosts D) → (before now : B
 WritesAt d before now geometry level slot index result =
     Writing d.counts d.kept true before now (block_number geometry level slot index) result
 
--- a push to the shadow of a level on the device, by the parts below the front before and after it
-abbrev pub PushesBelow : {D T : Type 0} (d : device.Ghosts D) → Geometry → (before now : Blocks D) →
-    (shadows shadows_now : List Shadow) → (tails tails_now : List ℕ) → ℕ → Cell → Result T PushFault → Type 0
-PushesBelow d geometry before now shadows shadows_now tails tails_now level cell result =
-    IsPushed geometry (lower_of d.bytes before shadows tails) (lower_of d.bytes now shadows_now tails_now) level cell result
+-- the shadow of a level on the device was to be lengthened by a cell, by the parts below the front before and after that
+abbrev pub LengthensBelow : {D T : Type 0} (d : device.Ghosts D) → Geometry → (before now : Blocks D) →
+    (shadows shadows_now : List Shadow) → List ℕ → ℕ → Result T PushFault → Type 0
+LengthensBelow d geometry before now shadows shadows_now tails level result =
+    IsLengthened geometry (lower_of d.bytes before shadows tails) (lower_of d.bytes now shadows_now tails) level result
 
 -- such a push writes the block in which the shadow ends, where it fills that, and nothing else
 abbrev pub PushWrites : {D T E : Type 0} (d : device.Ghosts D) → Geometry → (before now : Blocks D) → List Shadow → ℕ → Result T E → Type 0

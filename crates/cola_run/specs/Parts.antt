@@ -57,16 +57,19 @@ MetFault (Ok value) = ⊤
 MetFault (Err push.Device) = ⊤
 MetFault (Err (push.Overfull level)) = ⊥
 
--- what lies below the front after a push of a cell to the shadow of a level on the device: the cell stands in the tail,
--- which is written where that fills a block
-pub record IsPushed {T : Type 0} (geometry : Geometry) (old new : Lower) (level : ℕ) (cell : Cell) (result : Result T PushFault) : Type 0 where
-  pub tails : new.tails ≡
-      splice old.tails (width geometry.format * tail_number geometry level (shadow_at old.shadows level).len) (spelling geometry.format cell)
+-- what lies below the front after the shadow of a level on the device was to be lengthened by the cell behind it in the tail, which is written where that fills a block
+pub record IsLengthened {T : Type 0} (geometry : Geometry) (old new : Lower) (level : ℕ) (result : Result T PushFault) : Type 0 where
   pub shadow : OneShadow old.shadows new.shadows level
       (after_push (block_cells geometry) (shadow_at old.shadows level) result)
   pub device : TailPushed (fills geometry (shadow_at old.shadows level).len) result geometry new.tails level
       (shadow_at old.shadows level).slot (shadow_at old.shadows level).len old.told new.told
   pub fault : MetFault result
+
+-- what lies below the front after a push of a cell to the shadow of a level on the device: the cell stands in the tail, and the shadow was to be lengthened
+pub record IsPushed {T : Type 0} (geometry : Geometry) (old new : Lower) (level : ℕ) (cell : Cell) (result : Result T PushFault) : Type 0 where
+  pub tails : new.tails ≡
+      splice old.tails (width geometry.format * tail_number geometry level (shadow_at old.shadows level).len) (spelling geometry.format cell)
+  pub longer : IsLengthened geometry old new level result
   pub spelled : IsSpelled geometry.format cell
 
 -- what a finish leaves on the device: as it was where the shadow is there already, and then it is not refused

@@ -5,17 +5,12 @@ use Rattle.cola_cell.specs.declared.cell.Cell.{Cell}
 use Rattle.cola_cell.specs.declared.cell.Reader.{Reader}
 use Rattle.cola_cell.specs.declared.fault.ReadFault.{ReadFault}
 use Rattle.cola_cell.specs.declared.fault.ReadFault.TheVariants.{Device, BadCell}
-use Rattle.cola_cell.specs.Spent.{Buffer, Search, By, ReadCalm}
+use Rattle.cola_cell.specs.Spent.{ReadCalm}
 use Rattle.cola_device.specs.declared.counts.Counts.{Counts}
 use Rattle.cola_device.specs.Counts.{Called}
 use Rattle.cola_layout.specs.declared.geometry.Geometry.{Geometry}
 use Rattle.cola_cache.specs.Blocks.{Blocks, Stays, last_in, forgotten}
 use Rattle.cola_run.specs.Store.{buffer_number}
-
--- the buffer of a reader at a level, or that of searches
-abbrev pub buffer_for : Option Reader → ℕ → Buffer
-buffer_for None level = Search
-buffer_for (Some reader) level = By reader level
 
 -- the buffer of a reader at a level on the device, or that of searches, by its number
 abbrev pub buffer_index : Geometry → Option Reader → ℕ → ℕ

@@ -69,14 +69,14 @@ IsTurnedTo geometry lasts reader reach =
     last_in lasts (buffer_index geometry reader reach.run.level) ≡ Some (block_number geometry reach.run.level reach.run.slot reach.from)
 
 -- the cell of a run at the index, where there is one, can be looked at where it lies
-abbrev pub IsOpen : Bool → Geometry → List (Option ℕ) → Option Reader → Reach → Type 0
-IsOpen lends geometry lasts reader reach = reach.from < reach.run.len → geometry.block_exp ≤ reach.run.level + 2 → lends ≡ false → IsTurnedTo geometry lasts reader reach
+abbrev pub HasWindow : Bool → Geometry → List (Option ℕ) → Option Reader → Reach → Type 0
+HasWindow lends geometry lasts reader reach = reach.from < reach.run.len → geometry.block_exp ≤ reach.run.level + 2 → lends ≡ false → IsTurnedTo geometry lasts reader reach
 
 -- and so can those of a merge's three sources
-pub record AreOpen (lends : Bool) (geometry : Geometry) (lasts : List (Option ℕ)) (own incoming sample : Reach) : Type 0 where
-  pub own_open : IsOpen lends geometry lasts (Some Own) own
-  pub incoming_open : IsOpen lends geometry lasts (Some Incoming) incoming
-  pub sample_open : IsOpen lends geometry lasts (Some Sample) sample
+pub record HaveWindows (lends : Bool) (geometry : Geometry) (lasts : List (Option ℕ)) (own incoming sample : Reach) : Type 0 where
+  pub own_window : HasWindow lends geometry lasts (Some Own) own
+  pub incoming_window : HasWindow lends geometry lasts (Some Incoming) incoming
+  pub sample_window : HasWindow lends geometry lasts (Some Sample) sample
 
 -- how many cells a shadow of this length takes before the push that fills a block
 abbrev pub room_cells : Geometry → ℕ → ℕ → ℕ

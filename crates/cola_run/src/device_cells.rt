@@ -1,33 +1,24 @@
 //! The cells of the levels on the device: in the tail of a shadow, or in a block.
-ghost use Rattle.std.specs.Prelude.{◌≡◌, ◌+◌, ◌*◌, ◌/◌, ◌%◌, ◌^◌, ◌≤◌, ◌<◌, ◌==◌, true, false, if◌then◌else◌, Some, None, length};
+ghost use Rattle.std.specs.Prelude.{◌≡◌, ◌+◌, ◌/◌, ◌^◌, ◌≤◌, ◌<◌, true, false, if◌then◌else◌, Some, None, length};
 ghost use Rattle.cola_cell.specs.Flat.{shadow_at, found};
 ghost use Rattle.cola_cell.specs.declared.cell.Cell.{Cell};
-ghost use Rattle.cola_cell.specs.Format.{width, CellFits};
+ghost use Rattle.cola_cell.specs.Format.{CellFits};
 ghost use Rattle.cola_cell.specs.Packed.{given, passed, MayPass};
 ghost use Rattle.cola_cell.specs.Places.{slot_size, IsPlace};
-ghost use Rattle.cola_run.specs.Cells.{IsOnDevice, block_cells, block_bytes, file_blocks, device_levels, tail_number, block_number, is_in_tail, tails_bytes, HasRoom, end_number};
-ghost use Rattle.cola_run.specs.Parts.{OneShadow, MetFault, fills, lengthened};
+ghost use Rattle.cola_run.specs.Cells.{IsOnDevice, block_cells, block_bytes, file_blocks, is_in_tail, tails_bytes, HasRoom, end_number};
+ghost use Rattle.cola_run.specs.Parts.{OneShadow, MetFault, lengthened};
 ghost use Rattle.cola_run.specs.Turns.{Turns};
 ghost use Rattle.cola_front.specs.Front.{front_with};
 ghost use Rattle.cola_cache.specs.Blocks.{last_in};
-ghost use Rattle.cola_run.specs.Calls.{FindsIn, FindsAt, WritesTail, WritesAt, PushesBelow, PushWrites, FinishesBelow, FinishWrites, UnsavedHasRoom, OneLonger};
+ghost use Rattle.cola_run.specs.Calls.{FindsIn, FindsAt, WritesTail, WritesAt, LengthensBelow, PushWrites, FinishesBelow, FinishWrites, UnsavedHasRoom, OneLonger};
 
+use crate::tails::{Tails, block_at, block_of, cells_of_block, fills_block};
 use cola_cache::Buffers;
 use cola_cell::{Packed, Pass, PushFault, ReadFault, Shadow};
 use cola_device::Device;
 use cola_front::Front;
-use cola_front::block::{put_as, refill_from};
+use cola_front::block::refill_from;
 use cola_layout::Geometry;
-
-/// The number of cells of a block.
-#[inline]
-pub(crate) fn cells_of_block(geometry: &Geometry) -> u32
-    ensures value { result ≡ block_cells geometry.now }
-    ensures least { 8 ≤ result }
-    ensures most { result ≤ 512 }
-{
-    1 << geometry.block_exp
-}
 
 /// The number of cells of a slot of a level.
 #[inline]
@@ -45,28 +36,6 @@ pub(crate) fn has_in_tail(geometry: &Geometry, shadow: Shadow, slot: u8, index: 
 {
     let block = cells_of_block(geometry);
     slot == shadow.slot && index / block == shadow.len / block && index < shadow.len
-}
-
-/// The number of a cell among those of the tails.
-#[inline]
-pub(crate) fn place_in_tails(geometry: &Geometry, level: u8, index: u32) -> usize
-    requires { IsOnDevice geometry.now level }
-    ensures value { result ≡ tail_number geometry.now level index }
-    ensures within { result < block_cells geometry.now * device_levels geometry.now }
-    ensures few { block_cells geometry.now * device_levels geometry.now ≤ 10752 }
-{
-    let block = cells_of_block(geometry) as usize;
-    block * (level + 2 - geometry.block_exp) as usize + index as usize % block
-}
-
-/// Where the tail of a level begins among the tails, in bytes.
-pub(crate) fn begin_of_tail(geometry: &Geometry, level: u8) -> usize
-    requires { IsOnDevice geometry.now level }
-    ensures value { result ≡ width geometry.now.format * tail_number geometry.now level 0 }
-    ensures fits { result + block_bytes geometry.now ≤ tails_bytes geometry.now }
-    ensures few { result ≤ 1376256 }
-{
-    geometry.format.width() * place_in_tails(geometry, level, 0)
 }
 
 /// How the shadow of a level stands.
@@ -104,16 +73,6 @@ pub(crate) fn saved(shadow: Shadow) -> Shadow
     let Shadow { slot, len, .. } = shadow;
     let saved = true;
     Shadow { slot, len, saved }
-}
-
-/// The number of the block in which a place lies, counted from the first byte of the file.
-#[inline]
-pub(crate) fn block_at(geometry: &Geometry, level: u8, slot: u8, index: u32) -> u64
-    requires { IsPlace (geometry.now.bottom + 1) level slot index }
-    ensures value { result ≡ block_number geometry.now level slot index }
-    ensures within { result < file_blocks geometry.now }
-{
-    geometry.place(level, slot, index) / cells_of_block(geometry) as u64
 }
 
 /// The answer of a read by whether a cell was taken: the number of the cell whose bytes spell none.
@@ -156,30 +115,26 @@ fn refill_by<D: Device>(
     }
 }
 
-/// Reads a cell of a level on the device by way of a buffer.
+/// Reads the cell of this number by way of a buffer.
 #[inline(always)]
 pub(crate) fn read_by_buffer<D: Device>(
     buffers: &mut Buffers<D>,
     geometry: &Geometry,
     buffer: usize,
-    level: u8,
-    slot: u8,
-    index: u32,
+    number: u64,
     into: &mut Packed,
 ) -> Result<(), ReadFault>
     requires buffer { buffer < length buffers.old.lasts }
-    requires place { IsPlace (geometry.now.bottom + 1) level slot index }
+    requires within { number < 2 ^ (geometry.now.bottom + 4) }
     requires size { buffers.old.cache.size ≡ block_bytes geometry.now }
     requires many { buffers.old.many ≡ file_blocks geometry.now }
-    ensures finds { FindsAt D.Device buffers.old geometry.now
-        level slot index (given into.new result) }
+    ensures finds { FindsAt D.Device buffers.old geometry.now number (given into.new result) }
     ensures turns { Turns D.counts buffers.old buffers.new buffer
-        (block_number geometry.now level slot index) (given into.new result) }
+        (number / block_cells geometry.now) (given into.new result) }
     ensures bytes_stay { D.bytes buffers.new.cache.device ≡ D.bytes buffers.old.cache.device }
     ensures kept { D.kept buffers.new.cache.device ≡ D.kept buffers.old.cache.device }
 {
-    let number = geometry.place(level, slot, index);
-    match buffers.turn_to(buffer, block_at(geometry, level, slot, index)) {
+    match buffers.turn_to(buffer, block_of(geometry, number)) {
         Ok(()) => taken_or_bad(refill_by(buffers, geometry, buffer, number, into), number),
         Err(_) => Err(ReadFault::Device),
     }
@@ -190,7 +145,7 @@ pub(crate) fn read_by_buffer<D: Device>(
 pub(crate) fn write_tail<D: Device>(
     buffers: &mut Buffers<D>,
     geometry: &Geometry,
-    tails: &[u8],
+    tails: &Tails,
     level: u8,
     slot: u8,
     index: u32,
@@ -206,22 +161,11 @@ pub(crate) fn write_tail<D: Device>(
         level slot index result }
     ensures fault { MetFault result }
 {
-    let size = buffers.block_size();
-    let at = begin_of_tail(geometry, level);
     let block = block_at(geometry, level, slot, index);
-    match buffers.write_block(block, &tails[at..at + size]) {
+    match buffers.write_block(block, tails.block(geometry, level)) {
         Ok(()) => Ok(()),
         Err(_) => Err(PushFault::Device),
     }
-}
-
-/// Whether a push to a shadow of this length fills a block.
-#[inline(always)]
-fn fills_block(geometry: &Geometry, len: u32) -> bool
-    requires { len < 2 ^ 24 }
-    ensures { result ≡ fills geometry.now len }
-{
-    (len + 1) % cells_of_block(geometry) == 0
 }
 
 /// A shadow that is one cell longer: it is on the device where its last block is full.
@@ -237,33 +181,28 @@ pub(crate) fn longer(geometry: &Geometry, shadow: Shadow) -> Shadow
     }
 }
 
-/// Appends a cell to the shadow of a level on the device.
+/// Lengthens the shadow of a level on the device by the cell that stands behind it in the tail, which is written where
+/// that fills a block.
 #[inline(always)]
-pub(crate) fn push_on_device<D: Device>(
+pub(crate) fn lengthen_on_device<D: Device>(
     buffers: &mut Buffers<D>,
     geometry: &Geometry,
     shadows: &mut [Shadow],
-    tails: &mut [u8],
+    tails: &Tails,
     level: u8,
-    cell: &Packed,
-    pass: Pass,
 ) -> Result<(), PushFault>
     requires level { IsOnDevice geometry.now level }
     requires shadows { level < length shadows.old }
     requires place { HasRoom geometry.now shadows.old level }
-    requires may { MayPass pass cell.now }
-    requires fits { CellFits geometry.now.format cell.now }
-    requires tails { length tails.old ≡ tails_bytes geometry.now }
+    requires tails { length tails.now ≡ tails_bytes geometry.now }
     requires size { buffers.old.cache.size ≡ block_bytes geometry.now }
     requires many { buffers.old.many ≡ file_blocks geometry.now }
-    ensures pushed { PushesBelow D.Device geometry.now buffers.old buffers.new
-        shadows.old shadows.new tails.old tails.new level (passed pass cell.now) result }
+    ensures lengthened { LengthensBelow D.Device geometry.now buffers.old buffers.new
+        shadows.old shadows.new tails.now level result }
     ensures writing { PushWrites D.Device geometry.now buffers.old buffers.new
         shadows.old level result }
 {
     let shadow = shadow_of(shadows, level);
-    let place = place_in_tails(geometry, level, shadow.len);
-    put_as(geometry.format, tails, place, cell, pass);
     if !fills_block(geometry, shadow.len) {
         set_shadow(shadows, level, longer(geometry, shadow));
         return Ok(());
@@ -285,7 +224,7 @@ pub(crate) fn finish_on_device<D: Device>(
     buffers: &mut Buffers<D>,
     geometry: &Geometry,
     shadows: &mut [Shadow],
-    tails: &[u8],
+    tails: &Tails,
     level: u8,
 ) -> Result<(), PushFault>
     requires level { IsOnDevice geometry.now level }

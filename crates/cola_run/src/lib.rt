@@ -5,7 +5,9 @@ mod device_cells;
 pub mod laws;
 mod run_store;
 mod saving;
+mod tails;
 mod traits;
 mod weaving;
 
 pub use run_store::RunStore;
+pub use tails::{Tails, bytes_of_block, cells_of_block, fills_block};

@@ -4,10 +4,10 @@ ghost use Rattle.std.specs.Box.{boxed_slice_items};
 ghost use Rattle.cola_device.specs.Bytes.{HasRange};
 ghost use Rattle.cola_cache.specs.Blocks.{AreFew};
 ghost use Rattle.cola_front.specs.Front.{new_front};
-ghost use Rattle.cola_run.specs.Cells.{block_bytes, file_bytes, device_levels};
+ghost use Rattle.cola_run.specs.Cells.{block_bytes, file_bytes};
 ghost use Rattle.cola_run.specs.Store.{Store, IsStore, new_store, new_shadows, new_tails};
 
-use crate::device_cells::cells_of_block;
+use crate::tails::{Tails, cells_of_block, levels_on_device};
 use cola_cache::Buffers;
 use cola_cell::{Format, Shadow};
 use cola_device::Device;
@@ -28,7 +28,7 @@ pub struct RunStore<D: Device> {
     pub(crate) geometry: Geometry,
     pub(crate) front: Front,
     pub(crate) shadows: BoxedSlice<Shadow>,
-    pub(crate) tails: BoxedSlice<u8>,
+    pub(crate) tails: Tails,
     pub(crate) ticked: u64,
 }
 
@@ -43,7 +43,7 @@ impl<D: Device> Model for RunStore<D> {
       geometry = s.geometry;
       front = s.front;
       shadows = boxed_slice_items s.shadows;
-      tails = boxed_slice_items s.tails;
+      tails = s.tails;
       ticked = s.ticked;
     } };
 
@@ -52,7 +52,7 @@ impl<D: Device> Model for RunStore<D> {
       geometry = s.geometry;
       front = s.front;
       shadows = boxed_slice_items s.shadows;
-      tails = boxed_slice_items s.tails;
+      tails = s.tails;
       ticked = s.ticked;
     }) };
 }
@@ -69,26 +69,16 @@ fn exponent_of_bytes(geometry: &Geometry) -> u8
     }
 }
 
-/// How many levels are on the device.
-fn levels_on_device(geometry: &Geometry) -> u8
-    ensures value { result ≡ device_levels geometry.now }
-    ensures most { result ≤ 22 }
-    ensures least { 1 ≤ result }
-{
-    geometry.bottom + 3 - geometry.block_exp
-}
-
 /// The front, the shadows and the tails of a store: no cell stands in them yet.
 fn parts(
     alloc: Global,
     geometry: &Geometry,
-) -> Result<(Front, BoxedSlice<Shadow>, BoxedSlice<u8>), AllocError>
+) -> Result<(Front, BoxedSlice<Shadow>, Tails), AllocError>
     ensures front { IfOk result (λ made.
         made.0 ≡ new_front geometry.now.block_exp geometry.now.format) }
     ensures shadows { IfOk result (λ made.
         boxed_slice_items made.1 ≡ new_shadows geometry.now) }
-    ensures tails { IfOk result (λ made.
-        boxed_slice_items made.2 ≡ new_tails geometry.now) }
+    ensures tails { IfOk result (λ made. made.2 ≡ new_tails geometry.now) }
 {
     let front = Front::new(alloc, geometry.block_exp, geometry.format)?;
     let empty = Shadow {
@@ -97,8 +87,7 @@ fn parts(
         saved: true,
     };
     let shadows = vec![in alloc; empty; geometry.levels() as usize]?.into_boxed_slice();
-    let cells = cells_of_block(geometry) as usize * levels_on_device(geometry) as usize;
-    let tails = vec![in alloc; 0u8; geometry.format.width() * cells]?.into_boxed_slice();
+    let tails = Tails::new(alloc, geometry)?;
     Ok((front, shadows, tails))
 }
 

@@ -2,7 +2,6 @@
 ghost use Rattle.std.specs.Prelude.{◌≡◌, ◌+◌, ◌≤◌, ◌<◌, [], ◌∷◌, Option, IfSome, None, OnOk, length, true};
 ghost use Rattle.cola_cell.specs.Places.{slot_size};
 ghost use Rattle.cola_cell.specs.Shadows.{emptied};
-ghost use Rattle.cola_device.specs.Bytes.{splice};
 ghost use Rattle.cola_device.specs.Settling.{IsSettled};
 ghost use Rattle.cola_cache.specs.Blocks.{Stays};
 ghost use Rattle.cola_front.specs.Front.{IsFront, InOrder, SameShape, block_size, image};
@@ -15,8 +14,9 @@ ghost use Rattle.cola_run.specs.Saving.{header_shadow, run_len, SameReads, SameS
 ghost use Rattle.cola_run.specs.Calls.{AllUnsavedHaveRoom, StandByHeader, IsFrontOf, OnlyReads, OnlyWrites, BlocksWrote, BothTell, LoadSays, LoadCosts, AreFlushed, BlocksFrontLast, BlocksSettleTwice, LoadsFile, FlushesFile, StoreFrontLast, StoreSettlesTwice, StoreKeepsBehind, StoreCalled};
 ghost use Rattle.cola_run.specs.Loading.{BadInRun, BadInLevel, BadInFront, NoneBadInFront, loaded_shadow, StaySound, StayRead, SameCells, AreSavedBelow, NoneBadInRun, NoneBadInLevel};
 
-use crate::device_cells::{begin_of_tail, block_at, cells_of_block, finish_on_device, set_shadow};
+use crate::device_cells::{finish_on_device, set_shadow};
 use crate::run_store::RunStore;
+use crate::tails::{Tails, block_at, cells_of_block};
 use cola_cache::Buffers;
 use cola_cell::{ReadFault, Shadow};
 use cola_clock::visible_slot;
@@ -152,20 +152,12 @@ fn empty_in(slot: u8) -> Shadow
     Shadow { slot, len, saved }
 }
 
-/// Puts bytes in the place of those from a place on.
-fn put_at(bytes: &mut [u8], at: usize, new: &[u8])
-    requires { at + length new.now ≤ length bytes.old }
-    ensures { bytes.new ≡ splice bytes.old at new.now }
-{
-    bytes[at..at + new.len()].copy_from_slice(new);
-}
-
 /// Takes a shadow as it stands on the device: where it ends within a block, that is read into its tail.
 fn load_shadow<D: Device>(
     buffers: &mut Buffers<D>,
     geometry: &Geometry,
     shadows: &mut [Shadow],
-    tails: &mut [u8],
+    tails: &mut Tails,
     level: u8,
     shadow: Shadow,
 ) -> Result<(), DeviceFault>
@@ -194,7 +186,7 @@ fn load_shadow<D: Device>(
     }
     match buffers.turn_to(0, block_at(geometry, level, shadow.slot, shadow.len)) {
         Ok(()) => {
-            put_at(tails, begin_of_tail(geometry, level), buffers.copy(0));
+            tails.put_block(geometry, level, buffers.copy(0));
             set_shadow(shadows, level, shadow);
             Ok(())
         }
@@ -207,7 +199,7 @@ fn load_shadows<D: Device>(
     buffers: &mut Buffers<D>,
     geometry: &Geometry,
     shadows: &mut [Shadow],
-    tails: &mut [u8],
+    tails: &mut Tails,
     header: &Header,
 ) -> Result<(), DeviceFault>
     requires geometry { header.now.geometry ≡ geometry.now }
@@ -244,7 +236,7 @@ fn save_tails<D: Device>(
     buffers: &mut Buffers<D>,
     geometry: &Geometry,
     shadows: &mut [Shadow],
-    tails: &[u8],
+    tails: &Tails,
 ) -> Result<(), DeviceFault>
     requires shadows { length shadows.old ≡ geometry.now.bottom + 1 }
     requires shape { AllUnsavedHaveRoom geometry.now shadows.old }
@@ -301,7 +293,7 @@ fn load_parts<D: Device>(
     geometry: &Geometry,
     front: &mut Front,
     shadows: &mut [Shadow],
-    tails: &mut [u8],
+    tails: &mut Tails,
     header: &Header,
 ) -> Result<(), ReadFault>
     requires geometry { header.now.geometry ≡ geometry.now }
@@ -339,7 +331,7 @@ fn flush_parts<D: Device>(
     geometry: &Geometry,
     front: &Front,
     shadows: &mut [Shadow],
-    tails: &[u8],
+    tails: &Tails,
     header: &[u8; 512],
 ) -> Result<(), DeviceFault>
     requires shape { IsShape geometry.now front.now shadows.old tails.now }

@@ -7,11 +7,11 @@ ghost use Rattle.cola_cell.specs.Shadows.{Restarts, Pushes, PushSpends, push_tic
 ghost use Rattle.cola_run.specs.Cells.{IsOnDevice};
 ghost use Rattle.cola_run.specs.Store.{IsStore, held_of, state_of, Kept, kept_of};
 ghost use Rattle.cola_cell.specs.Windows.{IsReach, Weaves, IsRunIn, Scans};
-ghost use Rattle.cola_run.specs.Weaving.{RunsBelow, RunsInFront, ScansBelow, IsOpen, AreOpen, AreAtHand, is_at_hand};
+ghost use Rattle.cola_run.specs.Weaving.{RunsBelow, RunsInFront, ScansBelow, HasWindow, HaveWindows, AreAtHand, is_at_hand};
 ghost use Rattle.cola_run.specs.Calls.{IsInTail, MemoryAnswers, ReadsBy};
 
 use crate::device_cells::{
-    cells_of_slot, finish_on_device, has_in_tail, place_in_tails, push_in_front, push_on_device,
+    cells_of_slot, finish_on_device, has_in_tail, lengthen_on_device, push_in_front,
     read_by_buffer, saved, set_shadow, shadow_of, taken_or_bad,
 };
 use crate::run_store::RunStore;
@@ -21,7 +21,6 @@ use cola_cell::{
     WindowMerge, WindowSearch, tick_all,
 };
 use cola_device::Device;
-use cola_front::block::refill_from;
 use cola_layout::Geometry;
 use cola_outside::Steps;
 use std::sync::ledger::Ledger;
@@ -61,8 +60,7 @@ impl<D: Device> RunStore<D> {
             level slot index (given into.new result) }
     {
         let number = self.geometry.place(level, slot, index);
-        let place = place_in_tails(&self.geometry, level, index);
-        let taken = refill_from(self.geometry.format, &self.tails, place, into);
+        let taken = self.tails.refill(&self.geometry, level, index, into);
         taken_or_bad(taken, number)
     }
 
@@ -95,15 +93,8 @@ impl<D: Device> RunStore<D> {
             return self.read_in_tail(level, slot, index, into);
         }
         let buffer = buffer_of(&self.geometry, reader, level);
-        read_by_buffer(
-            &mut self.buffers,
-            &self.geometry,
-            buffer,
-            level,
-            slot,
-            index,
-            into,
-        )
+        let number = self.geometry.place(level, slot, index);
+        read_by_buffer(&mut self.buffers, &self.geometry, buffer, number, into)
     }
 }
 
@@ -144,28 +135,16 @@ impl<D: Device> CellSource for RunStore<D> {
     }
 
     #[inline(always)]
-    fn read_into<L: Ledger>(
+    fn read_packed<L: Ledger>(
         &mut self,
+        by: Option<Reader>,
         level: u8,
         slot: u8,
         index: u32,
         into: &mut Packed,
         steps: &mut Steps<L>,
     ) -> Result<(), ReadFault> {
-        self.read_by(None, level, slot, index, into, steps)
-    }
-
-    #[inline(always)]
-    fn read_for_into<L: Ledger>(
-        &mut self,
-        reader: Reader,
-        level: u8,
-        slot: u8,
-        index: u32,
-        into: &mut Packed,
-        steps: &mut Steps<L>,
-    ) -> Result<(), ReadFault> {
-        self.read_by(Some(reader), level, slot, index, into, steps)
+        self.read_by(by, level, slot, index, into, steps)
     }
 
     #[inline(always)]
@@ -180,7 +159,7 @@ impl<D: Device> CellSource for RunStore<D> {
         ensures kept { kept_of D.bytes D.counts D.kept self.new ≡ kept_of D.bytes D.counts D.kept self.old }
         ensures scans { Scans S.sought (state_of D.bytes D.counts self.old) (state_of D.bytes D.counts self.new) reach
             search.old search.new probe.now steps.old steps.new result }
-        ensures runs { is_at_hand self.old.geometry self.old.shadows reach ≡ true → IsOpen D.lends self.old.geometry self.old.buffers.lasts None reach →
+        ensures runs { is_at_hand self.old.geometry self.old.shadows reach ≡ true → HasWindow D.lends self.old.geometry self.old.buffers.lasts None reach →
             ScansBelow S.sought D.lends (D.bytes self.old.buffers.cache.device) self.old.geometry self.old.front reach search.old search.new probe.now result }
     {
         if !self.is_at_hand(reach) {
@@ -229,7 +208,8 @@ impl<D: Device> CellSink for RunStore<D> {
         pass: Pass,
         steps: &mut Steps<L>,
     ) -> Result<(), PushFault> {
-        if shadow_of(&self.shadows, level).len == cells_of_slot(level) {
+        let len = shadow_of(&self.shadows, level).len;
+        if len == cells_of_slot(level) {
             return Err(PushFault::Overfull(level));
         }
         steps.tick();
@@ -245,14 +225,13 @@ impl<D: Device> CellSink for RunStore<D> {
             );
             return Ok(());
         }
-        push_on_device(
+        self.tails.put(&self.geometry, level, len, cell, pass);
+        lengthen_on_device(
             &mut self.buffers,
             &self.geometry,
             &mut self.shadows,
-            &mut self.tails,
+            &self.tails,
             level,
-            cell,
-            pass,
         )
     }
 
@@ -295,11 +274,11 @@ impl<D: Device> CellSink for RunStore<D> {
         ensures weaves { Weaves M.wove (state_of D.bytes D.counts self.old) (state_of D.bytes D.counts self.new) level own incoming sample
             merge.old merge.new job.now steps.old steps.new result }
         ensures runs { IsOnDevice self.old.geometry level → AreAtHand self.old.geometry self.old.shadows own incoming sample →
-            AreOpen D.lends self.old.geometry self.old.buffers.lasts own incoming sample →
+            HaveWindows D.lends self.old.geometry self.old.buffers.lasts own incoming sample →
             RunsBelow M.wove D.lends (D.bytes self.old.buffers.cache.device) self.old.geometry self.old.front self.old.shadows self.new.shadows
             self.old.tails self.new.tails level own incoming sample merge.old merge.new job.now result }
         ensures runs_in_front { level + 2 < self.old.geometry.block_exp → AreAtHand self.old.geometry self.old.shadows own incoming sample →
-            AreOpen D.lends self.old.geometry self.old.buffers.lasts own incoming sample →
+            HaveWindows D.lends self.old.geometry self.old.buffers.lasts own incoming sample →
             RunsInFront M.wove D.lends (D.bytes self.old.buffers.cache.device) self.old.geometry self.old.front self.new.front
             self.old.shadows self.new.shadows level own incoming sample merge.old merge.new job.now result }
     {

@@ -8,12 +8,11 @@ ghost use Rattle.cola_device.specs.Bytes.{part};
 ghost use Rattle.cola_run.specs.Cells.{IsOnDevice, block_bytes, block_cells, device_levels, file_blocks, tails_bytes};
 ghost use Rattle.cola_run.specs.Store.{kept_of, reader_number, state_of};
 ghost use Rattle.cola_run.specs.Turns.{buffer_index};
-ghost use Rattle.cola_run.specs.Weaving.{IsRunHere, IsBelow, IsInFront, IsFound, IsTurnedTo, IsOpen, AreOpen, AreAtHand, PutInFront, WoveBelow, WoveInFront, RunsBelow, RunsInFront, room_cells, is_at_hand};
+ghost use Rattle.cola_run.specs.Weaving.{IsRunHere, IsBelow, IsInFront, IsFound, IsTurnedTo, HasWindow, HaveWindows, AreAtHand, PutInFront, WoveBelow, WoveInFront, RunsBelow, RunsInFront, room_cells, is_at_hand};
 
-use crate::device_cells::{
-    block_at, cells_of_block, cells_of_slot, place_in_tails, set_shadow, shadow_of,
-};
+use crate::device_cells::{cells_of_slot, set_shadow, shadow_of};
 use crate::run_store::RunStore;
+use crate::tails::{block_at, cells_of_block, place_in_tails};
 use cola_cache::Buffers;
 use cola_cell::{Passed, Reach, Reader, Shadow, Window, WindowMerge, tick_all};
 use cola_device::Device;
@@ -127,7 +126,7 @@ fn window_below<'a, D: Device>(
     requires many { buffers.now.many ≡ file_blocks geometry.now }
     requires buffers { length buffers.now.lasts ≡ 1 + 3 * device_levels geometry.now }
     ensures found { IfSome result (λ window. IsBelow D.lends (D.bytes buffers.now.cache.device) geometry.now reach window.bytes.now window.is_last) }
-    ensures none { result ≡ None → IsOpen D.lends geometry.now buffers.now.lasts reader reach → ⊥ }
+    ensures none { result ≡ None → HasWindow D.lends geometry.now buffers.now.lasts reader reach → ⊥ }
 {
     let count = reach.run.len - reach.from;
     let width = geometry.format.width();
@@ -156,7 +155,7 @@ pub(crate) fn window_of<'a, D: Device>(
     requires many { buffers.now.many ≡ file_blocks geometry.now }
     requires buffers { length buffers.now.lasts ≡ 1 + 3 * device_levels geometry.now }
     ensures found { IfSome result (λ window. IsFound D.lends (D.bytes buffers.now.cache.device) geometry.now front.now reach window.bytes.now window.is_last) }
-    ensures none { result ≡ None → IsOpen D.lends geometry.now buffers.now.lasts reader reach → ⊥ }
+    ensures none { result ≡ None → HasWindow D.lends geometry.now buffers.now.lasts reader reach → ⊥ }
 {
     if reach.from >= reach.run.len {
         let bytes: &'a [u8] = &[];
@@ -226,7 +225,7 @@ fn weave_on_device<D: Device, M: WindowMerge>(
     ensures wove { IfSome result (λ passed. WoveBelow M.wove D.lends (D.bytes buffers.now.cache.device) geometry.now front.now shadows.old shadows.new
         tails.old tails.new level own incoming sample merge.old merge.new job.now passed) }
     ensures still { result ≡ None → (shadows.new ≡ shadows.old) × (tails.new ≡ tails.old) × (merge.new ≡ merge.old) }
-    ensures runs { AreOpen D.lends geometry.now buffers.now.lasts own incoming sample → result ≡ None → ⊥ }
+    ensures runs { HaveWindows D.lends geometry.now buffers.now.lasts own incoming sample → result ≡ None → ⊥ }
 {
     let own = window_of(front, buffers, geometry, Some(Reader::Own), own)?;
     let incoming = window_of(front, buffers, geometry, Some(Reader::Incoming), incoming)?;
@@ -306,7 +305,7 @@ fn weave_into_front<D: Device, M: WindowMerge>(
     ensures wove { IfSome result (λ passed. WoveInFront M.wove D.lends (D.bytes buffers.now.cache.device) geometry.now front.old front.new
         shadows.old shadows.new level own incoming sample merge.old merge.new job.now passed) }
     ensures still { result ≡ None → (front.new ≡ front.old) × (shadows.new ≡ shadows.old) × (merge.new ≡ merge.old) }
-    ensures runs { AreOpen D.lends geometry.now buffers.now.lasts own incoming sample → result ≡ None → ⊥ }
+    ensures runs { HaveWindows D.lends geometry.now buffers.now.lasts own incoming sample → result ≡ None → ⊥ }
 {
     let mut bytes = [0u8; FRONT_ROOM];
     let width = geometry.format.width();
@@ -360,16 +359,17 @@ impl<D: Device> RunStore<D> {
         ensures kept { kept_of D.bytes D.counts D.kept self.new ≡ kept_of D.bytes D.counts D.kept self.old }
         ensures weaves { Weaves M.wove (state_of D.bytes D.counts self.old) (state_of D.bytes D.counts self.new) level own incoming sample
             merge.old merge.new job.now steps.old steps.new result }
-        ensures runs { AreOpen D.lends self.old.geometry self.old.buffers.lasts own incoming sample →
+        ensures runs { HaveWindows D.lends self.old.geometry self.old.buffers.lasts own incoming sample →
             RunsBelow M.wove D.lends (D.bytes self.old.buffers.cache.device) self.old.geometry self.old.front self.old.shadows self.new.shadows
             self.old.tails self.new.tails level own incoming sample merge.old merge.new job.now result }
     {
+        let tails = &mut self.tails;
         let woven = weave_on_device(
             &self.front,
             &self.buffers,
             &self.geometry,
             &mut self.shadows,
-            &mut self.tails,
+            &mut tails.bytes,
             level,
             own,
             incoming,
@@ -409,7 +409,7 @@ impl<D: Device> RunStore<D> {
         ensures kept { kept_of D.bytes D.counts D.kept self.new ≡ kept_of D.bytes D.counts D.kept self.old }
         ensures weaves { Weaves M.wove (state_of D.bytes D.counts self.old) (state_of D.bytes D.counts self.new) level own incoming sample
             merge.old merge.new job.now steps.old steps.new result }
-        ensures runs { AreOpen D.lends self.old.geometry self.old.buffers.lasts own incoming sample →
+        ensures runs { HaveWindows D.lends self.old.geometry self.old.buffers.lasts own incoming sample →
             RunsInFront M.wove D.lends (D.bytes self.old.buffers.cache.device) self.old.geometry self.old.front self.new.front
             self.old.shadows self.new.shadows level own incoming sample merge.old merge.new job.now result }
     {

@@ -1,4 +1,5 @@
-use Rattle.std.proofs.Common.{◌≡◌, ◌+◌, ◌≤◌}
+use Rattle.std.proofs.Common.{◌+◌, ◌≤◌, None}
+use Rattle.cola_check.specs.Leasts.{AreLeasts}
 use Rattle.cola_check.specs.Walks.{Turns}
 use Rattle.cola_check.specs.LevelWalks.{runs_of, cells_in, all_unread, all_ahead, StandFrom, blocks_of, ReadFrom, all_left}
 use Rattle.cola_check.proofs.LiveWalk.{Counting}
@@ -13,6 +14,7 @@ invariant-loop-key g l = record {
   placed : StandFrom 0 l.levels → ReadFrom 0 l.walks.items;
   blocks : StandFrom 0 l.levels → (g.W.CellSource.state l.work).spent.turned + all_left (g.W.CellSource.state l.work) l.walks.items
       ≤ (g.W.CellSource.state l.fn.work).spent.turned + blocks_of (g.W.CellSource.state l.fn.work).held l.levels;
+  leasts : AreLeasts None l.leasts.items l.walks.items;
   counting : Counting (g.W.CellSource.state l.fn.work).held l.last l.levels l.walks.items l.tally.counts.items l.tally.stamped;
 }
 

@@ -6,15 +6,15 @@ use Rattle.cola_check.proofs.Sampling.{sampled-at, sampled-past, some-same}
 use Rattle.cola_check.proofs.visible.has_sampled.Goals as goal
 
 pub returns-then-number-run-clause-sampled : goal.returns-then-number-run-clause-sampled
-returns-then-number-run-clause-sampled g c = λ told. sampled-past (g.W.CellSource.state c.args.work.now).held c.args.run.now c.args.number c.args.key.now c.if-number-run.true
+returns-then-number-run-clause-sampled g c = λ told. sampled-past (g.W.CellSource.state c.args.work.now).held c.args.run.now c.args.number (key_of (as_cell c.args.cell.now)) c.if-number-run.true
 
 pub returns-clause-sampled : goal.returns-clause-sampled
 returns-clause-sampled g c = λ told.
-    let at = sampled-at (g.W.CellSource.state c.args.work.now).held c.args.run.now c.args.number c.in_ok-cell.cell told (omega (arith, c.if-number-run.false)) c.in_ok-cell.ensures.reads.answer in
-    (λ t. at ∙ ap Some (c.has_key.ensures.0 t), λ e. c.has_key.ensures.1 (some-same (key_of (as_cell c.in_ok-cell.cell)) c.args.key.now (sym at ∙ e)))
+    let at = sampled-at (g.W.CellSource.state c.args.work.now).held c.args.run.now c.args.number c.read_packed.new.into told (omega (arith, c.if-number-run.false)) c.in_ok-read_packed.ensures.reads.answer in
+    (λ t. at ∙ ap Some (c.has_key_of.ensures.0 t), λ e. c.has_key_of.ensures.1 (some-same (key_of (as_cell c.read_packed.new.into)) (key_of (as_cell c.args.cell.now)) (sym at ∙ e)))
 
 pub returns-then-number-run-clause-blocks : goal.returns-then-number-run-clause-blocks
 returns-then-number-run-clause-blocks g c = sample-past (g.W.CellSource.state c.args.work.now) c.args.run.now c.args.number c.if-number-run.true
 
 pub returns-clause-blocks : goal.returns-clause-blocks
-returns-clause-blocks g c = sample-reads c.args.run.now c.in_ok-cell.cell c.args.number c.in_ok-cell.ensures.reads (omega (arith, c.if-number-run.false))
+returns-clause-blocks g c = sample-reads c.args.run.now c.read_packed.new.into c.args.number c.in_ok-read_packed.ensures.reads (omega (arith, c.if-number-run.false))

@@ -19,13 +19,13 @@ returns-then-index-last-clause-seeks g c =
     let i = c.loop-index.invariant in
     seeks_end c.seat_at_end.result (seeking_on i.seeking i.low c.window-first.ensures.last c.loop-index-test.true c.look-sight.ensures.sees c.if-sight.false) (c.if-index-last.true ∙ c.window-first.ensures.last) c.seat_at_end.ensures
 
-pub returns-in_err-read_into-clause-seeks : goal.returns-in_err-read_into-clause-seeks
-returns-in_err-read_into-clause-seeks g c =
+pub returns-in_err-read_packed-clause-seeks : goal.returns-in_err-read_packed-clause-seeks
+returns-in_err-read_packed-clause-seeks g c =
     let i = c.loop-index.invariant in
     let sees = c.look-sight.ensures.sees in
     let last = c.window-first.ensures.last in
-    let fault = c.in_err-read_into.field-0.0 in
-    let read = c.in_err-read_into.ensures in
+    let fault = c.in_err-read_packed.field-0.0 in
+    let read = c.in_err-read_packed.ensures in
     let low : first_of c.args.start c.args.run.now.len ≤ c.loop-index.index + c.look-sight.result.passed = let l = i.low in omega (arith, l) in
     let within : c.loop-index.index + c.look-sight.result.passed ≤ last_of c.args.start c.args.run.now.len = passed_within i.seeking i.low last c.loop-index-test.true sees in
     let below : c.loop-index.index + c.look-sight.result.passed < last_of c.args.start c.args.run.now.len = omega (arith, within, c.if-index-last.false, last) in
@@ -38,11 +38,11 @@ returns-then-not-is_lt-clause-seeks g c =
     let i = c.loop-index.invariant in
     let sees = c.look-sight.ensures.sees in
     let last = c.window-first.ensures.last in
-    let read = c.in_ok-read_into.ensures in
+    let read = c.in_ok-read_packed.ensures in
     let low : first_of c.args.start c.args.run.now.len ≤ c.loop-index.index + c.look-sight.result.passed = let l = i.low in omega (arith, l) in
     let within : c.loop-index.index + c.look-sight.result.passed ≤ last_of c.args.start c.args.run.now.len = passed_within i.seeking i.low last c.loop-index-test.true sees in
     let below : c.loop-index.index + c.look-sight.result.passed < last_of c.args.start c.args.run.now.len = omega (arith, within, c.if-index-last.false, last) in
-    seeks_found c.read_into.new.into c.seat_at.result (seeking_on i.seeking i.low last c.loop-index-test.true sees c.if-sight.false) low below read.reads read.one_tick
+    seeks_found c.read_packed.new.into c.seat_at.result (seeking_on i.seeking i.low last c.loop-index-test.true sees c.if-sight.false) low below read.reads read.one_tick
     (compared c.args.key.now _ _ c.key_cmp-order.result c.is_lt.result _ refl c.key_cmp-order.ensures c.is_lt.ensures c.if-not-is_lt.true) c.seat_at.ensures
 
 pub loop-index-preserved : goal.loop-index-preserved
@@ -50,13 +50,13 @@ loop-index-preserved g c =
     let i = c.loop-index.invariant in
     let sees = c.look-sight.ensures.sees in
     let last = c.window-first.ensures.last in
-    let read = c.in_ok-read_into.ensures in
+    let read = c.in_ok-read_packed.ensures in
     let low : first_of c.args.start c.args.run.now.len ≤ c.loop-index.index + c.look-sight.result.passed = let l = i.low in omega (arith, l) in
     let within : c.loop-index.index + c.look-sight.result.passed ≤ last_of c.args.start c.args.run.now.len = passed_within i.seeking i.low last c.loop-index-test.true sees in
     let below : c.loop-index.index + c.look-sight.result.passed < last_of c.args.start c.args.run.now.len = omega (arith, within, c.if-index-last.false, last) in
     record {
       looks = looks_then (looks_then i.looks (looked_at c.look-sight.ensures.kept sees)) (looks_read read.kept read.reads);
-      seeking = seeking_goes_on c.read_into.new.into (seeking_on i.seeking i.low last c.loop-index-test.true sees c.if-sight.false) low below read.reads
+      seeking = seeking_goes_on c.read_packed.new.into (seeking_on i.seeking i.low last c.loop-index-test.true sees c.if-sight.false) low below read.reads
           (compared c.args.key.now _ _ c.key_cmp-order.result c.is_lt.result _ refl c.key_cmp-order.ensures c.is_lt.ensures c.if-not-is_lt.false) read.one_tick;
       low = omega (arith, low);
       high = omega (arith, below);

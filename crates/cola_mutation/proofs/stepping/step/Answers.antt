@@ -10,10 +10,10 @@ use Rattle.cola_mutation.proofs.Results.{steps_on, stays_back, clock_fits}
 use Rattle.cola_mutation.proofs.stepping.step.Goals as goal
 
 pub build_shadows-requires-clause-clock_in : goal.build_shadows-requires-clause-clock_in
-build_shadows-requires-clause-clock_in g c = clock_fits c.requires.chain c.ticked.ensures.levels
+build_shadows-requires-clause-clock_in g c = clock_fits c.requires.chain c.known.ensures
 
 pub visible_slot-requires-clause-clock_in_range : goal.visible_slot-requires-clause-clock_in_range
-visible_slot-requires-clause-clock_in_range g c = clock_fits c.requires.chain c.ticked.ensures.levels
+visible_slot-requires-clause-clock_in_range g c = clock_fits c.requires.chain c.known.ensures
 
 pub returns-in-Err-clause-steps : goal.returns-in-Err-clause-steps
 returns-in-Err-clause-steps g c =
@@ -24,7 +24,7 @@ returns-in-Err-clause-steps g c =
     c.restart.ensures.spends_nothing
 
 pub end_levels-requires-clause-clock_in : goal.end_levels-requires-clause-clock_in
-end_levels-requires-clause-clock_in g c = clock_fits c.requires.chain c.ticked.ensures.levels
+end_levels-requires-clause-clock_in g c = clock_fits c.requires.chain c.known.ensures
 
 pub end_levels-requires-clause-done : goal.end_levels-requires-clause-done
 end_levels-requires-clause-done g c =
@@ -33,7 +33,7 @@ end_levels-requires-clause-done g c =
     done_all c.args.clock (new_cell c.args.key.now c.args.item.now) s u c.args.levels.now c.build_shadows.new.levels c.requires.chain c.in_default.ensures.prepares
 
 pub clock_after-requires-clause-clock_in : goal.clock_after-requires-clause-clock_in
-clock_after-requires-clause-clock_in g c = clock_fits c.requires.chain c.ticked.ensures.levels
+clock_after-requires-clause-clock_in g c = clock_fits c.requires.chain c.known.ensures
 
 pub returns-clause-steps : goal.returns-clause-steps
 returns-clause-steps g c =

@@ -4,7 +4,7 @@ use Rattle.std.proofs.lemmas.List.{get_or-set_same}
 use Rattle.cola_cell.specs.declared.sink.Shadow.{Shadow}
 use Rattle.cola_cell.specs.Places.{slot_size}
 use Rattle.cola_cell.specs.Shadows.{emptied}
-use Rattle.cola_device.specs.Bytes.{splice, Gives}
+use Rattle.cola_device.specs.Bytes.{Gives}
 use Rattle.cola_layout.proofs.Places.{slot-blocks}
 use Rattle.cola_cache.specs.Blocks.{last_in}
 use Rattle.cola_run.specs.Cells.{IsOnDevice, block_cells, block_bytes, block_number}
@@ -40,6 +40,9 @@ block_at-requires g c =
       ];
     }
 
+pub put_block-requires-clause-size : goal.put_block-requires-clause-size
+put_block-requires-clause-size g c = c.copy.ensures.size ∙ c.turn_to.ensures.stays.size ∙ c.requires.size
+
 pub returns-in-Ok-clause-sound : goal.returns-in-Ok-clause-sound
 returns-in-Ok-clause-sound g c =
     let geometry = c.args.geometry.now in
@@ -57,9 +60,9 @@ returns-in-Ok-clause-sound g c =
     let same : Gives told (block_number geometry c.args.level c.args.shadow.slot c.args.shadow.len * block_bytes geometry) copy =
     subst (λ (x : Option (List ℕ)). Gives x (block_number geometry c.args.level c.args.shadow.slot c.args.shadow.len * block_bytes geometry) copy) c.turn_to.ensures.bytes_stay
     (subst (λ (n : ℕ). Gives now (n * block_bytes geometry) copy) c.block_at.ensures.value (subst (λ (n : ℕ). Gives now (c.block_at.result * n) copy) size given)) in
-    sound-filled geometry (record { told = told; shadows = c.args.shadows.now; tails = c.args.tails.now }) (record { told = now; shadows = c.set_shadow-in-Ok.new.shadows; tails = c.put_at.new.bytes })
+    sound-filled geometry (record { told = told; shadows = c.args.shadows.now; tails = c.args.tails.now }) (record { told = now; shadows = c.set_shadow-in-Ok.new.shadows; tails = c.put_block.new.self })
     c.args.level c.args.shadow copy device c.turn_to.ensures.bytes_stay many
-    (c.put_at.ensures ∙ ap (λ (n : ℕ). splice c.args.tails.now n copy) c.begin_of_tail.ensures.value)
+    c.put_block.ensures.put
     (one-again c.args.shadows.now c.set_shadow.new.shadows c.set_shadow-in-Ok.new.shadows c.args.level c.empty_in.result c.args.shadow c.set_shadow.ensures c.set_shadow-in-Ok.ensures)
     c.requires.stands c.requires.saved same
 

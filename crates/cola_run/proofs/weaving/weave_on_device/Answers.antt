@@ -5,7 +5,7 @@ use Rattle.std.proofs.lemmas.Nat.{pow_pos}
 use Rattle.cola_cell.specs.Format.{width}
 use Rattle.cola_cell.specs.Places.{slot_size}
 use Rattle.cola_run.specs.Cells.{block_cells, tail_number}
-use Rattle.cola_run.proofs.Steps.{tail-room}
+use Rattle.cola_run.proofs.Steps.{tail_room}
 use Rattle.cola_run.proofs.weaving.weave_on_device.Goals as goal
 
 pub slice_bounds-pass-end : goal.slice_bounds-pass-end
@@ -22,7 +22,7 @@ slice_bounds-pass-end g c =
     let more : w * (c.place_in_tails.result + c.cells_of_room.result) ≤ w * (tail_number geometry c.args.level 0 + b) = mul-le-mul_left w few in
     let left = mul-add w c.place_in_tails.result c.cells_of_room.result in
     let right = mul-add w (tail_number geometry c.args.level 0) b in
-    let all = tail-room geometry c.args.level c.requires.level in
+    let all = tail_room geometry c.args.level c.requires.level in
     let x : c.width-width.result * c.place_in_tails.result ≡ w * c.place_in_tails.result = ap (λ (m : ℕ). m * c.place_in_tails.result) c.width-width.ensures in
     let y : c.width-width.result * c.cells_of_room.result ≡ w * c.cells_of_room.result = ap (λ (m : ℕ). m * c.cells_of_room.result) c.width-width.ensures in
     let many = c.requires.tails in

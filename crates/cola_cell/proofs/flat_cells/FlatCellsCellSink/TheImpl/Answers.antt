@@ -1,6 +1,5 @@
 use Rattle.std.proofs.Common.{refl}
 use Rattle.cola_cell.proofs.FlatLemmas.{restart_meets, push_meets, finish_meets}
-use Rattle.cola_cell.specs.Packed.{passed}
 use Rattle.cola_cell.proofs.flat_cells.FlatCellsCellSink.TheImpl.Goals as goal
 
 pub restart-tells : goal.restart-tells
@@ -11,11 +10,6 @@ restart-tells c =
 pub push-tells : goal.push-tells
 push-tells g c =
     let h = push_meets c.args.self.now c.new.self.now c.args.level c.args.cell.now c.result c.ensures.sound c.requires.level_in c.ensures.answer c.ensures.after in
-    record { kept = refl; ticks = c.ensures.ticks; pushes = h.0; spends = h.1 }
-
-pub push_as-tells : goal.push_as-tells
-push_as-tells g c =
-    let h = push_meets c.args.self.now c.new.self.now c.args.level (passed c.args.pass c.args.cell.now) c.result c.ensures.sound c.requires.level_in c.ensures.answer c.ensures.after in
     record { kept = refl; ticks = c.ensures.ticks; pushes = h.0; spends = h.1 }
 
 pub finish-tells : goal.finish-tells

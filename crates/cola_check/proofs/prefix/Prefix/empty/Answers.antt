@@ -1,4 +1,6 @@
-use Rattle.std.proofs.Common.{refl}
+use Rattle.std.proofs.Common.{[], Option, refl, sym, subst}
+use Rattle.cola_cell.specs.declared.cell.Cell.{Cell}
+use Rattle.cola_check.specs.Prefix.{IsLast}
 use Rattle.cola_check.proofs.Prefixes.{order-empty, sample-empty}
 use Rattle.cola_check.proofs.prefix.Prefix.empty.Goals as goal
 
@@ -7,7 +9,7 @@ returns-clause-seen c = λ lists. record {
   place_is = refl;
   looks_is = refl;
   young_is = refl;
-  last_is = refl;
+  last_is = subst (λ (l : Option Cell). IsLast [] l) (sym c.empty.ensures) refl;
   order_is = order-empty;
   sampled_is = (λ _. sample-empty lists, λ _. refl);
 }

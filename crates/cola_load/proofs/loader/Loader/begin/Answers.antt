@@ -1,5 +1,4 @@
 use Rattle.std.proofs.Common.{◌∙◌, ℕ, None, inl, inr, refl, subst, arith}
-use Rattle.std.specs.Box.{boxed_slice_items}
 use Rattle.cola_outside.specs.Faults.{Rose}
 use Rattle.cola_device.specs.declared.device.DeviceFault.{DeviceFault}
 use Rattle.cola_load.specs.Loading.{Loading}
@@ -10,7 +9,7 @@ pub returns-in-Ok-lay_out-clause-begins : goal.returns-in-Ok-lay_out-clause-begi
 returns-in-Ok-lay_out-clause-begins g c =
     let geometry = c.args.geometry in
     let parts = c.in-Ok-no_cells.parts in
-    let l : Loading = record { geometry = geometry; last = c.args.last; rows = 0; key = None; front = parts.0; tails = boxed_slice_items parts.1 } in
+    let l : Loading = record { geometry = geometry; last = c.args.last; rows = 0; key = None; front = parts.0; tails = parts.1 } in
     let none = c.if-size-gt0.false in
     let size = c.size_of.ensures.value in
     let first = c.in-Ok.ensures.counts.none_hidden in

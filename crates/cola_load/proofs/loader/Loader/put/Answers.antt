@@ -1,17 +1,12 @@
-use Rattle.std.proofs.Common.{◌≡◌, ◌≤◌, ◌<◌, ◌+◌, ◌*◌, ◌^◌, ℕ, List, Some, Ok, set, length, ap, sym, subst, ◌∙◌, arith}
+use Rattle.std.proofs.Common.{◌≡◌, ◌≤◌, ◌<◌, ◌+◌, ◌^◌, ℕ, Some, Ok, set, length, ap, sym, subst, ◌∙◌, arith}
 use Rattle.std.proofs.Math.Pow.{pow_mono}
-use Rattle.std.proofs.lemmas.List.{with_items_is}
-use Rattle.std.specs.Box.{boxed_slice_items}
-use Rattle.std.specs.Vec.{with_items}
 use Rattle.cola_outside.specs.Told.{Both}
-use Rattle.cola_cell.specs.Decoded.{spelling}
-use Rattle.cola_cell.specs.Format.{width}
 use Rattle.cola_cell.specs.Places.{number_of}
-use Rattle.cola_device.specs.Bytes.{HasRange, splice}
+use Rattle.cola_device.specs.Bytes.{HasRange}
 use Rattle.cola_device.specs.declared.device.DeviceFault.{DeviceFault}
 use Rattle.cola_layout.proofs.Places.{front-below}
 use Rattle.cola_layout.proofs.Powers.{next_power}
-use Rattle.cola_run.specs.Cells.{file_bytes, tail_number}
+use Rattle.cola_run.specs.Cells.{file_bytes}
 use Rattle.cola_run.specs.Parts.{fills}
 use Rattle.cola_load.specs.Loading.{Loading, Puts, StaysInFront}
 use Rattle.cola_load.proofs.Placing.{puts-front, puts-tail, front-pushed}
@@ -32,7 +27,7 @@ write-requires-clause-within g c =
 pub returns-then-level-front_levels-clause-puts : goal.returns-then-level-front_levels-clause-puts
 returns-then-level-front_levels-clause-puts g c =
     let i = c.self.inside in
-    let l : Loading = record { geometry = i.geometry; last = i.last; rows = i.rows; key = i.key; front = i.front; tails = boxed_slice_items i.tails } in
+    let l : Loading = record { geometry = i.geometry; last = i.last; rows = i.rows; key = i.key; front = i.front; tails = i.tails } in
     let m : Loading = record l { front = c.write.new.self } in
     let b = i.geometry.block_exp in
     let told = g.D.Device.bytes c.args.device.now in
@@ -64,7 +59,7 @@ put_on_device-requires-clause-few g c =
 pub returns-clause-puts : goal.returns-clause-puts
 returns-clause-puts g c =
     let i = c.self.inside in
-    let l : Loading = record { geometry = i.geometry; last = i.last; rows = i.rows; key = i.key; front = i.front; tails = boxed_slice_items i.tails } in
+    let l : Loading = record { geometry = i.geometry; last = i.last; rows = i.rows; key = i.key; front = i.front; tails = i.tails } in
     let new = c.put_on_device.new.tails in
     let told = g.D.Device.bytes c.args.device.now in
     let now = g.D.Device.bytes c.put_on_device.new.device in
@@ -76,13 +71,9 @@ returns-clause-puts g c =
     let here = c.if-level-front_levels.false in
     let low : level ≤ i.geometry.bottom = subst (λ (z : Loading). level ≤ z.geometry.bottom) (sym c.self.view_is) c.requires.level in
     let room : HasRange told 0 (file_bytes i.geometry) = subst (λ (z : Loading). HasRange told 0 (file_bytes z.geometry)) (sym c.self.view_is) c.requires.inside in
-    let is : new ≡ splice (boxed_slice_items i.tails) (width i.geometry.format * tail_number i.geometry level index) (spelling i.geometry.format c.args.cell.now) =
-    e.tails ∙ ap (λ (xs : List ℕ). splice xs (width i.geometry.format * tail_number i.geometry level index) (spelling i.geometry.format c.args.cell.now)) c.deref_mut.ensures.value in
     let put : Both told now (Puts c.put_on_device.result l (record l { tails = new }) level index c.args.cell.now) =
-    puts-tail l new level index c.args.cell.now low (omega (arith, front, some, here)) c.requires.index c.self.invariant.tails_many e.spelled is c.put_on_device.result told now room e.wrote in
-    let back : (with_items i.tails.items new).items ≡ new = with_items_is i.tails.items new (c.put_on_device.auto.tails ∙ c.deref_mut.ensures.len) in
-    subst (λ (z : Loading). Both told now (Puts c.put_on_device.result z (record l { tails = (with_items i.tails.items new).items }) level index c.args.cell.now)) c.self.view_is
-    (subst (λ (xs : List ℕ). Both told now (Puts c.put_on_device.result l (record l { tails = xs }) level index c.args.cell.now)) (sym back) put)
+    puts-tail l new level index c.args.cell.now low (omega (arith, front, some, here)) c.requires.index c.self.invariant.tails_many e.spelled e.tails c.put_on_device.result told now room e.wrote in
+    subst (λ (z : Loading). Both told now (Puts c.put_on_device.result z (record l { tails = new }) level index c.args.cell.now)) c.self.view_is put
 
 pub returns-clause-front_stays : goal.returns-clause-front_stays
 returns-clause-front_stays g c =
@@ -96,7 +87,7 @@ returns-clause-front_stays g c =
     let e = c.put_on_device.ensures in
     let low : level ≤ i.geometry.bottom = subst (λ (z : Loading). level ≤ z.geometry.bottom) (sym c.self.view_is) c.requires.level in
     let room : HasRange told 0 (file_bytes i.geometry) = subst (λ (z : Loading). HasRange told 0 (file_bytes z.geometry)) (sym c.self.view_is) c.requires.inside in
-    let many = c.put_on_device.auto.tails ∙ ap length c.deref_mut.ensures.value ∙ c.self.invariant.tails_many in
+    let many = e.many ∙ c.self.invariant.tails_many in
     subst (λ (z : Loading). Both told now (StaysInFront z.geometry)) c.self.view_is
     (front-pushed i.geometry c.put_on_device.new.tails level c.args.index low (omega (arith, front, some, here)) c.requires.index many
     (fills i.geometry c.args.index) c.put_on_device.result told now room e.wrote)

@@ -1,5 +1,4 @@
 use Rattle.std.proofs.Common.{◌≡◌, ◌+◌, ℕ, List, Option, Ok, Err, length, sym, subst}
-use Rattle.std.specs.Box.{boxed_slice_items}
 use Rattle.cola_outside.specs.Told.{Both}
 use Rattle.cola_device.specs.declared.device.DeviceFault.{DeviceFault}
 use Rattle.cola_device.specs.Bytes.{HasRange}
@@ -13,14 +12,14 @@ use Rattle.cola_load.proofs.loader.Loader.write_front.Goals as goal
 pub store-requires : goal.store-requires
 store-requires g c =
     let i = c.self.inside in
-    let l : Loading = record { geometry = i.geometry; last = i.last; rows = i.rows; key = i.key; front = i.front; tails = boxed_slice_items i.tails } in
+    let l : Loading = record { geometry = i.geometry; last = i.last; rows = i.rows; key = i.key; front = i.front; tails = i.tails } in
     let told = g.D.Device.bytes c.args.device.now in
     front-room l told c.self.invariant (subst (λ (z : Loading). HasRange told 0 (file_bytes z.geometry)) (sym c.self.view_is) c.requires.inside)
 
 pub returns-in-Err-clause-size_stays : goal.returns-in-Err-clause-size_stays
 returns-in-Err-clause-size_stays g c =
     let i = c.self.inside in
-    let l : Loading = record { geometry = i.geometry; last = i.last; rows = i.rows; key = i.key; front = i.front; tails = boxed_slice_items i.tails } in
+    let l : Loading = record { geometry = i.geometry; last = i.last; rows = i.rows; key = i.key; front = i.front; tails = i.tails } in
     let told = g.D.Device.bytes c.args.device.now in
     stored-size c.store.result l c.encode.new.into told (g.D.Device.bytes c.store.new.device) c.store.ensures.sound c.self.invariant c.encode.array_long
     (subst (λ (z : Loading). HasRange told 0 (file_bytes z.geometry)) (sym c.self.view_is) c.requires.inside) c.store.ensures.wrote
@@ -28,7 +27,7 @@ returns-in-Err-clause-size_stays g c =
 pub returns-in-Err-clause-finishes : goal.returns-in-Err-clause-finishes
 returns-in-Err-clause-finishes g c =
     let i = c.self.inside in
-    let l : Loading = record { geometry = i.geometry; last = i.last; rows = i.rows; key = i.key; front = i.front; tails = boxed_slice_items i.tails } in
+    let l : Loading = record { geometry = i.geometry; last = i.last; rows = i.rows; key = i.key; front = i.front; tails = i.tails } in
     let told = g.D.Device.bytes c.args.device.now in
     let now = g.D.Device.bytes c.store.new.device in
     let spelled = subst (λ (f : Fields). IsSpelling f c.encode.new.into) c.header_of.ensures c.encode.ensures in
@@ -39,7 +38,7 @@ returns-in-Err-clause-finishes g c =
 pub returns-in-Ok-settle-clause-finishes : goal.returns-in-Ok-settle-clause-finishes
 returns-in-Ok-settle-clause-finishes g c =
     let i = c.self.inside in
-    let l : Loading = record { geometry = i.geometry; last = i.last; rows = i.rows; key = i.key; front = i.front; tails = boxed_slice_items i.tails } in
+    let l : Loading = record { geometry = i.geometry; last = i.last; rows = i.rows; key = i.key; front = i.front; tails = i.tails } in
     let told = g.D.Device.bytes c.args.device.now in
     let now = g.D.Device.bytes c.store.new.device in
     let spelled = subst (λ (f : Fields). IsSpelling f c.encode.new.into) c.header_of.ensures c.encode.ensures in
@@ -52,7 +51,7 @@ returns-in-Ok-settle-clause-finishes g c =
 pub returns-in-Ok-settle-clause-size_stays : goal.returns-in-Ok-settle-clause-size_stays
 returns-in-Ok-settle-clause-size_stays g c =
     let i = c.self.inside in
-    let l : Loading = record { geometry = i.geometry; last = i.last; rows = i.rows; key = i.key; front = i.front; tails = boxed_slice_items i.tails } in
+    let l : Loading = record { geometry = i.geometry; last = i.last; rows = i.rows; key = i.key; front = i.front; tails = i.tails } in
     let told = g.D.Device.bytes c.args.device.now in
     subst (λ (b : Option (List ℕ)). Both told b (λ old new. length new ≡ length old)) (sym c.settle.ensures.bytes_stay)
     (stored-size c.store.result l c.encode.new.into told (g.D.Device.bytes c.store.new.device) c.store.ensures.sound c.self.invariant c.encode.array_long
@@ -61,7 +60,7 @@ returns-in-Ok-settle-clause-size_stays g c =
 pub returns-in-Err-settle-clause-size_stays : goal.returns-in-Err-settle-clause-size_stays
 returns-in-Err-settle-clause-size_stays g c =
     let i = c.self.inside in
-    let l : Loading = record { geometry = i.geometry; last = i.last; rows = i.rows; key = i.key; front = i.front; tails = boxed_slice_items i.tails } in
+    let l : Loading = record { geometry = i.geometry; last = i.last; rows = i.rows; key = i.key; front = i.front; tails = i.tails } in
     let told = g.D.Device.bytes c.args.device.now in
     subst (λ (b : Option (List ℕ)). Both told b (λ old new. length new ≡ length old)) (sym c.settle.ensures.bytes_stay)
     (stored-size c.store.result l c.encode.new.into told (g.D.Device.bytes c.store.new.device) c.store.ensures.sound c.self.invariant c.encode.array_long
@@ -70,7 +69,7 @@ returns-in-Err-settle-clause-size_stays g c =
 pub returns-in-Err-settle-clause-finishes : goal.returns-in-Err-settle-clause-finishes
 returns-in-Err-settle-clause-finishes g c =
     let i = c.self.inside in
-    let l : Loading = record { geometry = i.geometry; last = i.last; rows = i.rows; key = i.key; front = i.front; tails = boxed_slice_items i.tails } in
+    let l : Loading = record { geometry = i.geometry; last = i.last; rows = i.rows; key = i.key; front = i.front; tails = i.tails } in
     let told = g.D.Device.bytes c.args.device.now in
     let now = g.D.Device.bytes c.store.new.device in
     let spelled = subst (λ (f : Fields). IsSpelling f c.encode.new.into) c.header_of.ensures c.encode.ensures in
@@ -84,7 +83,7 @@ returns-in-Err-settle-clause-finishes g c =
 pub returns-in-Err-clause-levels_stay : goal.returns-in-Err-clause-levels_stay
 returns-in-Err-clause-levels_stay g c =
     let i = c.self.inside in
-    let l : Loading = record { geometry = i.geometry; last = i.last; rows = i.rows; key = i.key; front = i.front; tails = boxed_slice_items i.tails } in
+    let l : Loading = record { geometry = i.geometry; last = i.last; rows = i.rows; key = i.key; front = i.front; tails = i.tails } in
     let told = g.D.Device.bytes c.args.device.now in
     let now = g.D.Device.bytes c.store.new.device in
     subst (λ (z : Loading). Both told now (SameLevels z.geometry)) c.self.view_is
@@ -94,7 +93,7 @@ returns-in-Err-clause-levels_stay g c =
 pub returns-in-Ok-settle-clause-levels_stay : goal.returns-in-Ok-settle-clause-levels_stay
 returns-in-Ok-settle-clause-levels_stay g c =
     let i = c.self.inside in
-    let l : Loading = record { geometry = i.geometry; last = i.last; rows = i.rows; key = i.key; front = i.front; tails = boxed_slice_items i.tails } in
+    let l : Loading = record { geometry = i.geometry; last = i.last; rows = i.rows; key = i.key; front = i.front; tails = i.tails } in
     let told = g.D.Device.bytes c.args.device.now in
     let now = g.D.Device.bytes c.store.new.device in
     subst (λ (b : Option (List ℕ)). Both told b (SameLevels c.args.self.now.geometry)) (sym c.settle.ensures.bytes_stay)
@@ -105,7 +104,7 @@ returns-in-Ok-settle-clause-levels_stay g c =
 pub returns-in-Err-settle-clause-levels_stay : goal.returns-in-Err-settle-clause-levels_stay
 returns-in-Err-settle-clause-levels_stay g c =
     let i = c.self.inside in
-    let l : Loading = record { geometry = i.geometry; last = i.last; rows = i.rows; key = i.key; front = i.front; tails = boxed_slice_items i.tails } in
+    let l : Loading = record { geometry = i.geometry; last = i.last; rows = i.rows; key = i.key; front = i.front; tails = i.tails } in
     let told = g.D.Device.bytes c.args.device.now in
     let now = g.D.Device.bytes c.store.new.device in
     subst (λ (b : Option (List ℕ)). Both told b (SameLevels c.args.self.now.geometry)) (sym c.settle.ensures.bytes_stay)

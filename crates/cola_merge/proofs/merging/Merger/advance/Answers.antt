@@ -5,7 +5,7 @@ use Rattle.cola_merge.proofs.Advancing.{advances}
 use Rattle.cola_merge.proofs.merging.Merger.advance.Goals as goal
 
 pub run-requires-clause-levels : goal.run-requires-clause-levels
-run-requires-clause-levels g c = c.ticked.ensures.levels
+run-requires-clause-levels g c = c.known.ensures
 
 pub run-requires-clause-slot_in : goal.run-requires-clause-slot_in
 run-requires-clause-slot_in g c = c.shadow_len.ensures.slot

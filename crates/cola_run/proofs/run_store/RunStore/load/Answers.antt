@@ -19,38 +19,34 @@ on-both (Ok x) f p q = f p q
 on-both (Err e) f p q = tt
 
 -- the store before a load and after it
-abbrev before : (g : _) (c : goal.After-self-2-1 g) → Store g.row.D.Denot
+abbrev before : (g : _) (c : goal.After-self-1 g) → Store g.row.D.Denot
 before g c =
     let i = c.self.inside in
-    record { buffers = i.buffers; geometry = i.geometry; front = i.front; shadows = i.shadows.items.items; tails = i.tails.items.items; ticked = i.ticked }
+    record { buffers = i.buffers; geometry = i.geometry; front = i.front; shadows = i.shadows.items.items; tails = i.tails; ticked = i.ticked }
 
-abbrev after : (g : _) (c : goal.After-self-2-1 g) → Store g.row.D.Denot
+abbrev after : (g : _) (c : goal.After-self-1 g) → Store g.row.D.Denot
 after g c = record (before g c) {
   buffers = c.load_parts.new.buffers;
   front = c.load_parts.new.front;
   shadows = (with_items c.self.inside.shadows.items c.load_parts.new.shadows).items;
-  tails = (with_items c.self.inside.tails.items c.load_parts.new.tails).items;
+  tails = c.load_parts.new.tails;
 }
 
-shadows-are : (g : _) (c : goal.After-self-2-1 g) → (after g c).shadows ≡ c.load_parts.new.shadows
+shadows-are : (g : _) (c : goal.After-self-1 g) → (after g c).shadows ≡ c.load_parts.new.shadows
 shadows-are g c = with_items_is c.self.inside.shadows.items c.load_parts.new.shadows (c.load_parts.auto.shadows ∙ c.deref_mut.ensures.len)
 
 -- its cells are such as a store may have
-cells : (g : _) (c : goal.After-self-2-1 g) → AreCells (cells_of (g.D.Device.bytes c.load_parts.new.buffers.cache.device) (after g c))
+cells : (g : _) (c : goal.After-self-1 g) → AreCells (cells_of (g.D.Device.bytes c.load_parts.new.buffers.cache.device) (after g c))
 cells g c =
     let i = c.self.inside in
     let told = g.D.Device.bytes in
     let old = before g c in
     let now = after g c in
-    let back_tails : now.tails ≡ c.load_parts.new.tails = with_items_is i.tails.items c.load_parts.new.tails (c.load_parts.auto.tails ∙ c.deref_mut-2.ensures.len) in
     let lower : List Shadow → List ℕ → Lower = lower_of told i.buffers in
     let lower_now : List Shadow → List ℕ → Lower = lower_of told now.buffers in
     let stays : StaySound i.geometry (lower old.shadows old.tails) (lower_now now.shadows now.tails) =
     subst (λ (xs : List Shadow). StaySound i.geometry (lower old.shadows old.tails) (lower_now xs now.tails)) (sym (shadows-are g c))
-    (subst (λ (ts : List ℕ). StaySound i.geometry (lower old.shadows old.tails) (lower_now c.load_parts.new.shadows ts)) (sym back_tails)
-    (subst (λ (xs : List Shadow). StaySound i.geometry (lower xs old.tails) (lower_now c.load_parts.new.shadows c.load_parts.new.tails)) c.deref_mut.ensures.value
-    (subst (λ (ts : List ℕ). StaySound i.geometry (lower c.deref_mut.result.now ts) (lower_now c.load_parts.new.shadows c.load_parts.new.tails)) c.deref_mut-2.ensures.value
-    c.load_parts.ensures.sound))) in
+    (subst (λ (xs : List Shadow). StaySound i.geometry (lower xs old.tails) (lower_now c.load_parts.new.shadows now.tails)) c.deref_mut.ensures.value c.load_parts.ensures.sound) in
     let kept = c.load_parts.ensures.shape in
     let same : IsShape i.geometry i.front now.shadows now.tails = stays.shape i.front c.self.invariant.cells.shape in
     record {

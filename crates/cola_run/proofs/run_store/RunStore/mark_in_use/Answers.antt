@@ -19,7 +19,7 @@ invariant_of-self g c =
     record {
       cells = record {
         shape = shape;
-        backed = subst (λ (x : Option (List ℕ)). IfSome x (IsBacked i.geometry i.shadows.items.items i.tails.items.items)) (sym c.settle.ensures.bytes_stay) (heads-backed i.geometry shape.block i.shadows.items.items i.tails.items.items c.write_byte.result 14 (1 ∷ []) within (told i.buffers.cache.device) (told c.write_byte.new.self.cache.device) c.write_byte.ensures.wrote backed);
+        backed = subst (λ (x : Option (List ℕ)). IfSome x (IsBacked i.geometry i.shadows.items.items i.tails)) (sym c.settle.ensures.bytes_stay) (heads-backed i.geometry shape.block i.shadows.items.items i.tails c.write_byte.result 14 (1 ∷ []) within (told i.buffers.cache.device) (told c.write_byte.new.self.cache.device) c.write_byte.ensures.wrote backed);
       };
       size = c.settle.ensures.stays.size ∙ c.write_byte.ensures.stays.size ∙ c.self.invariant.size;
       many = c.settle.ensures.stays.many ∙ c.write_byte.ensures.stays.many ∙ c.self.invariant.many;
@@ -37,7 +37,7 @@ invariant_of-self-in-Err g c =
     record {
       cells = record {
         shape = shape;
-        backed = heads-backed i.geometry shape.block i.shadows.items.items i.tails.items.items c.write_byte.result 14 (1 ∷ []) within (told i.buffers.cache.device) (told c.write_byte.new.self.cache.device) c.write_byte.ensures.wrote backed;
+        backed = heads-backed i.geometry shape.block i.shadows.items.items i.tails c.write_byte.result 14 (1 ∷ []) within (told i.buffers.cache.device) (told c.write_byte.new.self.cache.device) c.write_byte.ensures.wrote backed;
       };
       size = c.write_byte.ensures.stays.size ∙ c.self.invariant.size;
       many = c.write_byte.ensures.stays.many ∙ c.self.invariant.many;
@@ -53,8 +53,8 @@ returns-in-Ok-clause-cells_stay g c =
     let large = block-least i.geometry shape.block in
     let within : 14 + 1 ≤ 2 * block_bytes i.geometry = omega (arith, large) in
     λ l s j.
-    ap (λ (x : Option (List ℕ)). spots_of (record { geometry = i.geometry; front = i.front; lower = record { told = x; shadows = i.shadows.items.items; tails = i.tails.items.items } }) l s j) c.settle.ensures.bytes_stay
-    ∙ heads-spots i.geometry shape.block i.shadows.items.items i.tails.items.items c.write_byte.result 14 (1 ∷ []) within i.front (told i.buffers.cache.device) (told c.write_byte.new.self.cache.device) c.write_byte.ensures.wrote backed l s j
+    ap (λ (x : Option (List ℕ)). spots_of (record { geometry = i.geometry; front = i.front; lower = record { told = x; shadows = i.shadows.items.items; tails = i.tails } }) l s j) c.settle.ensures.bytes_stay
+    ∙ heads-spots i.geometry shape.block i.shadows.items.items i.tails c.write_byte.result 14 (1 ∷ []) within i.front (told i.buffers.cache.device) (told c.write_byte.new.self.cache.device) c.write_byte.ensures.wrote backed l s j
     ∙ ap (λ (x : Store _). spots_of (cells_of (told x.buffers.cache.device) x) l s j) c.self.view_is
 
 pub returns-in-Err-clause-cells_stay : goal.returns-in-Err-clause-cells_stay
@@ -66,7 +66,7 @@ returns-in-Err-clause-cells_stay g c =
     let large = block-least i.geometry shape.block in
     let within : 14 + 1 ≤ 2 * block_bytes i.geometry = omega (arith, large) in
     λ l s j.
-    heads-spots i.geometry shape.block i.shadows.items.items i.tails.items.items c.write_byte.result 14 (1 ∷ []) within i.front (told i.buffers.cache.device) (told c.write_byte.new.self.cache.device) c.write_byte.ensures.wrote backed l s j
+    heads-spots i.geometry shape.block i.shadows.items.items i.tails c.write_byte.result 14 (1 ∷ []) within i.front (told i.buffers.cache.device) (told c.write_byte.new.self.cache.device) c.write_byte.ensures.wrote backed l s j
     ∙ ap (λ (x : Store _). spots_of (cells_of (told x.buffers.cache.device) x) l s j) c.self.view_is
 
 pub returns-in-Ok-clause-settled : goal.returns-in-Ok-clause-settled

@@ -47,7 +47,7 @@ returns-in-Ok-new-clause-made g c =
     let blocks : c.cells.result / c.cells_of_block.result ≡ file_blocks geometry =
     ap (λ (n : ℕ). n / c.cells_of_block.result) c.cells.ensures.value ∙ ap (λ (n : ℕ). 2 ^ (geometry.bottom + 4) / n) c.cells_of_block.ensures.value ∙ blocks-are geometry in
     let many : 1 + 3 * c.levels_on_device.result ≡ 1 + 3 * device_levels geometry = ap (λ (n : ℕ). 1 + 3 * n) c.levels_on_device.ensures.value in
-    store-is geometry c.args.device counts c.args.cache c.in-Ok-new.buffers c.in-Ok.parts.0 c.in-Ok.parts.1.items.items c.in-Ok.parts.2.items.items
+    store-is geometry c.args.device counts c.args.cache c.in-Ok-new.buffers c.in-Ok.parts.0 c.in-Ok.parts.1.items.items c.in-Ok.parts.2
     (made-is geometry c.args.device counts c.args.cache (c.cells.result / c.cells_of_block.result) (64 * 2 ^ c.exponent_of_bytes-exponent.result) (1 + 3 * c.levels_on_device.result) c.in-Ok-new.buffers c.in-Ok-new.ensures.made
     c.exponent_of_bytes-exponent.ensures.bytes blocks many)
     c.in-Ok.ensures.front c.in-Ok.ensures.shadows c.in-Ok.ensures.tails
@@ -59,7 +59,7 @@ invariant_of-result g c =
     let blocks : c.cells.result / c.cells_of_block.result ≡ file_blocks geometry =
     ap (λ (n : ℕ). n / c.cells_of_block.result) c.cells.ensures.value ∙ ap (λ (n : ℕ). 2 ^ (geometry.bottom + 4) / n) c.cells_of_block.ensures.value ∙ blocks-are geometry in
     let many : 1 + 3 * c.levels_on_device.result ≡ 1 + 3 * device_levels geometry = ap (λ (n : ℕ). 1 + 3 * n) c.levels_on_device.ensures.value in
-    let made = store-is geometry c.args.device counts c.args.cache c.in-Ok-new.buffers c.in-Ok.parts.0 c.in-Ok.parts.1.items.items c.in-Ok.parts.2.items.items
+    let made = store-is geometry c.args.device counts c.args.cache c.in-Ok-new.buffers c.in-Ok.parts.0 c.in-Ok.parts.1.items.items c.in-Ok.parts.2
     (made-is geometry c.args.device counts c.args.cache (c.cells.result / c.cells_of_block.result) (64 * 2 ^ c.exponent_of_bytes-exponent.result) (1 + 3 * c.levels_on_device.result) c.in-Ok-new.buffers c.in-Ok-new.ensures.made
     c.exponent_of_bytes-exponent.ensures.bytes blocks many)
     c.in-Ok.ensures.front c.in-Ok.ensures.shadows c.in-Ok.ensures.tails in

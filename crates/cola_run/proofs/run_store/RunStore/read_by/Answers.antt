@@ -1,13 +1,15 @@
-use Rattle.std.proofs.Common.{◌≡◌, ◌+◌, ◌%◌, ◌^◌, ◌<◌, false, List, ap, sym, subst, ◌∙◌, ℕ, arith}
+use Rattle.std.proofs.Common.{◌≡◌, ◌+◌, ◌/◌, ◌%◌, ◌^◌, ◌<◌, false, List, ap, sym, subst, ◌∙◌, ℕ, arith}
 use Rattle.std.proofs.lemmas.Bool.{false≢true}
 use Rattle.cola_cell.specs.declared.sink.Shadow.{Shadow}
 use Rattle.cola_cell.specs.Flat.{shadow_at}
 use Rattle.cola_cell.specs.Places.{IsPlace}
 use Rattle.cola_cell.specs.Packed.{given}
 use Rattle.cola_cell.specs.Reads.{Reads}
+use Rattle.cola_cell.specs.Spent.{buffer_for}
 use Rattle.cola_run.specs.Cells.{IsOnDevice, block_cells, block_number, is_in_tail}
 use Rattle.cola_run.specs.Store.{Store, spent_of, state_of}
-use Rattle.cola_run.specs.Turns.{buffer_for, Turns}
+use Rattle.cola_run.specs.Parts.{Finds}
+use Rattle.cola_run.specs.Turns.{Turns}
 use Rattle.cola_run.proofs.Spots.{tail-is}
 use Rattle.cola_run.proofs.Reading.{reads-memory, reads-device}
 use Rattle.cola_run.proofs.run_store.RunStore.read_by.Goals as goal
@@ -15,7 +17,7 @@ use Rattle.cola_run.proofs.run_store.RunStore.read_by.Goals as goal
 pub returns-then-level-front_levels-clause-reads : goal.returns-then-level-front_levels-clause-reads
 returns-then-level-front_levels-clause-reads g c =
     let i = c.self.inside in
-    let view : Store _ = record { buffers = i.buffers; geometry = i.geometry; front = i.front; shadows = i.shadows.items.items; tails = i.tails.items.items; ticked = i.ticked } in
+    let view : Store _ = record { buffers = i.buffers; geometry = i.geometry; front = i.front; shadows = i.shadows.items.items; tails = i.tails; ticked = i.ticked } in
     let now : Store _ = record view { ticked = (i.ticked + 1) % 2 ^ 64 } in
     subst (λ (s : Store _). Reads (state_of g.D.Device.bytes g.D.Device.counts s) (state_of g.D.Device.bytes g.D.Device.counts now) (buffer_for c.args.reader c.args.level) c.args.level c.args.slot c.args.index (given c.read_in_front.new.into c.read_in_front.result)) c.self.view_is
     (reads-memory (state_of g.D.Device.bytes g.D.Device.counts view) ((i.ticked + 1) % 2 ^ 64) (buffer_for c.args.reader c.args.level) c.args.level c.args.slot c.args.index (given c.read_in_front.new.into c.read_in_front.result)
@@ -24,7 +26,7 @@ returns-then-level-front_levels-clause-reads g c =
 pub returns-then-has_in_tail-clause-reads : goal.returns-then-has_in_tail-clause-reads
 returns-then-has_in_tail-clause-reads g c =
     let i = c.self.inside in
-    let view : Store _ = record { buffers = i.buffers; geometry = i.geometry; front = i.front; shadows = i.shadows.items.items; tails = i.tails.items.items; ticked = i.ticked } in
+    let view : Store _ = record { buffers = i.buffers; geometry = i.geometry; front = i.front; shadows = i.shadows.items.items; tails = i.tails; ticked = i.ticked } in
     let now : Store _ = record view { ticked = (i.ticked + 1) % 2 ^ 64 } in
     subst (λ (s : Store _). Reads (state_of g.D.Device.bytes g.D.Device.counts s) (state_of g.D.Device.bytes g.D.Device.counts now) (buffer_for c.args.reader c.args.level) c.args.level c.args.slot c.args.index (given c.read_in_tail.new.into c.read_in_tail.result)) c.self.view_is
     (reads-memory (state_of g.D.Device.bytes g.D.Device.counts view) ((i.ticked + 1) % 2 ^ 64) (buffer_for c.args.reader c.args.level) c.args.level c.args.slot c.args.index (given c.read_in_tail.new.into c.read_in_tail.result)
@@ -33,7 +35,7 @@ returns-then-has_in_tail-clause-reads g c =
 pub returns-clause-reads : goal.returns-clause-reads
 returns-clause-reads g c =
     let i = c.self.inside in
-    let view : Store _ = record { buffers = i.buffers; geometry = i.geometry; front = i.front; shadows = i.shadows.items.items; tails = i.tails.items.items; ticked = i.ticked } in
+    let view : Store _ = record { buffers = i.buffers; geometry = i.geometry; front = i.front; shadows = i.shadows.items.items; tails = i.tails; ticked = i.ticked } in
     let now : Store _ = record view { buffers = c.read_by_buffer.new.buffers; ticked = (i.ticked + 1) % 2 ^ 64 } in
     let place : IsPlace (i.geometry.bottom + 1) c.args.level c.args.slot c.args.index = subst (λ (s : Store _). IsPlace (s.geometry.bottom + 1) c.args.level c.args.slot c.args.index) (sym c.self.view_is) c.requires in
     let low : c.args.level < i.geometry.bottom + 1 = place.level_in in
@@ -43,9 +45,12 @@ returns-clause-reads g c =
     let shadow : c.shadow_of-shadow.result ≡ shadow_at i.shadows.items.items c.args.level = c.shadow_of-shadow.ensures ∙ ap (λ (xs : List Shadow). shadow_at xs c.args.level) c.deref.ensures.value in
     let outside : is_in_tail (block_cells i.geometry) (shadow_at i.shadows.items.items c.args.level) c.args.slot c.args.index ≡ false =
     ap (λ (x : Shadow). is_in_tail (block_cells i.geometry) x c.args.slot c.args.index) (sym shadow) ∙ sym c.has_in_tail.ensures ∙ c.if-has_in_tail.false in
-    let turns = subst (λ (n : ℕ). Turns g.D.Device.counts i.buffers c.read_by_buffer.new.buffers n (block_number i.geometry c.args.level c.args.slot c.args.index) (given c.read_by_buffer.new.into c.read_by_buffer.result)) c.buffer_of-buffer.ensures c.read_by_buffer.ensures.turns in
-    subst (λ (s : Store _). Reads (state_of g.D.Device.bytes g.D.Device.counts s) (state_of g.D.Device.bytes g.D.Device.counts now) (buffer_for c.args.reader c.args.level) c.args.level c.args.slot c.args.index (given c.read_by_buffer.new.into c.read_by_buffer.result)) c.self.view_is
-    (reads-device g.D.Device.bytes g.D.Device.counts view c.read_by_buffer.new.buffers ((i.ticked + 1) % 2 ^ 64) c.args.reader c.args.level c.args.slot c.args.index (given c.read_by_buffer.new.into c.read_by_buffer.result)
+    let answer = given c.read_by_buffer.new.into c.read_by_buffer.result in
+    let finds = subst (λ (n : ℕ). Finds (g.D.Device.bytes i.buffers.cache.device) i.geometry.format n answer) c.place-number.ensures.value c.read_by_buffer.ensures.finds in
+    let turns = subst (λ (n : ℕ). Turns g.D.Device.counts i.buffers c.read_by_buffer.new.buffers n (block_number i.geometry c.args.level c.args.slot c.args.index) answer) c.buffer_of-buffer.ensures
+    (subst (λ (n : ℕ). Turns g.D.Device.counts i.buffers c.read_by_buffer.new.buffers c.buffer_of-buffer.result (n / block_cells i.geometry) answer) c.place-number.ensures.value c.read_by_buffer.ensures.turns) in
+    subst (λ (s : Store _). Reads (state_of g.D.Device.bytes g.D.Device.counts s) (state_of g.D.Device.bytes g.D.Device.counts now) (buffer_for c.args.reader c.args.level) c.args.level c.args.slot c.args.index answer) c.self.view_is
+    (reads-device g.D.Device.bytes g.D.Device.counts view c.read_by_buffer.new.buffers ((i.ticked + 1) % 2 ^ 64) c.args.reader c.args.level c.args.slot c.args.index answer
     c.self.invariant.cells.shape.block c.self.invariant.buffers_many place device
     (λ q. false≢true (sym outside ∙ tail-is (block_cells i.geometry) (shadow_at i.shadows.items.items c.args.level) c.args.slot c.args.index q))
-    c.read_by_buffer.ensures.finds turns c.read_by_buffer.ensures.bytes_stay (omega arith))
+    finds turns c.read_by_buffer.ensures.bytes_stay (omega arith))

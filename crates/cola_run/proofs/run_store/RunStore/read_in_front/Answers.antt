@@ -28,7 +28,7 @@ read_into-requires-clause-within g c =
 pub returns : goal.returns
 returns g c =
     let i = c.self.inside in
-    let view : Store _ = record { buffers = i.buffers; geometry = i.geometry; front = i.front; shadows = i.shadows.items.items; tails = i.tails.items.items; ticked = i.ticked } in
+    let view : Store _ = record { buffers = i.buffers; geometry = i.geometry; front = i.front; shadows = i.shadows.items.items; tails = i.tails; ticked = i.ticked } in
     let format : i.front.format ≡ i.geometry.format = c.self.invariant.cells.shape.format in
     let fits : IfSome (if c.read_into.result then Some c.read_into.new.into else None) (CellFits i.geometry.format) =
     subst (λ (f : Format). IfSome (if c.read_into.result then Some c.read_into.new.into else None) (CellFits f)) format

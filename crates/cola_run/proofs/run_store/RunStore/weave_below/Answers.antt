@@ -23,12 +23,12 @@ use Rattle.cola_run.proofs.run_store.RunStore.weave_below.Goals as goal
 abbrev view-old : (g : _) (c : goal.After-tick_all g) → Store g.row.D.Denot
 view-old g c =
     let i = c.self.inside in
-    record { buffers = i.buffers; geometry = i.geometry; front = i.front; shadows = i.shadows.items.items; tails = i.tails.items.items; ticked = i.ticked }
+    record { buffers = i.buffers; geometry = i.geometry; front = i.front; shadows = i.shadows.items.items; tails = i.tails; ticked = i.ticked }
 
 abbrev view-new : (g : _) (c : goal.After-tick_all g) → Store g.row.D.Denot
 view-new g c = record (view-old g c) {
   shadows = (with_items c.self.inside.shadows.items c.weave_on_device-woven.new.shadows).items;
-  tails = (with_items c.self.inside.tails.items c.weave_on_device-woven.new.tails).items;
+  tails = (with_items c.tails.inside.bytes.items c.weave_on_device-woven.new.tails).items;
   ticked = (c.self.inside.ticked + c.in-Some.passed.ticks) % 2 ^ 64;
 }
 
@@ -44,13 +44,13 @@ below g c =
     let told = g.D.Device.bytes i.buffers.cache.device in
     let w = c.weave_on_device-woven in
     let back : (view-new g c).shadows ≡ w.new.shadows = with_items_is i.shadows.items w.new.shadows (w.auto.shadows ∙ c.deref_mut.ensures.len) in
-    let back_tails : (view-new g c).tails ≡ w.new.tails = with_items_is i.tails.items w.new.tails (w.auto.tails ∙ c.deref_mut-2.ensures.len) in
+    let back_tails : (view-new g c).tails ≡ w.new.tails = with_items_is c.tails.inside.bytes.items w.new.tails (w.auto.tails ∙ c.deref_mut-2.ensures.len) in
     let is : (shadows now : List Shadow) (tails after : List ℕ) → Type 0 = λ shadows now tails after. WoveBelow g.M.WindowMerge.wove g.D.Device.lends told i.geometry i.front shadows now tails after
     c.args.level c.args.own c.args.incoming c.args.sample c.args.merge.now w.new.merge c.args.job.now c.in-Some.passed in
     subst (λ (xs : List Shadow). is (view-old g c).shadows xs (view-old g c).tails (view-new g c).tails) (sym back)
     (subst (λ (ts : List ℕ). is (view-old g c).shadows w.new.shadows (view-old g c).tails ts) (sym back_tails)
     (subst (λ (xs : List Shadow). is xs w.new.shadows (view-old g c).tails w.new.tails) c.deref_mut.ensures.value
-    (subst (λ (ts : List ℕ). is c.deref_mut.result.now w.new.shadows ts w.new.tails) c.deref_mut-2.ensures.value
+    (subst (λ (ts : List ℕ). is c.deref_mut.result.now w.new.shadows ts w.new.tails) (c.deref_mut-2.ensures.value ∙ c.tails.view_is)
     c.in-Some.ensures.wove)))
 
 on-device : (g : _) (c : goal.After-tick_all g) → IsOnDevice c.self.inside.geometry c.args.level
@@ -73,22 +73,22 @@ invariant_of-self g c =
 abbrev view-same : (g : _) (c : goal.In-None g) → Store g.row.D.Denot
 view-same g c =
     let i = c.self.inside in
-    record { buffers = i.buffers; geometry = i.geometry; front = i.front; shadows = i.shadows.items.items; tails = i.tails.items.items; ticked = i.ticked }
+    record { buffers = i.buffers; geometry = i.geometry; front = i.front; shadows = i.shadows.items.items; tails = i.tails; ticked = i.ticked }
 
 shadows-same : (g : _) (c : goal.In-None g) → (with_items c.self.inside.shadows.items c.weave_on_device-woven.new.shadows).items ≡ c.self.inside.shadows.items.items
 shadows-same g c =
     let w = c.weave_on_device-woven in
     with_items_is c.self.inside.shadows.items w.new.shadows (w.auto.shadows ∙ c.deref_mut.ensures.len) ∙ (w.ensures.still c.in-None.is).0 ∙ c.deref_mut.ensures.value
 
-tails-same : (g : _) (c : goal.In-None g) → (with_items c.self.inside.tails.items c.weave_on_device-woven.new.tails).items ≡ c.self.inside.tails.items.items
+tails-same : (g : _) (c : goal.In-None g) → (with_items c.tails.inside.bytes.items c.weave_on_device-woven.new.tails).items ≡ c.self.inside.tails
 tails-same g c =
     let w = c.weave_on_device-woven in
-    with_items_is c.self.inside.tails.items w.new.tails (w.auto.tails ∙ c.deref_mut-2.ensures.len) ∙ (w.ensures.still c.in-None.is).1 ∙ c.deref_mut-2.ensures.value
+    with_items_is c.tails.inside.bytes.items w.new.tails (w.auto.tails ∙ c.deref_mut-2.ensures.len) ∙ (w.ensures.still c.in-None.is).1 ∙ c.deref_mut-2.ensures.value ∙ c.tails.view_is
 
 pub invariant_of-self-in-None : goal.invariant_of-self-in-None
 invariant_of-self-in-None g c =
     let told = g.D.Device.bytes c.self.inside.buffers.cache.device in
-    subst (λ (xs : List Shadow). IsStore told (record (view-same g c) { shadows = xs; tails = (with_items c.self.inside.tails.items c.weave_on_device-woven.new.tails).items })) (sym (shadows-same g c))
+    subst (λ (xs : List Shadow). IsStore told (record (view-same g c) { shadows = xs; tails = (with_items c.tails.inside.bytes.items c.weave_on_device-woven.new.tails).items })) (sym (shadows-same g c))
     (subst (λ (ts : List ℕ). IsStore told (record (view-same g c) { tails = ts })) (sym (tails-same g c)) c.self.invariant)
 
 shown-of : (g : _) (c : goal.After-tick_all g) (reach : Reach) (window : List ℕ) (last : Bool) → IsFound g.D.Device.lends (g.D.Device.bytes c.self.inside.buffers.cache.device) c.self.inside.geometry c.self.inside.front reach window last →
@@ -153,7 +153,7 @@ returns-in-None-clause-weaves g c =
     let of : Store _ → State = state_of g.D.Device.bytes g.D.Device.counts in
     inl (record {
       state_is =
-          ap (λ (xs : List Shadow). of (record (view-same g c) { shadows = xs; tails = (with_items c.self.inside.tails.items c.weave_on_device-woven.new.tails).items })) (shadows-same g c)
+          ap (λ (xs : List Shadow). of (record (view-same g c) { shadows = xs; tails = (with_items c.tails.inside.bytes.items c.weave_on_device-woven.new.tails).items })) (shadows-same g c)
           ∙ ap (λ (ts : List ℕ). of (record (view-same g c) { tails = ts })) (tails-same g c)
           ∙ ap of c.self.view_is;
       merge_is = (c.weave_on_device-woven.ensures.still c.in-None.is).2;

@@ -18,7 +18,7 @@ use Rattle.cola_run.proofs.run_store.RunStore.weave_in_front.Goals as goal
 abbrev view-old : (g : _) (c : goal.After-tick_all g) → Store g.row.D.Denot
 view-old g c =
     let i = c.self.inside in
-    record { buffers = i.buffers; geometry = i.geometry; front = i.front; shadows = i.shadows.items.items; tails = i.tails.items.items; ticked = i.ticked }
+    record { buffers = i.buffers; geometry = i.geometry; front = i.front; shadows = i.shadows.items.items; tails = i.tails; ticked = i.ticked }
 
 abbrev view-new : (g : _) (c : goal.After-tick_all g) → Store g.row.D.Denot
 view-new g c = record (view-old g c) {
@@ -95,7 +95,7 @@ returns-in-Some-clause-runs g c = λ lie. (
 abbrev view-same : (g : _) (c : goal.In-None g) → Store g.row.D.Denot
 view-same g c =
     let i = c.self.inside in
-    record { buffers = i.buffers; geometry = i.geometry; front = i.front; shadows = i.shadows.items.items; tails = i.tails.items.items; ticked = i.ticked }
+    record { buffers = i.buffers; geometry = i.geometry; front = i.front; shadows = i.shadows.items.items; tails = i.tails; ticked = i.ticked }
 
 shadows-same : (g : _) (c : goal.In-None g) → (with_items c.self.inside.shadows.items c.weave_into_front-woven.new.shadows).items ≡ (view-same g c).shadows
 shadows-same g c =

@@ -17,7 +17,7 @@ use Rattle.cola_run.proofs.traits.RunStoreCellSink.finish.Goals as goal
 abbrev front-old : (g : _) (c : goal.After-self-1 g) → Store g.row.D.Denot
 front-old g c =
     let i = c.self.inside in
-    record { buffers = i.buffers; geometry = i.geometry; front = i.front; shadows = i.shadows.items.items; tails = i.tails.items.items; ticked = i.ticked }
+    record { buffers = i.buffers; geometry = i.geometry; front = i.front; shadows = i.shadows.items.items; tails = i.tails; ticked = i.ticked }
 
 abbrev front-new : (g : _) (c : goal.After-self-1 g) → Store g.row.D.Denot
 front-new g c = record (front-old g c) { shadows = (with_items c.self.inside.shadows.items c.set_shadow.new.shadows).items }
@@ -59,13 +59,13 @@ finish_on_device-requires-clause-place g c =
     let levels : c.args.level < i.geometry.bottom + 1 = subst (λ (s : Store _). c.args.level < s.geometry.bottom + 1) (sym c.self.view_is) c.requires in
     let device : IsOnDevice i.geometry c.args.level = record { within = omega (arith, levels); whole = omega (arith, front, some, c.if-level-front_levels.false) } in
     subst (λ (xs : List Shadow). (shadow_at xs c.args.level).saved ≡ false → HasRoom i.geometry xs c.args.level) (sym c.deref_mut-2.ensures.value)
-    (ends-within i.geometry i.front i.shadows.items.items i.tails.items.items c.args.level c.self.invariant.cells.shape device)
+    (ends-within i.geometry i.front i.shadows.items.items i.tails c.args.level c.self.invariant.cells.shape device)
 
 -- a finish of a level on the device: the store before it and after it
 abbrev device-old : (g : _) (c : goal.After-self-2-1 g) → Store g.row.D.Denot
 device-old g c =
     let i = c.self.inside in
-    record { buffers = i.buffers; geometry = i.geometry; front = i.front; shadows = i.shadows.items.items; tails = i.tails.items.items; ticked = i.ticked }
+    record { buffers = i.buffers; geometry = i.geometry; front = i.front; shadows = i.shadows.items.items; tails = i.tails; ticked = i.ticked }
 
 abbrev device-new : (g : _) (c : goal.After-self-2-1 g) → Store g.row.D.Denot
 device-new g c = record (device-old g c) { buffers = c.finish_on_device.new.buffers; shadows = (with_items c.self.inside.shadows.items c.finish_on_device.new.shadows).items }
@@ -90,8 +90,7 @@ on-device g c =
     let finished : IsFinished i.geometry (before view.shadows view.tails) (after now.shadows view.tails) c.args.level c.finish_on_device.result =
     subst (λ (xs : List Shadow). IsFinished i.geometry (before view.shadows view.tails) (after xs view.tails) c.args.level c.finish_on_device.result) (sym back)
     (subst (λ (xs : List Shadow). IsFinished i.geometry (before xs view.tails) (after c.finish_on_device.new.shadows view.tails) c.args.level c.finish_on_device.result) c.deref_mut-2.ensures.value
-    (subst (λ (ts : List ℕ). IsFinished i.geometry (before c.deref_mut-2.result.now ts) (after c.finish_on_device.new.shadows ts) c.args.level c.finish_on_device.result) c.deref-2.ensures.value
-    c.finish_on_device.ensures.finished)) in
+    c.finish_on_device.ensures.finished) in
     let writing = subst (λ (xs : List Shadow). Writing g.D.Device.counts g.D.Device.kept (not (shadow_at xs c.args.level).saved) i.buffers now.buffers (end_block i.geometry xs c.args.level) c.finish_on_device.result)
     c.deref_mut-2.ensures.value c.finish_on_device.ensures.writing in (
       finished-sound g.D.Device.bytes g.D.Device.counts g.D.Device.kept view now c.args.level c.finish_on_device.result c.self.invariant device refl refl finished writing (omega arith),

@@ -1,15 +1,18 @@
-use Rattle.std.proofs.Common.{◌≡◌, ◌<◌, ◌^◌, ◌+◌, ◌%◌, ◌≤◌, ap, sym, subst, ◌∙◌, arith, ℕ, List, length, Err, Result, Ok, refl}
+use Rattle.std.proofs.Common.{◌≡◌, ◌<◌, ◌^◌, ◌+◌, ◌*◌, ◌%◌, ◌≤◌, ap, sym, subst, ◌∙◌, arith, ℕ, List, length, Err, Result, Ok, refl}
 use Rattle.std.proofs.lemmas.List.{with_items_is}
 use Rattle.std.specs.Vec.{with_items}
 use Rattle.cola_cell.specs.declared.fault.PushFault.{PushFault}
 use Rattle.cola_cell.specs.declared.sink.Shadow.{Shadow}
 use Rattle.cola_cell.specs.Packed.{passed}
+use Rattle.cola_cell.specs.Decoded.{spelling}
 use Rattle.cola_cell.specs.Flat.{shadow_at}
+use Rattle.cola_cell.specs.Format.{width}
 use Rattle.cola_cell.specs.Places.{slot_size}
 use Rattle.cola_cell.specs.Shadows.{push_ticks, Pushes, PushSpends}
+use Rattle.cola_device.specs.Bytes.{splice}
 use Rattle.cola_front.specs.Front.{front_with}
-use Rattle.cola_run.specs.Cells.{IsOnDevice, Lower, end_number, end_block}
-use Rattle.cola_run.specs.Parts.{fills, lengthened, OneShadow, IsPushed}
+use Rattle.cola_run.specs.Cells.{IsOnDevice, Lower, end_number, end_block, tail_number}
+use Rattle.cola_run.specs.Parts.{fills, lengthened, OneShadow, IsLengthened, IsPushed}
 use Rattle.cola_run.specs.Turns.{Writing}
 use Rattle.cola_run.specs.Store.{Store, IsStore, lower_of, state_of, kept_of}
 use Rattle.cola_cell.specs.Spent.{Ticks}
@@ -29,7 +32,7 @@ ticked-by ticked (Err (push.Overfull level)) fault = absurd fault
 abbrev front-old : (g : _) (c : goal.After-self-then-level-front_levels-1 g) → Store g.row.D.Denot
 front-old g c =
     let i = c.self.inside in
-    record { buffers = i.buffers; geometry = i.geometry; front = i.front; shadows = i.shadows.items.items; tails = i.tails.items.items; ticked = i.ticked }
+    record { buffers = i.buffers; geometry = i.geometry; front = i.front; shadows = i.shadows.items.items; tails = i.tails; ticked = i.ticked }
 
 abbrev front-new : (g : _) (c : goal.After-self-then-level-front_levels-1 g) → Store g.row.D.Denot
 front-new g c = record (front-old g c) {
@@ -52,11 +55,11 @@ in-front g c =
     let levels : c.args.level < i.geometry.bottom + 1 = subst (λ (s : Store _). c.args.level < s.geometry.bottom + 1) (sym c.self.view_is) c.requires.level_in in
     let within : c.args.level ≤ i.geometry.bottom = omega (arith, levels) in
     let old = shadow_at view.shadows c.args.level in
-    let of_old : c.shadow_of.result ≡ old = c.shadow_of.ensures ∙ ap (λ (xs : List Shadow). shadow_at xs c.args.level) c.deref.ensures.value in
+    let of_old : c.shadow_of-len.result ≡ old = c.shadow_of-len.ensures ∙ ap (λ (xs : List Shadow). shadow_at xs c.args.level) c.deref.ensures.value in
     let most = (c.self.invariant.cells.shape.shadows_fit c.args.level within).within in
-    let lens : c.shadow_of.result.len ≡ old.len = ap (λ (x : Shadow). x.len) of_old in
+    let lens : c.shadow_of-len.result.len ≡ old.len = ap (λ (x : Shadow). x.len) of_old in
     let size = c.cells_of_slot.ensures in
-    let room : old.len < slot_size c.args.level = omega (arith, most, lens, size, c.if-shadow_of-cells_of_slot.false) in
+    let room : old.len < slot_size c.args.level = omega (arith, most, lens, size, c.if-len-cells_of_slot.false) in
     let back : now.shadows ≡ c.push_in_front.new.shadows = with_items_is i.shadows.items c.push_in_front.new.shadows (c.push_in_front.auto.shadows ∙ c.deref_mut.ensures.len) in
     let next : Shadow = lengthened i.geometry old in
     let one : OneShadow view.shadows now.shadows c.args.level next =
@@ -78,25 +81,25 @@ returns-then-level-front_levels-clause-pushes g c =
     subst (λ (s : Store _). Pushes (state_of g.D.Device.bytes g.D.Device.counts s) (state_of g.D.Device.bytes g.D.Device.counts (front-new g c)) c.args.level (passed c.args.pass c.args.cell.now) (Ok tt)) c.self.view_is (in-front g c).1
 
 -- a push to a level on the device: the store before it and after it
-abbrev device-old : (g : _) (c : goal.After-self-3-1 g) → Store g.row.D.Denot
+abbrev device-old : (g : _) (c : goal.After-self-2-1 g) → Store g.row.D.Denot
 device-old g c =
     let i = c.self.inside in
-    record { buffers = i.buffers; geometry = i.geometry; front = i.front; shadows = i.shadows.items.items; tails = i.tails.items.items; ticked = i.ticked }
+    record { buffers = i.buffers; geometry = i.geometry; front = i.front; shadows = i.shadows.items.items; tails = i.tails; ticked = i.ticked }
 
-abbrev device-new : (g : _) (c : goal.After-self-3-1 g) → Store g.row.D.Denot
+abbrev device-new : (g : _) (c : goal.After-self-2-1 g) → Store g.row.D.Denot
 device-new g c = record (device-old g c) {
-  buffers = c.push_on_device.new.buffers;
-  shadows = (with_items c.self.inside.shadows.items c.push_on_device.new.shadows).items;
-  tails = (with_items c.self.inside.tails.items c.push_on_device.new.tails).items;
+  buffers = c.lengthen_on_device.new.buffers;
+  shadows = (with_items c.self.inside.shadows.items c.lengthen_on_device.new.shadows).items;
+  tails = c.put.new.self;
   ticked = (c.self.inside.ticked + 1) % 2 ^ 64;
 }
 
 -- it is sound, keeps what is kept, meets the trait, and spends what that says
-on-device : (g : _) (c : goal.After-self-3-1 g) →
-    IsStore (g.D.Device.bytes c.push_on_device.new.buffers.cache.device) (device-new g c)
+on-device : (g : _) (c : goal.After-self-2-1 g) →
+    IsStore (g.D.Device.bytes c.lengthen_on_device.new.buffers.cache.device) (device-new g c)
     × (kept_of g.D.Device.bytes g.D.Device.counts g.D.Device.kept (device-new g c) ≡ kept_of g.D.Device.bytes g.D.Device.counts g.D.Device.kept (device-old g c))
-    × Pushes (state_of g.D.Device.bytes g.D.Device.counts (device-old g c)) (state_of g.D.Device.bytes g.D.Device.counts (device-new g c)) c.args.level (passed c.args.pass c.args.cell.now) c.push_on_device.result
-    × PushSpends (state_of g.D.Device.bytes g.D.Device.counts (device-old g c)) (state_of g.D.Device.bytes g.D.Device.counts (device-new g c)) c.args.level c.push_on_device.result
+    × Pushes (state_of g.D.Device.bytes g.D.Device.counts (device-old g c)) (state_of g.D.Device.bytes g.D.Device.counts (device-new g c)) c.args.level (passed c.args.pass c.args.cell.now) c.lengthen_on_device.result
+    × PushSpends (state_of g.D.Device.bytes g.D.Device.counts (device-old g c)) (state_of g.D.Device.bytes g.D.Device.counts (device-new g c)) c.args.level c.lengthen_on_device.result
 on-device g c =
     let i = c.self.inside in
     let view = device-old g c in
@@ -106,28 +109,31 @@ on-device g c =
     let levels : c.args.level < i.geometry.bottom + 1 = subst (λ (s : Store _). c.args.level < s.geometry.bottom + 1) (sym c.self.view_is) c.requires.level_in in
     let device : IsOnDevice i.geometry c.args.level = record { within = omega (arith, levels); whole = omega (arith, first, some, c.if-level-front_levels.false) } in
     let old = shadow_at view.shadows c.args.level in
-    let of_old : c.shadow_of.result ≡ old = c.shadow_of.ensures ∙ ap (λ (xs : List Shadow). shadow_at xs c.args.level) c.deref.ensures.value in
+    let of_old : c.shadow_of-len.result ≡ old = c.shadow_of-len.ensures ∙ ap (λ (xs : List Shadow). shadow_at xs c.args.level) c.deref.ensures.value in
     let most = (c.self.invariant.cells.shape.shadows_fit c.args.level device.within).within in
-    let lens : c.shadow_of.result.len ≡ old.len = ap (λ (x : Shadow). x.len) of_old in
+    let lens : c.shadow_of-len.result.len ≡ old.len = ap (λ (x : Shadow). x.len) of_old in
     let size = c.cells_of_slot.ensures in
-    let room : old.len < slot_size c.args.level = omega (arith, most, lens, size, c.if-shadow_of-cells_of_slot.false) in
-    let back : now.shadows ≡ c.push_on_device.new.shadows = with_items_is i.shadows.items c.push_on_device.new.shadows (c.push_on_device.auto.shadows ∙ c.deref_mut-2.ensures.len) in
-    let back_tails : now.tails ≡ c.push_on_device.new.tails = with_items_is i.tails.items c.push_on_device.new.tails (c.push_on_device.auto.tails ∙ c.deref_mut-3.ensures.len) in
+    let room : old.len < slot_size c.args.level = omega (arith, most, lens, size, c.if-len-cells_of_slot.false) in
+    let back : now.shadows ≡ c.lengthen_on_device.new.shadows = with_items_is i.shadows.items c.lengthen_on_device.new.shadows (c.lengthen_on_device.auto.shadows ∙ c.deref_mut-2.ensures.len) in
     let before : List Shadow → List ℕ → Lower = lower_of g.D.Device.bytes i.buffers in
     let after : List Shadow → List ℕ → Lower = lower_of g.D.Device.bytes now.buffers in
-    let pushed : IsPushed i.geometry (before view.shadows view.tails) (after now.shadows now.tails) c.args.level (passed c.args.pass c.args.cell.now) c.push_on_device.result =
-    subst (λ (xs : List Shadow). IsPushed i.geometry (before view.shadows view.tails) (after xs now.tails) c.args.level (passed c.args.pass c.args.cell.now) c.push_on_device.result) (sym back)
-    (subst (λ (ts : List ℕ). IsPushed i.geometry (before view.shadows view.tails) (after c.push_on_device.new.shadows ts) c.args.level (passed c.args.pass c.args.cell.now) c.push_on_device.result) (sym back_tails)
-    (subst (λ (xs : List Shadow). IsPushed i.geometry (before xs view.tails) (after c.push_on_device.new.shadows c.push_on_device.new.tails) c.args.level (passed c.args.pass c.args.cell.now) c.push_on_device.result) c.deref_mut-2.ensures.value
-    (subst (λ (ts : List ℕ). IsPushed i.geometry (before c.deref_mut-2.result.now ts) (after c.push_on_device.new.shadows c.push_on_device.new.tails) c.args.level (passed c.args.pass c.args.cell.now) c.push_on_device.result) c.deref_mut-3.ensures.value
-    c.push_on_device.ensures.pushed))) in
-    let writing = subst (λ (xs : List Shadow). Writing g.D.Device.counts g.D.Device.kept (fills i.geometry (shadow_at xs c.args.level).len) i.buffers now.buffers (end_block i.geometry xs c.args.level) c.push_on_device.result)
-    c.deref_mut-2.ensures.value c.push_on_device.ensures.writing in
-    let ticks = ticked-by i.ticked c.push_on_device.result pushed.fault in (
-      pushed-sound g.D.Device.bytes g.D.Device.counts g.D.Device.kept view now c.args.level (passed c.args.pass c.args.cell.now) c.push_on_device.result c.self.invariant device room refl refl pushed writing ticks,
-      pushed-keeps g.D.Device.bytes g.D.Device.counts g.D.Device.kept view now c.args.level (passed c.args.pass c.args.cell.now) c.push_on_device.result c.self.invariant device room refl refl pushed writing ticks,
-      pushed-meets g.D.Device.bytes g.D.Device.counts g.D.Device.kept view now c.args.level (passed c.args.pass c.args.cell.now) c.push_on_device.result c.self.invariant device room refl refl pushed writing ticks,
-      pushed-spends g.D.Device.bytes g.D.Device.counts g.D.Device.kept view now c.args.level (passed c.args.pass c.args.cell.now) c.push_on_device.result c.self.invariant device room refl refl pushed writing ticks,
+    let grew : IsLengthened i.geometry (before view.shadows now.tails) (after now.shadows now.tails) c.args.level c.lengthen_on_device.result =
+    subst (λ (xs : List Shadow). IsLengthened i.geometry (before view.shadows now.tails) (after xs now.tails) c.args.level c.lengthen_on_device.result) (sym back)
+    (subst (λ (xs : List Shadow). IsLengthened i.geometry (before xs now.tails) (after c.lengthen_on_device.new.shadows now.tails) c.args.level c.lengthen_on_device.result) c.deref_mut-2.ensures.value
+    c.lengthen_on_device.ensures.lengthened) in
+    let pushed : IsPushed i.geometry (before view.shadows view.tails) (after now.shadows now.tails) c.args.level (passed c.args.pass c.args.cell.now) c.lengthen_on_device.result =
+    record {
+      tails = c.put.ensures.put ∙ ap (λ (n : ℕ). splice i.tails (width i.geometry.format * tail_number i.geometry c.args.level n) (spelling i.geometry.format (passed c.args.pass c.args.cell.now))) lens;
+      longer = record { shadow = grew.shadow; device = grew.device; fault = grew.fault };
+      spelled = c.put.ensures.spelled;
+    } in
+    let writing = subst (λ (xs : List Shadow). Writing g.D.Device.counts g.D.Device.kept (fills i.geometry (shadow_at xs c.args.level).len) i.buffers now.buffers (end_block i.geometry xs c.args.level) c.lengthen_on_device.result)
+    c.deref_mut-2.ensures.value c.lengthen_on_device.ensures.writing in
+    let ticks = ticked-by i.ticked c.lengthen_on_device.result grew.fault in (
+      pushed-sound g.D.Device.bytes g.D.Device.counts g.D.Device.kept view now c.args.level (passed c.args.pass c.args.cell.now) c.lengthen_on_device.result c.self.invariant device room refl refl pushed writing ticks,
+      pushed-keeps g.D.Device.bytes g.D.Device.counts g.D.Device.kept view now c.args.level (passed c.args.pass c.args.cell.now) c.lengthen_on_device.result c.self.invariant device room refl refl pushed writing ticks,
+      pushed-meets g.D.Device.bytes g.D.Device.counts g.D.Device.kept view now c.args.level (passed c.args.pass c.args.cell.now) c.lengthen_on_device.result c.self.invariant device room refl refl pushed writing ticks,
+      pushed-spends g.D.Device.bytes g.D.Device.counts g.D.Device.kept view now c.args.level (passed c.args.pass c.args.cell.now) c.lengthen_on_device.result c.self.invariant device room refl refl pushed writing ticks,
     )
 
 pub invariant_of-self-2 : goal.invariant_of-self-2
@@ -138,8 +144,8 @@ returns-clause-kept g c = (on-device g c).1 ∙ ap (λ (s : Store _). kept_of g.
 
 pub returns-clause-pushes : goal.returns-clause-pushes
 returns-clause-pushes g c =
-    subst (λ (s : Store _). Pushes (state_of g.D.Device.bytes g.D.Device.counts s) (state_of g.D.Device.bytes g.D.Device.counts (device-new g c)) c.args.level (passed c.args.pass c.args.cell.now) c.push_on_device.result) c.self.view_is (on-device g c).2
+    subst (λ (s : Store _). Pushes (state_of g.D.Device.bytes g.D.Device.counts s) (state_of g.D.Device.bytes g.D.Device.counts (device-new g c)) c.args.level (passed c.args.pass c.args.cell.now) c.lengthen_on_device.result) c.self.view_is (on-device g c).2
 
 pub returns-clause-spends : goal.returns-clause-spends
 returns-clause-spends g c =
-    subst (λ (s : Store _). PushSpends (state_of g.D.Device.bytes g.D.Device.counts s) (state_of g.D.Device.bytes g.D.Device.counts (device-new g c)) c.args.level c.push_on_device.result) c.self.view_is (on-device g c).3
+    subst (λ (s : Store _). PushSpends (state_of g.D.Device.bytes g.D.Device.counts s) (state_of g.D.Device.bytes g.D.Device.counts (device-new g c)) c.args.level c.lengthen_on_device.result) c.self.view_is (on-device g c).3

@@ -11,7 +11,7 @@ use Rattle.cola_run.proofs.traits.RunStoreCellSink.restart.Goals as goal
 pub invariant_of-self : goal.invariant_of-self
 invariant_of-self g c =
     let i = c.self.inside in
-    let view : Store _ = record { buffers = i.buffers; geometry = i.geometry; front = i.front; shadows = i.shadows.items.items; tails = i.tails.items.items; ticked = i.ticked } in
+    let view : Store _ = record { buffers = i.buffers; geometry = i.geometry; front = i.front; shadows = i.shadows.items.items; tails = i.tails; ticked = i.ticked } in
     let shadows : List Shadow = (with_items i.shadows.items c.set_shadow.new.shadows).items in
     let back : shadows ≡ c.set_shadow.new.shadows = with_items_is i.shadows.items c.set_shadow.new.shadows (c.set_shadow.ensures.many ∙ c.deref_mut.ensures.len) in
     let one : OneShadow i.shadows.items.items shadows c.args.level (emptied c.args.slot) =
@@ -22,7 +22,7 @@ invariant_of-self g c =
 pub returns-clause-restarts : goal.returns-clause-restarts
 returns-clause-restarts g c =
     let i = c.self.inside in
-    let view : Store _ = record { buffers = i.buffers; geometry = i.geometry; front = i.front; shadows = i.shadows.items.items; tails = i.tails.items.items; ticked = i.ticked } in
+    let view : Store _ = record { buffers = i.buffers; geometry = i.geometry; front = i.front; shadows = i.shadows.items.items; tails = i.tails; ticked = i.ticked } in
     let shadows : List Shadow = (with_items i.shadows.items c.set_shadow.new.shadows).items in
     let back : shadows ≡ c.set_shadow.new.shadows = with_items_is i.shadows.items c.set_shadow.new.shadows (c.set_shadow.ensures.many ∙ c.deref_mut.ensures.len) in
     let one : OneShadow i.shadows.items.items shadows c.args.level (emptied c.args.slot) =

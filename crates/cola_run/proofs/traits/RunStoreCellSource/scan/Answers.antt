@@ -9,7 +9,7 @@ use Rattle.cola_run.proofs.traits.RunStoreCellSource.scan.Goals as goal
 abbrev view-old : (g : _) (c : goal.After-tick_all g) → Store g.row.D.Denot
 view-old g c =
     let i = c.self.inside in
-    record { buffers = i.buffers; geometry = i.geometry; front = i.front; shadows = i.shadows.items.items; tails = i.tails.items.items; ticked = i.ticked }
+    record { buffers = i.buffers; geometry = i.geometry; front = i.front; shadows = i.shadows.items.items; tails = i.tails; ticked = i.ticked }
 
 abbrev view-new : (g : _) (c : goal.After-tick_all g) → Store g.row.D.Denot
 view-new g c = record (view-old g c) { ticked = (c.self.inside.ticked + c.seek-ticks.result) % 2 ^ 64 }

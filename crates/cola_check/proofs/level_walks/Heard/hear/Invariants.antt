@@ -1,0 +1,17 @@
+use Rattle.std.proofs.Common.{◌+◌, ◌≤◌}
+use Rattle.cola_check.specs.Walks.{Turns, ReadsOn, unread, ahead}
+use Rattle.cola_check.proofs.Hearing.{Hearing}
+use Rattle.cola_look.proofs.Looking.{Looked}
+use Rattle.cola_check.proofs.level_walks.Heard.hear.Given as goal
+
+abbrev pub invariant-loop-self : goal.invariant-loop-self
+invariant-loop-self g l = record {
+  looks : Looked g.W.CellSource l.fn.work l.work;
+  turns : Turns (g.W.CellSource.state l.fn.work).spent (g.W.CellSource.state l.work).spent l.fn.steps l.steps;
+  unread : l.steps + unread l.self.walk ≤ l.fn.steps + unread l.fn.self.walk;
+  blocks : ReadsOn (g.W.CellSource.state l.fn.work) (g.W.CellSource.state l.work) l.fn.self.walk l.self.walk;
+  hearing : Hearing (g.W.CellSource.state l.fn.work).held l.key l.fn.self.walk l.self.walk l.said;
+}
+
+abbrev pub decreases-loop-self : goal.decreases-loop-self
+decreases-loop-self g l = ahead l.self.walk
