@@ -9,6 +9,7 @@ use cola_clock::Part;
 use cola_merge::{Aim, Feed};
 
 /// The bottom's next run in a slot of its level, built of its own run and of the run that comes in from above.
+#[inline(always)]
 pub fn bottom_aim(own: Run, incoming: Run, slot: u8) -> Aim
     ensures aim { result ≡ bottom_of own incoming slot }
     ensures part { part_of result ≡ bottom_items }

@@ -1,9 +1,10 @@
 -- What a read does to an object: its answer, and what it spends.
-use Rattle.std.specs.Prelude.{◌≡◌, ◌≢◌, ◌⊎◌, ℕ, ◌+◌, ◌≤◌, ◌<◌, Some, Result, OnOk}
+use Rattle.std.specs.Prelude.{◌≡◌, ◌≢◌, ◌⊎◌, ℕ, ◌+◌, ◌≤◌, ◌<◌, Option, Some, None, Result, Ok, Err, OnOk}
 use Rattle.cola_cell.specs.declared.cell.Cell.{Cell}
 use Rattle.cola_cell.specs.declared.fault.ReadFault.{ReadFault}
 use Rattle.cola_cell.specs.Places.{slot_size, block_of}
 use Rattle.cola_cell.specs.Held.{span}
+use Rattle.cola_cell.specs.Packed.{given}
 use Rattle.cola_cell.specs.Spent.{Buffer, Ticks, StaysAt, ReadAnswers, ReadCalm}
 use Rattle.cola_cell.specs.State.{State}
 
@@ -23,3 +24,14 @@ pub record Reads (old new : State) (buffer : Buffer) (level slot index : ℕ) (r
   pub keeps : OnOk result (new.spent.turned ≡ old.spent.turned →
       (new.spent.lasts buffer ≡ old.spent.lasts buffer) ⊎ (new.spent.lasts buffer ≡ Some (block_of (span old.held) level slot index)))
   pub others_stay : (other : Buffer) → other ≢ buffer → new.spent.lasts other ≡ old.spent.lasts other
+
+-- the cell that a room for one has behind a read, where that answered this one: none after a refusal
+abbrev pub room_with : {E : Type 0} → Cell → Result (Unit {0}) E → Option Cell
+room_with cell (Ok done) = Some cell
+room_with cell (Err fault) = None
+
+-- a read into a room for a cell: as any read, and the room has the cell that it answers
+pub record ReadsIn (old new : State) (buffer : Buffer) (level slot index : ℕ) (room : Option Cell) (result : Result (Unit {0}) ReadFault) : Type 0 where
+  pub cell : Cell
+  pub reads : Reads old new buffer level slot index (given cell result)
+  pub has : room ≡ room_with cell result

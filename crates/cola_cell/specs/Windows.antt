@@ -1,14 +1,16 @@
 -- What a merge or a search over the bytes of an object's cells does.
-use Rattle.std.specs.Prelude.{◌≡◌, ◌≢◌, ◌⊎◌, ℕ, ◌+◌, ◌-◌, ◌*◌, ◌%◌, ◌≤◌, ◌<◌, ◌==◌, Bool, true, false, if◌then◌else◌, List, length, take, drop}
+use Rattle.std.specs.Prelude.{◌≡◌, ◌≢◌, ◌⊎◌, ℕ, suc, ◌+◌, ◌-◌, ◌*◌, ◌%◌, ◌≤◌, ◌<◌, ◌==◌, Bool, true, false, if◌then◌else◌, List, length, take, drop, Result, Ok, Err}
 use Rattle.cola_cell.specs.declared.format.Format.{Format}
+use Rattle.cola_cell.specs.declared.fault.ReadFault.{ReadFault}
 use Rattle.cola_cell.specs.declared.sink.Shadow.{Shadow}
 use Rattle.cola_cell.specs.Decoded.{standing, spot_of_bytes}
 use Rattle.cola_cell.specs.Format.{width}
 use Rattle.cola_cell.specs.Held.{Held, Tells, with_cell, as_cell, span}
 use Rattle.cola_cell.specs.Places.{slot_size}
+use Rattle.cola_cell.specs.Reads.{Reads}
 use Rattle.cola_cell.specs.Shadows.{StaysAround}
 use Rattle.cola_cell.specs.Spelling.{IsSpelling}
-use Rattle.cola_cell.specs.Spent.{Buffer, Ticks}
+use Rattle.cola_cell.specs.Spent.{Buffer, Search, Ticks}
 use Rattle.cola_cell.specs.State.{State}
 use Rattle.cola_cell.specs.declared.windows.Reach.{Reach}
 use Rattle.cola_cell.specs.declared.windows.Window.{Window}
@@ -116,24 +118,32 @@ Weaves wove old new level own incoming sample before after job from to steps =
 
 -- ---- searches
 
--- a run of the object
+-- a run of the object, with a cell at the index
 pub record IsRunIn (held : Held) (reach : Reach) : Type 0 where
   pub level_in : reach.run.level < held.fixed.levels
   pub slot_in : reach.run.slot < 2
   pub within : reach.run.len ≤ slot_size reach.run.level
+  pub some : reach.from < reach.run.len
 
--- a search ran over a window that shows the run from the index on: no cell changes, and of what is spent the ticks alone
+-- a search ran over a window that shows the run from the index on. It read the first cell as any read does, and of what is spent the others
+-- changed the ticks alone
 pub record Scanned {S P : Type 0} (sought : S → S → P → Format → List ℕ → ℕ → Type 0) (old new : State) (reach : Reach)
     (before after : S) (probe : P) (from to ticks : ℕ) : Type 0 where
   pub bytes : List ℕ
   pub is_last : Bool
   pub shown : IsShown old.held reach bytes is_last
   pub sought_is : sought before after probe old.held.fixed.format bytes ticks
-  pub held_is : new.held ≡ old.held
-  pub only_ticks : OnlyTicks old new from to ticks
+  pub mid : State
+  pub first : Reads old mid Search reach.run.level reach.run.slot reach.from (Ok (standing old.held.fixed.format (cell_bytes_at old.held.fixed.format 0 bytes)))
+  pub held_is : new.held ≡ mid.held
+  pub more : ℕ
+  pub ticks_are : ticks ≡ suc more
+  pub others : OnlyTicks mid new (from + 1) to more
 
--- a search ran over a window of the run, or did not run
+-- a search ran over a window of the run, or nothing did, and no cell was accessed; or the first cell was refused as any read is
 abbrev pub Scans : {S P : Type 0} (sought : S → S → P → Format → List ℕ → ℕ → Type 0) (old new : State) (reach : Reach)
-    (before after : S) (probe : P) (from to ticks : ℕ) → Type 0
-Scans sought old new reach before after probe from to ticks =
+    (before after : S) (probe : P) (from to : ℕ) → Result ℕ ReadFault → Type 0
+Scans sought old new reach before after probe from to (Ok ticks) =
     IsStill old new before after from to ticks ⊎ Scanned sought old new reach before after probe from to ticks
+Scans sought old new reach before after probe from to (Err fault) =
+    Reads old new Search reach.run.level reach.run.slot reach.from (Err fault) × (to ≡ from + 1)

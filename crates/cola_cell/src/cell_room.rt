@@ -1,14 +1,19 @@
 //! A room for one cell.
+use crate::cell::Reader;
+use crate::fault::ReadFault;
 use crate::format::Format;
 use crate::packed::Packed;
+use crate::source::CellSource;
+use cola_outside::Steps;
 use std::marker::Model;
+use std::sync::ledger::Ledger;
 
 /// A room for a cell, as the next one of a run, in which it is read, and compared where it stands. A contract sees the cell,
-/// if there is one. A read goes straight into `packed`, and `is_filled` says that a cell of this room stands there.
+/// if there is one.
 #[derive(Drop)]
 pub struct CellRoom {
-    pub is_filled: bool,
-    pub packed: Packed,
+    is_filled: bool,
+    packed: Packed,
 }
 
 impl Model for CellRoom {
@@ -21,8 +26,11 @@ impl Model for CellRoom {
 }
 
 impl CellRoom {
-    ghost use Rattle.std.specs.Prelude.{◌≡◌, Some, None, is_some, option_copied};
+    ghost use Rattle.std.specs.Prelude.{◌≡◌, ◌+◌, Some, None, is_some, option_copied};
     ghost use Rattle.cola_cell.specs.Decoded.{stands};
+    ghost use Rattle.cola_cell.specs.Held.{HasPlace};
+    ghost use Rattle.cola_cell.specs.Reads.{ReadsIn};
+    ghost use Rattle.cola_cell.specs.Spent.{buffer_for};
 
     /// A room without a cell.
     #[inline]
@@ -90,5 +98,28 @@ impl CellRoom {
     {
         self.packed.copy_from(cell);
         self.is_filled = true;
+    }
+
+    /// Reads the cell at a place, as `CellSource::read_packed` does, and takes it in. After a refusal it has none.
+    #[inline(always)]
+    pub fn read<W: CellSource, L: Ledger>(
+        &mut self,
+        work: &mut W,
+        by: Option<Reader>,
+        level: u8,
+        slot: u8,
+        index: u32,
+        steps: &mut Steps<L>,
+    ) -> Result<(), ReadFault>
+        requires { HasPlace (W.state work.old).held level slot index }
+        ensures kept { W.kept work.new ≡ W.kept work.old }
+        ensures one_tick { steps.new ≡ steps.old + 1 }
+        ensures reads { ReadsIn (W.state work.old) (W.state work.new) (buffer_for by level) level slot index
+            self.new result }
+    {
+        self.is_filled = false;
+        work.read_packed(by, level, slot, index, &mut self.packed, steps)?;
+        self.is_filled = true;
+        Ok(())
     }
 }

@@ -36,6 +36,6 @@ pub use packed::{
 };
 pub use sink::{CellSink, Shadow};
 pub use source::CellSource;
-pub use spelling::{LAST_STAMP, decode, decode_wide, encode, encode_wide};
+pub use spelling::{LAST_STAMP, decode, decode_wide, encode, encode_in, encode_wide};
 pub use value::Value;
 pub use windows::{Passed, Reach, Window, WindowMerge, WindowSearch, tick_all};

@@ -107,7 +107,7 @@ pub trait CellSink: CellSource {
         steps: &mut Steps<L>,
     ) -> u32
         requires level_in { level < (Self.state self.old).held.fixed.levels }
-        requires can { M.can merge.old job.now }
+        requires can { M.can merge.old job.now (Self.state self.old).held.fixed.format }
         requires own { IsReach (Self.state self.old).held level own }
         requires incoming { IsReach (Self.state self.old).held level incoming }
         requires sample { IsReach (Self.state self.old).held level sample }

@@ -102,22 +102,23 @@ pub trait CellSource {
         }
     }
 
-    /// Lets a search run over the bytes of a run from an index on, where the object has them at hand, and says how many
-    /// cells that accessed: none where it lets it run over nothing, as one does that has no bytes at hand. It asks no
-    /// device for anything, turns to no block, keeps the blocks that were read last, and ticks once for each cell accessed.
+    /// Lets a search run over the bytes of a run from an index on, as far as they lie one behind the other, and says how many
+    /// cells that accessed. It reads the first of them as `read` does, and is refused where that is; the others lie beside it and
+    /// cost a tick each. None where the object lets it run over nothing, as one does that has no bytes of cells.
     fn scan<S: WindowSearch, L: Ledger>(
         &mut self,
         reach: Reach,
         search: &mut S,
         probe: &S::Probe,
         steps: &mut Steps<L>,
-    ) -> u32
-        requires { IsRunIn (state self.old).held reach }
+    ) -> Result<u32, ReadFault>
+        requires run { IsRunIn (state self.old).held reach }
+        requires can { S.can search.old }
         ensures kept { kept self.new ≡ kept self.old }
         ensures scans { Scans S.sought (state self.old) (state self.new) reach
             search.old search.new probe.now steps.old steps.new result }
     {
-        0
+        Ok(0)
     }
 
     /// Does nothing: it says that an object has at most 23 levels.

@@ -50,8 +50,9 @@ pub fn decode_wide(bytes: &[u8; 128]) -> Option<Cell>
     decode_in(Format::Two, bytes)
 }
 
+/// Writes the cell in a format, in the one way that it has there.
 #[inline(always)]
-pub(crate) fn encode_in(format: Format, cell: &Cell, into: &mut [u8])
+pub fn encode_in(format: Format, cell: &Cell, into: &mut [u8])
     requires size { length into.old ≡ width format }
     requires fits { CellFits format cell.now }
     ensures { IsSpelling format cell.now into.new }

@@ -1,5 +1,5 @@
 //! Windows of bytes: what an object of cells lends a merge or a search, and what runs over them.
-ghost use Rattle.std.specs.Prelude.{◌≡◌, ℕ, ◌+◌, ◌*◌, ◌≤◌, List, length};
+ghost use Rattle.std.specs.Prelude.{◌≡◌, ℕ, ◌+◌, ◌*◌, ◌≤◌, ◌<◌, List, length};
 ghost use Rattle.cola_cell.specs.declared.format.Format.{Format};
 ghost use Rattle.cola_cell.specs.Format.{width};
 ghost use Rattle.cola_cell.specs.Windows.{Views, views_of, AreSpelled};
@@ -43,8 +43,8 @@ pub trait WindowMerge {
     /// What a pass does, by the windows and what stands in the room afterwards.
     ghost wove: { Self → Self → Self.Job → Format → Views → List ℕ → Passed → Type 0 };
 
-    /// When it may run.
-    ghost can: { Self → Self.Job → Type 0 };
+    /// When it may run over cells of a format.
+    ghost can: { Self → Self.Job → Format → Type 0 };
 
     /// Runs over three windows, and puts cells into the room, from its beginning on.
     fn pass(
@@ -56,7 +56,7 @@ pub trait WindowMerge {
         sample: Window,
         room: &mut [u8],
     ) -> Passed
-        requires can { can self.old job.now }
+        requires can { can self.old job.now format }
         ensures size { length room.new ≡ length room.old }
         ensures fits { result.cells * width format ≤ length room.old }
         ensures spelled { AreSpelled format result.cells room.new }
@@ -72,9 +72,16 @@ pub trait WindowSearch {
     /// What it does, by the bytes of the window; the number is how many cells it accessed.
     ghost sought: { Self → Self → Self.Probe → Format → List ℕ → ℕ → Type 0 };
 
-    /// Looks for the key in a window, and says how many cells it accessed.
+    /// When it may run.
+    ghost can: { Self → Type 0 };
+
+    /// Looks for the key in a window, and says how many cells it accessed, from the first on: that one at least, where its bytes
+    /// spell a cell.
     fn seek(&mut self, probe: &Self::Probe, format: Format, bytes: &[u8]) -> u32
-        ensures sought { sought self.old self.new probe.now format bytes.now result };
+        requires can { can self.old }
+        ensures sought { sought self.old self.new probe.now format bytes.now result }
+        ensures spelled { AreSpelled format result bytes.now }
+        ensures first { AreSpelled format 1 bytes.now → 0 < result };
 }
 
 /// Counts so many steps: for proofs alone, so the loop does nothing.

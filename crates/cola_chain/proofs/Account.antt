@@ -1,5 +1,5 @@
 -- The account of a chain: counted from other numbers it is the same, a step keeps it, and it gives the bounds.
-use Rattle.std.proofs.Common.{◌≡◌, ◌≢◌, inl, inr, ℕ, suc, ◌+◌, ◌-◌, ◌*◌, ◌/◌, ◌%◌, ◌^◌, ◌<◌, ◌≤◌, min, Bool, true, false, ◌||◌, nat_lt, List, [], ◌∷◌, length, take, drop, Option, refl, ap, sym, subst, ◌∙◌, arith}
+use Rattle.std.proofs.Common.{◌≡◌, ◌≢◌, inl, inr, ℕ, suc, ◌+◌, ◌-◌, ◌*◌, ◌/◌, ◌%◌, ◌^◌, ◌<◌, ◌≤◌, min, Bool, true, false, ◌||◌, nat_lt, List, [], ◌∷◌, length, take, drop, Option, Result, Ok, Err, refl, ap, sym, subst, ◌∙◌, arith}
 use Rattle.std.specs.List.{refill}
 use Rattle.std.proofs.lemmas.List.{take-append-le}
 use Rattle.std.proofs.Math.Seq.{take-length}
@@ -7,6 +7,7 @@ use Rattle.cola_clock.specs.Clock.{works}
 use Rattle.cola_clock.specs.Marks.{Marks, all_marks_after}
 use Rattle.cola_laws.specs.Plain.{next_clock}
 use Rattle.cola_cell.specs.declared.cell.Reader.TheVariants.{Own, Incoming, Sample}
+use Rattle.cola_cell.specs.declared.fault.ReadFault.{ReadFault}
 use Rattle.cola_cell.specs.Held.{Held, Fixed, span}
 use Rattle.cola_cell.specs.Places.{slot_size}
 use Rattle.cola_cell.specs.Spent.{Spent, Buffer, Search, By}
@@ -262,15 +263,18 @@ read-sound {D} {K} bytes counts kept old store held_is kept_is lasts sound =
       paid = λ counted. paid-stays bytes counts kept old new held_is same lasts (sound.paid counted);
     }
 
--- a search over windows changes no cell, and no block that a buffer holds
-module _ {S P : Type 0} {sought : S → S → P → Format → List ℕ → ℕ → Type 0} {old new : State} {reach : Reach} {before after : S} {probe : P} {from to ticks : ℕ} where
-  pub held-scanned : Scans sought old new reach before after probe from to ticks → new.held ≡ old.held
-  held-scanned (inl still) = ap (λ (x : State). x.held) still.state_is
-  held-scanned (inr s) = s.held_is
+-- a search over windows changes no cell, and of the blocks that buffers hold that of searches alone
+module _ {S P : Type 0} (sought : S → S → P → Format → List ℕ → ℕ → Type 0) (old new : State) (reach : Reach) (before after : S) (probe : P) (from to : ℕ) where
+  pub held-scanned : (result : Result ℕ ReadFault) → Scans sought old new reach before after probe from to result → new.held ≡ old.held
+  held-scanned (Ok ticks) (inl still) = ap (λ (x : State). x.held) still.state_is
+  held-scanned (Ok ticks) (inr s) = s.held_is ∙ s.first.cells_stay
+  held-scanned (Err fault) refused = refused.0.cells_stay
 
-  pub lasts-scanned : Scans sought old new reach before after probe from to ticks → (buffer : Buffer) → new.spent.lasts buffer ≡ old.spent.lasts buffer
-  lasts-scanned (inl still) buffer = ap (λ (x : State). x.spent.lasts buffer) still.state_is
-  lasts-scanned (inr s) buffer = s.only_ticks.lasts_are buffer
+  pub lasts-scanned : (result : Result ℕ ReadFault) → Scans sought old new reach before after probe from to result → (buffer : Buffer) → buffer ≢ Search →
+      new.spent.lasts buffer ≡ old.spent.lasts buffer
+  lasts-scanned (Ok ticks) (inl still) buffer d = ap (λ (x : State). x.spent.lasts buffer) still.state_is
+  lasts-scanned (Ok ticks) (inr s) buffer d = s.others.lasts_are buffer ∙ s.first.others_stay buffer d
+  lasts-scanned (Err fault) refused buffer d = refused.0.others_stay buffer d
 
 -- ---- a chain after a step
 

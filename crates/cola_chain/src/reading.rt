@@ -1,10 +1,11 @@
 //! Reads of a chain's cells.
-ghost use Rattle.std.specs.Prelude.{◌≡◌, ◌+◌, ◌%◌, ◌^◌, ◌≤◌, true, false, if◌then◌else◌, None, is_some};
+ghost use Rattle.std.specs.Prelude.{◌≡◌, ◌≢◌, ◌+◌, ◌%◌, ◌^◌, ◌≤◌, true, false, if◌then◌else◌, None, is_some, Err};
+ghost use Rattle.cola_cell.specs.declared.fault.ReadFault.TheVariants.{Device};
 ghost use Rattle.cola_cell.specs.Held.{HasPlace};
 ghost use Rattle.cola_cell.specs.Packed.{given};
 ghost use Rattle.cola_cell.specs.Spent.{Search, By, buffer_for};
 ghost use Rattle.cola_cell.specs.Windows.{IsRunIn, Scans};
-ghost use Rattle.cola_run.specs.Weaving.{ScansBelow, HasWindow, is_at_hand};
+ghost use Rattle.cola_run.specs.Weaving.{ScansThere, HasWindow, is_at_hand};
 ghost use Rattle.cola_chain.specs.Contents.{held_of, state_of, Kept, kept_of, ReadsCell};
 
 use crate::chains::Chain;
@@ -89,8 +90,8 @@ impl<D: Device> CellSource for Chain<D> {
         }
     }
 
-    /// As the chain's store lets a search run over the bytes of a run: no block is turned to, so the steps of the chain stay
-    /// counted as they were.
+    /// As the chain's store lets a search run over the bytes of a run: that goes by the block of searches, so the steps of the chain
+    /// stay counted as they were.
     #[inline(always)]
     fn scan<S: WindowSearch, L: Ledger>(
         &mut self,
@@ -98,15 +99,17 @@ impl<D: Device> CellSource for Chain<D> {
         search: &mut S,
         probe: &S::Probe,
         steps: &mut Steps<L>,
-    ) -> u32
-        requires { IsRunIn (held_of D.bytes self.old) reach }
+    ) -> Result<u32, ReadFault>
+        requires run { IsRunIn (held_of D.bytes self.old) reach }
+        requires can { S.can search.old }
         ensures kept { kept_of D.bytes D.counts D.kept self.new ≡ kept_of D.bytes D.counts D.kept self.old }
         ensures scans { Scans S.sought (state_of D.bytes D.counts self.old) (state_of D.bytes D.counts self.new) reach
             search.old search.new probe.now steps.old steps.new result }
-        ensures runs { is_at_hand self.old.store.geometry self.old.store.shadows reach ≡ true →
-            HasWindow D.lends self.old.store.geometry self.old.store.buffers.lasts None reach →
-            ScansBelow S.sought D.lends (D.bytes self.old.store.buffers.cache.device) self.old.store.geometry self.old.store.front reach search.old search.new
+        ensures runs { is_at_hand self.old.store.geometry self.old.store.shadows reach ≡ true → result ≢ Err Device →
+            ScansThere S.sought D.lends (D.bytes self.old.store.buffers.cache.device) self.old.store.geometry self.old.store.front reach search.old search.new
             probe.now result }
+        ensures calm { HasWindow D.lends self.old.store.geometry self.old.store.buffers.lasts None reach →
+            (self.new.store.buffers ≡ self.old.store.buffers) × (result ≢ Err Device) }
         ensures counted { self.new.counted ≡ self.old.counted }
     {
         self.runs.scan(reach, search, probe, steps)

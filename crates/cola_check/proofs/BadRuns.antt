@@ -1,22 +1,60 @@
 -- The lowest bad cell of the runs of a file, and how many cells the runs have.
-use Rattle.std.proofs.Common.{◌≡◌, inl, inr, ℕ, zero, suc, ◌+◌, ◌-◌, ◌*◌, ◌^◌, ◌<◌, ◌≤◌, ◌==◌, Bool, true, false, if◌then◌else◌, length, Option, None, Some, Result, Ok, Err, IfOk, sym, ap, subst, ◌∙◌, arith}
+use Rattle.std.proofs.Common.{◌≡◌, ℕ, ◌+◌, ◌<◌, false, Option, None, Some, refl, subst, arith, below_more, inl, inr, zero, suc, ◌-◌, ◌*◌, ◌^◌, ◌≤◌, ◌==◌, Bool, true, if◌then◌else◌, length, Result, Ok}
+use Rattle.std.proofs.Common.{Err, IfOk, sym, ap, ◌∙◌}
 use Rattle.std.proofs.lemmas.Bool.{cases_order}
 use Rattle.cola_cell.specs.declared.cell.Run.{Run}
+use Rattle.cola_cell.specs.Held.{Held, Spot, Untold, Bad, Told, Tells, HasPlace, IsTelling, is_untold}
+use Rattle.cola_cell.specs.Spent.{IsBad}
+use Rattle.cola_cell.specs.ToldCells.{IsTold, AreTold}
 use Rattle.cola_cell.specs.declared.fault.ReadFault.{ReadFault}
-use Rattle.cola_cell.specs.Held.{Held, IsTelling}
 use Rattle.cola_cell.specs.Places.{number_of, slot_size}
 use Rattle.cola_clock.specs.Clock.{visible_slot}
 use Rattle.cola_clock.proofs.MarkLaws.{marks-each}
-use Rattle.cola_cell.specs.ToldCells.{IsTold}
 use Rattle.cola_layout.specs.declared.header.Header.{Header}
 use Rattle.cola_layout.specs.Marks.{all_numbers}
 use Rattle.cola_layout.proofs.Levels.{numbers-length}
 use Rattle.cola_layout.proofs.Places.{place-from, place-below}
 use Rattle.cola_layout.proofs.Powers.{next_power, power-le}
+use Rattle.cola_look.specs.Runs.{HasRun}
 use Rattle.cola_verdict.specs.Tests.{run_len, IsLowestBad}
+use Rattle.cola_check.specs.BadCells.{FindsOne, FindsIn, FindsAt, AreRunsTold, IsFirstAt, FindsCell, level_cells, cells_above, all_cells}
 use Rattle.cola_check.specs.Found.{tested_by, numbers_at, run_in}
-use Rattle.cola_check.specs.BadCells.{FindsIn, FindsAt, AreRunsTold, IsFirstAt, FindsCell, level_cells, cells_above, all_cells}
 use Rattle.cola_check.specs.Reading.{IsRunTold}
+
+-- ---- one more place of a run
+
+place-of : (held : Held) (run : Run) (index : ℕ) → HasRun held run → index < run.len → HasPlace held run.level run.slot index
+place-of held run index r l = record { level_in = r.level_in; slot_in = r.slot_in; index_in = (let w = r.within in omega (arith, w, l)) }
+
+is-bad : (spot : Spot) → is_untold spot ≡ false → Tells spot Bad → spot ≡ Bad
+is-bad Untold u t = cc
+is-bad Bad u t = refl
+is-bad (Told c) u t = t
+
+module _ (held mid : Held) (run : Run) (index : ℕ) (found : Option ℕ) where
+  -- the places up to it are told, and so is this one
+  pub told-on : HasRun held run → index < run.len → mid ≡ held → found ≡ None → FindsOne mid run index found → (IsTelling held → AreTold (held.spots run.level run.slot) index) →
+      IsTelling held → AreTold (held.spots run.level run.slot) (index + 1)
+  told-on r l stays none f told t =
+      let here : FindsOne held run index None = subst (FindsOne held run index) none (subst (λ (h : Held). FindsOne h run index found) stays f) in
+      below_more (λ (i : ℕ). IsTold (held.spots run.level run.slot i)) index (told t) (here (t run.level run.slot index (place-of held run index r l)))
+
+  -- it is bad
+  pub finds-bad : (number : ℕ) → HasRun held run → index < run.len → mid ≡ held → found ≡ Some number → FindsOne mid run index found → (IsTelling held → AreTold (held.spots run.level run.slot) index) →
+      FindsIn held run (Some number)
+  finds-bad number r l stays some f told =
+      let bad : IsBad held run.level run.slot index number = subst (FindsOne held run index) some (subst (λ (h : Held). FindsOne h run index found) stays f) in (
+        record { index = index; within = l; bad = bad },
+        λ t. record {
+          index = index;
+          within = l;
+          bad = is-bad (held.spots run.level run.slot index) (t run.level run.slot index (place-of held run index r l)) bad.told;
+          number_is = bad.number_is;
+          before = told t;
+        },
+      )
+
+-- ---- all runs
 
 module _ (header : Header) where
   -- there are marks for each level
@@ -46,8 +84,8 @@ module _ (header : Header) where
       let whole : 2 ^ (suc level + 3) ≡ 2 ^ (level + 3) + 2 ^ (level + 3) = next_power (level + 3) (suc level + 3) (omega arith) in
       omega (arith, rest, first, second, half, whole)
 
-  pub few-cells : all_cells header ≤ 2 ^ (header.geometry.bottom + 4)
-  few-cells =
+  pub few_cells : all_cells header ≤ 2 ^ (header.geometry.bottom + 4)
+  few_cells =
       let e : header.geometry.bottom + 1 + 3 ≡ header.geometry.bottom + 4 = omega arith in
       subst (λ (n : ℕ). all_cells header ≤ 2 ^ n) e (few-above (header.geometry.bottom + 1) (omega arith))
 
@@ -98,14 +136,11 @@ module _ (header : Header) where
         | inr other ↦ elim other [
           | inl less ↦ above l less s place.slot_in i place.within
           | inr more ↦ absurd (
-              let at = f.first.number_is in
-              let slot_in = f.slot_in in
-              let within = f.first.within in
               let most = run-fits level f.slot low in
-              let end : number_of level f.slot f.first.index < 2 ^ (level + 4) = place-below level f.slot f.first.index (omega (arith, slot_in)) (omega (arith, within, most)) in
+              let end : number_of level f.slot f.first.index < 2 ^ (level + 4) = place-below level f.slot f.first.index (omega (arith, f.slot_in)) (omega (arith, f.first.within, most)) in
               let begin : 2 ^ (l + 3) ≤ number_of l s i = place-from l s i in
               let grow : 2 ^ (level + 4) ≤ 2 ^ (l + 3) = power-le (level + 4) (l + 3) (omega (arith, more)) in
-              omega (arith, below, at, end, begin, grow))
+              omega (arith, below, f.first.number_is, end, begin, grow))
         ]
       ];
     }
@@ -123,11 +158,10 @@ module _ (header : Header) where
                 | inr more ↦ absurd (
                     let zero : f.slot ≡ 0 = omega (arith, more, its) in
                     let one : s ≡ 1 = omega (arith, more, its) in
-                    let inside = f.first.within in
                     let most = run-fits level f.slot low in
                     let e : number ≡ (2 + 0) * slot_size level + f.first.index = at ∙ ap (λ (x : ℕ). number_of level x f.first.index) zero in
                     let g : number_of level s i ≡ (2 + 1) * slot_size level + i = ap (λ (x : ℕ). number_of level x i) one in
-                    omega (arith, below, e, g, inside, most))
+                    omega (arith, below, e, g, f.first.within, most))
               ]
             ]
 

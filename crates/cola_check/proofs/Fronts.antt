@@ -1,28 +1,43 @@
--- The cells at the front of a walk.
-use Rattle.std.proofs.Common.{◌≡◌, ◌⊎◌, inl, inr, ℕ, zero, suc, ◌+◌, ◌≤◌, ◌<◌, true, false, cond, List, [], ◌∷◌, length, drop, get_or, Option, None, Some, IsTrue, refl, sym, ap, subst, ◌∙◌, arith}
+-- The cells at the front of a walk, and what a run says of a key as a walk passes them.
+use Rattle.std.proofs.Common.{ℕ, arith, ◌≡◌, ◌⊎◌, inl, inr, suc, ◌+◌, ◌≤◌, ◌<◌, true, false, cond, List, [], ◌∷◌, length, drop, get_or, Option, None, Some, IsTrue, refl, sym, ap, subst, ◌∙◌}
 use Rattle.std.specs.Ordering.{is_eq}
 use Rattle.std.proofs.Math.Seq.{drop-cons}
+use Rattle.std.proofs.lemmas.List.{drop_all}
+use Rattle.cola_runs.specs.Seen.{Seen}
+use Rattle.cola_runs.proofs.AtKey.{over}
 use Rattle.cola_runs.specs.Cells as laws
 use Rattle.cola_runs.specs.Seen as seen
-use Rattle.cola_runs.specs.Seen.{Seen, flagged}
-use Rattle.cola_runs.proofs.AtKey.{over}
 use Rattle.cola_pairs.specs.Walk.{pass_key}
+use Rattle.cola_cell.specs.Spent.{Spent}
+use Rattle.cola_cell.proofs.CostsLemmas.{costs_then, costs_within}
 use Rattle.cola_cell.specs.declared.cell.Cell.{Cell}
-use Rattle.cola_cell.specs.declared.cell.Cell.TheVariants as cell
 use Rattle.cola_cell.specs.declared.cell.Run.{Run}
 use Rattle.cola_cell.specs.Cell.{key_of}
 use Rattle.cola_cell.specs.Held.{Held, Told, Tells, LawCell, Stamped, as_cell, as_item}
 use Rattle.cola_cell.specs.Order.{key_cmp}
 use Rattle.cola_cell.proofs.RunLemmas.{run_tells, given_is_told}
-use Rattle.cola_look.specs.Runs.{HasRun}
 use Rattle.cola_cell.specs.ToldCells.{run_cells}
 use Rattle.cola_cell.proofs.ToldRuns.{told_is}
 use Rattle.cola_cell.proofs.CellLists.{length-cells}
+use Rattle.cola_cell.specs.declared.cell.Item.TheVariants.{Value, Tombstone}
+use Rattle.cola_cell.specs.declared.cell.Cell.TheVariants as cell
+use Rattle.cola_check.specs.Walks.{Turns, HeadFits, HeadIsRead, WalkFits, IsReady, rest, has_key, found_of, found_or, as_seen, passed_seen, heads_of, unread, ahead, Fetches, Passes}
 use Rattle.cola_check.specs.declared.walk.Found.{Found}
 use Rattle.cola_check.specs.declared.walk.Found.TheVariants.{Nothing, Old, Young}
 use Rattle.cola_check.specs.declared.walk.Walk.{Walk}
 use Rattle.cola_check.specs.Reading.{IsRunTold}
-use Rattle.cola_check.specs.Walks.{HeadFits, HeadIsRead, WalkFits, IsReady, rest, has_key, found_of, found_or, as_seen, passed_seen, heads_of, unread, ahead, Fetches, Passes}
+use Rattle.cola_check.specs.declared.tally.Said.{Said}
+use Rattle.cola_check.specs.Tally.{said_of, said_or}
+use Rattle.cola_check.specs.LevelWalks.{Hears}
+use Rattle.cola_check.specs.declared.walk.Found.TheVariants as found
+
+-- ---- what calls that read spend, one after another
+
+pub turns_then : {a b c : Spent} {s t u : ℕ} → Turns a b s t → Turns b c t u → Turns a c s u
+turns_then {a} {b} {c} {s} {t} {u} h k =
+    costs_within (costs_then h k) (omega (arith, k.steps_stay, h.steps_stay)) (omega (arith, k.steps_stay, h.steps_stay))
+
+-- ---- the cells at the front
 
 -- the cell at a place of a told run
 front_is : (held : Held) (run : Run) (at : ℕ) (c : LawCell) → at < run.len → Tells (held.spots run.level run.slot at) (Told c) → IsRunTold held run →
@@ -35,12 +50,6 @@ front_is held run at c l t h =
     let f : suc at ≡ at + 1 = omega arith in
     drop-cons cells at d (omega arith) ∙ ap (λ x. x ∷ drop (suc at) cells) is ∙ ap (λ n. c ∷ drop n cells) f
 
-no_rest : {X : Type 0} (n : ℕ) (xs : List X) → length xs ≤ n → drop n xs ≡ []
-no_rest zero [] h = refl
-no_rest zero (x ∷ xs) h = absurd (omega arith)
-no_rest (suc n) [] h = refl
-no_rest (suc n) (x ∷ xs) h = no_rest n xs (omega arith)
-
 -- what is left of a told run, by the head: nothing, or the head and what lies behind it
 abbrev pub FrontIs : Held → Walk → Option Cell → Type 0
 FrontIs held walk None = rest held walk ≡ []
@@ -50,7 +59,7 @@ pub ready_front : (held : Held) (walk : Walk) → WalkFits held walk → IsReady
 ready_front held walk f r t = go walk.head f.head r
   where
     go : (head : Option Cell) → HeadFits held walk.run walk.at head → HeadIsRead walk.at walk.run.len head → FrontIs held walk head
-    go None h e = no_rest walk.at (run_cells held walk.run) (let l = length-cells (held.spots walk.run.level walk.run.slot) 0 walk.run.len in omega arith)
+    go None h e = drop_all walk.at (run_cells held walk.run) (let l = length-cells (held.spots walk.run.level walk.run.slot) 0 walk.run.len in omega arith)
     go (Some c) h e = front_is held walk.run walk.at (as_cell c) h.0 h.1 t
 
 -- ---- one cell of the key at the front
@@ -109,16 +118,6 @@ head_cell held key walk f e = go walk.head refl f.head e
 
 pub has_room : {held : Held} (key : List ℕ) {walk : Walk} → WalkFits held walk → has_key key walk.head ≡ true → walk.at < walk.run.len
 has_room {held} key {walk} f has = (head_cell held key walk f has).within
-
--- the walk behind its front cell stands in its run
-pub behind_fits : {held : Held} (key : List ℕ) {walk behind : Walk} → WalkFits held walk → has_key key walk.head ≡ true → behind.run ≡ walk.run → behind.at ≡ walk.at + 1 → behind.head ≡ None → WalkFits held behind
-behind_fits {held} key {walk} {behind} f has run at head =
-    let h = has_room key f has in
-    record {
-      run = subst (λ (r : Run). HasRun held r) (sym run) f.run;
-      at_in = subst (λ (r : Run). behind.at ≤ r.len) (sym run) (omega arith);
-      head = subst (λ (x : Option Cell). HeadFits held behind.run behind.at x) (sym head) tt;
-    }
 
 at_most_one : (head : Option Cell) → heads_of head ≤ 1
 at_most_one None = omega arith
@@ -209,13 +208,37 @@ stands_still {held} {key} {walk} f r e = passing_ends (passing_begins held key w
 pub ahead_stays : {held : Held} {key : List ℕ} {old new : Walk} {found : Found} → Passes held key old new found → ahead new ≤ ahead old
 ahead_stays {old = old} {new = new} p =
     let e : new.run.len ≡ old.run.len = ap (λ (x : Run). x.len) p.run_is in
-    let g = p.goes in
-    omega arith
+    omega (arith, p.goes)
 
 -- and less where its head has the key
 pub ahead_falls : {held : Held} {key : List ℕ} {old new : Walk} {found : Found} → Passes held key old new found → IsTrue (has_key key old.head) → ahead new < ahead old
 ahead_falls {old = old} {new = new} p h =
     let e : new.run.len ≡ old.run.len = ap (λ (x : Run). x.len) p.run_is in
     let g = p.moves h in
-    let f = p.fits.at_in in
-    omega arith
+    omega (arith, p.fits.at_in)
+
+-- ---- what the run says
+
+said_joins : (a b : Found) → said_or (said_of a) (said_of b) ≡ said_of (found_or a b)
+said_joins found.Nothing b = refl
+said_joins (found.Old (Value value stamp)) b = refl
+said_joins (found.Old Tombstone) b = refl
+said_joins (found.Young (Value value stamp)) b = refl
+said_joins (found.Young Tombstone) b = refl
+
+-- a walk on its way past the cells of a key, and what these say
+pub record Hearing (held : Held) (key : List ℕ) (old new : Walk) (said : Said) : Type 0 where
+  pub found : Found
+  pub passing : Passing held key old new found
+  pub said_is : said ≡ said_of found
+
+pub hearing_goes_on : {held : Held} {key : List ℕ} {old walk behind new : Walk} {said next : Said} (h : Hearing held key old walk said) → has_key key walk.head ≡ true → behind.run ≡ walk.run → behind.reader ≡ walk.reader → behind.at ≡ walk.at + 1 →
+    next ≡ said_or said (said_of (found_of walk.head)) → Fetches held behind new → Hearing held key old new next
+hearing_goes_on {walk = walk} h has run reader at next f = record {
+  found = found_or h.found (found_of walk.head);
+  passing = passing_goes_on h.passing has run reader at f;
+  said_is = next ∙ ap (λ s. said_or s (said_of (found_of walk.head))) h.said_is ∙ said_joins h.found (found_of walk.head);
+}
+
+pub hearing_ends : {held : Held} {key : List ℕ} {old new : Walk} {said : Said} → Hearing held key old new said → has_key key new.head ≡ false → Hears held key old new said
+hearing_ends h e = record { found = h.found; passes = passing_ends h.passing e; said_is = h.said_is }

@@ -1,39 +1,116 @@
 -- The answer of a test by that of its cells, and by that of their load.
-use Rattle.std.proofs.Common.{◌≡◌, ◌≢◌, inl, inr, ℕ, ◌+◌, min, ◌<◌, ◌≤◌, ◌==◌, true, false, if◌then◌else◌, List, Option, None, Some, Result, Ok, Err, OnOk, is_some, refl, sym, ap, subst, ◌∙◌, arith}
+use Rattle.std.proofs.Common.{◌≡◌, ℕ, zero, suc, ◌+◌, ◌*◌, ◌^◌, ◌<◌, ◌≤◌, arith, subst, ap, ◌≢◌, inl, inr, min, ◌==◌, true, false, if◌then◌else◌, List, Option, None, Some, Result, Ok, Err, OnOk, is_some, refl, sym, ◌∙◌}
+use Rattle.std.proofs.Math.Nat.{two-pow-succ}
 use Rattle.std.specs.Prelude.{IfSome}
 use Rattle.std.proofs.lemmas.Bool.{true≢false}
+use Rattle.std.proofs.lemmas.Option.{IfSome_then}
 use Rattle.cola_outside.specs.Faults.{Rose}
+use Rattle.cola_device.specs.declared.device.Device as device
+use Rattle.cola_cell.specs.Places.{number_of, slot_size}
 use Rattle.cola_cell.specs.declared.cell.Cell.{Cell}
 use Rattle.cola_cell.specs.declared.fault.ReadFault.{ReadFault}
-use Rattle.cola_cell.specs.declared.fault.ReadFault.TheVariants as read
 use Rattle.cola_cell.specs.Decoded.{decoded}
 use Rattle.cola_cell.specs.Flat.{spot_of}
 use Rattle.cola_cell.specs.Held.{Held, Bad, IsTelling, is_untold}
-use Rattle.cola_cell.specs.Places.{number_of, slot_size}
 use Rattle.cola_cell.specs.Spent.{ReadCalm}
 use Rattle.cola_cell.specs.State.{State}
+use Rattle.cola_cell.specs.ToldCells.{IsTold}
+use Rattle.cola_cell.specs.declared.fault.ReadFault.TheVariants as read
 use Rattle.cola_clock.specs.Clock.{visible_slot}
-use Rattle.cola_device.specs.declared.device.Device as device
+use Rattle.cola_clock.specs.Marks.{Marks as LevelMarks}
+use Rattle.cola_layout.proofs.Powers.{exponent-le, next_power}
 use Rattle.cola_layout.specs.Cells.{cell_bytes, file_spots}
 use Rattle.cola_layout.specs.declared.geometry.Geometry.{Geometry}
 use Rattle.cola_layout.specs.declared.header.Header.{Header}
 use Rattle.cola_layout.specs.Fields.{fields_of}
-use Rattle.cola_clock.specs.Marks.{Marks as LevelMarks}
 use Rattle.cola_layout.proofs.Levels.{number-at}
+use Rattle.cola_opening.proofs.Spending.{spends-then}
+use Rattle.cola_opening.specs.Judged.{IsSeen, IsClosedWith, IsClosedFile}
 use Rattle.cola_run.specs.Saving as run
-use Rattle.cola_cell.specs.ToldCells.{IsTold}
 use Rattle.cola_verdict.specs.declared.verdict.Flaw.TheVariants.{Cell as CellFlaw}
 use Rattle.cola_verdict.specs.declared.verdict.Verdict.{Verdict}
 use Rattle.cola_verdict.specs.declared.verdict.Verdict.TheVariants.{Broken}
 use Rattle.cola_verdict.specs.Tests.{Tested, tested_of, IsOfRun, IsLowestBad, run_len}
 use Rattle.cola_verdict.specs.Verdict.{IsVerdict}
 use Rattle.cola_verdict.proofs.Alike.{same-verdicts}
+use Rattle.cola_check.specs.Check.{test_ticks, IsLevelOf, IsSure, Judges, TestsAnswer, test_blocks, IsReadBy, ReadsCells, TestsMade, Checks, test_reads}
+use Rattle.cola_check.specs.Testing.{run_ticks, Tests}
 use Rattle.cola_check.specs.declared.fault.CheckFault.{CheckFault}
-use Rattle.cola_check.specs.Check.{IsLevelOf, IsSure, Judges, TestsAnswer, test_blocks}
 use Rattle.cola_check.specs.Found.{tested_by}
-use Rattle.cola_check.specs.Testing.{Tests}
+use Rattle.cola_check.specs.declared.fault.CheckFault.TheVariants.{NotStore, NotClosed, Small, Device, OutOfMemory}
 use Rattle.cola_check.proofs.BadRuns.{level-in, level-low, run-fits}
-use Rattle.cola_check.proofs.LevelOf.{not-later}
+
+-- ---- the level of a cell by its number: the two slots of level l have the numbers from 2 ^ (l + 3) on and below 2 ^ (l + 4)
+
+split : (s p i : ℕ) → s < 2 → (2 + s) * p + i ≡ (p + p) + (s * p + i)
+split zero p i h = omega arith
+split (suc zero) p i h = omega arith
+split (suc (suc s)) p i h = absurd (omega (arith, h))
+
+least : (l s i : ℕ) → s < 2 → 2 ^ (l + 3) ≤ number_of l s i
+least l s i h =
+    let d : 2 ^ (l + 3) ≡ 2 ^ (l + 2) + 2 ^ (l + 2) = next_power (l + 2) (l + 3) (omega arith) in
+    let e : number_of l s i ≡ (2 ^ (l + 2) + 2 ^ (l + 2)) + (s * 2 ^ (l + 2) + i) = split s (2 ^ (l + 2)) i h in
+    omega (arith, d, e)
+
+small-slot : (s p : ℕ) → s < 2 → s * p ≤ p
+small-slot zero p h = omega arith
+small-slot (suc zero) p h = omega arith
+small-slot (suc (suc s)) p h = absurd (omega (arith, h))
+
+most : (l s i : ℕ) → s < 2 → i < slot_size l → number_of l s i < 2 ^ suc (l + 3)
+most l s i h k =
+    let d : 2 ^ (l + 3) ≡ 2 ^ (l + 2) + 2 ^ (l + 2) = next_power (l + 2) (l + 3) (omega arith) in
+    let d' : 2 ^ suc (l + 3) ≡ 2 ^ (l + 3) + 2 ^ (l + 3) = two-pow-succ (l + 3) in
+    let e : number_of l s i ≡ (2 ^ (l + 2) + 2 ^ (l + 2)) + (s * 2 ^ (l + 2) + i) = split s (2 ^ (l + 2)) i h in
+    let f : s * 2 ^ (l + 2) ≤ 2 ^ (l + 2) = small-slot s (2 ^ (l + 2)) h in
+    let k' : i < 2 ^ (l + 2) = k in
+    omega (arith, d, d', e, f, k')
+
+-- a level that is not behind the number's, and not before it
+pub not-behind : (n level l s i : ℕ) → n ≡ number_of l s i → s < 2 → i < slot_size l → (0 < level → 2 ^ (level + 3) ≤ n) → level ≤ l
+not-behind n zero l s i e h k reached = omega arith
+not-behind n (suc level) l s i e h k reached =
+    let up : number_of l s i < 2 ^ suc (l + 3) = most l s i h k in
+    let low : 2 ^ (suc level + 3) ≤ n = reached (omega arith) in
+    let le : suc level + 3 ≤ l + 3 = exponent-le (suc level + 3) (l + 3) (omega (arith, up, low, e)) in
+    omega (arith, le)
+
+pub not-before : (n level l s i : ℕ) → n ≡ number_of l s i → s < 2 → n < 2 ^ (level + 4) → l ≤ level
+not-before n level l s i e h below =
+    let low : 2 ^ (l + 3) ≤ number_of l s i = least l s i h in
+    let is : level + 4 ≡ suc (level + 3) = omega arith in
+    let up : n < 2 ^ suc (level + 3) = subst (λ (k : ℕ). n < 2 ^ k) is below in
+    let le : l + 3 ≤ level + 3 = exponent-le (l + 3) (level + 3) (omega (arith, up, low, e)) in
+    omega (arith, le)
+
+-- a lower number is not of a later level
+pub not-later : (l s i level slot index : ℕ) → s < 2 → slot < 2 → index < slot_size level → number_of l s i < number_of level slot index → l ≤ level
+not-later l s i level slot index h k within below =
+    let low : 2 ^ (l + 3) ≤ number_of l s i = least l s i h in
+    let up : number_of level slot index < 2 ^ suc (level + 3) = most level slot index k within in
+    let le : l + 3 ≤ level + 3 = exponent-le (l + 3) (level + 3) (omega (arith, low, up, below)) in
+    omega (arith, le)
+
+-- ---- the ticks of all tests
+
+-- one for each cell of the runs, and those of the tests behind that
+pub all-ticks : (cells b : ℕ) → cells ≤ 2 ^ (b + 4) → cells + run_ticks b ≤ test_ticks b
+all-ticks cells b few =
+    let d : 2 ^ (b + 2) ≡ 2 ^ (b + 1) + 2 ^ (b + 1) = next_power (b + 1) (b + 2) (omega arith) in
+    let e : 2 ^ (b + 3) ≡ 2 ^ (b + 2) + 2 ^ (b + 2) = next_power (b + 2) (b + 3) (omega arith) in
+    let f : 2 ^ (b + 4) ≡ 2 ^ (b + 3) + 2 ^ (b + 3) = next_power (b + 3) (b + 4) (omega arith) in
+    omega (arith, d, e, f, few)
+
+-- five for each of the cells, by the lowest level's period
+pub eighty : (b : ℕ) → test_ticks b ≡ 80 * 2 ^ b
+eighty b =
+    let z : 2 ^ (b + 0) ≡ 2 ^ b = ap (λ (n : ℕ). 2 ^ n) (let e : b + 0 ≡ b = omega arith in e) in
+    let c : 2 ^ (b + 1) ≡ 2 ^ (b + 0) + 2 ^ (b + 0) = next_power (b + 0) (b + 1) (omega arith) in
+    let d : 2 ^ (b + 2) ≡ 2 ^ (b + 1) + 2 ^ (b + 1) = next_power (b + 1) (b + 2) (omega arith) in
+    let e : 2 ^ (b + 3) ≡ 2 ^ (b + 2) + 2 ^ (b + 2) = next_power (b + 2) (b + 3) (omega arith) in
+    let f : 2 ^ (b + 4) ≡ 2 ^ (b + 3) + 2 ^ (b + 3) = next_power (b + 3) (b + 4) (omega arith) in
+    omega (arith, z, c, d, e, f)
 
 -- ---- a cell of a file is told or bad
 
@@ -128,3 +205,47 @@ pub tells-all : (held : Held) (geometry : Geometry) (told : Option (List ℕ)) �
     → IfSome told (λ bytes. IsTelling held × run.AreFileSpots geometry held.spots bytes)
 tells-all held geometry None tells are = tt
 tells-all held geometry (Some bytes) tells are = ((λ l s i place. tells refl l s i), are)
+
+-- ---- the answer by what was seen of the file
+
+both : {X : Type 0} (told : Option X) {P Q R : X → Type 0} → IfSome told P → IfSome told Q → ((x : X) → P x → Q x → R x) → IfSome told R
+both None p q f = tt
+both (Some x) p q f = f x p q
+
+module _ {D : Type 0} (d : device.Ghosts D) (header : Header) (before mid now : D) (from to : ℕ) where
+  is-read : IsSeen d before (IsClosedWith (fields_of header)) 1 1 mid → ReadsCells d header mid now from to → IsReadBy d before now from to (fields_of header)
+  is-read seen reads = record {
+    steps_stay = reads.steps_stay;
+    few_ticks = reads.few_ticks;
+    spends = spends-then seen.spends reads.spends (let l : 1 + ((header.geometry.bottom + 3) + test_ticks header.geometry.bottom) ≤ test_reads header.geometry.bottom = omega arith in l) (omega arith) (omega arith);
+  }
+
+  tested : (result : Result Verdict CheckFault) → IsSeen d before (IsClosedWith (fields_of header)) 1 1 mid → TestsAnswer d header mid now result → ReadsCells d header mid now from to → Checks d before now from to result
+  tested (Ok verdict) seen answer reads =
+      record {
+        header = fields_of header;
+        is = both (d.bytes before) seen.why_is
+            (subst (λ (told : Option (List ℕ)). IfSome told (λ bytes. IsVerdict (tested_of (fields_of header) bytes) verdict)) seen.bytes_stay answer.verdict_is)
+            (λ bytes was is. record { was = was; verdict_is = is });
+        reading = is-read seen reads;
+        few_reads = λ sure.
+            let here = answer.few_reads (subst (λ (told : Option (List ℕ)). IsSure told verdict) (sym seen.bytes_stay) sure) in
+            omega (arith, here, seen.spends.reads_rise);
+        no_fault = answer.no_fault ∙ seen.no_fault;
+      }
+  tested (Err Device) seen rose reads =
+      inr (record { header = fields_of header; was = seen.why_is; cause = subst (λ (n : ℕ). Rose n (d.counts now).faults) seen.no_fault rose; reading = is-read seen reads })
+  tested (Err NotStore) seen none reads = absurd none
+  tested (Err Small) seen none reads = absurd none
+  tested (Err NotClosed) seen none reads = absurd none
+  tested (Err OutOfMemory) seen none reads = absurd none
+
+  pub checks : (result : Result Verdict CheckFault) → IsSeen d before (IsClosedWith (fields_of header)) 1 1 mid → TestsMade d header mid now from to result → Checks d before now from to result
+  checks result seen (inl made) = tested result seen made.0 made.1
+  checks result seen (inr none) =
+      subst (λ (x : Result Verdict CheckFault). Checks d before now from to x) (sym none.0)
+      (record {
+        seen = subst (λ (x : D). IsSeen d before IsClosedFile 1 1 x) (sym none.1)
+            (record { why_is = IfSome_then (d.bytes before) seen.why_is (λ bytes was. (fields_of header, was)); bytes_stay = seen.bytes_stay; spends = seen.spends; no_fault = seen.no_fault });
+        no_ticks = none.2;
+      })

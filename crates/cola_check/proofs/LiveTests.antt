@@ -1,21 +1,21 @@
--- The live keys of the levels of a file: the runs that are counted, and the verdict by their counts.
-use Rattle.std.proofs.Common.{◌≡◌, inl, inr, ◌↔◌, ℕ, zero, suc, ◌+◌, ◌^◌, ◌<◌, ◌≤◌, Bool, true, false, cond, if◌then◌else◌, List, [], ◌∷◌, ◌++◌, length, map, drop, None, Some, IsTrue, refl, sym, ap, subst, ◌∙◌, arith}
+-- The live keys of the levels of a file: the windows of its levels, the runs that are counted, and the verdict by their counts.
+use Rattle.std.proofs.Common.{◌≡◌, ℕ, ◌+◌, ◌^◌, ◌<◌, ◌≤◌, ◌==◌, Bool, true, false, Option, cond, if◌then◌else◌, refl, sym, ap, subst, ◌∙◌, arith, inl, inr, ◌↔◌, zero, suc, List, [], ◌∷◌, ◌++◌, length}
+use Rattle.std.proofs.Common.{map, drop, None, Some, IsTrue, Err}
 use Rattle.std.specs.List.{AllByRecursion}
+use Rattle.cola_runs.specs.Cells.{IsRising, IsWellFormed}
+use Rattle.cola_laws.specs.Chain.{visibles, shadows}
 use Rattle.cola_cell.specs.declared.cell.Run.{Run}
 use Rattle.cola_cell.specs.declared.fault.ReadFault.{ReadFault}
-use Rattle.cola_cell.specs.declared.fault.ReadFault.TheVariants.{Device, BadCell}
-use Rattle.cola_cell.specs.Held.{Held, LawCell, Spot, Untold, Bad, Told, Tells}
+use Rattle.cola_cell.specs.Held.{Held, LawCell}
 use Rattle.cola_cell.specs.Order.{key_cmp}
-use Rattle.cola_clock.specs.Clock.{period, is_odd, is_over, visible_slot}
+use Rattle.cola_cell.specs.ToldCells.{run_cells}
+use Rattle.cola_clock.specs.Clock.{works, is_over, window_step, period, is_odd}
+use Rattle.cola_clock.specs.Schedule.{phase_at}
+use Rattle.cola_clock.specs.declared.state.Phase.{Phase}
+use Rattle.cola_clock.specs.declared.state.Phase.TheVariants.{Before, Inside, After}
 use Rattle.cola_clock.proofs.Laws.{is_over-suc}
-use Rattle.cola_clock.proofs.MarkLaws.{marks-each}
-use Rattle.cola_laws.specs.Chain.{visibles, shadows}
-use Rattle.cola_laws.specs.Sound.{IsVisible}
 use Rattle.cola_layout.specs.declared.header.Header.{Header}
-use Rattle.cola_layout.proofs.Powers.{next_power}
-use Rattle.cola_look.specs.Runs.{HasRun}
-use Rattle.cola_runs.specs.Cells.{IsRising, IsWellFormed}
-use Rattle.cola_cell.specs.ToldCells.{IsTold, run_cells}
+use Rattle.cola_layout.proofs.Powers.{power-le, next_power}
 use Rattle.cola_verdict.specs.declared.verdict.Flaw.{Flaw}
 use Rattle.cola_verdict.specs.declared.verdict.Flaw.TheVariants.{Cell, Order, Sample, Length, Shadow, Live, Count, Stamp}
 use Rattle.cola_verdict.specs.declared.verdict.Verdict.{Verdict}
@@ -29,10 +29,51 @@ use Rattle.cola_check.specs.Chains.{LevelCells, visible_runs, shadow_runs, lives
 use Rattle.cola_check.specs.Found.{tested_by, visible_of, shadow_of}
 use Rattle.cola_check.specs.LevelWalks.{HasLevel, shadow_or_none, with_shadow, runs_of, cells_in, cells_of, AreRunsInOrder}
 use Rattle.cola_check.specs.Living.{finished_shadow, counted_level, counted_from, count_at, AreFew, AreFewAt, AreAllFew, IsFirstCrowded, JudgesWhole, JudgesCounts}
-use Rattle.cola_check.specs.Reading.{IsRunTold, HasBadIn, HasBadRun, PassCause}
+use Rattle.cola_check.specs.Reading.{IsRunTold, PassCause}
 use Rattle.cola_check.specs.Testing.{HasLevels, FindsVerdict, TestCause, live_ticks}
-use Rattle.cola_check.proofs.BadRuns.{level-in}
-use Rattle.cola_check.proofs.FileLevels.{levels, marks-many, visible-is, shadow-is, below-none, from-level, visible-told, shadow-told, slot-in, other-in}
+use Rattle.cola_check.proofs.Levels.{levels, marks-many, visible-is, shadow-is, below-none, from-level, visible-told, shadow-told}
+use Rattle.cola_check.proofs.ShadowTests.{cause-of-test, formed-of, visible-has, shadow-has, visible-fits, shadow-fits}
+
+-- ---- the windows of the levels of a header
+
+-- the clock of a header is one that the calls on the clock take
+pub clock-fits : (header : Header) → header.clock < 2 ^ 23
+clock-fits header =
+    let clock : header.clock < 2 ^ (header.geometry.bottom + 1) = header.clock_fits in
+    let shallow : header.geometry.bottom ≤ 22 = header.geometry.shallow in
+    let more : 2 ^ (header.geometry.bottom + 1) ≤ 2 ^ 23 = power-le (header.geometry.bottom + 1) 23 (omega arith) in
+    omega (arith, clock, more)
+
+-- the window of level 0 is never over
+first-over : (t : ℕ) → false ≡ is_over t 0
+unfolding is_over
+first-over t = refl
+
+pub none-over : (t level : ℕ) → level ≡ 0 → false ≡ is_over t level
+none-over t level e = subst (λ (l : ℕ). false ≡ is_over t l) (sym e) (first-over t)
+
+-- behind its window a level's window is over
+pub after-over : (t level : ℕ) (phase : Phase) → phase ≡ phase_at t level → phase ≡ After → true ≡ is_over t level
+unfolding phase_at
+after-over t level phase is after = by (works t level) (is_over t level) (sym is ∙ after)
+  where
+    by : (w o : Bool) → (if w then Inside (window_step t level) else (if o then After else Before)) ≡ After → true ≡ o
+    by true o e = cc
+    by false true e = refl
+    by false false e = cc
+
+-- whether a slot is that of an odd period
+pub odd-slot : (odd : Bool) (slot : ℕ) → slot ≡ cond odd 1 0 → (slot == 1) ≡ odd
+odd-slot true slot e = ap (λ (s : ℕ). s == 1) e
+odd-slot false slot e = ap (λ (s : ℕ). s == 1) e
+
+-- the runs of a level, part by part
+abbrev level-with : Run → Option Run → Bool → LevelRuns
+level-with visible shadow odd = record { visible = visible; shadow = shadow; odd = odd }
+
+pub same-level : (visible run : Run) (shadow other : Option Run) (odd parity : Bool) → visible ≡ run → shadow ≡ other → odd ≡ parity →
+    level-with visible shadow odd ≡ level-with run other parity
+same-level visible run shadow other odd parity a b c = λ i. record { visible = a i; shadow = b i; odd = c i }
 
 -- ---- lists of levels
 
@@ -64,15 +105,8 @@ module _ (header : Header) (held : Held) where
 
   -- they are runs of the object
   level-has : HasLevels header held → (level : ℕ) → level ≤ bottom → (over : Bool) → HasLevel held (record { visible = visible_of header level; shadow = if over then Some (shadow_of header level) else None; odd = is_odd (period header.clock level) })
-  level-has has level low over =
-      let fits = marks-each header.clock _ header.marks_fit level (level-in header level low) in
-      let visible : HasRun held (visible_of header level) = record { level_in = omega arith; slot_in = slot-in header.clock level; within = fits.visible_fits } in
-      let shadow : HasRun held (shadow_of header level) = record { level_in = omega arith; slot_in = other-in (visible_slot header.clock level); within = fits.shadow_fits } in
-      by over visible shadow
-    where
-      by : (over : Bool) → HasRun held (visible_of header level) → HasRun held (shadow_of header level) → HasLevel held (record { visible = visible_of header level; shadow = if over then Some (shadow_of header level) else None; odd = is_odd (period header.clock level) })
-      by true visible shadow = record { visible = visible; shadow = shadow }
-      by false visible shadow = record { visible = visible; shadow = tt }
+  level-has has level low true = record { visible = visible-has header held level has low; shadow = shadow-has header held level has low }
+  level-has has level low false = record { visible = visible-has header held level has low; shadow = tt }
 
   pub levels-have : HasLevels header held → (level n : ℕ) → level + n ≤ bottom + 1 → AllByRecursion (HasLevel held) (counted_from header level n)
   levels-have has level zero h = tt
@@ -90,31 +124,13 @@ module _ (header : Header) (held : Held) where
 
   -- ---- a bad cell
 
-  not-bad-spot : (spot : Spot) → IsTold spot → Tells spot Bad → ⊥
-  not-bad-spot Untold told bad = cc
-  not-bad-spot Bad told bad = cc
-  not-bad-spot (Told cell) told bad = cc
-
-  not-bad : (run : Run) (number : ℕ) → IsRunTold held run → HasBadIn held run number → ⊥
-  not-bad run number told bad = not-bad-spot (held.spots run.level run.slot bad.index) (told bad.index bad.within) bad.bad.told
-
-  none-bad : (runs : List Run) (number : ℕ) → AllByRecursion (IsRunTold held) runs → HasBadRun held number runs → ⊥
-  none-bad [] number told bad = bad
-  none-bad (run ∷ runs) number told (inl here) = not-bad run number told.0 here
-  none-bad (run ∷ runs) number told (inr later) = none-bad runs number told.1 later
-
   pub counting-cause : (before now : ℕ) (fault : ReadFault) (runs : List LevelRuns) → runs ≡ counted_from header 0 (bottom + 1) → PassCause held (runs_of runs) before now fault → TestCause header held before now fault
-  counting-cause before now Device runs is cause = cause
-  counting-cause before now (BadCell number) runs is cause = λ told.
-      none-bad (runs_of (counted_from header 0 (bottom + 1))) number
-      (all-runs (IsRunTold held) (λ level low. visible-told header held level low told) (λ level low over. shadow-told header held level low told) 0 (bottom + 1) (omega arith))
-      (subst (λ (rs : List LevelRuns). HasBadRun held number (runs_of rs)) is cause)
+  counting-cause before now fault runs is =
+      cause-of-test {T = Bool} header held (runs_of runs)
+      (λ told. subst (λ (rs : List LevelRuns). AllByRecursion (IsRunTold held) (runs_of rs)) (sym is)
+      (all-runs (IsRunTold held) (λ level low. visible-told header held level low told) (λ level low over. shadow-told header held level low told) 0 (bottom + 1) (omega arith))) before now (Err fault)
 
   -- ---- their order
-
-  visible-formed : {X : Type 0} (most : ℕ) (odd : Bool) (j : ℕ) (run : List LawCell) (below : List X) (keys : List (List ℕ)) → IsVisible key_cmp most odd j run below keys → IsWellFormed key_cmp run
-  visible-formed most odd j run [] keys h = h.formed
-  visible-formed most odd j run (x ∷ below) keys h = h.formed
 
   not-over : (t : ℕ) → is_over t 0 ≡ true → ⊥
   unfolding is_over
@@ -124,7 +140,7 @@ module _ (header : Header) (held : Held) where
   shadow-formed passes zero low over = absurd (not-over header.clock over)
   shadow-formed passes (suc i) low over =
       let m = marks-many header held in
-      visible-formed header.geometry.keys _ (suc i) _ (below_at (levels header held) (suc i)) _ ((passes (suc i) (omega arith)).over over).fit
+      formed-of header held header.geometry.keys _ (suc i) _ (below_at (levels header held) (suc i)) _ ((passes (suc i) (omega arith)).over over).fit
 
   pub runs-in_order : AreCellsTold file → EachLevel file (OrderAt file) → EachLevel file (ShadowAt file) → AreRunsInOrder held (counted_from header 0 (bottom + 1))
   runs-in_order told ordered shadowed =
@@ -272,12 +288,7 @@ module _ (header : Header) (held : Held) where
 
 module _ (header : Header) where
   level-cells : (level : ℕ) → level ≤ header.geometry.bottom → (over : Bool) (runs : List Run) → (visible_of header level).len + cells_in (with_shadow (if over then Some (shadow_of header level) else None) runs) ≤ 2 ^ (level + 3) + cells_in runs
-  level-cells level low over runs =
-      let fits = marks-each header.clock _ header.marks_fit level (level-in header level low) in
-      let first : (visible_of header level).len ≤ 2 ^ (level + 2) = fits.visible_fits in
-      let second : (shadow_of header level).len ≤ 2 ^ (level + 2) = fits.shadow_fits in
-      let half : 2 ^ (level + 3) ≡ 2 ^ (level + 2) + 2 ^ (level + 2) = next_power (level + 2) (level + 3) (omega arith) in
-      by over first second half
+  level-cells level low over runs = by over (visible-fits header level low) (shadow-fits header level low) (next_power (level + 2) (level + 3) (omega arith))
     where
       by : (over : Bool) → (visible_of header level).len ≤ 2 ^ (level + 2) → (shadow_of header level).len ≤ 2 ^ (level + 2) → 2 ^ (level + 3) ≡ 2 ^ (level + 2) + 2 ^ (level + 2) →
           (visible_of header level).len + cells_in (with_shadow (if over then Some (shadow_of header level) else None) runs) ≤ 2 ^ (level + 3) + cells_in runs

@@ -1,21 +1,48 @@
--- What is known of the first cells of a run, and of one more.
+-- The tests of the visible runs: what is known of the first cells of a run, its sample, and the first flaws of levels.
 use Rattle.std.proofs.Common.{◌≡◌, ℕ, suc, ◌+◌, ◌*◌, true, false, List, [], ◌∷◌, ◌++◌, length, take, slice_get, Option, None, Some, refl, sym, ap, subst, ◌∙◌, arith, Less, Ordering, length-append}
+use Rattle.std.proofs.Common.{◌↔◌, ◌/◌, ◌<◌, ◌≤◌, min, IsTrue, Bool, if◌then◌else◌, below_more, inl, inr, ◌^◌, Result, Ok, Err, IfOk, IfErr}
 use Rattle.std.specs.Cmp.{IsTotalOrder}
 use Rattle.std.specs.List.{AllByRecursion}
 use Rattle.std.specs.List.Sorted.{IsStrictlySortedBy}
-use Rattle.std.specs.Option.{option_or}
+use Rattle.std.specs.Option.{option_or, option_map, option_to_list}
 use Rattle.std.proofs.Math.Seq.{take-append_seam}
 use Rattle.std.proofs.lemmas.Cmp.{nat_list_cmp_total}
-use Rattle.std.proofs.lemmas.List.{take-append-le, take_all}
-use Rattle.cola_runs.specs.Cells.{Cell, Entry, Look, place_cmp, link_of, look_keys, count_looks, count_young, sample, IsRising, IsLinked, IsOldValue}
+use Rattle.std.proofs.lemmas.List.{take-append-le, take_all, append-nil, append_assoc}
+use Rattle.std.proofs.lemmas.Option.{slice_get_past}
+use Rattle.std.specs.Prelude.{IfSome}
+use Rattle.std.proofs.lemmas.Bool.{cases_lt}
+use Rattle.std.proofs.Math.Path.{transport}
+use Rattle.cola_runs.specs.Cells.{Cell, Entry, Look, place_cmp, link_of, look_keys, count_looks, count_young, sample, IsRising, IsLinked, IsOldValue, key_of}
 use Rattle.cola_runs.proofs.Order.{place_total, all_change}
 use Rattle.cola_runs.proofs.Counts.{looks_are_keys}
+use Rattle.cola_runs.proofs.Deciding.{refuses}
+use Rattle.cola_runs.proofs.Samples.{sample_length, sample_at}
+use Rattle.cola_laws.specs.Chain.{visibles}
 use Rattle.cola_cell.specs.declared.cell.Cell.{Cell as RunCell}
-use Rattle.cola_cell.specs.Held.{Stamped, LawCell, as_cell}
+use Rattle.cola_cell.specs.Held.{Stamped, LawCell, as_cell, Held, Spot}
 use Rattle.cola_cell.specs.Order.{key_cmp}
-use Rattle.cola_verdict.specs.Tests.{IsInOrder, EndsOrder}
+use Rattle.cola_cell.specs.declared.cell.Run.{Run}
+use Rattle.cola_cell.specs.Spent.{IsGiven}
+use Rattle.cola_cell.proofs.RunLemmas.{given_is_told}
+use Rattle.cola_cell.specs.ToldCells.{cell_at, cells, run_cells}
+use Rattle.cola_cell.proofs.CellLists.{length-cells, get-cells, cells-more}
+use Rattle.cola_cell.specs.declared.fault.ReadFault.{ReadFault}
+use Rattle.cola_clock.specs.Clock.{period, is_odd}
+use Rattle.cola_layout.specs.declared.header.Header.{Header}
+use Rattle.cola_layout.proofs.Powers.{next_power, power-le}
+use Rattle.cola_look.specs.Runs.{HasRun}
+use Rattle.cola_verdict.specs.Tests.{IsInOrder, EndsOrder, HasSample, Tested, levels_in, level_at, OrderAt, FileLevel, AreCellsTold, HasFew, below_at}
+use Rattle.cola_verdict.proofs.Prefixes.{no-order}
 use Rattle.cola_check.specs.Kinds.{StandsBehind}
-use Rattle.cola_check.specs.Prefix.{OrderIs, ComesNext, Suits, BeginsSample, IsLast}
+use Rattle.cola_check.specs.Prefix.{OrderIs, ComesNext, Suits, BeginsSample, IsLast, lists_below, sample_len, sample_reads, AreBothTold, IsFew}
+use Rattle.cola_check.specs.Reading.{IsRunTold, PassCause}
+use Rattle.cola_check.specs.Firsts.{OrderEndsAt, IsAtFirst, IsFirstFlaw, FindsFirst, IsBelow, AreFewAt, AreTestsAt}
+use Rattle.cola_check.specs.declared.visible.Few.{Few}
+use Rattle.cola_check.specs.declared.visible.RunTests.{RunTests}
+use Rattle.cola_check.specs.Found.{tested_by, visible_of}
+use Rattle.cola_check.specs.Testing.{TestCause, visible_ticks}
+use Rattle.cola_check.proofs.ShadowTests.{visible-fits, visible-has, slot-is, twice, cause-of-test}
+use Rattle.cola_check.proofs.Levels.{levels, visible-is, visible-told, visibles-next, visibles-none, below-next, below-none}
 
 -- ---- a list and one more
 
@@ -137,31 +164,23 @@ first-is : {K : Type 0} (k : K) (rest : List K) → slice_get rest 0 ≡ Some k 
 first-is k [] e = absurd (cc)
 first-is k (x ∷ rest) e = (rest, ap (λ y. y ∷ rest) (let f : x ≡ k = cc in f))
 
-appended : {K : Type 0} (xs : List K) (x : K) (ys : List K) → (xs ++ x ∷ []) ++ ys ≡ xs ++ x ∷ ys
-appended [] x ys = refl
-appended (z ∷ xs) x ys = ap (λ zs. z ∷ zs) (appended xs x ys)
-
-pub end-is : {K : Type 0} (xs : List K) → xs ++ [] ≡ xs
-end-is [] = refl
-end-is (x ∷ xs) = ap (λ zs. x ∷ zs) (end-is xs)
-
 module _ (cells : List LawCell) (looks : ℕ) (many : looks ≡ count_looks cells) where
   keys-many : looks ≡ length (look_keys cells)
   keys-many = many ∙ looks_are_keys cells
 
   pub sample-more : (lists : List (List LawCell)) (c : LawCell) → BeginsSample cells lists → Suits lists looks c → BeginsSample (cells ++ c ∷ []) lists
   sample-more [] c h s = all-more IsOldValue cells c h s
-  sample-more (next ∷ runs) (Entry k i y l) h s = (h.0, ap (λ ks. ks ++ h.0) (keys-more cells (Entry k i y l ∷ []) ∙ end-is (look_keys cells)) ∙ h.1)
+  sample-more (next ∷ runs) (Entry k i y l) h s = (h.0, ap (λ ks. ks ++ h.0) (keys-more cells (Entry k i y l ∷ []) ∙ append-nil (look_keys cells)) ∙ h.1)
   sample-more (next ∷ runs) (Look k l) h s =
       let at : slice_get h.0 0 ≡ Some k = sym (key-behind (look_keys cells) h.0) ∙ ap (λ (n : ℕ). slice_get (look_keys cells ++ h.0) n) (sym keys-many) ∙ ap (λ ks. slice_get ks looks) h.1 ∙ s in
       let more = first-is k h.0 at in
-      (more.0, ap (λ ks. ks ++ more.0) (keys-more cells (Look k l ∷ [])) ∙ appended (look_keys cells) k more.0 ∙ ap (λ ks. look_keys cells ++ ks) (sym more.1) ∙ h.1)
+      (more.0, ap (λ ks. ks ++ more.0) (keys-more cells (Look k l ∷ [])) ∙ append_assoc (look_keys cells) (k ∷ []) more.0 ∙ ap (λ ks. look_keys cells ++ ks) (sym more.1) ∙ h.1)
 
   pub sample-less : (lists : List (List LawCell)) (c : LawCell) → BeginsSample (cells ++ c ∷ []) lists → BeginsSample cells lists × Suits lists looks c
   sample-less [] c h = all-less IsOldValue cells c h
-  sample-less (next ∷ runs) (Entry k i y l) h = ((h.0, sym (ap (λ ks. ks ++ h.0) (keys-more cells (Entry k i y l ∷ []) ∙ end-is (look_keys cells))) ∙ h.1), tt)
+  sample-less (next ∷ runs) (Entry k i y l) h = ((h.0, sym (ap (λ ks. ks ++ h.0) (keys-more cells (Entry k i y l ∷ []) ∙ append-nil (look_keys cells))) ∙ h.1), tt)
   sample-less (next ∷ runs) (Look k l) h =
-      let is : look_keys cells ++ k ∷ h.0 ≡ sample next = sym (ap (λ ks. ks ++ h.0) (keys-more cells (Look k l ∷ [])) ∙ appended (look_keys cells) k h.0) ∙ h.1 in
+      let is : look_keys cells ++ k ∷ h.0 ≡ sample next = sym (ap (λ ks. ks ++ h.0) (keys-more cells (Look k l ∷ [])) ∙ append_assoc (look_keys cells) (k ∷ []) h.0) ∙ h.1 in
       ((k ∷ h.0, is), sym (ap (λ ks. slice_get ks looks) is) ∙ ap (λ (n : ℕ). slice_get (look_keys cells ++ k ∷ h.0) n) keys-many ∙ key-behind (look_keys cells) (k ∷ h.0))
 
 -- ---- no cells
@@ -173,3 +192,192 @@ order-empty = record { rising = tt; linked = tt }
 pub sample-empty : (lists : List (List LawCell)) → BeginsSample [] lists
 sample-empty [] = tt
 sample-empty (next ∷ runs) = (sample next, refl)
+
+-- ---- the sample of the run below
+
+-- a told run: what a read of it gave
+pub given-at : (held : Held) (run : Run) (index : ℕ) (cell : RunCell) → IsRunTold held run → index < run.len → IsGiven held run.level run.slot index cell → cell_at (held.spots run.level run.slot index) ≡ as_cell cell
+given-at held run index cell t h g = given_is_told (held.spots run.level run.slot index) (cell_at (held.spots run.level run.slot index)) (as_cell cell) (t index h) g.told
+
+module _ (held : Held) (run : Run) where
+  sample-many : length (sample (run_cells held run)) ≡ run.len / 8
+  sample-many = sample_length (run_cells held run) ∙ ap (λ (n : ℕ). n / 8) (length-cells (held.spots run.level run.slot) 0 run.len)
+
+  -- the key of a number in the sample
+  pub sampled-at : (number : ℕ) (cell : RunCell) → IsRunTold held run → number < run.len / 8 → IsGiven held run.level run.slot (8 * number + 7) cell →
+      slice_get (sample (run_cells held run)) number ≡ Some (key_of (as_cell cell))
+  sampled-at number cell t h g =
+      let within : 8 * number + 7 < run.len = omega (arith, h) in
+      sample_at number (run_cells held run)
+      ∙ ap (option_map key_of) (get-cells (held.spots run.level run.slot) 0 run.len (8 * number + 7) within)
+      ∙ ap (λ (n : ℕ). Some (key_of (cell_at (held.spots run.level run.slot n)))) (let e : 0 + (8 * number + 7) ≡ 8 * number + 7 = omega arith in e)
+      ∙ ap (λ (c : LawCell). Some (key_of c)) (given-at held run (8 * number + 7) cell t within g)
+
+  no-key : (key : List ℕ) → None ≡ Some key → ⊥
+  no-key key e = cc
+
+  pub sampled-past : (number : ℕ) (key : List ℕ) → run.len / 8 ≤ number → IsTrue false ↔ (slice_get (sample (run_cells held run)) number ≡ Some key)
+  sampled-past number key h =
+      refuses (λ e. no-key key (sym (slice_get_past (sample (run_cells held run)) number (let m = sample-many in omega (arith, m, h))) ∙ e))
+
+-- old values are no lookahead cells
+old-looks : (cells : List LawCell) → AllByRecursion IsOldValue cells → count_looks cells ≡ 0
+old-looks [] h = refl
+old-looks (Entry key item young link ∷ cells) h = old-looks cells h.1
+old-looks (Look key link ∷ cells) h = absurd h.0
+
+none-left : {K : Type 0} (xs ys : List K) → length ys ≡ 0 → xs ++ ys ≡ xs
+none-left xs [] e = append-nil xs
+none-left xs (y ∷ ys) e = absurd (omega (arith, e))
+
+-- a whole run passes the test of its sample where it may begin one, and has as many lookahead cells as the sample has keys
+pub sample-whole : (held : Held) (below : Option Run) (rest : List (List LawCell)) (cells : List LawCell) → BeginsSample cells (lists_below held below rest) → count_looks cells ≡ sample_len below → HasSample cells (lists_below held below rest)
+sample-whole held None rest cells h e = h
+sample-whole held (Some run) rest cells h e =
+    let many = sample-many held run in
+    let looks = looks_are_keys cells in
+    let parts = length-append (look_keys cells) h.0 in
+    let size : length (look_keys cells ++ h.0) ≡ length (sample (run_cells held run)) = ap length h.1 in
+    sym (none-left (look_keys cells) h.0 (omega (arith, many, looks, parts, size, e))) ∙ h.1
+
+pub sample-begins : (held : Held) (below : Option Run) (rest : List (List LawCell)) (cells : List LawCell) → HasSample cells (lists_below held below rest) → BeginsSample cells (lists_below held below rest) × (count_looks cells ≡ sample_len below)
+sample-begins held None rest cells h = (h, old-looks cells h)
+sample-begins held (Some run) rest cells h = (([], append-nil (look_keys cells) ∙ h), looks_are_keys cells ∙ ap length h ∙ sample-many held run)
+
+pub some-same : {X : Type 0} (x y : X) → Some x ≡ Some y → x ≡ y
+some-same x y e = cc
+
+-- the cells up to one of them, and with it
+pub cells-next : (spots : ℕ → Spot) (n : ℕ) (c : LawCell) → cell_at (spots n) ≡ c → cells spots 0 (n + 1) ≡ cells spots 0 n ++ c ∷ []
+cells-next spots n c e =
+    ap (cells spots 0) (let z : n + 1 ≡ suc n = omega arith in z)
+    ∙ cells-more spots 0 n
+    ∙ ap (λ (k : ℕ). cells spots 0 n ++ cell_at (spots k) ∷ []) (let z : 0 + n ≡ n = omega arith in z)
+    ∙ ap (λ (d : LawCell). cells spots 0 n ++ d ∷ []) e
+
+-- what is read of a sample for one more cell
+pub reads-one : (below : Option Run) (old new : ℕ) (c : LawCell) → new ≡ old + count_looks (c ∷ []) → min old (sample_len below) + sample_reads below old c ≤ min new (sample_len below)
+reads-one below old new (Entry key item young link) e = omega (arith, e)
+reads-one below old new (Look key link) e = omega (arith, e)
+
+-- ---- the first flaws of levels, and one level more
+
+module _ (passes : ℕ → Type 0) (at : ℕ → ℕ → Type 0) where
+  -- what was found stays so
+  pub found-stays : (level : ℕ) (found : ℕ × ℕ) → IsFirstFlaw passes at level found → IsFirstFlaw passes at (level + 1) found
+  found-stays level found f = record { within = let w = f.within in omega (arith, w); fails = f.fails; before = f.before; index_is = f.index_is }
+
+  -- the first flaw is that of the levels above, or else that of the level
+  pub found-here : (level index : ℕ) → ((j : ℕ) → j < level → passes j) → (passes level → ⊥) → at level index → IsFirstFlaw passes at (level + 1) (level, index)
+  found-here level index above fails is = record { within = omega arith; fails = fails; before = above; index_is = is }
+
+pub next-order : (file : Tested) (level : ℕ) (found : Option (ℕ × ℕ)) (disorder : Option ℕ) → FindsFirst (OrderAt file) (OrderEndsAt file) level found →
+    OrderIs (level_at (levels_in file) level).visible disorder → FindsFirst (OrderAt file) (OrderEndsAt file) (level + 1) (option_or found (option_map (λ index. (level, index)) disorder))
+next-order file level (Some f) disorder h is = found-stays (OrderAt file) (OrderEndsAt file) level f h
+next-order file level None None h is = below_more (OrderAt file) level h is
+next-order file level None (Some index) h is = found-here (OrderAt file) (OrderEndsAt file) level index h (no-order (level_at (levels_in file) level).visible index is) is
+
+pub run-more : (passes : ℕ → Type 0) (level : ℕ) (found : Option (ℕ × ℕ)) (holds : Bool) → FindsFirst passes IsAtFirst level found → (IsTrue holds ↔ passes level) →
+    FindsFirst passes IsAtFirst (level + 1) (option_or found (if holds then None else Some (level, 0)))
+run-more passes level (Some f) holds h is = found-stays passes IsAtFirst level f h
+run-more passes level None true h is = below_more passes level h (is.0 refl)
+run-more passes level None false h is = found-here passes IsAtFirst level 0 h (λ p. no-true (is.1 p)) refl
+  where
+    no-true : IsTrue false → ⊥
+    no-true e = cc
+
+-- ---- the run below
+
+module _ (header : Header) (level : ℕ) where
+  -- it is none, or that of the next level
+  by-below : (P : Option Run → Type 0) (below : Option Run) → IsBelow header level below → (header.geometry.bottom ≤ level → P None) → (level < header.geometry.bottom → P (Some (visible_of header (suc level)))) → P below
+  by-below P below is none some =
+      elim (cases_lt level header.geometry.bottom) [
+        | inl above ↦ subst P (sym (is.above above)) (some above)
+        | inr bottom ↦ subst P (sym (is.bottom bottom)) (none bottom)
+      ]
+
+  -- its sample is no longer than a quarter of a slot
+  below-few : (below : Option Run) → IsBelow header level below → sample_len below ≤ 2 ^ level
+  below-few below is =
+      by-below (λ b. sample_len b ≤ 2 ^ level) below is (λ bottom. omega arith)
+      (λ above.
+      let fits = visible-fits header (suc level) (omega (arith, above)) in
+      let four = slot-is header (suc level) in
+      let two = twice header level in
+      omega (arith, fits, four, two))
+
+  -- one pass over the run, and one over the sample
+  pub level-ticks : (below : Option Run) → level ≤ header.geometry.bottom → IsBelow header level below → (visible_of header level).len + sample_len below ≤ 5 * 2 ^ level
+  level-ticks below low is =
+      let fits = visible-fits header level low in
+      let four = slot-is header level in
+      let few = below-few below is in
+      omega (arith, fits, four, few)
+
+  -- those of a level more, and those of all levels
+  pub next-ticks : 5 * 2 ^ level + 5 * 2 ^ level ≤ 5 * 2 ^ (level + 1)
+  next-ticks = let twice : 2 ^ (level + 1) ≡ 2 ^ level + 2 ^ level = next_power level (level + 1) refl in omega (arith, twice)
+
+  pub all-ticks : level ≤ header.geometry.bottom → 5 * 2 ^ level + 5 * 2 ^ level ≤ visible_ticks header.geometry.bottom
+  all-ticks low =
+      let here = next-ticks in
+      let more : 2 ^ (level + 1) ≤ 2 ^ (header.geometry.bottom + 1) = power-le (level + 1) (header.geometry.bottom + 1) (omega (arith, low)) in
+      omega (arith, here, more)
+
+  module _ (held : Held) where
+    -- it is a run of the object
+    pub below-runs : (below : Option Run) → held.fixed.levels ≡ header.geometry.bottom + 1 → IsBelow header level below → IfSome below (HasRun held)
+    below-runs below levels is =
+        by-below (λ b. IfSome b (HasRun held)) below is (λ bottom. tt)
+        (λ above. visible-has header held (suc level) levels (omega (arith, above)))
+
+    pub both-told : (below : Option Run) → level ≤ header.geometry.bottom → IsBelow header level below → AreCellsTold (tested_by header held) → AreBothTold held (visible_of header level) below
+    both-told below low is told = record {
+      run_told = visible-told header held level low told;
+      below_told = by-below (λ b. IfSome b (IsRunTold held)) below is (λ bottom. tt) (λ above. visible-told header held (suc level) (omega (arith, above)) told);
+    }
+
+    -- the lists of the runs below
+    lists-are : (below : Option Run) → IsBelow header level below → lists_below held below (visibles (below_at (levels header held) (suc level))) ≡ visibles (below_at (levels header held) level)
+    lists-are below is =
+        by-below (λ b. lists_below held b (visibles (below_at (levels header held) (suc level))) ≡ visibles (below_at (levels header held) level)) below is
+        (λ bottom. sym (visibles-none header held level bottom)) (λ above. sym (visibles-next header held level above))
+
+    few-are : (few : Few) (holds : Bool) (run : List LawCell) → AreFewAt header level (is_odd (period header.clock level)) few → (IsTrue holds ↔ IsFew few run) →
+        (IsTrue holds ↔ HasFew header.geometry.keys (is_odd (period header.clock level)) level run (below_at (levels header held) level))
+    few-are few holds run is h =
+        elim (cases_lt level header.geometry.bottom) [
+          | inl above ↦
+              subst (λ (below : List FileLevel). IsTrue holds ↔ HasFew header.geometry.keys (is_odd (period header.clock level)) level run below) (sym (below-next header held level above))
+              (subst (λ (f : Few). IsTrue holds ↔ IsFew f run) (is.above above) h)
+          | inr bottom ↦
+              subst (λ (below : List FileLevel). IsTrue holds ↔ HasFew header.geometry.keys (is_odd (period header.clock level)) level run below) (sym (below-none header held level bottom))
+              (subst (λ (f : Few). IsTrue holds ↔ IsFew f run) (is.bottom bottom) h)
+        ]
+
+    -- ---- what was found
+
+    module _ (low : level ≤ header.geometry.bottom) (below : Option Run) (is : IsBelow header level below) (run : Run) (run_is : run ≡ visible_of header level) where
+      pub tests-answer : (few : Few) (answer : Result RunTests ReadFault) → AreFewAt header level (is_odd (period header.clock level)) few →
+          IfOk answer (λ tests. AreBothTold held run below → OrderIs (run_cells held run) tests.disorder) →
+          IfOk answer (λ tests. AreBothTold held run below → (rest : List (List LawCell)) → (IsTrue tests.is_sampled ↔ HasSample (run_cells held run) (lists_below held below rest))) →
+          IfOk answer (λ tests. AreBothTold held run below → (IsTrue tests.has_few ↔ IsFew few (run_cells held run))) →
+          IfOk answer (λ tests. AreCellsTold (tested_by header held) → AreTestsAt (tested_by header held) level tests)
+      tests-answer few (Err fault) fews order sampled short = tt
+      tests-answer few (Ok tests) fews order sampled short = λ told.
+          let both = subst (λ (r : Run). AreBothTold held r below) (sym run_is) (both-told below low is told) in
+          let same = ap (run_cells held) run_is ∙ sym (visible-is header held level low) in
+          record {
+            order = subst (λ (cells : List LawCell). OrderIs cells tests.disorder) same (order both);
+            sampled = transport (λ i. IsTrue tests.is_sampled ↔ HasSample (same i) (lists-are below is i)) (sampled both (visibles (below_at (levels header held) (suc level))));
+            few = subst (λ (cells : List LawCell). IsTrue tests.has_few ↔ HasFew header.geometry.keys (is_odd (period header.clock level)) level cells (below_at (levels header held) level)) same
+                (few-are few tests.has_few (run_cells held run) fews (short both));
+          }
+
+      -- a bad cell of these runs is none that is told
+      pub cause-answer : (before now : ℕ) (answer : Result RunTests ReadFault) → IfErr answer (PassCause held (run ∷ option_to_list below) before now) → IfErr answer (TestCause header held before now)
+      cause-answer = cause-of-test header held (run ∷ option_to_list below) (λ told. (
+        subst (IsRunTold held) (sym run_is) (visible-told header held level low told),
+        by-below (λ b. AllByRecursion (IsRunTold held) (option_to_list b)) below is (λ bottom. tt) (λ above. (visible-told header held (suc level) (omega (arith, above)) told, tt)),
+      ))

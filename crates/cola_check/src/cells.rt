@@ -84,6 +84,7 @@ fn bad_in_level<W: CellSource, L: Ledger>(
 
 /// The level and the number of the lowest cell of all runs of a file whose bytes spell none. Each cell up to that one is
 /// read once. Only the device's fault is an error.
+#[tactic(auto, using(crate::proofs::BadRuns::few_cells))]
 pub(crate) fn first_bad_cell<W: CellSource, L: Ledger>(
     work: &mut W,
     header: &Header,

@@ -129,18 +129,8 @@ impl Walk {
         if self.head.has_cell() || self.at == self.run.len {
             return Ok(());
         }
-        let (level, slot) = (self.run.level, self.run.slot);
-        let room = &mut self.head;
-        work.read_packed(
-            Some(self.reader),
-            level,
-            slot,
-            self.at,
-            &mut room.packed,
-            steps,
-        )?;
-        room.is_filled = true;
-        Ok(())
+        let run = self.run;
+        self.head.read(work, Some(self.reader), run.level, run.slot, self.at, steps)
     }
 
     /// Whether the next cell has this key.

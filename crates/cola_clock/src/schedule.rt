@@ -7,6 +7,7 @@ ghost use Rattle.cola_clock.specs.Schedule.{phase_at, part_at, below_at};
 use crate::state::{Below, Part, Phase};
 
 /// The mutations in a period of a level, `2^level`.
+#[inline(always)]
 fn period_length(level: u8) -> u64
     requires { level ≤ 22 }
     ensures value { result ≡ 2 ^ level }
@@ -19,6 +20,7 @@ fn period_length(level: u8) -> u64
 /// empty. Level j flips where `2^j` divides the next clock. The levels and their flips are those of the deamortized
 /// lookahead array of Bender, Farach-Colton, Fineman, Fogel, Kuszmaul and Nelson (SPAA 2007); this schedule of windows
 /// by the clock alone is this store's own.
+#[inline(always)]
 pub fn flips(clock: u64, level: u8) -> bool
     requires level_in_range { level ≤ 22 }
     requires clock_in_range { clock < 2 ^ 23 }
@@ -29,6 +31,7 @@ pub fn flips(clock: u64, level: u8) -> bool
 
 /// Whether the mutation at `clock` works at the level: level 0 always, level 1 at even clocks, and a level of 2 and more
 /// in the second quarter of its period.
+#[inline(always)]
 pub fn works(clock: u64, level: u8) -> bool
     requires level_in_range { level ≤ 22 }
     requires clock_in_range { clock < 2 ^ 23 }
@@ -75,6 +78,7 @@ pub fn phase(clock: u64, level: u8) -> Phase
 }
 
 /// Which of its two slots, 0 or 1, the level's visible run stands in. Its shadow run stands in the other.
+#[inline(always)]
 pub fn visible_slot(clock: u64, level: u8) -> u8
     requires level_in_range { level ≤ 22 }
     requires clock_in_range { clock < 2 ^ 23 }
@@ -85,6 +89,7 @@ pub fn visible_slot(clock: u64, level: u8) -> u8
 }
 
 /// Which items of its own visible run the next run of a level takes, in a store whose lowest level is `bottom`.
+#[inline(always)]
 pub fn own_part(clock: u64, level: u8, bottom: u8) -> Part
     requires bottom_in_range { bottom ≤ 22 }
     requires level_in_range { level ≤ bottom }
@@ -102,6 +107,7 @@ pub fn own_part(clock: u64, level: u8, bottom: u8) -> Part
 
 /// Which run of the next level in number order the next run of a level is sampled from, in a store whose lowest level is
 /// `bottom`: `Nothing` exactly at the bottom.
+#[inline(always)]
 pub fn next_of(clock: u64, level: u8, bottom: u8) -> Below
     requires bottom_in_range { bottom ≤ 22 }
     requires level_in_range { level ≤ bottom }

@@ -4,6 +4,7 @@ pub mod Readings
 pub mod Lefts
 pub mod Lists
 pub mod Least
+pub mod First
 pub mod Stepping
 pub mod Behind
 pub mod Going

@@ -79,6 +79,12 @@ module _ (falls : Bool) where
   left_append [] x = omega arith
   left_append (y ∷ xs) x = let r = left_append xs x in omega arith
 
+  pub left_split : (lines : List Line) (i : ℕ) → all_left (take i lines) + all_left (drop i lines) ≡ all_left lines
+  left_split [] zero = omega arith
+  left_split [] (suc i) = omega arith
+  left_split (x ∷ lines) zero = omega arith
+  left_split (x ∷ lines) (suc i) = let r = left_split lines i in omega arith
+
   -- ---- causes
 
   pub bad_at : (held : Held) (lines : List Line) (i : ℕ) (d : Line) (before now : ℕ) (fault : ReadFault) → i < length lines → LineCause falls held (get_or lines i d) before now fault → LinesCause falls held lines before now fault

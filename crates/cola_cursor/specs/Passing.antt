@@ -1,5 +1,6 @@
 -- What is passed of lines.
 use Rattle.std.specs.Prelude.{◌≡◌, ℕ, ◌≤◌, ◌<◌, Bool, false, List, [], ◌∷◌, drop, Option, None, Some, option_map, IsTrue, is_some}
+use Rattle.std.specs.List.{AllByRecursion}
 use Rattle.std.specs.Ordering.{is_eq}
 use Rattle.std.specs.Option.{option_or}
 use Rattle.cola_runs.specs.Cells as laws
@@ -18,6 +19,10 @@ use Rattle.cola_cursor.specs.Way.{way, spot_at}
 abbrev pub has_key : List ℕ → Option Cell → Bool
 has_key key None = false
 has_key key (Some cell) = is_eq (key_cmp key (key_of cell))
+
+-- none of the heads has this key
+abbrev pub NoneHas : List ℕ → List Line → Type 0
+NoneHas key = AllByRecursion (λ line. has_key key line.head ≡ false)
 
 module _ (falls : Bool) where
   -- a cell with this key at a place of a line's run, which is an item where one was found

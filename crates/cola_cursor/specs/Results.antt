@@ -1,5 +1,5 @@
 -- What calls on lines answer, seen as numbers and facts.
-use Rattle.std.specs.Prelude.{◌≡◌, ◌⊎◌, ℕ, cond, List, [], ◌∷◌, Option, None, Some, option_map, Result, Ok, Err, ⊤, Bool}
+use Rattle.std.specs.Prelude.{◌≡◌, ◌⊎◌, ℕ, cond, List, [], ◌∷◌, Option, None, Some, option_map, Result, Ok, Err, ⊤, Bool, true, false}
 use Rattle.std.specs.Borrow.{Bor}
 use Rattle.std.specs.Ordering.{is_lt}
 use Rattle.cola_outside.specs.Faults.{Rose}
@@ -69,6 +69,12 @@ module _ (falls : Bool) where
   abbrev pub lowered : Option (List ℕ) → Option (List ℕ) → Option Cell → Option (List ℕ)
   lowered end least None = least
   lowered end least (Some cell) = cond (within_end falls end (key_of cell)) (lesser least (key_of cell)) least
+
+  -- a head has a lesser key than one, where there is one
+  abbrev pub is_lower : Option Cell → Option (List ℕ) → Bool
+  is_lower None least = false
+  is_lower (Some cell) None = true
+  is_lower (Some cell) (Some l) = is_lt (way_cmp falls (key_of cell) l)
 
   -- the least key of the heads below the upper end, if there is one, and of one more key
   abbrev pub least_from : Option (List ℕ) → Option (List ℕ) → List Line → Option (List ℕ)

@@ -193,11 +193,11 @@ fn advance<W: CellSource, L: Ledger>(
     ensures saves { Saves lines.old lines.new [] saved.new.items }
 {
     read_heads(work, lines, saved, falls, steps)?;
-    while let Some(key) = least_key(lines, end, falls) {
-        let item = pass_all(work, lines, saved, &key, falls, steps)?;
+    while let Some(least) = least_key(lines, end, falls) {
+        let item = pass_all(work, lines, saved, &least.key, least.first, falls, steps)?;
         match item {
             Some(item) => match item {
-                Item::Value { value, stamp } => return Ok(Some((key, value, stamp))),
+                Item::Value { value, stamp } => return Ok(Some((least.key, value, stamp))),
                 Item::Tombstone => {}
             },
             None => {}

@@ -1,5 +1,5 @@
 -- What aims read, as the laws of levels have it; and the runs that stay.
-use Rattle.std.proofs.Common.{◌≡◌, ◌≢◌, ◌⊎◌, inl, inr, ℕ, suc, ◌-◌, ◌<◌, Bool, true, false, not, cond, if◌then◌else◌, List, [], ◌∷◌, Some, refl, ap, sym, ◌∙◌, arith}
+use Rattle.std.proofs.Common.{◌≡◌, ◌≢◌, ◌⊎◌, inl, inr, ℕ, suc, ◌-◌, ◌<◌, ◌≤◌, Bool, true, false, not, cond, if◌then◌else◌, List, [], ◌∷◌, Some, None, refl, ap, sym, ◌∙◌, arith}
 use Rattle.std.specs.List.{slice_get}
 use Rattle.std.proofs.lemmas.Option.{none-some}
 use Rattle.cola_clock.specs.Clock.{period, is_odd, visible_slot}
@@ -13,13 +13,16 @@ use Rattle.cola_cell.specs.Held.{Held, LawCell, Stamped}
 use Rattle.cola_cell.proofs.CellLists.{cells-same}
 use Rattle.cola_merge.specs.declared.aims.Aim.{Aim}
 use Rattle.cola_merge.specs.declared.aims.Feed.{Feed}
+use Rattle.cola_merge.specs.declared.aims.Feed.TheVariants as feed
+use Rattle.cola_cell.specs.declared.cell.Run.{Run}
+use Rattle.cola_bottom.specs.Bottom.{bottom_of}
 use Rattle.cola_merge.specs.Feeds as merge
 use Rattle.cola_merge.specs.Feeds.{takes_young, feed_len, feed_keys}
 use Rattle.cola_merge.specs.States.{Grows}
 use Rattle.cola_merge.proofs.ToldRuns.{sampled_feed}
 use Rattle.cola_level.specs.declared.level.Level.{Level}
 use Rattle.cola_level.specs.Marks.{marks_of, all_marks_of}
-use Rattle.cola_level.specs.Aims.{sampled_run, sample_of, aim_with}
+use Rattle.cola_level.specs.Aims.{visible_run, sampled_run, sample_of, aim_with, aim_at}
 use Rattle.cola_level.specs.Standing.{slot_cells, stood, all_stood}
 
 slot_chosen : (f : ℕ → ℕ → List LawCell) (odd : Bool) (p q m n : ℕ) → f (if odd then p else q) (cond odd m n) ≡ cond odd (f p m) (f q n)
@@ -74,8 +77,27 @@ module _ (old new : Held) (level : ℕ) (grows : Grows old new level) where
 some_same : {X : Type 0} (x y : X) → Some x ≡ Some y → x ≡ y
 some_same x y e = cc
 
-pub aim_of_first : (t j own : ℕ) (incoming : Feed) (aim : Aim) (next : Level) (levels : List Level) → Some next ≡ slice_get levels 0 → ((under : List Marks) → aim ≡ aim_with t j own incoming (marks_of next ∷ under)) →
+aim_of_first : (t j own : ℕ) (incoming : Feed) (aim : Aim) (next : Level) (levels : List Level) → Some next ≡ slice_get levels 0 → ((under : List Marks) → aim ≡ aim_with t j own incoming (marks_of next ∷ under)) →
     aim ≡ aim_with t j own incoming (all_marks_of levels)
 aim_of_first t j own incoming aim next [] e h = absurd (none-some next (sym e))
 aim_of_first t j own incoming aim next (l ∷ ls) e h =
     h (all_marks_of ls) ∙ ap (λ (x : Level). aim_with t j own incoming (marks_of x ∷ all_marks_of ls)) (some_same next l e)
+
+-- the aim of a level of 1 and more, by the slots that the clock gives to its runs
+aim_by : (t n own above : ℕ) {second : ℕ} {aim : Aim} (below : List Marks) → 1 ≤ n → second ≡ visible_slot t (n - 1) →
+    aim ≡ aim_with t n own (feed.Run (record { level = n - 1; slot = second; len = above })) below → aim ≡ aim_at t (n - 1) own above below
+aim_by t n own above below h s e =
+    e
+    ∙ ap (λ (x : ℕ). aim_with t n own (feed.Run (record { level = n - 1; slot = x; len = above })) below) s
+    ∙ ap (λ (j : ℕ). aim_with t j own (feed.Run (visible_run t (n - 1) above)) below) (let z : n ≡ suc (n - 1) = omega (arith, h) in z)
+
+pub aim_above : (t n own above : ℕ) {slot second : ℕ} {aim : Aim} {next : Level} (levels : List Level) → 1 ≤ n → slot ≡ visible_slot t n → second ≡ visible_slot t (n - 1) → Some next ≡ slice_get levels 0 →
+    ((under : List Marks) → aim ≡ aim_with t n own (feed.Run (record { level = n - 1; slot = second; len = above })) (marks_of next ∷ under)) → aim ≡ aim_at t (n - 1) own above (all_marks_of levels)
+aim_above t n own above {second = second} {aim = aim} {next = next} levels h f s e a =
+    aim_by t n own above (all_marks_of levels) h s (aim_of_first t n own (feed.Run (record { level = n - 1; slot = second; len = above })) aim next levels e a)
+
+pub aim_below : (t n own above : ℕ) {slot second : ℕ} {aim : Aim} (levels : List Level) → 1 ≤ n → slot ≡ visible_slot t n → second ≡ visible_slot t (n - 1) → None ≡ slice_get levels 0 →
+    aim ≡ bottom_of (record { level = n; slot = slot; len = own }) (record { level = n - 1; slot = second; len = above }) (1 - slot) → aim ≡ aim_at t (n - 1) own above (all_marks_of levels)
+aim_below t n own above (l ∷ ls) h f s e a = absurd (none-some l e)
+aim_below t n own above {second = second} [] h f s e a =
+    aim_by t n own above [] h s (a ∙ ap (λ (x : ℕ). bottom_of (record { level = n; slot = x; len = own }) (record { level = n - 1; slot = second; len = above }) (1 - x)) f)

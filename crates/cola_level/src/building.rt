@@ -12,6 +12,7 @@ use std::sync::ledger::Ledger;
 const QUOTA: u32 = 28;
 
 /// Takes the steps of one mutation, or all that are left.
+#[inline(always)]
 fn take_steps<W: CellSource + CellSink, L: Ledger>(
     merger: &mut Merger,
     work: &mut W,
@@ -27,6 +28,7 @@ fn take_steps<W: CellSource + CellSink, L: Ledger>(
 }
 
 /// Takes the steps of one mutation, and finishes the shadow where they end its merge.
+#[inline(always)]
 pub(crate) fn build<W: CellSource + CellSink, L: Ledger>(
     merger: &mut Merger,
     work: &mut W,

@@ -71,6 +71,7 @@ impl Level {
     /// It is refused where the device failed, where a cell that its merge reads next is bad, and as overfull where the
     /// shadow fills its slot and a step would emit another cell. A refusal keeps the steps that were taken before it, and
     /// the level's lengths are those of its runs after it too. The work may be asked for again.
+    #[inline(always)]
     pub fn work<W: CellSource + CellSink, L: Ledger>(
         &mut self,
         work: &mut W,
@@ -89,6 +90,7 @@ impl Level {
     }
 
     /// Leaves the window: no source cell is consumed from here on. The level's merge is done and its shadow was finished.
+    #[inline(always)]
     pub fn leave_window(&mut self)
         requires { IsOwnRunConsumed self.old }
         ensures { self.new ≡ out_of_window self.old }

@@ -11,5 +11,5 @@ mod building;
 pub mod laws;
 mod level;
 
-pub use aims::{aim_of, top_aim};
+pub use aims::{top_aim, work_by};
 pub use level::Level;

@@ -1,20 +1,12 @@
 -- How many blocks a load fills.
-use Rattle.std.proofs.Common.{◌≡◌, ℕ, zero, suc, ◌+◌, ◌*◌, ◌/◌, ◌^◌, ◌≤◌, ◌∙◌, arith}
+use Rattle.std.proofs.Common.{◌≡◌, ℕ, zero, suc, ◌+◌, ◌*◌, ◌/◌, ◌≤◌, ◌∙◌, arith}
 use Rattle.std.proofs.lemmas.Nat.{le-div, pow_pos}
 use Rattle.std.proofs.Math.Nat.{div-mul-le_self, mul_comm, mul_assoc}
 use Rattle.cola_layout.specs.declared.geometry.Geometry.{Geometry}
 use Rattle.cola_run.specs.Cells.{block_cells, device_levels}
 use Rattle.cola_load.specs.Filled.{run_len}
 use Rattle.cola_load.specs.Loading.{full_below, full_blocks}
-use Rattle.cola_load.proofs.Lengths.{eight-some, next-run}
-use Rattle.cola_load.proofs.Rowing.{div-up}
-
-below-rise : (g : Geometry) (rows more k : ℕ) → rows ≤ more → full_below g rows k ≤ full_below g more k
-below-rise g rows more zero h = omega arith
-below-rise g rows more (suc k) h =
-    let i = below-rise g rows more k h in
-    let d : run_len rows k / block_cells g ≤ run_len more k / block_cells g = div-up (run_len rows k) (run_len more k) (block_cells g) (pow_pos g.block_exp) (div-up rows more (8 ^ k) (eight-some k) h) in
-    omega (arith, i, d)
+use Rattle.cola_load.proofs.Rowing.{next-run, below-rise}
 
 pub blocks-rise : (g : Geometry) (rows more : ℕ) → rows ≤ more → full_blocks g rows ≤ full_blocks g more
 blocks-rise g rows more h = below-rise g rows more (device_levels g) h
@@ -27,19 +19,16 @@ below-sum g rows zero =
     let o : rows / 1 ≡ rows = omega arith in
     omega (arith, z, o)
 below-sum g rows (suc k) =
-    let i = below-sum g rows k in
     let part : run_len rows k / block_cells g * block_cells g ≤ run_len rows k = div-mul-le_self (run_len rows k) (block_cells g) in
     let turn : run_len rows k / block_cells g * block_cells g ≡ block_cells g * (run_len rows k / block_cells g) = mul_comm (run_len rows k / block_cells g) (block_cells g) in
     let e : block_cells g * (run_len rows k / block_cells g + full_below g rows k) ≡ block_cells g * (run_len rows k / block_cells g) + block_cells g * full_below g rows k = omega arith in
-    let next = next-run rows k in
     let eighth : 8 * (run_len rows k / 8) ≤ run_len rows k = omega arith in
-    omega (arith, i, part, turn, e, next, eighth)
+    omega (arith, below-sum g rows k, part, turn, e, next-run rows k, eighth)
 
 pub blocks-few : (g : Geometry) (rows : ℕ) → full_blocks g rows + (device_levels g + 2) ≤ 8 * rows / (7 * block_cells g) + (g.bottom + 1) + 3
 blocks-few g rows =
-    let sum = below-sum g rows (device_levels g) in
     let turn : full_blocks g rows * (7 * block_cells g) ≡ 7 * (block_cells g * full_blocks g rows) = mul_comm (full_blocks g rows) (7 * block_cells g) ∙ mul_assoc 7 (block_cells g) (full_blocks g rows) in
     let some = pow_pos g.block_exp in
-    let few : full_blocks g rows ≤ 8 * rows / (7 * block_cells g) = le-div (full_blocks g rows) (8 * rows) (7 * block_cells g) (omega (arith, some)) (omega (arith, sum, turn)) in
+    let few : full_blocks g rows ≤ 8 * rows / (7 * block_cells g) = le-div (full_blocks g rows) (8 * rows) (7 * block_cells g) (omega (arith, some)) (omega (arith, below-sum g rows (device_levels g), turn)) in
     let exp : 3 ≤ g.block_exp = g.block_fits.group in
     omega (arith, few, exp)

@@ -1,27 +1,68 @@
--- What follows from the answer of growing a file.
-use Rattle.std.proofs.Common.{◌≡◌, ◌⊎◌, inl, inr, ℕ, ◌<◌, ◌≤◌, true, false, List, [], length, take, Option, Some, Result, Ok, Err, refl, sym, ap, subst, ◌∙◌, arith}
-use Rattle.std.specs.Prelude.{IfSome}
-use Rattle.std.specs.FinMap as finite
-use Rattle.std.proofs.lemmas.List.{length-map}
-use Rattle.cola_cell.specs.Format.{stamp_limit}
+-- What growing a file answers, by what copying its pairs answered, and what follows from it.
+use Rattle.std.proofs.Common.{◌≡◌, inr, ℕ, ◌+◌, ◌≤◌, true, List, Option, Result, Ok, Err, subst, arith, ◌⊎◌, inl, ◌<◌, false, [], length, take, Some, refl, sym, ap, ◌∙◌, None, unwrap_or}
+use Rattle.std.specs.Prelude.{option_map, IfSome, IsSomeAnd}
 use Rattle.cola_device.specs.declared.device.Device as device
-use Rattle.cola_image.specs.Standing.{HeaderStandsFor}
 use Rattle.cola_layout.specs.declared.geometry.Geometry.{Geometry}
 use Rattle.cola_layout.specs.declared.header.Header.{Header}
 use Rattle.cola_layout.specs.Fields.{fields_of}
+use Rattle.cola_opening.specs.Judged.{IsSeen, IsClosedWith, file_size, IsSmall, IsNoStore, IsInUse}
+use Rattle.cola_opening.proofs.Spending.{spends-then}
+use Rattle.cola_run.specs.Store.{beside, Beside}
+use Rattle.cola_load.specs.declared.fault.GrowFault.{GrowFault}
+use Rattle.cola_load.specs.declared.fault.GrowFault.TheVariants.{Small, NotStore, NotClosed, Fewer, OutOfMemory, BadCell, NotEmpty, Disorder, Device}
+use Rattle.cola_load.specs.Growing.{BothCalm}
+use Rattle.cola_load.specs.Grow.{IsFor, Copies, IsSpent, HasCopied, Grows, grow_reads, HasKeys, IsForNone, IsLeftHeadless, HasStopped, Uncalled, NotBegun, Headless, NotFinished, MayHaveHeader, IsCountOrFull, IsFileOf}
+use Rattle.std.specs.FinMap as finite
+use Rattle.std.proofs.lemmas.List.{length-map}
+use Rattle.cola_cell.specs.Format.{stamp_limit}
+use Rattle.cola_image.specs.Standing.{HeaderStandsFor}
 use Rattle.cola_layout.specs.Header.{Fields}
 use Rattle.cola_layout.proofs.Refusing.{spelling-one}
-use Rattle.cola_opening.specs.Judged.{file_size, IsClosedWith, IsSmall, IsNoStore, IsInUse}
 use Rattle.cola_opening.proofs.Sizes.{header_fits}
 use Rattle.cola_outside.specs.Faults.{Rose}
 use Rattle.cola_spec.specs.Map.{Map, count}
 use Rattle.cola_shapes.specs.Shapes.{shape_of}
-use Rattle.cola_load.specs.declared.fault.GrowFault.{GrowFault}
-use Rattle.cola_load.specs.declared.fault.GrowFault.TheVariants.{Small, NotStore, NotClosed, Fewer, OutOfMemory, BadCell, NotEmpty, Disorder, Device}
 use Rattle.cola_load.specs.Filled.{Row, AreRows, IsFilled, rows_of, row_of_entry, map_of, filled_header}
-use Rattle.cola_load.specs.Grow.{IsFor, HasCopied, HasKeys, IsForNone, IsLeftHeadless, HasStopped, Uncalled, NotBegun, Headless, NotFinished, Grows, MayHaveHeader, IsCountOrFull, IsFileOf}
 use Rattle.cola_load.proofs.FilledLevels.{filled-stands}
 use Rattle.cola_load.proofs.FilledMaps.{map-again}
+use Rattle.cola_outside.specs.Told.{Both}
+use Rattle.cola_load.specs.GrowLaws.{IsCopiedWithin, CopySays, Copied, GrowSays}
+use Rattle.cola_run.proofs.Spots.{both-so}
+
+module _ {D E : Type 0} (d : device.Ghosts D) (e : device.Ghosts E) (from mid now : D) (to to_now : E) (ticks ticks_now keys block_exp : ℕ) where
+  of-copied : (result : Result ℕ GrowFault) → HasCopied d e from now to to_now ticks ticks_now keys block_exp result → Grows d e from now to to_now ticks ticks_now keys block_exp result
+  of-copied (Err Small) h = absurd h.copies
+  of-copied (Err NotStore) h = absurd h.copies
+  of-copied (Err NotClosed) h = absurd h.copies
+  of-copied (Err (Fewer count)) h = absurd h.copies
+  of-copied (Err Device) h = inr h
+  of-copied result h = h
+
+  pub grown : (header : Header) (geometry : Geometry) (result : Result ℕ GrowFault) → IsSeen d from (IsClosedWith (fields_of header)) 1 1 mid → header.closed ≡ true → header.count ≤ keys →
+      IsFor keys block_exp header.geometry.format geometry → Copies e header geometry (d.bytes mid) to to_now result →
+      BothCalm (d.counts mid).faults (d.counts now).faults (e.counts to).faults (e.counts to_now).faults result → IsSpent d e mid now to to_now ticks ticks_now 0 header.geometry.bottom geometry result →
+      option_map (beside header.geometry) (d.bytes now) ≡ option_map (beside header.geometry) (d.bytes mid) →
+      Grows d e from now to to_now ticks ticks_now keys block_exp result
+  grown header geometry result seen closed few is_for copies faults spent beside_stays =
+      of-copied result (record {
+        header = header;
+        geometry = geometry;
+        was = seen.why_is;
+        closed = closed;
+        few = few;
+        is_for = is_for;
+        copies = subst (λ (told : Option (List ℕ)). Copies e header geometry told to to_now result) seen.bytes_stay copies;
+        faults = subst (λ (n : ℕ). BothCalm n (d.counts now).faults (e.counts to).faults (e.counts to_now).faults result) seen.no_fault faults;
+        beside_stays = subst (λ (told : Option (List ℕ)). option_map (beside header.geometry) (d.bytes now) ≡ option_map (beside header.geometry) told) seen.bytes_stay beside_stays;
+        spent = record {
+          steps_stay = spent.steps_stay;
+          few_ticks = spent.few_ticks;
+          spends = spends-then seen.spends spent.spends (let l : 1 + (0 + grow_reads header.geometry.bottom) ≤ 1 + grow_reads header.geometry.bottom = omega arith in l) (omega arith) (omega arith);
+          other_spends = spent.other_spends;
+        };
+      })
+
+-- ---- what follows from the answer of growing a file
 
 told : (t : Option (List ℕ)) (bytes : List ℕ) (P : List ℕ → Type 0) → t ≡ Some bytes → IfSome t P → P bytes
 told t bytes P is p = subst (λ (o : Option (List ℕ)). IfSome o P) is p
@@ -141,9 +182,6 @@ module _ {D E : Type 0} (d : device.Ghosts D) (e : device.Ghosts E) (from from_n
   }))
 
   pub headless-left : (fault : GrowFault) → Grows d e from from_now to to_now ticks ticks_now keys block_exp (Err fault) → Leaves fault
-  headless-left Small h = uncalled Small h.untouched
-  headless-left NotStore h = uncalled NotStore h.untouched
-  headless-left NotClosed h = uncalled NotClosed h.untouched
   headless-left (Fewer count) h = uncalled (Fewer count) h.0.untouched
   headless-left OutOfMemory h = inl h.copies.bytes_stay
   headless-left (BadCell number) h = elim h.copies.left [
@@ -154,3 +192,92 @@ module _ {D E : Type 0} (d : device.Ghosts D) (e : device.Ghosts E) (from from_n
   headless-left (Disorder number) h = inr (inl h.copies.left)
   headless-left Device (inl h) = uncalled Device h.untouched
   headless-left Device (inr h) = stopped h.header h.geometry (d.bytes from) h.is_for h.copies
+  headless-left fault h = uncalled fault h.untouched
+
+-- ---- what growing a file answers, in plain terms
+
+some-both : {A : Type 0} (t : Option A) (P Q : A → Type 0) → IfSome t P → IfSome t Q → IfSome t (λ x. P x × Q x)
+some-both None P Q p q = tt
+some-both (Some x) P Q p q = (p, q)
+
+beside-same : (geometry : Geometry) (old now : Option (List ℕ)) → option_map (beside geometry) now ≡ option_map (beside geometry) old → Both old now (λ x y. beside geometry y ≡ beside geometry x)
+beside-same geometry None None e = tt
+beside-same geometry None (Some y) e = cc
+beside-same geometry (Some x) None e = cc
+beside-same geometry (Some x) (Some y) e = ap (λ (o : Option Beside). unwrap_or o (beside geometry x)) e
+
+module _ {D E : Type 0} (d : device.Ghosts D) (e : device.Ghosts E) (from from_now : D) (to to_now : E) (ticks ticks_now keys block_exp : ℕ) where
+  abbrev Has : Result ℕ GrowFault → Type 0
+  Has result = HasCopied d e from from_now to to_now ticks ticks_now keys block_exp result
+
+  abbrev Says : (result : Result ℕ GrowFault) → Has result → Type 0
+  Says result h = CopySays d e from from_now to to_now ticks ticks_now keys block_exp h.header h.geometry result
+
+  within : (result : Result ℕ GrowFault) (h : Has result) → IsCopiedWithin d e from from_now to to_now ticks ticks_now keys block_exp h.header h.geometry h.spent.other_spends.rows
+  within result h = (
+    both-so (d.bytes from) (d.bytes from_now) _ _ (λ x y same. (ap (λ (b : Beside). b.size) same, (ap (λ (b : Beside). b.front) same, ap (λ (b : Beside). b.behind) same)))
+        (beside-same h.header.geometry (d.bytes from) (d.bytes from_now) h.beside_stays),
+    (h.spent.steps_stay, (h.spent.few_ticks, (h.spent.spends, (let few = h.spent.other_spends.few in let are = h.is_for.keys_are in omega (arith, few, are), h.spent.other_spends.spends)))),
+  )
+
+  copied : (result : Result ℕ GrowFault) (h : Has result) → Says result h → Copied d e from from_now to to_now ticks ticks_now keys block_exp result
+  copied result h says =
+      (h.header, (h.geometry, (h.spent.other_spends.rows, ((h.was, (h.closed, (h.few, (h.is_for.keys_are, (h.is_for.block_is, h.is_for.format_is))))), (within result h, (h.spent.other_spends.rows_are, says))))))
+
+  stop-says : (h : Has (Err Device)) → HasStopped e h.header h.geometry (d.bytes from) to to_now → Says (Err Device) h
+  stop-says h (Uncalled is) = (h.faults, inl (ap (λ (x : E). e.bytes x) is))
+  stop-says h (NotBegun n) = (
+    h.faults,
+    elim n.failed.left [
+      | inl stay ↦ inl stay
+      | inr partly ↦ inr (inr (n.failed.cause, (partly.was_empty, inl (partly.at_most, n.spends))))
+    ],
+  )
+  stop-says h (Headless n) = (h.faults, inr (inl (n.was_empty, (n.no_header, n.few_others))))
+  stop-says h (NotFinished rows f) = (h.faults, inr (inr (f.cause, (f.was_empty, inr (rows, ((f.map_is, (f.given, f.pairs_are)), f.left))))))
+
+  pub says : (result : Result ℕ GrowFault) → Grows d e from from_now to to_now ticks ticks_now keys block_exp result → GrowSays d e from from_now to to_now ticks ticks_now keys block_exp result
+  says (Ok count) h =
+      let g = h.copies.1 in
+      copied (Ok count) h (h.faults, (h.copies.0, (g.count_is, (g.was_empty, ((g.map_is, (g.given, g.pairs_are)), (some-both (e.bytes to_now) _ _ g.are_rows g.filled, g.settled))))))
+  says (Err (Fewer count)) h = (h.1, (h.0.seen, (h.0.untouched, h.0.no_ticks)))
+  says (Err OutOfMemory) h = copied (Err OutOfMemory) h (h.faults, ((h.copies.bytes_stay, h.copies.spends), h.copies.left))
+  says (Err (BadCell number)) h = copied (Err (BadCell number)) h (
+    h.faults,
+    (
+      elim h.copies.left [
+        | inl same ↦ inl same
+        | inr n ↦ inr (n.was_empty, (n.no_header, n.few_others))
+      ],
+      (h.copies.bad, h.copies.no_map),
+    ),
+  )
+  says (Err NotEmpty) h = copied (Err NotEmpty) h (h.faults, ((h.copies.bytes_stay, h.copies.spends), h.copies.was))
+  says (Err (Disorder number)) h =
+      let c = h.copies in
+      copied (Err (Disorder number)) h (h.faults, ((c.left.was_empty, (c.left.no_header, c.left.few_others)), (c.rows, (c.row, (c.number_is, (c.breaks, (c.given, (c.pairs_are, c.no_map))))))))
+  says (Err Device) (inl f) = inl (f.failed, (f.untouched, f.no_ticks))
+  says (Err Device) (inr h) = inr (copied (Err Device) h (stop-says h h.copies))
+  says (Err fault) h = (h.seen, (h.untouched, h.no_ticks))
+
+-- ---- a new file that had a byte
+
+none-empty : (told : Option (List ℕ)) → IsSomeAnd told (λ bytes. 0 < length bytes) → IfSome told (λ bytes. length bytes ≡ 0) → ⊥
+none-empty None some none = some
+none-empty (Some bytes) some none = omega (arith, some, none)
+
+module _ {D E : Type 0} (d : device.Ghosts D) (e : device.Ghosts E) (from from_now : D) (to to_now : E) (ticks ticks_now keys block_exp : ℕ) (some : IsSomeAnd (e.bytes to) (λ bytes. 0 < length bytes)) where
+  not-empty : IfSome (e.bytes to) (λ bytes. length bytes ≡ 0) → e.bytes to_now ≡ e.bytes to
+  not-empty none = absurd (none-empty (e.bytes to) some none)
+
+  by-left : (fault : GrowFault) → (e.bytes to_now ≡ e.bytes to) ⊎ (IsLeftHeadless e to to_now ⊎ MayHaveHeader e to to_now keys block_exp fault) → e.bytes to_now ≡ e.bytes to
+  by-left fault (inl same) = same
+  by-left fault (inr (inl none)) = not-empty none.was_empty
+  by-left fault (inr (inr has)) = elim has.left [
+    | inl laid ↦ not-empty laid.partly.was_empty
+    | inr wrote ↦ not-empty wrote.1.was_empty
+  ]
+
+  pub stays : (result : Result ℕ GrowFault) → Grows d e from from_now to to_now ticks ticks_now keys block_exp result → e.bytes to_now ≡ e.bytes to
+  stays (Ok count) h = not-empty h.copies.1.was_empty
+  stays (Err fault) h = by-left fault (headless-left d e from from_now to to_now ticks ticks_now keys block_exp fault h)

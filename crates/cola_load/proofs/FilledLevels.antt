@@ -21,8 +21,7 @@ use Rattle.cola_shapes.specs.Shapes.{shape_of}
 use Rattle.cola_cell.specs.ToldCells.{cell_at, AreTold}
 use Rattle.cola_cell.proofs.CellLists.{cells-same}
 use Rattle.cola_load.specs.Filled.{Row, map_of, AreRows, run_len, bottom_run, marks_from, filled_header, HasFilledCells, IsFilled}
-use Rattle.cola_load.proofs.FilledRuns.{spots_at, run_at, levels_at, levels-loaded}
-use Rattle.cola_load.proofs.FilledMaps.{count-is, is-map, found-is, bottom-run}
+use Rattle.cola_load.proofs.FilledMaps.{spots_at, run_at, levels_at, levels-loaded, count-is, is-map, found-is, bottom-run}
 
 -- at clock 0 each visible run stands in slot 0
 slot-zero : (j : ℕ) → visible_slot 0 j ≡ 0

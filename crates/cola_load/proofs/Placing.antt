@@ -1,27 +1,49 @@
 -- Where a cell stands, and what putting one leaves of the others.
-use Rattle.std.proofs.Common.{eq-eqb, ◌≡◌, ◌≢◌, ◌⊎◌, inl, inr, ℕ, ◌+◌, ◌*◌, ◌/◌, ◌%◌, ◌<◌, ◌≤◌, ◌==◌, nat_lt, true, false, Bool, if◌then◌else◌, List, length, take, set, Option, None, Some, Result, Ok, Err, refl, sym, ap, subst, ◌∙◌, arith}
+use Rattle.std.proofs.Common.{eq-eqb, ◌≡◌, ◌≢◌, ◌⊎◌, inl, inr, ℕ, ◌+◌, ◌*◌, ◌/◌, ◌%◌, ◌^◌, ◌<◌, ◌≤◌, ◌==◌, nat_lt, true, false, Bool, if◌then◌else◌, List, length, take, set, Option, None, Some, Result, Ok, Err, refl, sym, ap, subst, ◌∙◌, arith}
+use Rattle.std.specs.Prelude.{IfSome}
 use Rattle.std.proofs.lemmas.Bool.{lt-ltb, le-ltb, ne_eqb, eqb-true, false≢true, cases_lt, cases_eq}
 use Rattle.std.proofs.Math.Nat.{mul-le-mul_right}
 use Rattle.std.proofs.lemmas.List.{get_or-set_same, get_or-set_other}
 use Rattle.std.proofs.lemmas.Nat.{pow_pos}
+use Rattle.std.proofs.lemmas.Option.{IfSome_then}
 use Rattle.cola_outside.specs.Told.{Both}
 use Rattle.cola_cell.specs.declared.cell.Cell.{Cell}
 use Rattle.cola_cell.specs.Decoded.{decoded, spelling}
 use Rattle.cola_cell.specs.Format.{width}
 use Rattle.cola_cell.specs.Places.{number_of, slot_size, IsPlace}
 use Rattle.cola_cell.specs.Spelling.{IsSpelling}
-use Rattle.cola_device.specs.Bytes.{splice, HasRange, WroteSome}
+use Rattle.cola_device.specs.Bytes.{splice, HasRange}
 use Rattle.cola_device.proofs.BytesLemmas.{part-splice_below}
 use Rattle.cola_front.specs.Front.{FrontCells, cell_at, cell_bytes}
 use Rattle.cola_front.proofs.FrontLemmas.{comes_back}
-use Rattle.cola_layout.proofs.Places.{place-differ}
+use Rattle.cola_layout.proofs.Places.{front-below, place-differ}
+use Rattle.cola_layout.proofs.Powers.{next_power}
 use Rattle.cola_layout.specs.declared.geometry.Geometry.{Geometry}
 use Rattle.cola_run.specs.Cells.{IsOnDevice, block_cells, block_bytes, block_number, file_bytes, tail_number, tails_bytes}
 use Rattle.cola_run.specs.Parts.{tail_of, fills, WroteTail, TailPushed}
 use Rattle.cola_run.proofs.Numbers.{IsMore, IsFull, next-split, one-place, first-place, block-behind}
-use Rattle.cola_run.proofs.Spots.{choose-then, choose-else, both-same}
+use Rattle.cola_run.proofs.Spots.{choose-then, choose-else, both-same, both-so, both-second}
 use Rattle.cola_run.proofs.Steps.{block-fits, tail_many, tail-cell, put-many, put-there, put-stays, written-many, written-there, written-stays}
 use Rattle.cola_load.specs.Loading.{Loading, HasMore, Puts, StaysInFront, standing_cell}
+
+-- what follows of two contents that are told, where the first has something
+pub both-given : {A B : Type 0} {Q : A → Type 0} {P R : A → B → Type 0} (a : Option A) (b : Option B) → IfSome a Q → Both a b P → ((x : A) (y : B) → Q x → P x y → R x y) → Both a b R
+both-given (Some x) (Some y) q p f = f x y q p
+both-given None None q p f = tt
+both-given a b q p f = absurd p
+
+-- and the second then
+pub some-given : {A B : Type 0} {Q : A → Type 0} {P : A → B → Type 0} {S : B → Type 0} (a : Option A) (b : Option B) → IfSome a Q → Both a b P → ((x : A) (y : B) → Q x → P x y → S y) → IfSome b S
+some-given {Q} {P} {S} a b q p f = both-second a b (λ x y. S y) S (λ x y s. s) (both-given {Q = Q} {P = P} {R = λ x y. S y} a b q p f)
+
+-- two relations one behind the other
+pub both-then : {A B C : Type 0} {P : A → B → Type 0} {Q : B → C → Type 0} {R : A → C → Type 0} (a : Option A) (b : Option B) (c : Option C)
+    → Both a b P → Both b c Q → ((x : A) (y : B) (z : C) → P x y → Q y z → R x z) → Both a c R
+both-then (Some x) (Some y) (Some z) p q f = f x y z p q
+both-then None None None p q f = tt
+both-then None None (Some z) p q f = absurd q
+both-then (Some x) (Some y) None p q f = absurd q
+both-then a b c p q f = absurd p
 
 -- a level is on the device
 pub on-level : (g : Geometry) (level : ℕ) → g.block_exp ≤ level + 2 → level ≤ g.bottom → IsOnDevice g level
@@ -33,11 +55,9 @@ in-slot bottom level index low within = record { level_in = omega (arith, low); 
 -- a block that is written lies in the file
 pub write_inside : (told : Option (List ℕ)) (g : Geometry) (level index : ℕ) (tails : List ℕ) (at : ℕ) → IsOnDevice g level → index < slot_size level
     → length tails ≡ tails_bytes g → HasRange told 0 (file_bytes g) → at ≡ block_number g level 0 index * block_bytes g → HasRange told at (length (tail_of g tails level))
-write_inside None g level index tails at device within many inside at_is = tt
-write_inside (Some bytes) g level index tails at device within many inside at_is =
+write_inside told g level index tails at device within many inside at_is = IfSome_then told inside (λ bytes long.
     let tail = tail_many g tails level g.block_fits device many in
-    let ends = block-fits g g.block_fits level 0 index device.whole (in-slot g.bottom level index device.within within) bytes (tail_of g tails level) (omega (arith, inside)) tail in
-    omega (arith, tail, ends, at_is, inside)
+    omega (arith, tail, block-fits g g.block_fits level 0 index device.whole (in-slot g.bottom level index device.within within) bytes (tail_of g tails level) (omega (arith, long)) tail, at_is, long))
 
 -- where a cell of a level stands
 module _ (loading : Loading) (bytes : List ℕ) (len level index : ℕ) where
@@ -87,6 +107,13 @@ differ : (bottom l i level index : ℕ) → l ≤ bottom → level ≤ bottom �
 differ bottom l i level index low_l low inside within apart same =
     let (levels, slots, indices) = place-differ bottom l 0 i level 0 index (in-slot bottom l i low_l inside) (in-slot bottom level index low within) same in
     elim apart [ inl h ↦ h levels | inr h ↦ h indices ]
+
+-- the number of a cell of the front
+pub front-number : (block level index : ℕ) → index < slot_size level → level + 2 < block → number_of level 0 index < 2 ^ block + 2 ^ block
+front-number block level index within low =
+    let below : number_of level 0 index < 2 ^ (block + 1) = front-below block level 0 index (omega arith) within low in
+    let twice : 2 ^ (block + 1) ≡ 2 ^ block + 2 ^ block = next_power block (block + 1) (omega arith) in
+    omega (arith, below, twice)
 
 -- a cell that was put into the front
 module _ (loading : Loading) (front : FrontCells) (bytes : List ℕ) (level index : ℕ) (cell : Cell) (low : level ≤ loading.geometry.bottom) (inside : level + 2 < loading.geometry.block_exp)
@@ -231,14 +258,10 @@ module _ {T E : Type 0} (loading : Loading) (tails : List ℕ) (level index : �
     (is : tails ≡ splice loading.tails (width loading.geometry.format * tail_number loading.geometry level index) (spelling loading.geometry.format cell)) where
   puts-written : (result : Result T E) (a b : Option (List ℕ)) → fills loading.geometry index ≡ true → HasRange a 0 (file_bytes loading.geometry) → WroteTail result loading.geometry tails level 0 index a b
       → Both a b (Puts result loading (record loading { tails = tails }) level index cell)
-  puts-written result None None full inside wrote = tt
-  puts-written result None (Some y) full inside wrote = absurd wrote
-  puts-written result (Some x) None full inside wrote = absurd wrote
-  puts-written (Err fault) (Some x) (Some y) full inside wrote = tt
-  puts-written (Ok value) (Some x) (Some y) full inside wrote =
-      let w : WroteSome {T = T} {E = E} (Ok value) (block_number loading.geometry level 0 index * block_bytes loading.geometry) (tail_of loading.geometry tails level) x y = wrote in
-      put-last loading tails x y level index cell low high within many (omega (arith, inside)) spelled is (full-of loading.geometry index full)
-      (w.others_stay ∙ ap (λ (left : List ℕ). splice x (block_number loading.geometry level 0 index * block_bytes loading.geometry) left) w.exact)
+  puts-written (Err fault) a b full inside wrote = both-so a b _ _ (λ x y w. tt) wrote
+  puts-written (Ok value) a b full inside wrote = both-given a b inside wrote (λ x y long w.
+      put-last loading tails x y level index cell low high within many (omega (arith, long)) spelled is (full-of loading.geometry index full)
+      (w.others_stay ∙ ap (λ (left : List ℕ). splice x (block_number loading.geometry level 0 index * block_bytes loading.geometry) left) w.exact))
 
   puts-kept : (result : Result T E) (a b : Option (List ℕ)) → fills loading.geometry index ≡ false → HasRange a 0 (file_bytes loading.geometry) → b ≡ a
       → Both a b (Puts result loading (record loading { tails = tails }) level index cell)
@@ -265,23 +288,47 @@ front-same g a b stays = subst (λ (z : Option (List ℕ)). Both a z (StaysInFro
 module _ {T E : Type 0} (g : Geometry) (tails : List ℕ) (level index : ℕ) (low : level ≤ g.bottom) (high : g.block_exp ≤ level + 2) (within : index < slot_size level)
     (many : length tails ≡ tails_bytes g) where
   pub front-written : (result : Result T E) (a b : Option (List ℕ)) → HasRange a 0 (file_bytes g) → WroteTail result g tails level 0 index a b → Both a b (StaysInFront g)
-  front-written result None None inside wrote = tt
-  front-written result None (Some y) inside wrote = absurd wrote
-  front-written result (Some x) None inside wrote = absurd wrote
-  front-written result (Some x) (Some y) inside wrote =
-      let w : WroteSome result (block_number g level 0 index * block_bytes g) (tail_of g tails level) x y = wrote in
+  front-written result a b inside wrote = both-given a b inside wrote (λ x y long w.
       let tail = tail_many g tails level g.block_fits (on-level g level high low) many in
       let place = in-slot g.bottom level index low within in
       let whole : length w.left ≡ block_bytes g = w.as_many ∙ tail in
-      let ends = block-fits g g.block_fits level 0 index high place x w.left (omega (arith, inside)) whole in
+      let ends = block-fits g g.block_fits level 0 index high place x w.left (omega (arith, long)) whole in
       let two : 2 ≤ block_number g level 0 index = block-behind g.block_exp level 0 index high in
       let far : 2 * block_bytes g ≤ block_number g level 0 index * block_bytes g = mul-le-mul_right (block_bytes g) two in
       record {
-        size_stays = ap (λ (xs : List ℕ). length xs) w.others_stay ∙ written-many g g.block_fits level 0 index high place x w.left (omega (arith, inside)) whole;
+        size_stays = ap (λ (xs : List ℕ). length xs) w.others_stay ∙ written-many g g.block_fits level 0 index high place x w.left (omega (arith, long)) whole;
         front_stays = ap (λ (xs : List ℕ). take (2 * block_bytes g) xs) w.others_stay
-            ∙ part-splice_below x (block_number g level 0 index * block_bytes g) w.left 0 (2 * block_bytes g) (omega (arith, ends, inside)) (omega (arith, far));
-      }
+            ∙ part-splice_below x (block_number g level 0 index * block_bytes g) w.left 0 (2 * block_bytes g) (omega (arith, ends, long)) (omega (arith, far));
+      })
 
   pub front-pushed : (t : Bool) (result : Result T E) (a b : Option (List ℕ)) → HasRange a 0 (file_bytes g) → TailPushed t result g tails level 0 index a b → Both a b (StaysInFront g)
   front-pushed true result a b inside w = front-written result a b inside w
   front-pushed false result a b inside w = front-same g a b w.0
+
+-- the same of a loader whose parts are these
+module _ {loading self : Loading} (level index : ℕ) (cell : Cell) (is : loading ≡ self) (within : level ≤ self.geometry.bottom) (inside : index < slot_size level) where
+  low-level : level ≤ loading.geometry.bottom
+  low-level = subst (λ (z : Loading). level ≤ z.geometry.bottom) (sym is) within
+
+  pub front-put-of : {T : Type 0} (E : Type 0) (value : T) (told : Option (List ℕ)) {front : FrontCells} {number : ℕ} → level + 2 < loading.geometry.block_exp → number_of level 0 index < length loading.front.cells
+      → front ≡ record loading.front { cells = set loading.front.cells number (Some cell) } → number ≡ number_of level 0 index
+      → Both told told (Puts {T = T} {E = E} (Ok value) self (record loading { front = front }) level index cell)
+  front-put-of {T} E value told {front} low room after number-is =
+      subst (λ (z : Loading). Both told told (Puts {T = T} {E = E} (Ok value) z (record loading { front = front }) level index cell)) is
+      (puts-front E value told loading front level index cell low-level low inside room (after ∙ ap (λ (n : ℕ). record loading.front { cells = set loading.front.cells n (Some cell) }) number-is))
+
+  module _ {T E : Type 0} (result : Result T E) (a b : Option (List ℕ)) (high : loading.geometry.block_exp ≤ level + 2) (room : HasRange a 0 (file_bytes self.geometry)) (tails : List ℕ)
+      (pushed : TailPushed (fills loading.geometry index) result loading.geometry tails level 0 index a b) where
+    room-here : HasRange a 0 (file_bytes loading.geometry)
+    room-here = subst (λ (z : Loading). HasRange a 0 (file_bytes z.geometry)) (sym is) room
+
+    pub tail-put-of : length loading.tails ≡ tails_bytes loading.geometry → IsSpelling loading.geometry.format cell (spelling loading.geometry.format cell)
+        → tails ≡ splice loading.tails (width loading.geometry.format * tail_number loading.geometry level index) (spelling loading.geometry.format cell)
+        → Both a b (Puts result self (record loading { tails = tails }) level index cell)
+    tail-put-of many spelled after =
+        subst (λ (z : Loading). Both a b (Puts result z (record loading { tails = tails }) level index cell)) is
+        (puts-tail loading tails level index cell low-level high inside many spelled after result a b room-here pushed)
+
+    pub tail-front-of : length tails ≡ tails_bytes loading.geometry → Both a b (StaysInFront self.geometry)
+    tail-front-of many = subst (λ (z : Loading). Both a b (StaysInFront z.geometry)) is
+        (front-pushed loading.geometry tails level index low-level high inside many (fills loading.geometry index) result a b room-here pushed)

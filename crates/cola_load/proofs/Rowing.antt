@@ -1,10 +1,18 @@
--- The cells of one row, put level by level from the bottom up.
-use Rattle.std.proofs.Common.{◌≡◌, ◌≢◌, inl, inr, ℕ, zero, suc, ◌+◌, ◌-◌, ◌*◌, ◌/◌, ◌%◌, ◌^◌, ◌<◌, ◌≤◌, nat_lt, min, List, [], ◌∷◌, ◌++◌, length, Option, None, Some, Result, Ok, refl, sym, ap, subst, ◌∙◌, arith, add-one}
+-- The lengths of runs, the marks of a filled file, and the cells of one row, put level by level from the bottom up.
+use Rattle.std.proofs.Common.{◌≡◌, ℕ, zero, suc, ◌+◌, ◌-◌, ◌*◌, ◌/◌, ◌^◌, ◌<◌, ◌≤◌, List, [], ◌∷◌, ◌++◌, length, take, get_or, refl, sym, ap, subst, ◌∙◌, arith, ◌≢◌, inl, inr, ◌%◌, nat_lt, min, Option, Some, Result, Ok, add-one}
+use Rattle.std.proofs.lemmas.List.{take_more, take_all, get_or_append_left}
+use Rattle.std.proofs.Math.Nat.{pow-le-pow_left, mul_comm, mul-le-mul_left, div-le_self, div-div-eq-div-mul, div-le_of_le-mul, pow-succ', div-mul-le_self, mul_assoc, div-eq_of_lt-le, mul-div-le}
+use Rattle.std.proofs.lemmas.Nat.{pow-add, pow_pos, le-div}
+use Rattle.cola_cell.specs.Format.{stamp_limit}
+use Rattle.cola_clock.specs.Marks.{AreLevelMarks, AreAllMarks}
+use Rattle.cola_laws.proofs.Empty.{step-zero}
+use Rattle.cola_layout.specs.declared.geometry.Geometry.{Geometry}
+use Rattle.cola_layout.specs.declared.marks.Marks.{Marks}
+use Rattle.cola_layout.specs.Header.{IsSound}
+use Rattle.cola_layout.specs.Marks.{AreMarks, all_numbers, numbers_of, no_marks}
+use Rattle.cola_load.specs.Filled.{run_len, filled_marks, marks_from, filled_header, Row, row_at, no_row, filled_cell}
 use Rattle.std.proofs.lemmas.Bool.{lt-ltb, le-ltb, cases_lt, cases_eq}
-use Rattle.std.proofs.lemmas.List.{get_or_append_left}
 use Rattle.std.proofs.Math.Seq.{get_or-append_seam}
-use Rattle.std.proofs.lemmas.Nat.{le-div, pow_pos}
-use Rattle.std.proofs.Math.Nat.{div-mul-le_self, mul_comm, mul_assoc, mul-le-mul_left, div-eq_of_lt-le, mul-div-le}
 use Rattle.cola_outside.specs.Told.{Both}
 use Rattle.cola_cell.specs.declared.cell.Cell.{Cell}
 use Rattle.cola_cell.specs.Places.{slot_size}
@@ -12,13 +20,97 @@ use Rattle.cola_device.specs.declared.counts.Counts.{Counts}
 use Rattle.cola_device.specs.declared.device.DeviceFault.{DeviceFault}
 use Rattle.cola_device.specs.Bytes.{HasRange}
 use Rattle.cola_device.specs.Counts.{Called}
-use Rattle.cola_layout.specs.declared.geometry.Geometry.{Geometry}
-use Rattle.cola_run.specs.Cells.{block_cells, device_levels}
+use Rattle.cola_run.specs.Cells.{block_cells, block_bytes, device_levels}
 use Rattle.cola_run.proofs.Spots.{choose-then, choose-else, both-so}
-use Rattle.cola_load.specs.Filled.{Row, run_len, row_at, no_row, filled_cell}
 use Rattle.cola_load.specs.Loading.{Loading, SameRows, HasMore, HasCells, Puts, PutsRow, StaysInFront, standing_cell, len_amid, row_cell, full_below, full_blocks, filled_by}
 use Rattle.cola_front.proofs.Writes.{called_two}
-use Rattle.cola_load.proofs.Lengths.{eight-next, eight-some, next-run, run-fits, run-most}
+use Rattle.cola_load.proofs.Placing.{some-given, both-then}
+
+-- powers of eight
+pub eight-next : (h : ℕ) → 8 ^ suc h ≡ 8 * 8 ^ h
+eight-next h = pow-succ' 8 h
+
+pub eight-some : (h : ℕ) → 0 < 8 ^ h
+eight-some zero = omega arith
+eight-some (suc h) = let e = eight-next h in let i = eight-some h in omega (arith, e, i)
+
+-- a run is an eighth of the run below it
+pub next-run : (rows h : ℕ) → run_len rows (suc h) ≡ run_len rows h / 8
+next-run rows h =
+    ap (λ (n : ℕ). rows / n) (eight-next h ∙ mul_comm 8 (8 ^ h)) ∙ sym (div-div-eq-div-mul rows (8 ^ h) 8)
+
+-- a run fits its slot
+pub run-fits : (rows h j bottom : ℕ) → j + h ≡ bottom → rows ≤ 2 ^ (bottom + 2) → run_len rows h ≤ 2 ^ (j + 2)
+run-fits rows h j bottom is few =
+    let e : 2 ^ (j + 2 + h) ≡ 2 ^ (j + 2) * 2 ^ h = pow-add 2 (j + 2) h in
+    let same : j + 2 + h ≡ bottom + 2 = omega (arith, is) in
+    let top : 2 ^ (bottom + 2) ≡ 2 ^ (j + 2) * 2 ^ h = subst (λ (n : ℕ). 2 ^ n ≡ 2 ^ (j + 2) * 2 ^ h) same e in
+    let more : 2 ^ (j + 2) * 2 ^ h ≤ 2 ^ (j + 2) * 8 ^ h = mul-le-mul_left (2 ^ (j + 2)) (pow-le-pow_left (let t : 2 ≤ 8 = omega arith in t) h) in
+    let back : 2 ^ (j + 2) * 8 ^ h ≡ 8 ^ h * 2 ^ (j + 2) = mul_comm (2 ^ (j + 2)) (8 ^ h) in
+    div-le_of_le-mul (8 ^ h) (omega (arith, few, top, more, back))
+
+-- the marks of the levels of a filled file
+pub marks-many : (rows h : ℕ) → length (marks_from rows h) ≡ h + 1
+marks-many rows zero = refl
+marks-many rows (suc h) = let e = marks-many rows h in omega (arith, e)
+
+pub mark-at : (rows h k : ℕ) → k ≤ h → get_or (marks_from rows h) k no_marks ≡ filled_marks (run_len rows (h - k))
+mark-at rows zero zero within = refl
+mark-at rows zero (suc k) within = absurd (omega (arith, within))
+mark-at rows (suc h) zero within = let e : suc h - 0 ≡ suc h = omega arith in ap (λ (n : ℕ). filled_marks (run_len rows n)) (sym e)
+mark-at rows (suc h) (suc k) within =
+    let e : suc h - suc k ≡ h - k = omega arith in
+    mark-at rows h k (omega (arith, within)) ∙ ap (λ (n : ℕ). filled_marks (run_len rows n)) (sym e)
+
+pub marks-more : (rows bottom k : ℕ) → k ≤ bottom → take k (marks_from rows bottom) ++ filled_marks (run_len rows (bottom - k)) ∷ [] ≡ take (k + 1) (marks_from rows bottom)
+marks-more rows bottom k within =
+    sym (take_more (marks_from rows bottom) k no_marks (omega (arith, marks-many rows bottom, within))
+    ∙ ap (λ (m : Marks). take k (marks_from rows bottom) ++ m ∷ []) (mark-at rows bottom k within))
+
+pub marks-whole : (rows bottom : ℕ) → take (bottom + 1) (marks_from rows bottom) ≡ marks_from rows bottom
+marks-whole rows bottom = let many = marks-many rows bottom in take_all (bottom + 1) (marks_from rows bottom) (omega (arith, many))
+
+level-filled : (j above len : ℕ) (below : List Marks) → len ≤ 2 ^ (j + 2) → AreLevelMarks 0 0 j above (numbers_of (filled_marks len)) (all_numbers below)
+level-filled j above len below fits = record {
+  visible_fits = fits;
+  shadow_fits = omega arith;
+  first = λ _. record { empty = refl; at_rest = record { own_rests = refl; incoming_rests = refl; sampled_rests = refl } };
+  before = λ _. record { empty = refl; at_rest = record { own_rests = refl; incoming_rests = refl; sampled_rests = refl } };
+  inside = λ _ _. record {
+    own_within = omega arith;
+    incoming_within = omega arith;
+    sampled_within = omega arith;
+    enough = (let z = step-zero j in omega (arith, z));
+    sampled_done = omega arith;
+    done_consumed = omega arith;
+  };
+  after = λ _. record { own_rests = refl; incoming_rests = refl; sampled_rests = refl };
+}
+
+filled-from : (rows j h above bottom : ℕ) → j + h ≡ bottom → rows ≤ 2 ^ (bottom + 2) → AreAllMarks 0 0 j above (all_numbers (marks_from rows h))
+filled-from rows j zero above bottom is few = (level-filled j above (run_len rows zero) [] (run-fits rows zero j bottom is few), tt)
+filled-from rows j (suc h) above bottom is few = (
+  level-filled j above (run_len rows (suc h)) (marks_from rows h) (run-fits rows (suc h) j bottom is few),
+  filled-from rows (suc j) h (run_len rows (suc h)) bottom (omega (arith, is)) few,
+)
+
+pub marks-filled : (rows bottom : ℕ) → rows ≤ 2 ^ (bottom + 2) → AreMarks 0 (marks_from rows bottom)
+marks-filled rows bottom few = filled-from rows 0 bottom 0 bottom (omega arith) few
+
+-- the header of a filled file keeps the rules of headers
+pub filled-sound-header : (geometry : Geometry) (last many : ℕ) → last ≤ stamp_limit geometry.format → many ≤ geometry.keys → IsSound (filled_header geometry last many)
+filled-sound-header geometry last many within few = record {
+  keys_in_range = geometry.keys_in_range;
+  bottom_fits = geometry.bottom_fits;
+  block_fits = geometry.block_fits;
+  count_fits = few;
+  clock_fits = pow_pos (geometry.bottom + 1);
+  last_fits = within;
+  one_each = marks-many many geometry.bottom;
+  marks_fit = marks-filled many geometry.bottom (omega (arith, few, geometry.bottom_fits.holds));
+}
+
+-- ---- the cells of one row, put level by level from the bottom up
 
 -- the levels that have a cell more where a row is added to so many, up to a height, by the index of the last
 pub record IsExact (rows height index : ℕ) : Type 0 where
@@ -54,7 +146,7 @@ same-runs a b k (suc h) e within = elim (cases_eq k (suc h)) [
 ]
 
 -- lengths amid
-amid-below : (rows done height : ℕ) → height < done → len_amid rows done height ≡ run_len (rows + 1) height
+pub amid-below : (rows done height : ℕ) → height < done → len_amid rows done height ≡ run_len (rows + 1) height
 amid-below rows done height h = choose-then (nat_lt height done) (run_len (rows + 1) height) (run_len rows height) (lt-ltb height done h)
 
 amid-above : (rows done height : ℕ) → done ≤ height → len_amid rows done height ≡ run_len rows height
@@ -91,9 +183,8 @@ filled-before rows row zero i h =
 filled-before rows row (suc height) i h =
     let m : 8 ^ suc height * (length rows / 8 ^ suc height) ≤ length rows = mul-div-le (length rows) (8 ^ suc height) in
     let more : 8 ^ suc height * suc i ≤ 8 ^ suc height * (length rows / 8 ^ suc height) = mul-le-mul_left (8 ^ suc height) h in
-    let some = eight-some (suc height) in
     let one : 8 ^ suc height * suc i ≡ 8 ^ suc height * i + 8 ^ suc height = omega arith in
-    ap (λ (r : Row). row_cell r (suc height) i) (row-before rows row (8 ^ suc height * suc i - 1) (omega (arith, m, more, some, one)))
+    ap (λ (r : Row). row_cell r (suc height) i) (row-before rows row (8 ^ suc height * suc i - 1) (omega (arith, m, more, eight-some (suc height), one)))
 
 filled-last : (rows : List Row) (row : Row) (height index : ℕ) → 8 ^ height * (index + 1) ≡ length rows + 1 → filled_cell (rows ++ row ∷ []) height index ≡ row_cell row height index
 filled-last rows row zero index is = ap (λ (r : Row). row_cell r zero index) (row-last rows row index (let o : 8 ^ 0 ≡ 1 = refl in omega (arith, is)))
@@ -169,20 +260,16 @@ amid-end old new row k x y geometry whole cells rows many held height index low 
     let e = whole height low_h in
     ap (λ (m : ℕ). standing_cell new y m (new.geometry.bottom - height) index) (sym e) ∙ cells rows many held height index low (subst (λ (m : ℕ). index < m) (sym e) within)
 
-pub amid-top : (rows bottom height : ℕ) → height ≤ bottom → len_amid rows (bottom + 1) height ≡ run_len (rows + 1) height
-amid-top rows bottom height low = amid-below rows (bottom + 1) height (omega (arith, low))
-
 -- ---- what a row writes
 
 pub div-up : (a b n : ℕ) → 0 < n → a ≤ b → a / n ≤ b / n
 div-up a b n some h = le-div (a / n) b n some (let s = div-mul-le_self a n in omega (arith, s, h))
 
-full-mono : (g : Geometry) (n k : ℕ) → full_below g n k ≤ full_below g (n + 1) k
-full-mono g n zero = omega arith
-full-mono g n (suc k) =
-    let i = full-mono g n k in
-    let d : run_len n k / block_cells g ≤ run_len (n + 1) k / block_cells g = div-up (run_len n k) (run_len (n + 1) k) (block_cells g) (pow_pos g.block_exp) (div-up n (n + 1) (8 ^ k) (eight-some k) (omega arith)) in
-    omega (arith, i, d)
+pub below-rise : (g : Geometry) (rows more k : ℕ) → rows ≤ more → full_below g rows k ≤ full_below g more k
+below-rise g rows more zero h = omega arith
+below-rise g rows more (suc k) h =
+    let d : run_len rows k / block_cells g ≤ run_len more k / block_cells g = div-up (run_len rows k) (run_len more k) (block_cells g) (pow_pos g.block_exp) (div-up rows more (8 ^ k) (eight-some k) h) in
+    omega (arith, below-rise g rows more k h, d)
 
 -- how many blocks the cells of one row more fill, of so many levels from the bottom on
 abbrev pub row_fills : Geometry → ℕ → ℕ → ℕ
@@ -190,17 +277,14 @@ row_fills g n k = full_below g (n + 1) (min k (device_levels g)) - full_below g 
 
 fills-more : (g : Geometry) (n k : ℕ) → full_below g (n + 1) k - full_below g n k ≤ full_below g (n + 1) (suc k) - full_below g n (suc k)
 fills-more g n k =
-    let i = full-mono g n k in
     let d : run_len n k / block_cells g ≤ run_len (n + 1) k / block_cells g = div-up (run_len n k) (run_len (n + 1) k) (block_cells g) (pow_pos g.block_exp) (div-up n (n + 1) (8 ^ k) (eight-some k) (omega arith)) in
-    omega (arith, i, d)
+    omega (arith, below-rise g n (n + 1) k (omega arith), d)
 
 fills-rise : (g : Geometry) (n d k : ℕ) → full_below g (n + 1) k - full_below g n k ≤ full_below g (n + 1) (d + k) - full_below g n (d + k)
 fills-rise g n zero k = let e : 0 + k ≡ k = omega arith in subst (λ (m : ℕ). full_below g (n + 1) k - full_below g n k ≤ full_below g (n + 1) m - full_below g n m) (sym e) (omega arith)
 fills-rise g n (suc d) k =
-    let i = fills-rise g n d k in
-    let m = fills-more g n (d + k) in
     let e : suc d + k ≡ suc (d + k) = omega arith in
-    subst (λ (x : ℕ). full_below g (n + 1) k - full_below g n k ≤ full_below g (n + 1) x - full_below g n x) (sym e) (omega (arith, i, m))
+    subst (λ (x : ℕ). full_below g (n + 1) k - full_below g n k ≤ full_below g (n + 1) x - full_below g n x) (sym e) (omega (arith, fills-rise g n d k, fills-more g n (d + k)))
 
 pub row_fills-most : (g : Geometry) (n k : ℕ) → row_fills g n k ≤ full_blocks g (n + 1) - full_blocks g n
 row_fills-most g n k =
@@ -214,9 +298,8 @@ pub row_fills-next : (g : Geometry) (n k index : ℕ) → k ≤ g.bottom → IsE
 row_fills-next g n k index low exact = elim (cases_lt (g.bottom - k + 2) g.block_exp) [
   | inl front ↦
       let none : filled_by g (g.bottom - k) index ≡ 0 = choose-then (nat_lt (g.bottom - k + 2) g.block_exp) 0 ((index + 1) / block_cells g - index / block_cells g) (lt-ltb (g.bottom - k + 2) g.block_exp front) in
-      let a : min k (device_levels g) ≡ device_levels g = omega (arith, front, low) in
-      let b : min (k + 1) (device_levels g) ≡ device_levels g = omega (arith, front, low) in
-      let c : row_fills g n k ≡ row_fills g n (k + 1) = ap (λ (m : ℕ). full_below g (n + 1) m - full_below g n m) (a ∙ sym b) in
+      let all : min k (device_levels g) ≡ min (k + 1) (device_levels g) = omega (arith, front, low) in
+      let c : row_fills g n k ≡ row_fills g n (k + 1) = ap (λ (m : ℕ). full_below g (n + 1) m - full_below g n m) all in
       omega (arith, none, c)
   | inr device ↦
       let one : filled_by g (g.bottom - k) index ≡ (index + 1) / block_cells g - index / block_cells g =
@@ -229,8 +312,7 @@ row_fills-next g n k index low exact = elim (cases_lt (g.bottom - k + 2) g.block
       let p : run_len n k / block_cells g ≡ index / block_cells g = ap (λ (m : ℕ). m / block_cells g) exact.old in
       let q : run_len (n + 1) k / block_cells g ≡ (index + 1) / block_cells g = ap (λ (m : ℕ). m / block_cells g) exact.new in
       let d : index / block_cells g ≤ (index + 1) / block_cells g = div-up index (index + 1) (block_cells g) (pow_pos g.block_exp) (omega arith) in
-      let i = full-mono g n k in
-      omega (arith, one, x, y, p, q, d, i)
+      omega (arith, one, x, y, p, q, d, below-rise g n (n + 1) k (omega arith))
 ]
 
 -- a call that is allowed more
@@ -263,22 +345,8 @@ called-none value counts = record {
 
 -- ---- the loop over the levels
 
-pub same-two : (a b c : Loading) → SameRows a b → SameRows b c → SameRows a c
-same-two a b c x y = record { geometry = y.geometry ∙ x.geometry; last = y.last ∙ x.last; rows = y.rows ∙ x.rows; key = y.key ∙ x.key }
-
-pub front-two : (g : Geometry) (a b c : Option (List ℕ)) → Both a b (StaysInFront g) → Both b c (StaysInFront g) → Both a c (StaysInFront g)
-front-two g None None None h k = tt
-front-two g None None (Some z) h k = absurd k
-front-two g None (Some y) c h k = absurd h
-front-two g (Some x) None c h k = absurd h
-front-two g (Some x) (Some y) None h k = absurd k
-front-two g (Some x) (Some y) (Some z) h k = record { size_stays = k.size_stays ∙ h.size_stays; front_stays = k.front_stays ∙ h.front_stays }
-
 pub range-kept : (g : Geometry) (size : ℕ) (a b : Option (List ℕ)) → Both a b (StaysInFront g) → HasRange a 0 size → HasRange b 0 size
-range-kept g size None None h k = tt
-range-kept g size None (Some y) h k = absurd h
-range-kept g size (Some x) None h k = absurd h
-range-kept g size (Some x) (Some y) h k = let e = h.size_stays in omega (arith, e, k)
+range-kept g size a b stays inside = some-given a b inside stays (λ x y long s. let e = s.size_stays in omega (arith, e, long))
 
 -- the levels up to a height are done
 pub record IsRowed {D K : Type 0} (bytes : D → Option (List ℕ)) (counts : D → Counts) (kept : D → K) (old new : Loading) (before now : D) (row : Row) (done index : ℕ) : Type 0 where
@@ -288,15 +356,6 @@ pub record IsRowed {D K : Type 0} (bytes : D → Option (List ℕ)) (counts : D 
   pub front : Both (bytes before) (bytes now) (StaysInFront old.geometry)
   pub kept_stays : kept now ≡ kept before
   pub called : Called {T = Unit {0}} {E = DeviceFault} (counts before) (counts now) 0 (row_fills old.geometry old.rows done) 0 (Ok (tt {0}))
-
-pub amid-told : {T : Type 0} (E : Type 0) (value : T) (old new next : Loading) (row : Row) (k index : ℕ) (a b c : Option (List ℕ)) → SameRows old new → SameRows new next → old.rows + 1 ≤ 2 ^ (old.geometry.bottom + 2) → k ≤ old.geometry.bottom
-    → 8 ^ k * (index + 1) ≡ old.rows + 1 → Both a b (PutsAmid old new row k) → Both b c (Puts {T = T} {E = E} (Ok value) new next (old.geometry.bottom - k) index (row_cell row k index)) → Both a c (PutsAmid old next row (k + 1))
-amid-told E value old new next row k index None None None first second few low is h p = tt
-amid-told E value old new next row k index None None (Some z) first second few low is h p = absurd p
-amid-told E value old new next row k index None (Some y) c first second few low is h p = absurd h
-amid-told E value old new next row k index (Some x) None c first second few low is h p = absurd h
-amid-told E value old new next row k index (Some x) (Some y) None first second few low is h p = absurd p
-amid-told E value old new next row k index (Some x) (Some y) (Some z) first second few low is h p = amid-next old new next row k index x y z first second few low is h p
 
 pub done-told : {T : Type 0} (E : Type 0) (value : T) (old new : Loading) (row : Row) (k : ℕ) (a b : Option (List ℕ)) → new.geometry ≡ old.geometry → ((height : ℕ) → height ≤ old.geometry.bottom → len_amid old.rows k height ≡ run_len (old.rows + 1) height)
     → Both a b (PutsAmid old new row k) → Both a b (PutsRow {T = T} {E = E} (Ok value) old new row)
@@ -310,63 +369,72 @@ row-room old few = let h = old.geometry.bottom_fits.holds in omega (arith, few, 
 pub index-fits : (old : Loading) (k index : ℕ) → old.rows < old.geometry.keys → k ≤ old.geometry.bottom → 8 ^ k * (index + 1) ≡ old.rows + 1 → index < slot_size (old.geometry.bottom - k)
 index-fits old k index few low is =
     let exact = exact-of old.rows k index is in
-    let fits = run-fits (old.rows + 1) k (old.geometry.bottom - k) old.geometry.bottom (omega (arith, low)) (row-room old few) in
     let new = exact.new in
-    omega (arith, fits, new)
+    omega (arith, run-fits (old.rows + 1) k (old.geometry.bottom - k) old.geometry.bottom (omega (arith, low)) (row-room old few), new)
 
 pub index-small : (old : Loading) (k index : ℕ) → old.rows < old.geometry.keys → 8 ^ k * (index + 1) ≡ old.rows + 1 → index < 2 ^ 24
 index-small old k index few is =
     let exact = exact-of old.rows k index is in
-    let most : run_len old.rows k ≤ old.rows = run-most old.rows k in
-    let was = exact.old in
+    let most : run_len old.rows k ≤ old.rows = div-le_self old.rows (8 ^ k) in
     let keys : old.geometry.keys ≤ 2 ^ 24 = old.geometry.keys_in_range.few in
-    omega (arith, most, was, few, keys)
+    omega (arith, most, exact.old, few, keys)
 
 -- one level is put
-module _ {D K : Type 0} (bytes : D → Option (List ℕ)) (counts : D → Counts) (kept : D → K) (old new next : Loading) (before now after : D) (row : Row) (k index level : ℕ) (cell : Cell)
-    (rowed : IsRowed bytes counts kept old new before now row k index) (few : old.rows < old.geometry.keys) (low : k ≤ old.geometry.bottom) (level_is : level ≡ old.geometry.bottom - k)
-    (cell_is : cell ≡ row_cell row k index) (stays : SameRows new next) where
-  pub next-called : {T : Type 0} (result : Result T DeviceFault) → Called (counts now) (counts after) 0 (filled_by new.geometry level index) 0 result
-      → Called (counts before) (counts after) 0 (row_fills old.geometry old.rows (k + 1)) 0 result
-  next-called result c =
-      let here : Called (counts now) (counts after) 0 (filled_by old.geometry (old.geometry.bottom - k) index) 0 result =
-      subst (λ (l : ℕ). Called (counts now) (counts after) 0 (filled_by old.geometry l index) 0 result) level_is
-      (subst (λ (g : Geometry). Called (counts now) (counts after) 0 (filled_by g level index) 0 result) rowed.stays.geometry c) in
-      called-within result (counts before) (counts after) 0 (row_fills old.geometry old.rows k + filled_by old.geometry (old.geometry.bottom - k) index) 0 (row_fills old.geometry old.rows (k + 1))
-      (row_fills-next old.geometry old.rows k index low (exact-of old.rows k index rowed.exact))
-      (called_two (tt {0}) result (counts before) (counts now) (counts after) 0 (row_fills old.geometry old.rows k) 0 0 (filled_by old.geometry (old.geometry.bottom - k) index) 0 rowed.called here)
+module _ {D K : Type 0} {bytes : D → Option (List ℕ)} {counts : D → Counts} {kept : D → K} {first old here new : Loading} {before now : D} {row : Row} {k index top : ℕ} (first-is : first ≡ old) (here-is : here ≡ new)
+    (under : k < top) (top-is : top ≡ first.geometry.bottom + 1) (rowed : IsRowed bytes counts kept old new before now row k index) (few : old.rows < old.geometry.keys) where
+  low : k ≤ old.geometry.bottom
+  low = let e : first.geometry.bottom ≡ old.geometry.bottom = ap (λ (z : Loading). z.geometry.bottom) first-is in omega (arith, under, top-is, e)
 
-  pub next-called-all : {T : Type 0} (result : Result T DeviceFault) → Called (counts now) (counts after) 0 (filled_by new.geometry level index) 0 result
-      → Called (counts before) (counts after) 0 (full_blocks old.geometry (old.rows + 1) - full_blocks old.geometry old.rows) 0 result
-  next-called-all result c =
-      called-within result (counts before) (counts after) 0 (row_fills old.geometry old.rows (k + 1)) 0 (full_blocks old.geometry (old.rows + 1) - full_blocks old.geometry old.rows)
-      (row_fills-most old.geometry old.rows (k + 1)) (next-called result c)
+  level-is : here.geometry.bottom - k ≡ old.geometry.bottom - k
+  level-is = ap (λ (z : Loading). z.geometry.bottom - k) here-is ∙ ap (λ (g : Geometry). g.bottom - k) rowed.stays.geometry
 
-  pub next-cells : {T : Type 0} (value : T) → Both (bytes now) (bytes after) (Puts {T = T} {E = DeviceFault} (Ok value) new next level index cell) → Both (bytes before) (bytes after) (PutsAmid old next row (k + 1))
-  next-cells {T} value puts =
-      amid-told DeviceFault value old new next row k index (bytes before) (bytes now) (bytes after) rowed.stays stays (row-room old few) low rowed.exact rowed.cells
-      (subst (λ (c : Cell). Both (bytes now) (bytes after) (Puts {T = T} {E = DeviceFault} (Ok value) new next (old.geometry.bottom - k) index c)) cell_is
-      (subst (λ (l : ℕ). Both (bytes now) (bytes after) (Puts {T = T} {E = DeviceFault} (Ok value) new next l index cell)) level_is puts))
+  pub next-index : index < slot_size (here.geometry.bottom - k)
+  next-index = subst (λ (l : ℕ). index < slot_size l) (sym level-is) (index-fits old k index few low rowed.exact)
 
-  pub next-front : Both (bytes now) (bytes after) (StaysInFront new.geometry) → Both (bytes before) (bytes after) (StaysInFront old.geometry)
-  next-front front =
-      front-two old.geometry (bytes before) (bytes now) (bytes after) rowed.front (subst (λ (g : Geometry). Both (bytes now) (bytes after) (StaysInFront g)) rowed.stays.geometry front)
+  module _ {next : Loading} {cell : Cell} (cell_is : cell ≡ row_cell row k index) (stays : SameRows new next) (after : D) where
+    next-called : {T : Type 0} {result : Result T DeviceFault} → Called (counts now) (counts after) 0 (filled_by new.geometry (here.geometry.bottom - k) index) 0 result
+        → Called (counts before) (counts after) 0 (row_fills old.geometry old.rows (k + 1)) 0 result
+    next-called {result} c =
+        let level = here.geometry.bottom - k in
+        let at : Called (counts now) (counts after) 0 (filled_by old.geometry (old.geometry.bottom - k) index) 0 result =
+        subst (λ (l : ℕ). Called (counts now) (counts after) 0 (filled_by old.geometry l index) 0 result) level-is
+        (subst (λ (g : Geometry). Called (counts now) (counts after) 0 (filled_by g level index) 0 result) rowed.stays.geometry c) in
+        called-within result (counts before) (counts after) 0 (row_fills old.geometry old.rows k + filled_by old.geometry (old.geometry.bottom - k) index) 0 (row_fills old.geometry old.rows (k + 1))
+        (row_fills-next old.geometry old.rows k index low (exact-of old.rows k index rowed.exact))
+        (called_two (tt {0}) result (counts before) (counts now) (counts after) 0 (row_fills old.geometry old.rows k) 0 0 (filled_by old.geometry (old.geometry.bottom - k) index) 0 rowed.called at)
 
-  pub next-done : {T : Type 0} (value : T) → ((index + 1) % 8 ≡ 0 → ⊥) → Both (bytes now) (bytes after) (Puts {T = T} {E = DeviceFault} (Ok value) new next level index cell)
-      → Both (bytes before) (bytes after) (PutsRow {T = T} {E = DeviceFault} (Ok value) old next row)
-  next-done value rest puts =
-      done-told DeviceFault value old next row (k + 1) (bytes before) (bytes after) (stays.geometry ∙ rowed.stays.geometry)
-      (λ height low_h. amid-whole old.rows k index (exact-of old.rows k index rowed.exact) rest height) (next-cells value puts)
+    pub next-called-all : {T : Type 0} {result : Result T DeviceFault} → Called (counts now) (counts after) 0 (filled_by new.geometry (here.geometry.bottom - k) index) 0 result
+        → Called (counts before) (counts after) 0 (full_blocks old.geometry (old.rows + 1) - full_blocks old.geometry old.rows) 0 result
+    next-called-all {result} c =
+        called-within result (counts before) (counts after) 0 (row_fills old.geometry old.rows (k + 1)) 0 (full_blocks old.geometry (old.rows + 1) - full_blocks old.geometry old.rows)
+        (row_fills-most old.geometry old.rows (k + 1)) (next-called c)
 
-  pub next-rowed : (value : Unit {0}) → (index + 1) % 8 ≡ 0 → Both (bytes now) (bytes after) (Puts {T = Unit {0}} {E = DeviceFault} (Ok value) new next level index cell)
-      → Both (bytes now) (bytes after) (StaysInFront new.geometry) → kept after ≡ kept now
-      → Called {T = Unit {0}} {E = DeviceFault} (counts now) (counts after) 0 (filled_by new.geometry level index) 0 (Ok value)
-      → IsRowed bytes counts kept old next before after row (k + 1) (index / 8)
-  next-rowed value whole puts front keeps called = record {
-    exact = exact-next old.rows k index rowed.exact whole;
-    stays = same-two old new next rowed.stays stays;
-    cells = next-cells value puts;
-    front = next-front front;
-    kept_stays = keeps ∙ rowed.kept_stays;
-    called = next-called (Ok value) called;
-  }
+    abbrev IsPut : {T : Type 0} → T → Type 0
+    IsPut {T} value = Both (bytes now) (bytes after) (Puts {T = T} {E = DeviceFault} (Ok value) new next (here.geometry.bottom - k) index cell)
+
+    next-cells : {T : Type 0} (value : T) → IsPut value → Both (bytes before) (bytes after) (PutsAmid old next row (k + 1))
+    next-cells {T} value puts =
+        both-then (bytes before) (bytes now) (bytes after) rowed.cells
+        (subst (λ (c : Cell). Both (bytes now) (bytes after) (Puts {T = T} {E = DeviceFault} (Ok value) new next (old.geometry.bottom - k) index c)) cell_is
+        (subst (λ (l : ℕ). Both (bytes now) (bytes after) (Puts {T = T} {E = DeviceFault} (Ok value) new next l index cell)) level-is puts))
+        (λ x y z. amid-next old new next row k index x y z rowed.stays stays (row-room old few) low rowed.exact)
+
+    pub next-done : {T : Type 0} (value : T) → ((index + 1) % 8 ≡ 0 → ⊥) → IsPut value → Both (bytes before) (bytes after) (PutsRow {T = T} {E = DeviceFault} (Ok value) old next row)
+    next-done value rest puts =
+        done-told DeviceFault value old next row (k + 1) (bytes before) (bytes after) (stays.geometry ∙ rowed.stays.geometry)
+        (λ height low_h. amid-whole old.rows k index (exact-of old.rows k index rowed.exact) rest height) (next-cells value puts)
+
+    pub next-rowed : (value : Unit {0}) → (index + 1) % 8 ≡ 0 → IsPut value → Both (bytes now) (bytes after) (StaysInFront new.geometry) → kept after ≡ kept now
+        → Called {T = Unit {0}} {E = DeviceFault} (counts now) (counts after) 0 (filled_by new.geometry (here.geometry.bottom - k) index) 0 (Ok value)
+        → IsRowed bytes counts kept old next before after row (k + 1) (index / 8)
+    next-rowed value whole puts front keeps called = record {
+      exact = exact-next old.rows k index rowed.exact whole;
+      stays = (let was = rowed.stays in record { geometry = stays.geometry ∙ was.geometry; last = stays.last ∙ was.last; rows = stays.rows ∙ was.rows; key = stays.key ∙ was.key });
+      cells = next-cells value puts;
+      front = both-then (bytes before) (bytes now) (bytes after) rowed.front front (λ x y z was stay. record {
+        size_stays = stay.size_stays ∙ was.size_stays;
+        front_stays = subst (λ (g : Geometry). take (2 * block_bytes g) z ≡ take (2 * block_bytes g) y) rowed.stays.geometry stay.front_stays ∙ was.front_stays;
+      });
+      kept_stays = keeps ∙ rowed.kept_stays;
+      called = next-called called;
+    }

@@ -1,40 +1,166 @@
--- What is left of a load: the blocks that are not full, and the front.
-use Rattle.std.proofs.Common.{◌≡◌, ◌≢◌, ◌⊎◌, inl, inr, ℕ, ◌+◌, ◌-◌, ◌*◌, ◌/◌, ◌%◌, ◌^◌, ◌<◌, ◌≤◌, List, ◌++◌, length, take, drop, Option, None, Some, Result, Ok, Err, refl, sym, ap, subst, ◌∙◌, arith, append_assoc}
-use Rattle.std.specs.Prelude.{OnOk}
-use Rattle.std.proofs.lemmas.Bool.{cases_lt, cases_eq}
-use Rattle.std.proofs.lemmas.List.{take_at, take-take, drop_at, drop-append-le, length-drop}
-use Rattle.std.proofs.lemmas.Nat.{pow_pos}
+-- A load: how it begins, a row that is pushed behind those before it, and what is left at its end, the blocks that are not full and the front.
+use Rattle.std.proofs.Common.{◌≡◌, ℕ, ◌^◌, ◌≤◌, List, [], length, take, replicate, Option, None, Some, Ok, Err, refl, sym, ap, subst, ◌∙◌, arith, ◌+◌, ◌*◌, ◌<◌, nat_le, ◌&&◌, true, ◌∷◌, ◌++◌, All, map, length-append, ◌≢◌, ◌⊎◌, inl, inr, ◌-◌, ◌/◌, ◌%◌, drop, Result, append_assoc}
+use Rattle.std.proofs.lemmas.List.{length-replicate, map-append, take-take, take_at, drop_at, drop-append-le, length-drop}
+use Rattle.std.proofs.lemmas.Option.{IfSome_then}
+use Rattle.std.proofs.Math.Nat.{zero-div}
+use Rattle.std.specs.Prelude.{IfSome, IsTrue, OnOk}
+use Rattle.cola_device.specs.Bytes.{LaidOut, HasSize, IsEmpty, part, splice, HasRange, Wrote, WroteSome}
+use Rattle.cola_device.proofs.BytesLemmas.{part-replicate, length-splice, part-splice_above, drop-splice_end}
+use Rattle.cola_layout.specs.declared.geometry.Geometry.{Geometry}
+use Rattle.cola_run.proofs.Spots.{both-second, both-same, both-so}
+use Rattle.cola_run.specs.Cells.{file_bytes, block_bytes, block_cells, block_number, tails_bytes}
+use Rattle.std.proofs.lemmas.List.Elements.{All-nil, All-push}
+use Rattle.cola_spec.specs.Map.{EntryFits, Stored, Shape, key_cmp}
+use Rattle.cola_shapes.specs.Shapes.{shape_of}
+use Rattle.cola_load.specs.Filled.{run_len, Row, AreRows, entry_of, filled_cell, filled_header, IsFilled}
+use Rattle.cola_load.specs.Loading.{Loading, HoldsRows, HasCells, SameRows, PutsRow, Pushes, StaysInFront, IsAbove, last_key, IsLoading, IsHeadless, HasSaved, Finishes, FrontWaited, FrontWaits, standing_cell}
+use Rattle.std.specs.FinMap.Entries.{below_all, is_sorted}
+use Rattle.std.specs.declared.cmp.Ordering.{Ordering}
+use Rattle.std.specs.declared.cmp.Ordering.TheVariants.{Less}
+use Rattle.std.specs.Ordering.{is_lt}
+use Rattle.std.specs.Cmp.Lexicographic.{nat_list_cmp_total}
+use Rattle.std.proofs.lemmas.Bool.{and_parts, and_from, le-leb, false≢true, cases_lt, cases_eq}
 use Rattle.cola_outside.specs.Told.{Both}
+use Rattle.cola_cell.specs.Format.{KeyFits, ValueFits, key_limit, value_limit, width}
+use Rattle.cola_run.proofs.Heads.{block-least, head-long}
+use Rattle.std.proofs.lemmas.Nat.{pow_pos}
 use Rattle.cola_cell.specs.declared.format.Format.{Format}
 use Rattle.cola_cell.specs.Decoded.{decoded}
-use Rattle.cola_cell.specs.Format.{width}
 use Rattle.cola_cell.specs.Places.{number_of, slot_size}
 use Rattle.cola_device.specs.declared.counts.Counts.{Counts}
 use Rattle.cola_device.specs.declared.device.Device as device
 use Rattle.cola_device.specs.declared.device.DeviceFault.{DeviceFault}
-use Rattle.cola_device.specs.Bytes.{part, splice, HasRange, Wrote, WroteSome}
 use Rattle.cola_device.specs.Counts.{Called}
-use Rattle.cola_device.proofs.BytesLemmas.{length-splice, part-splice_above, drop-splice_end}
 use Rattle.cola_front.specs.Front.{IsFront, InOrder, block_size, cell_at, cell_bytes, stored_all, second_block, image}
 use Rattle.cola_front.proofs.Writes.{image_is, headed_many, large}
-use Rattle.cola_layout.specs.declared.geometry.Geometry.{Geometry}
-use Rattle.cola_layout.specs.Header.{IsSpelling}
+use Rattle.cola_layout.specs.Header.{Fields, IsSpelling}
 use Rattle.cola_device.proofs.ToldLemmas.{length-WroteSome}
-use Rattle.cola_layout.proofs.Places.{front-below, device-behind, place-behind, slot-blocks}
+use Rattle.cola_layout.proofs.Places.{device-behind, place-behind, slot-blocks}
 use Rattle.cola_layout.proofs.Powers.{next_power}
-use Rattle.cola_run.specs.Cells.{block_cells, block_bytes, block_number, file_bytes, tails_bytes}
 use Rattle.cola_run.specs.Parts.{tail_of, WroteTail}
 use Rattle.cola_run.specs.Saving.{SameLevels}
 use Rattle.cola_run.proofs.Bytes.{room-of, room-sum}
 use Rattle.cola_run.proofs.Flushes.{image-many, written-loaded}
-use Rattle.cola_run.proofs.Heads.{head-long, block-least}
 use Rattle.cola_run.proofs.Numbers.{first-place}
-use Rattle.cola_run.proofs.Spots.{both-same, both-so}
 use Rattle.cola_run.proofs.Steps.{tail_many, tail-cell, written-there, written-stays}
-use Rattle.cola_load.specs.Filled.{Row, run_len, filled_cell, filled_header, IsFilled}
-use Rattle.cola_load.specs.Loading.{Loading, IsLoading, IsHeadless, HoldsRows, HasSaved, Finishes, FrontWaited, FrontWaits, StaysInFront, standing_cell}
-use Rattle.cola_load.proofs.Lengths.{run-fits}
-use Rattle.cola_load.proofs.Placing.{on-level, in-slot, stands-front, stands-tail, stands-block, front-written}
+use Rattle.cola_load.proofs.Rowing.{run-fits}
+use Rattle.cola_load.proofs.Placing.{front-number, both-given, some-given, both-then, on-level, in-slot, stands-front, stands-tail, stands-block, front-written}
+
+-- a loader without a row over zero bytes
+pub holds-none : (loading : Loading) (bytes : List ℕ) → loading.rows ≡ 0 → loading.key ≡ None → 512 ≤ file_bytes loading.geometry → bytes ≡ replicate (file_bytes loading.geometry) 0 → HoldsRows loading bytes []
+holds-none loading bytes rows key long is = record {
+  are_rows = record { rising = refl; few = omega arith; fitting = All-nil (EntryFits (shape_of loading.geometry.format loading.geometry.keys) loading.last) };
+  many = rows;
+  key_is = key;
+  size = ap (λ (xs : List ℕ). length xs) is ∙ length-replicate (file_bytes loading.geometry) 0;
+  no_header = ap (λ (xs : List ℕ). take 512 xs) is ∙ part-replicate (file_bytes loading.geometry) 0 0 512 (omega (arith, long));
+  cells = λ height index low within. absurd (let z : run_len loading.rows height ≡ 0 = ap (λ (n : ℕ). run_len n height) rows ∙ zero-div (8 ^ height) in omega (arith, z, within));
+}
+
+pub held-of : {T : Type 0} (E : Type 0) (value : T) (loading : Loading) (size : ℕ) (a b : Option (List ℕ)) → loading.rows ≡ 0 → loading.key ≡ None → size ≡ file_bytes loading.geometry → 512 ≤ size
+    → LaidOut {T = T} {E = E} (Ok value) size a b → IfSome b (λ bytes. HoldsRows loading bytes [])
+held-of E value loading size a b rows key is long laid = both-second a b (λ old new. new ≡ replicate size 0) (λ bytes. HoldsRows loading bytes []) (λ x y zeros.
+    holds-none loading y rows key (omega (arith, is, long)) (subst (λ (n : ℕ). y ≡ replicate n 0) is zeros)) laid
+
+pub was-empty : (told : Option (List ℕ)) (size : ℕ) → size ≡ 0 → HasSize told size → IsEmpty told
+was-empty told size none has = IfSome_then told has (λ bytes is. sym is ∙ none)
+
+-- what a refused layout may leave
+pub partly-laid : (T : Type 0) {E : Type 0} (fault : E) (geometry : Geometry) (size : ℕ) (a b : Option (List ℕ)) → size ≡ file_bytes geometry → LaidOut {T = T} {E = E} (Err fault) size a b
+    → IfSome b (λ bytes. length bytes ≤ file_bytes geometry)
+partly-laid T fault geometry size a b is laid = both-second a b (λ old new. length new ≤ size) (λ bytes. length bytes ≤ file_bytes geometry) (λ x y few. subst (λ (n : ℕ). length y ≤ n) is few) laid
+
+-- ---- a row that was pushed behind those before it
+
+abbrev Entry : Type 0
+Entry = List ℕ × Stored
+
+less-of : (o : Ordering) → IsTrue (is_lt o) → o ≡ Less
+less-of Less h = refl
+less-of o h = absurd (false≢true h)
+
+less-so : (o : Ordering) → o ≡ Less → IsTrue (is_lt o)
+less-so o e = subst (λ (x : Ordering). IsTrue (is_lt x)) (sym e) refl
+
+less-two : (a b c : List ℕ) → IsTrue (is_lt (key_cmp a b)) → IsTrue (is_lt (key_cmp b c)) → IsTrue (is_lt (key_cmp a c))
+less-two a b c p q = less-so (key_cmp a c) (nat_list_cmp_total.trans a b c (less-of (key_cmp a b) p) (less-of (key_cmp b c) q))
+
+-- a key above the last is above the first
+first-below : (row : Row) (rows : List Row) (key : List ℕ) → IsTrue (is_sorted key_cmp (map entry_of (row ∷ rows))) → IsAbove (last_key (row ∷ rows)) key → IsTrue (is_lt (key_cmp row.key key))
+first-below row [] key sorted above = above
+first-below row (next ∷ rows) key sorted above =
+    let parts = and_parts (below_all key_cmp row.key (map entry_of (next ∷ rows))) (is_sorted key_cmp (map entry_of (next ∷ rows))) sorted in
+    let below = (and_parts (is_lt (key_cmp row.key next.key)) (below_all key_cmp row.key (map entry_of rows)) parts.0).0 in
+    less-two row.key next.key key below (first-below next rows key parts.1 above)
+
+below-behind : (key : List ℕ) (rows : List Row) (last : Row) → IsTrue (below_all key_cmp key (map entry_of rows)) → IsTrue (is_lt (key_cmp key last.key)) → IsTrue (below_all key_cmp key (map entry_of (rows ++ last ∷ [])))
+below-behind key [] last below less = and_from (is_lt (key_cmp key last.key)) true less refl
+below-behind key (row ∷ rows) last below less =
+    let parts = and_parts (is_lt (key_cmp key row.key)) (below_all key_cmp key (map entry_of rows)) below in
+    and_from (is_lt (key_cmp key row.key)) (below_all key_cmp key (map entry_of (rows ++ last ∷ []))) parts.0 (below-behind key rows last parts.1 less)
+
+sorted-behind : (rows : List Row) (last : Row) → IsTrue (is_sorted key_cmp (map entry_of rows)) → IsAbove (last_key rows) last.key → IsTrue (is_sorted key_cmp (map entry_of (rows ++ last ∷ [])))
+sorted-behind [] last sorted above = refl
+sorted-behind (row ∷ []) last sorted above = and_from (is_lt (key_cmp row.key last.key) && true) true (and_from (is_lt (key_cmp row.key last.key)) true above refl) refl
+sorted-behind (row ∷ next ∷ rows) last sorted above =
+    let parts = and_parts (below_all key_cmp row.key (map entry_of (next ∷ rows))) (is_sorted key_cmp (map entry_of (next ∷ rows))) sorted in
+    and_from (below_all key_cmp row.key (map entry_of ((next ∷ rows) ++ last ∷ []))) (is_sorted key_cmp (map entry_of ((next ∷ rows) ++ last ∷ [])))
+    (below-behind row.key (next ∷ rows) last parts.0 (first-below row (next ∷ rows) last.key sorted above))
+    (sorted-behind (next ∷ rows) last parts.1 above)
+
+pub last-is : (rows : List Row) (row : Row) → last_key (rows ++ row ∷ []) ≡ Some row.key
+last-is [] row = refl
+last-is (one ∷ []) row = refl
+last-is (one ∷ next ∷ rows) row = last-is (next ∷ rows) row
+
+-- the rows with one more
+pub rows-more : (shape : Shape) (last : ℕ) (rows : List Row) (row : Row) → AreRows shape last rows → length rows < shape.limit → EntryFits shape last (entry_of row) → IsAbove (last_key rows) row.key → AreRows shape last (rows ++ row ∷ [])
+rows-more shape last rows row are few fits above = record {
+  rising = sorted-behind rows row are.rising above;
+  few = (let e = length-append rows (row ∷ []) in omega (arith, e, few));
+  fitting = subst (λ (es : List Entry). All (EntryFits shape last) es) (sym (map-append entry_of rows (row ∷ []))) (All-push (EntryFits shape last) (map entry_of rows) (entry_of row) are.fitting fits);
+}
+
+-- a loader that holds them
+module _ (old mid : Loading) (row : Row) (few : old.rows < old.geometry.keys) (some : 1 ≤ length row.key) (key : KeyFits old.geometry.format row.key) (value : ValueFits old.geometry.format row.value)
+    (stamp : row.stamp ≤ old.last) (above : IsAbove old.key row.key) (same : SameRows old mid) where
+  abbrev pushed : Loading
+  pushed = record mid { rows = mid.rows + 1; key = Some row.key }
+
+  fits : EntryFits (shape_of old.geometry.format old.geometry.keys) old.last (entry_of row)
+  fits = record {
+    key_fits = and_from (nat_le 1 (length row.key)) (nat_le (length row.key) (key_limit old.geometry.format)) (le-leb 1 (length row.key) some) (le-leb (length row.key) (key_limit old.geometry.format) key);
+    value_fits = le-leb (length row.value) (value_limit old.geometry.format) value;
+    given = stamp;
+  }
+
+  pub holds-more : (rows : List Row) (x y : List ℕ) → HoldsRows old x rows → HasCells mid (run_len (old.rows + 1)) (rows ++ row ∷ []) y → StaysInFront old.geometry x y → HoldsRows pushed y (rows ++ row ∷ [])
+  holds-more rows x y held cells front =
+      let g : Geometry = old.geometry in
+      let many = held.many in
+      let is_above : IsAbove (last_key rows) row.key = subst (λ (k : Option (List ℕ)). IsAbove k row.key) held.key_is above in
+      record {
+        are_rows = subst (λ (z : Geometry). AreRows (shape_of z.format z.keys) mid.last (rows ++ row ∷ [])) (sym same.geometry)
+            (subst (λ (n : ℕ). AreRows (shape_of g.format g.keys) n (rows ++ row ∷ [])) (sym same.last)
+            (rows-more (shape_of g.format g.keys) old.last rows row held.are_rows (omega (arith, few, many)) fits is_above));
+        many = ap (λ (n : ℕ). n + 1) (same.rows ∙ held.many) ∙ sym (length-append rows (row ∷ []));
+        key_is = sym (last-is rows row);
+        size = front.size_stays ∙ held.size ∙ ap (λ (z : Geometry). file_bytes z) (sym same.geometry);
+        no_header = head (block_bytes g) y x (omega (arith, block-least g g.block_fits)) front.front_stays ∙ held.no_header;
+        cells = subst (λ (n : ℕ). HasCells pushed (run_len (n + 1)) (rows ++ row ∷ []) y) (sym same.rows) cells;
+      }
+    where
+      head : (n : ℕ) (y x : List ℕ) → 512 ≤ 2 * n → take (2 * n) y ≡ take (2 * n) x → take 512 y ≡ take 512 x
+      head n y x less e =
+          sym (take-take 512 (2 * n) y less) ∙ ap (λ (xs : List ℕ). take 512 xs) e ∙ take-take 512 (2 * n) x less
+
+  pub pushes-by : {T S : Type 0} (E F : Type 0) (done : T) (value_is : S) (a b : Option (List ℕ))
+      → Both a b (PutsRow {T = T} {E = E} (Ok done) old mid row) → Both a b (StaysInFront old.geometry) → Both a b (Pushes {T = S} {E = F} (Ok value_is) old pushed row)
+  pushes-by E F done value_is (Some x) (Some y) puts front = λ rows held. holds-more rows x y held (puts rows (sym held.many) held.cells) front
+  pushes-by E F done value_is None None puts front = tt
+  pushes-by E F done value_is a b puts front = absurd puts
+
+-- ---- what is left of a load: the blocks that are not full, and the front
 
 -- the length of a level's run, and that it fits
 module _ (loading : Loading) (level : ℕ) (low : level ≤ loading.geometry.bottom) (few : loading.rows ≤ loading.geometry.keys) where
@@ -73,10 +199,9 @@ module _ (loading : Loading) (level : ℕ) (high : loading.geometry.block_exp �
     saved = λ l i high_l below low_l within. elim (cases_eq l level) [
       | inl here ↦
           let at : i < n = subst (λ (x : ℕ). i < run_len loading.rows (h.bottom - x)) here within in
-          let fits = len-fits loading level low few in
           let behind : i / block_cells h ≢ n / block_cells h = λ e. (let f = first-place (block_cells h) i n (pow_pos h.block_exp) e full in omega (arith, f, at)) in
           ap (λ (x : ℕ). decoded h.format (cell_bytes h.format old (number_of x 0 i))) here
-          ∙ ap (λ (xs : List ℕ). decoded h.format xs) (was.rest level i high (omega arith) low (omega (arith, at, fits)))
+          ∙ ap (λ (xs : List ℕ). decoded h.format xs) (was.rest level i high (omega arith) low (omega (arith, at, len-fits loading level low few)))
           ∙ sym (stands-block loading before n level i high behind)
           ∙ ap (λ (x : ℕ). standing_cell loading before (run_len loading.rows (h.bottom - x)) x i) (sym here)
       | inr apart ↦ was.saved l i high_l (omega (arith, below, apart)) low_l within
@@ -115,39 +240,65 @@ module _ (loading : Loading) (level : ℕ) (high : loading.geometry.block_exp �
               ∙ here-saved i (subst (λ (x : ℕ). i < run_len loading.rows (h.bottom - x)) here within)
               ∙ ap (λ (x : ℕ). standing_cell loading before (run_len loading.rows (h.bottom - x)) x i) (sym here)
           | inr apart ↦
-              let fits = len-fits loading l low_l few in
-              ap (λ (xs : List ℕ). decoded h.format xs) (others l i high_l low_l (omega (arith, within, fits)) (inl apart))
+              ap (λ (xs : List ℕ). decoded h.format xs) (others l i high_l low_l (omega (arith, within, len-fits loading l low_l few)) (inl apart))
               ∙ was.saved l i high_l (omega (arith, below, apart)) low_l within
         ];
         rest = λ l i high_l above low_l within. others l i high_l low_l within (inl (λ e. omega (arith, e, above))) ∙ was.rest l i high_l (omega (arith, above)) low_l within;
       }
 
   -- the same where bytes are told
-  pub saves-kept : (told : Option (List ℕ)) → n % block_cells h ≡ 0 → Both told told (λ old new. (before : List ℕ) → HasSaved loading level before old → HasSaved loading (level + 1) before new)
-  saves-kept told full = both-same told (λ old new. (before : List ℕ) → HasSaved loading level before old → HasSaved loading (level + 1) before new) (λ x before was. save-full before x full was)
-
   pub saves-written : {T E : Type 0} (result : Result T E) (a b : Option (List ℕ)) → n < slot_size level → length loading.tails ≡ tails_bytes h
       → HasRange a 0 (file_bytes h) → WroteTail result h loading.tails level 0 n a b → Both a b (λ old new. (before : List ℕ) → HasSaved loading level before old → OnOk result (HasSaved loading (level + 1) before new))
-  saves-written result None None within_n many inside wrote = tt
-  saves-written result None (Some y) within_n many inside wrote = absurd wrote
-  saves-written result (Some x) None within_n many inside wrote = absurd wrote
-  saves-written (Err fault) (Some x) (Some y) within_n many inside wrote = λ before was. tt
-  saves-written {T} {E} (Ok value) (Some x) (Some y) within_n many inside wrote =
-      let w : WroteSome {T = T} {E = E} (Ok value) (block_number h level 0 n * block_bytes h) (tail_of h loading.tails level) x y = wrote in
+  saves-written (Err fault) a b within_n many inside wrote = both-so a b _ _ (λ x y w before was. tt) wrote
+  saves-written {T} {E} (Ok value) a b within_n many inside wrote = both-given a b inside wrote (λ x y long w before was.
       let answer : Result T E = Ok value in
-      let front : StaysInFront h x y = front-written h loading.tails level n low high within_n many answer (Some x) (Some y) inside wrote in
-      λ before was. save-part before x y within_n (omega (arith, inside)) many front
-      (w.others_stay ∙ ap (λ (left : List ℕ). splice x (block_number h level 0 n * block_bytes h) left) w.exact) was
+      save-part before x y within_n (omega (arith, long)) many (front-written h loading.tails level n low high within_n many answer (Some x) (Some y) long w)
+      (w.others_stay ∙ ap (λ (left : List ℕ). splice x (block_number h level 0 n * block_bytes h) left) w.exact) was)
 
 -- a run that has a part of a block is shorter than its slot
 pub part-fits : (loading : Loading) (level : ℕ) → loading.geometry.block_exp ≤ level + 2 → level ≤ loading.geometry.bottom → loading.rows ≤ loading.geometry.keys
     → (run_len loading.rows (loading.geometry.bottom - level) % block_cells loading.geometry ≡ 0 → ⊥) → run_len loading.rows (loading.geometry.bottom - level) < slot_size level
 part-fits loading level high low few part =
-    let fits = len-fits loading level low few in
     elim (cases_eq (run_len loading.rows (loading.geometry.bottom - level)) (slot_size level)) [
       | inl full ↦ absurd (part (ap (λ (x : ℕ). x % block_cells loading.geometry) full ∙ (slot-blocks loading.geometry.block_exp level 0 high).1))
-      | inr apart ↦ omega (arith, fits, apart)
+      | inr apart ↦ omega (arith, len-fits loading level low few, apart)
     ]
+
+-- the tail of a level is written, where its run has a part of a block
+module _ {loading self : Loading} {len cells : ℕ} (level : ℕ) (is : loading ≡ self) (front : self.geometry.block_exp ≤ level + 2) (within : level ≤ self.geometry.bottom) (sound : IsLoading loading)
+    (len-is : len ≡ run_len loading.rows (loading.geometry.bottom - level)) (cells-are : cells ≡ block_cells loading.geometry) where
+  high-level : loading.geometry.block_exp ≤ level + 2
+  high-level = subst (λ (z : Loading). z.geometry.block_exp ≤ level + 2) (sym is) front
+
+  low-level : level ≤ loading.geometry.bottom
+  low-level = subst (λ (z : Loading). level ≤ z.geometry.bottom) (sym is) within
+
+  same-part : len % cells ≡ run_len loading.rows (loading.geometry.bottom - level) % block_cells loading.geometry
+  same-part = λ i. len-is i % cells-are i
+
+  pub tail-kept : (told : Option (List ℕ)) → len % cells ≡ 0 → Both told told (λ old new. (before : List ℕ) → HasSaved self level before old → HasSaved self (level + 1) before new)
+  tail-kept told full = subst (λ (z : Loading). Both told told (λ old new. (before : List ℕ) → HasSaved z level before old → HasSaved z (level + 1) before new)) is
+      (both-same told _ (λ x before was. save-full loading level high-level low-level sound.few before x (sym same-part ∙ full) was))
+
+  module _ (part : len % cells ≡ 0 → ⊥) where
+    fits-slot : run_len loading.rows (loading.geometry.bottom - level) < slot_size level
+    fits-slot = part-fits loading level high-level low-level sound.few (λ e. part (same-part ∙ e))
+
+    pub tail-index : len < slot_size level
+    tail-index = subst (λ (x : ℕ). x < slot_size level) (sym len-is) fits-slot
+
+    module _ {T E : Type 0} (result : Result T E) (a b : Option (List ℕ)) (inside : HasRange a 0 (file_bytes self.geometry)) (wrote : WroteTail result loading.geometry loading.tails level 0 len a b) where
+      inside-here : HasRange a 0 (file_bytes loading.geometry)
+      inside-here = subst (λ (z : Loading). HasRange a 0 (file_bytes z.geometry)) (sym is) inside
+
+      pub tail-saves : Both a b (λ old new. (before : List ℕ) → HasSaved self level before old → OnOk result (HasSaved self (level + 1) before new))
+      tail-saves = subst (λ (z : Loading). Both a b (λ old new. (before : List ℕ) → HasSaved z level before old → OnOk result (HasSaved z (level + 1) before new))) is
+          (saves-written loading level high-level low-level sound.few result a b fits-slot sound.tails_many inside-here
+          (subst (λ (x : ℕ). WroteTail result loading.geometry loading.tails level 0 x a b) len-is wrote))
+
+      pub tail-front : Both a b (StaysInFront self.geometry)
+      tail-front = subst (λ (z : Loading). Both a b (StaysInFront z.geometry)) is
+          (front-written loading.geometry loading.tails level len low-level high-level tail-index sound.tails_many result a b inside-here wrote)
 
 -- before the first level on the device nothing is saved
 pub save-none : (loading : Loading) (level : ℕ) (x : List ℕ) → level + 2 ≤ loading.geometry.block_exp → HasSaved loading level x x
@@ -159,6 +310,14 @@ save-none loading level x first = record {
 
 -- ---- the header and the front
 
+front-size : (loading : Loading) → IsLoading loading → block_size loading.front ≡ block_bytes loading.geometry
+front-size loading sound = ap (λ (f : Format). width f * loading.front.block) sound.format ∙ ap (λ (b : ℕ). width loading.geometry.format * b) sound.block
+
+-- the front has room in the file
+pub front-room : {loading self : Loading} (told : Option (List ℕ)) → loading ≡ self → IsLoading loading → HasRange told 0 (file_bytes self.geometry) → HasRange told 0 (2 * block_size loading.front)
+front-room {loading} told is sound inside = IfSome_then told (subst (λ (z : Loading). HasRange told 0 (file_bytes z.geometry)) (sym is) inside) (λ x long.
+    omega (arith, front-size loading sound, head-long loading.geometry loading.geometry.block_fits, long))
+
 -- bytes over which the front was stored
 module _ (loading : Loading) (header old : List ℕ) (is : IsFront loading.front) (sound : IsLoading loading) (head : length header ≡ 512) (long : file_bytes loading.geometry ≤ length old) where
   abbrev k : Geometry
@@ -167,11 +326,8 @@ module _ (loading : Loading) (header old : List ℕ) (is : IsFront loading.front
   abbrev new : List ℕ
   new = splice old 0 (image loading.front header)
 
-  size-is : block_size loading.front ≡ block_bytes k
-  size-is = ap (λ (f : Format). width f * loading.front.block) sound.format ∙ ap (λ (b : ℕ). width k.format * b) sound.block
-
   pub whole-image : length (image loading.front header) ≡ 2 * block_bytes k
-  whole-image = let m = image-many loading.front header is head in let e = size-is in omega (arith, m, e)
+  whole-image = let m = image-many loading.front header is head in let e = front-size loading sound in omega (arith, m, e)
 
   room : 2 * block_bytes k ≤ length old
   room = let l = head-long k k.block_fits in omega (arith, l, long)
@@ -186,22 +342,17 @@ module _ (loading : Loading) (header old : List ℕ) (is : IsFront loading.front
   pub stored-front : (level index : ℕ) → level + 2 < k.block_exp → index < slot_size level
       → decoded k.format (cell_bytes k.format new (number_of level 0 index)) ≡ cell_at loading.front (number_of level 0 index)
   stored-front level index low within =
-      let below : number_of level 0 index < 2 ^ (k.block_exp + 1) = front-below k.block_exp level 0 index (omega arith) within low in
-      let twice : 2 ^ (k.block_exp + 1) ≡ 2 ^ k.block_exp + 2 ^ k.block_exp = next_power k.block_exp (k.block_exp + 1) (omega arith) in
-      let block = sound.block in
-      let e = size-is in
-      let r = room in
+      let e = front-size loading sound in
       subst (λ (f : Format). decoded f (cell_bytes f new (number_of level 0 index)) ≡ cell_at loading.front (number_of level 0 index)) sound.format
-      (sym (written-loaded loading.front header old is head (omega (arith, e, r)) (number_of level 0 index) (place-behind level 0 index) (omega (arith, below, twice, block))))
+      (sym (written-loaded loading.front header old is head (omega (arith, e, room)) (number_of level 0 index) (place-behind level 0 index) (omega (arith, front-number k.block_exp level index within low, sound.block))))
 
   pub stored-behind : (level index : ℕ) → k.block_exp ≤ level + 2 → cell_bytes k.format new (number_of level 0 index) ≡ cell_bytes k.format old (number_of level 0 index)
   stored-behind level index high =
       let far : 2 ^ (k.block_exp + 1) ≤ number_of level 0 index = device-behind k.block_exp level 0 index high in
       let twice : 2 ^ (k.block_exp + 1) ≡ 2 ^ k.block_exp + 2 ^ k.block_exp = next_power k.block_exp (k.block_exp + 1) (omega arith) in
       let more = room-of k.format (2 ^ k.block_exp + 2 ^ k.block_exp) (number_of level 0 index) (omega (arith, far, twice)) in
-      let sum = room-sum k.format (2 ^ k.block_exp) (2 ^ k.block_exp) in
       let w = whole-image in
-      part-splice_above old 0 (image loading.front header) (width k.format * number_of level 0 index) (width k.format) (omega arith) (omega (arith, more, sum, w))
+      part-splice_above old 0 (image loading.front header) (width k.format * number_of level 0 index) (width k.format) (omega arith) (omega (arith, more, room-sum k.format (2 ^ k.block_exp) (2 ^ k.block_exp), w))
 
   -- where the cells behind it were saved, the file is filled
   pub stored-filled : (rows : List Row) (before : List ℕ) → IsSpelling (filled_header k loading.last loading.rows) header → HasSaved loading (k.bottom + 1) before old → HoldsRows loading before rows
@@ -213,12 +364,11 @@ module _ (loading : Loading) (header old : List ℕ) (is : IsFront loading.front
         let height : ℕ = k.bottom - level in
         let inside : index < run_len loading.rows height = subst (λ (m : ℕ). index < run_len m height) (sym held.many) within in
         let back : k.bottom - height ≡ level = omega (arith, low) in
-        let fits = len-fits loading level low sound.few in
         let there : standing_cell loading before (run_len loading.rows height) level index ≡ Some (filled_cell rows height index) =
         ap (λ (l : ℕ). standing_cell loading before (run_len loading.rows height) l index) (sym back) ∙ held.cells height index (omega arith) inside in
         elim (cases_lt (level + 2) k.block_exp) [
           | inl front ↦
-              stored-front level index front (omega (arith, inside, fits))
+              stored-front level index front (omega (arith, inside, len-fits loading level low sound.few))
               ∙ sym (stands-front loading before (run_len loading.rows height) level index front) ∙ there
           | inr high ↦
               ap (λ (xs : List ℕ). decoded k.format xs) (stored-behind level index high)
@@ -242,89 +392,83 @@ module _ (loading : Loading) (header old : List ℕ) (is : IsFront loading.front
       ∙ drop_at (header ++ drop 512 (stored_all loading.front.format (take loading.front.block loading.front.cells))) (second_block loading.front) n (headed_many loading.front is header head) in
       let whole : drop n new ≡ drop n (image loading.front header) ++ drop (length (image loading.front header)) old =
       drop-append-le n (image loading.front header) (drop (length (image loading.front header)) old) (omega (arith, pair)) in
-      subst (λ (m : ℕ). drop m (splice old 0 left) ≡ drop m new) size-is
+      subst (λ (m : ℕ). drop m (splice old 0 left) ≡ drop m new) (front-size loading sound)
       (behind ∙ ap (λ (xs : List ℕ). xs ++ drop (length left) old) (there ∙ sym image-there)
       ∙ ap (λ (m : ℕ). drop n (image loading.front header) ++ drop m old) many ∙ sym whole)
 
--- the front that was stored, where bytes are told
-pub finishes-by : {T R : Type 0} (E F : Type 0) (value : T) (done : R) (loading : Loading) (header : List ℕ) (a b : Option (List ℕ)) → IsFront loading.front → IsLoading loading → length header ≡ 512 → HasRange a 0 (file_bytes loading.geometry)
-    → IsSpelling (filled_header loading.geometry loading.last loading.rows) header → Wrote {T = T} {E = E} (Ok value) 0 (image loading.front header) a b
-    → Both a b (λ old new. (before : List ℕ) → HasSaved loading (loading.geometry.bottom + 1) before old → Finishes {T = R} {E = F} (Ok done) loading before new)
-finishes-by E F value done loading header None None is sound head inside spelled wrote = tt
-finishes-by E F value done loading header None (Some y) is sound head inside spelled wrote = absurd wrote
-finishes-by E F value done loading header (Some x) None is sound head inside spelled wrote = absurd wrote
-finishes-by {T} {R} E F value done loading header (Some x) (Some y) is sound head inside spelled wrote =
-    let w : WroteSome {T = T} {E = E} (Ok value) 0 (image loading.front header) x y = wrote in
-    let at : y ≡ splice x 0 (image loading.front header) = w.others_stay ∙ ap (λ (left : List ℕ). splice x 0 left) w.exact in
-    λ before was rows held. subst (λ (z : List ℕ). IsFilled loading.geometry loading.last rows z) (sym at)
-    (stored-filled loading header x is sound head (omega (arith, inside)) rows before spelled was held)
+-- the end of a load behind its blocks
+abbrev pub Ends : {T E : Type 0} → Result T E → Loading → List ℕ → List ℕ → Type 0
+Ends result loading old new = (before : List ℕ) → HasSaved loading (loading.geometry.bottom + 1) before old → Finishes result loading before new
 
--- the front that was refused: its first block is as it was, or its second one is written
-pub refused-by : (T R : Type 0) {E F : Type 0} (fault : E) (why : F) (loading : Loading) (header : List ℕ) (a b : Option (List ℕ)) → IsFront loading.front → IsLoading loading → length header ≡ 512 → HasRange a 0 (file_bytes loading.geometry)
-    → IsSpelling (filled_header loading.geometry loading.last loading.rows) header → Wrote {T = T} {E = E} (Err fault) 0 (image loading.front header) a b → Both a b (InOrder {T = T} {E = E} (Err fault) loading.front)
-    → Both a b (λ old new. (before : List ℕ) → HasSaved loading (loading.geometry.bottom + 1) before old → Finishes {T = R} {E = F} (Err why) loading before new)
-refused-by T R fault why loading header None None is sound head inside spelled wrote order = tt
-refused-by T R fault why loading header None (Some y) is sound head inside spelled wrote order = absurd wrote
-refused-by T R fault why loading header (Some x) None is sound head inside spelled wrote order = absurd wrote
-refused-by T R {E} {F} fault why loading header (Some x) (Some y) is sound head inside spelled wrote order =
-    let w : WroteSome {T = T} {E = E} (Err fault) 0 (image loading.front header) x y = wrote in
-    let long : file_bytes loading.geometry ≤ length x = omega (arith, inside) in
-    let either : (part y 0 (block_size loading.front) ≡ part x 0 (block_size loading.front))
-    ⊎ (part y (block_size loading.front) (block_size loading.front) ≡ second_block loading.front) = order in
-    λ before was rows held. elim either [
-      | inl stays ↦ inl (headless-as (block_size loading.front) x y (large loading.front is header head) stays (headless-then loading.geometry before x was.stays held.no_header))
-      | inr second ↦ inr (record {
-        whole = splice x 0 (image loading.front header);
-        filled = stored-filled loading header x is sound head long rows before spelled was held;
-        many =
-            let m = whole-image loading header x is sound head long in
-            let l = head-long loading.geometry loading.geometry.block_fits in
-            length-WroteSome w (omega (arith, m, l, long)) ∙ sym (stored-many loading header x is sound head long);
-        behind =
-            ap (λ (z : List ℕ). drop (block_bytes loading.geometry) z) w.others_stay
-            ∙ stored-second loading header x is sound head long w.left w.as_many
-            (subst (λ (z : List ℕ). part z (block_size loading.front) (block_size loading.front) ≡ second_block loading.front) w.others_stay second);
-      })
-    ]
+-- a store of the front, where bytes are told
+module _ {loading self : Loading} (header : List ℕ) (a : Option (List ℕ)) {b now : Option (List ℕ)} (is : loading ≡ self) (front : IsFront loading.front) (sound : IsLoading loading) (head : length header ≡ 512)
+    (inside : HasRange a 0 (file_bytes self.geometry)) (stays : now ≡ b) where
+  inside-file : HasRange a 0 (file_bytes loading.geometry)
+  inside-file = subst (λ (z : Loading). HasRange a 0 (file_bytes z.geometry)) (sym is) inside
 
--- a file that is filled, and did not settle
-pub unsettled-by : (R E : Type 0) {F : Type 0} (done : R) (why : F) (loading : Loading) (a b : Option (List ℕ))
-    → Both a b (λ old new. (before : List ℕ) → HasSaved loading (loading.geometry.bottom + 1) before old → Finishes {T = R} {E = E} (Ok done) loading before new)
-    → Both a b (λ old new. (before : List ℕ) → HasSaved loading (loading.geometry.bottom + 1) before old → Finishes {T = R} {E = F} (Err why) loading before new)
-unsettled-by R E {F} done why loading a b finishes =
-    both-so a b (λ old new. (before : List ℕ) → HasSaved loading (loading.geometry.bottom + 1) before old → Finishes {T = R} {E = E} (Ok done) loading before new)
-    (λ old new. (before : List ℕ) → HasSaved loading (loading.geometry.bottom + 1) before old → Finishes {T = R} {E = F} (Err why) loading before new)
-    (λ old new filled before was rows held. inr (record { whole = new; filled = filled before was rows held; many = refl; behind = refl })) finishes
+  moved : (P : Loading → List ℕ → List ℕ → Type 0) → Both a b (P loading) → Both a now (P self)
+  moved P told = subst (λ (z : Option (List ℕ)). Both a z (P self)) (sym stays) (subst (λ (z : Loading). Both a b (P z)) is told)
 
--- a refusal before the front is stored
-pub unbegun-by : (R : Type 0) {F : Type 0} (why : F) (loading : Loading) (a b : Option (List ℕ)) → Both a b (StaysInFront loading.geometry) → Both a b (Finishes {T = R} {E = F} (Err why) loading)
-unbegun-by R {F} why loading a b stays =
-    both-so a b (StaysInFront loading.geometry) (Finishes {T = R} {E = F} (Err why) loading) (λ x y s rows held. inl (headless-then loading.geometry x y s held.no_header)) stays
+  -- it keeps the size
+  pub stored-size : {T E : Type 0} (result : Result T E) → Wrote result 0 (image loading.front header) a b → Both a now (λ old new. length new ≡ length old)
+  stored-size result wrote = moved (λ z old new. length new ≡ length old) (both-given a b inside-file wrote (λ x y long w.
+      let l = head-long loading.geometry loading.geometry.block_fits in
+      length-WroteSome w (omega (arith, whole-image loading header x front sound head (omega (arith, long)), l, long))))
 
--- a store of the front keeps the size
-pub stored-size : {T E : Type 0} (result : Result T E) (loading : Loading) (header : List ℕ) (a b : Option (List ℕ)) → IsFront loading.front → IsLoading loading → length header ≡ 512 → HasRange a 0 (file_bytes loading.geometry)
-    → Wrote result 0 (image loading.front header) a b → Both a b (λ old new. length new ≡ length old)
-stored-size result loading header None None is sound head inside wrote = tt
-stored-size result loading header None (Some y) is sound head inside wrote = absurd wrote
-stored-size result loading header (Some x) None is sound head inside wrote = absurd wrote
-stored-size result loading header (Some x) (Some y) is sound head inside wrote =
-    let w : WroteSome result 0 (image loading.front header) x y = wrote in
-    let m = whole-image loading header x is sound head (omega (arith, inside)) in
-    let l = head-long loading.geometry loading.geometry.block_fits in
-    length-WroteSome w (omega (arith, m, l, inside))
+  -- and all behind the front
+  pub stored-levels : {T E : Type 0} (result : Result T E) → Wrote result 0 (image loading.front header) a b → Both a now (SameLevels self.geometry)
+  stored-levels result wrote = moved (λ z. SameLevels z.geometry) (both-given a b inside-file wrote (λ x y long w.
+      let many : 0 + length w.left ≡ 2 * block_bytes loading.geometry = let e = w.as_many in omega (arith, e, whole-image loading header x front sound head (omega (arith, long))) in
+      ap (λ (z : List ℕ). drop (2 * block_bytes loading.geometry) z) w.others_stay
+      ∙ subst (λ (n : ℕ). drop n (splice x 0 w.left) ≡ drop n x) many (drop-splice_end x 0 w.left (omega arith))))
 
--- and all behind the front
-pub stored-levels : {T E : Type 0} (result : Result T E) (loading : Loading) (header : List ℕ) (a b : Option (List ℕ)) → IsFront loading.front → IsLoading loading → length header ≡ 512 → HasRange a 0 (file_bytes loading.geometry)
-    → Wrote result 0 (image loading.front header) a b → Both a b (SameLevels loading.geometry)
-stored-levels result loading header None None is sound head inside wrote = tt
-stored-levels result loading header None (Some y) is sound head inside wrote = absurd wrote
-stored-levels result loading header (Some x) None is sound head inside wrote = absurd wrote
-stored-levels result loading header (Some x) (Some y) is sound head inside wrote =
-    let w : WroteSome result 0 (image loading.front header) x y = wrote in
-    let m = whole-image loading header x is sound head (omega (arith, inside)) in
-    let many : 0 + length w.left ≡ 2 * block_bytes loading.geometry = let e = w.as_many in omega (arith, e, m) in
-    ap (λ (z : List ℕ). drop (2 * block_bytes loading.geometry) z) w.others_stay
-    ∙ subst (λ (n : ℕ). drop n (splice x 0 w.left) ≡ drop n x) many (drop-splice_end x 0 w.left (omega arith))
+  module _ {fields : Fields} (spells : IsSpelling fields header) (fields-are : fields ≡ filled_header loading.geometry loading.last loading.rows) where
+    spelled : IsSpelling (filled_header loading.geometry loading.last loading.rows) header
+    spelled = subst (λ (f : Fields). IsSpelling f header) fields-are spells
+
+    stored-whole : {T : Type 0} (E : Type 0) (value : T) → Wrote {T = T} {E = E} (Ok value) 0 (image loading.front header) a b
+        → Both a b (λ old new. (before : List ℕ) → HasSaved loading (loading.geometry.bottom + 1) before old → (rows : List Row) → HoldsRows loading before rows → IsFilled loading.geometry loading.last rows new)
+    stored-whole E value wrote = both-given a b inside-file wrote (λ x y long w before was rows held.
+        subst (λ (z : List ℕ). IsFilled loading.geometry loading.last rows z) (sym (w.others_stay ∙ ap (λ (left : List ℕ). splice x 0 left) w.exact))
+        (stored-filled loading header x front sound head (omega (arith, long)) rows before spelled was held))
+
+    -- the front that was stored
+    pub finishes-by : {T R : Type 0} (E F : Type 0) (value : T) (done : R) → Wrote {T = T} {E = E} (Ok value) 0 (image loading.front header) a b → Both a now (Ends {T = R} {E = F} (Ok done) self)
+    finishes-by {T} {R} E F value done wrote = moved (Ends {T = R} {E = F} (Ok done)) (stored-whole E value wrote)
+
+    -- and did not settle
+    pub unsettled-by : {T F : Type 0} (E R : Type 0) (value : T) (why : F) → Wrote {T = T} {E = E} (Ok value) 0 (image loading.front header) a b → Both a now (Ends {T = R} {E = F} (Err why) self)
+    unsettled-by {T} {F} E R value why wrote = moved (Ends {T = R} {E = F} (Err why)) (both-so a b _ _ (λ x y filled before was rows held.
+        inr (record { whole = y; filled = filled before was rows held; many = refl; behind = refl })) (stored-whole E value wrote))
+
+    -- the front that was refused: its first block is as it was, or its second one is written
+    pub refused-by : {E F : Type 0} (T R : Type 0) (fault : E) (why : F) → Wrote {T = T} {E = E} (Err fault) 0 (image loading.front header) a b → Both a b (InOrder {T = T} {E = E} (Err fault) loading.front)
+        → Both a now (Ends {T = R} {E = F} (Err why) self)
+    refused-by {E} {F} T R fault why wrote order = moved (Ends {T = R} {E = F} (Err why)) (by-told a b inside-file wrote order)
+      where
+        by-told : (a b : Option (List ℕ)) → HasRange a 0 (file_bytes loading.geometry) → Wrote {T = T} {E = E} (Err fault) 0 (image loading.front header) a b → Both a b (InOrder {T = T} {E = E} (Err fault) loading.front)
+            → Both a b (Ends {T = R} {E = F} (Err why) loading)
+        by-told (Some x) (Some y) within wrote order =
+            let w : WroteSome {T = T} {E = E} (Err fault) 0 (image loading.front header) x y = wrote in
+            let long : file_bytes loading.geometry ≤ length x = omega (arith, within) in
+            let either : (part y 0 (block_size loading.front) ≡ part x 0 (block_size loading.front))
+            ⊎ (part y (block_size loading.front) (block_size loading.front) ≡ second_block loading.front) = order in
+            λ before was rows held. elim either [
+              | inl same ↦ inl (headless-as (block_size loading.front) x y (large loading.front front header head) same (headless-then loading.geometry before x was.stays held.no_header))
+              | inr second ↦ inr (record {
+                whole = splice x 0 (image loading.front header);
+                filled = stored-filled loading header x front sound head long rows before spelled was held;
+                many =
+                    let l = head-long loading.geometry loading.geometry.block_fits in
+                    length-WroteSome w (omega (arith, whole-image loading header x front sound head long, l, long)) ∙ sym (stored-many loading header x front sound head long);
+                behind =
+                    ap (λ (z : List ℕ). drop (block_bytes loading.geometry) z) w.others_stay
+                    ∙ stored-second loading header x front sound head long w.left w.as_many
+                    (subst (λ (z : List ℕ). part z (block_size loading.front) (block_size loading.front) ≡ second_block loading.front) w.others_stay second);
+              })
+            ]
+        by-told None None within wrote order = tt
+        by-told a b within wrote order = absurd wrote
 
 -- where the front waited, it waits
 pub waits-by : {T E : Type 0} {D : Type 0} (d : device.Ghosts D) (geometry : Geometry) (before now : D) (result : Result T E) → FrontWaited d geometry before now → FrontWaits d geometry before now result
@@ -340,51 +484,15 @@ pub record IsSaving {D K : Type 0} (bytes : D → Option (List ℕ)) (counts : D
   pub called : Called {T = Unit {0}} {E = DeviceFault} (counts before) (counts now) 0 (level + 2 - loading.geometry.block_exp) 0 (Ok (tt {0}))
 
 pub saving-range : (loading : Loading) (level size : ℕ) (a b : Option (List ℕ)) → Both a b (HasSaved loading level) → HasRange a 0 size → HasRange b 0 size
-saving-range loading level size None None was more = tt
-saving-range loading level size None (Some y) was more = absurd was
-saving-range loading level size (Some x) None was more = absurd was
-saving-range loading level size (Some x) (Some y) was more = let e = was.stays.size_stays in omega (arith, e, more)
+saving-range loading level size a b saved more = some-given a b more saved (λ x y room was. let e = was.stays.size_stays in omega (arith, e, room))
 
 pub saving-front : (loading : Loading) (level : ℕ) (a b c : Option (List ℕ)) → Both a b (HasSaved loading level) → Both b c (StaysInFront loading.geometry) → Both a c (StaysInFront loading.geometry)
-saving-front loading level None None None was more = tt
-saving-front loading level None None (Some z) was more = absurd more
-saving-front loading level None (Some y) c was more = absurd was
-saving-front loading level (Some x) None c was more = absurd was
-saving-front loading level (Some x) (Some y) None was more = absurd more
-saving-front loading level (Some x) (Some y) (Some z) was more = stays-two loading.geometry x y z was.stays more
+saving-front loading level a b c saved more = both-then a b c saved more (λ x y z was stays. stays-two loading.geometry x y z was.stays stays)
 
--- the front has room in the file
-pub front-room : (loading : Loading) (told : Option (List ℕ)) → IsLoading loading → HasRange told 0 (file_bytes loading.geometry) → HasRange told 0 (2 * block_size loading.front)
-front-room loading None sound inside = tt
-front-room loading (Some x) sound inside =
-    let size : block_size loading.front ≡ block_bytes loading.geometry =
-    ap (λ (f : Format). width f * loading.front.block) sound.format ∙ ap (λ (b : ℕ). width loading.geometry.format * b) sound.block in
-    let l = head-long loading.geometry loading.geometry.block_fits in
-    omega (arith, size, l, inside)
+-- what a call leaves behind which a device settled
+pub settled-so : {P Q : List ℕ → List ℕ → Type 0} (a b settled : Option (List ℕ)) → settled ≡ b → Both a b P → ((x y : List ℕ) → P x y → Q x y) → Both a settled Q
+settled-so {P} {Q} a b settled same p f = subst (λ (z : Option (List ℕ)). Both a z Q) (sym same) (both-so a b P Q f p)
 
--- the size over both parts of what is left of a load
-pub size-two : (geometry : Geometry) (a b settled c : Option (List ℕ)) → settled ≡ b → Both a b (StaysInFront geometry) → Both settled c (λ old new. length new ≡ length old) → Both a c (λ old new. length new ≡ length old)
-size-two geometry a b settled c same stays more = by-told a b c stays (subst (λ (z : Option (List ℕ)). Both z c (λ old new. length new ≡ length old)) same more)
-  where
-    by-told : (a b c : Option (List ℕ)) → Both a b (StaysInFront geometry) → Both b c (λ old new. length new ≡ length old) → Both a c (λ old new. length new ≡ length old)
-    by-told None None None was next = tt
-    by-told None None (Some z) was next = absurd next
-    by-told None (Some y) c was next = absurd was
-    by-told (Some x) None c was next = absurd was
-    by-told (Some x) (Some y) None was next = absurd next
-    by-told (Some x) (Some y) (Some z) was next = next ∙ was.size_stays
-
--- what is left of a load, done in two parts
-pub finishes-two : {T E : Type 0} (result : Result T E) (loading : Loading) (a b settled c : Option (List ℕ)) → settled ≡ b → Both a b (HasSaved loading (loading.geometry.bottom + 1))
-    → Both settled c (λ old new. (before : List ℕ) → HasSaved loading (loading.geometry.bottom + 1) before old → Finishes result loading before new) → Both a c (Finishes result loading)
-finishes-two result loading a b settled c same saved more =
-    by-told a b c saved (subst (λ (z : Option (List ℕ)). Both z c (λ old new. (before : List ℕ) → HasSaved loading (loading.geometry.bottom + 1) before old → Finishes result loading before new)) same more)
-  where
-    by-told : (a b c : Option (List ℕ)) → Both a b (HasSaved loading (loading.geometry.bottom + 1))
-        → Both b c (λ old new. (before : List ℕ) → HasSaved loading (loading.geometry.bottom + 1) before old → Finishes result loading before new) → Both a c (Finishes result loading)
-    by-told None None None was next = tt
-    by-told None None (Some z) was next = absurd next
-    by-told None (Some y) c was next = absurd was
-    by-told (Some x) None c was next = absurd was
-    by-told (Some x) (Some y) None was next = absurd next
-    by-told (Some x) (Some y) (Some z) was next = next x was
+-- what two calls leave between which a device settled
+pub settled-two : {P Q R : List ℕ → List ℕ → Type 0} (a b settled c : Option (List ℕ)) → settled ≡ b → Both a b P → Both settled c Q → ((x y z : List ℕ) → P x y → Q y z → R x z) → Both a c R
+settled-two {Q} a b settled c same p q f = both-then a b c p (subst (λ (z : Option (List ℕ)). Both z c Q) same q) f

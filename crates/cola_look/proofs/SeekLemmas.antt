@@ -1,12 +1,11 @@
 -- The search of a run, place by place.
 use Rattle.std.proofs.Common.{◌≡◌, ◌≢◌, ◌⊎◌, inl, inr, ℕ, zero, suc, ◌+◌, ◌-◌, ◌*◌, ◌/◌, ◌%◌, ◌==◌, ◌≤◌, ◌<◌, min, true, false, cond, if◌then◌else◌, List, [], ◌∷◌, length, drop, Option, None, Some, Result, Ok, Err, refl, sym, ap, subst, ◌∙◌, arith, Bool, lit<}
-use Rattle.std.specs.declared.cmp.Ordering.{Ordering}
-use Rattle.std.specs.Ordering.{is_lt, nat_cmp}
+use Rattle.std.specs.Ordering.{is_lt}
 use Rattle.std.specs.Option.{option_map, option_map_or}
 use Rattle.std.specs.List.{slice_get}
 use Rattle.std.proofs.lemmas.Option.{slice_get_past}
 use Rattle.std.proofs.lemmas.Bool.{eqb-true}
-use Rattle.std.specs.Cmp.Lexicographic.{slice_cmp, nat_list_cmp_total}
+use Rattle.std.specs.Cmp.Lexicographic.{nat_list_cmp_total}
 use Rattle.cola_outside.specs.Faults.{Rose}
 use Rattle.cola_runs.specs.Cells.{key_of, IsWellFormed}
 use Rattle.cola_runs.specs.Search as laws
@@ -269,13 +268,13 @@ seeking_begins run next_len start key state steps = record {
 }
 
 -- a read, of the cells that stood at first
-read_first : (old : State) {mid new : State} {level slot index : ℕ} {result : Result Cell ReadFault} → mid.held ≡ old.held → Reads mid new Search level slot index result →
+pub read_first : (old : State) {mid new : State} {level slot index : ℕ} {result : Result Cell ReadFault} → mid.held ≡ old.held → Reads mid new Search level slot index result →
     Reads (record { held = old.held; spent = mid.spent }) new Search level slot index result
 read_first old {mid} {new} {level} {slot} {index} {result} e r =
     let E : Held → Type 0 = λ h. Reads (record { held = h; spent = mid.spent }) new Search level slot index result in subst E e r
 
 -- the blocks that a search may still turn to, from a place of its window on
-abbrev turns_at : Held → Run → (last : ℕ) → State → ℕ → ℕ
+abbrev pub turns_at : Held → Run → (last : ℕ) → State → ℕ → ℕ
 turns_at held run last now i = turns_left (now.spent.lasts Search) (block_of (span held) run.level run.slot i) 8 i last
 
 module _ {run : Run} {next_len start : ℕ} {key : List ℕ} {old mid new : State} {before between after first last i : ℕ} where
@@ -336,10 +335,6 @@ seeking_ends {run} {start = start} {old = old} {now} {i = i} s a =
     two a b c d e h k = omega arith
 
 -- ---- what the search answers in all
-
--- a comparison of the cell's key, as the program makes it
-pub compared : (key found k : List ℕ) (order : Ordering) (below b : Bool) → found ≡ k → order ≡ slice_cmp nat_cmp found key → below ≡ is_lt order → below ≡ b → is_lt (key_cmp k key) ≡ b
-compared key found k order below b e f h l = ap (λ x. is_lt (slice_cmp nat_cmp x key)) (sym e) ∙ ap is_lt (sym f) ∙ sym h ∙ l
 
 module _ {run : Run} {next_len start : ℕ} {key : List ℕ} {old mid new : State} {before between after i : ℕ} where
   -- its last read was refused

@@ -1,5 +1,5 @@
 -- What a search of a window saw, by why it stopped.
-use Rattle.std.proofs.Common.{◌≡◌, ◌⊎◌, inl, inr, ℕ, ◌+◌, ◌*◌, ◌≤◌, ◌<◌, length, drop, Bool, true, false, if◌then◌else◌, List, Option, None, sym, ap, subst, ◌∙◌, arith}
+use Rattle.std.proofs.Common.{◌≡◌, ◌⊎◌, inl, inr, ℕ, zero, suc, ◌+◌, ◌*◌, ◌≤◌, ◌<◌, length, length-take, drop, Bool, true, false, if◌then◌else◌, List, Option, None, sym, ap, subst, ◌∙◌, arith}
 use Rattle.std.specs.declared.cmp.Ordering.{Ordering}
 use Rattle.std.specs.Ordering.{is_lt, is_eq}
 use Rattle.std.proofs.lemmas.Bool.{true≢false}
@@ -13,16 +13,18 @@ use Rattle.cola_cell.specs.Order.{key_cmp}
 use Rattle.cola_cell.specs.Packed.{item_of}
 use Rattle.cola_cell.specs.Spelling.{IsNoSpelling}
 use Rattle.cola_cell.specs.Format.{width}
+use Rattle.cola_cell.specs.Windows.{AreSpelled}
 use Rattle.cola_window.specs.declared.seeking.Stop.{Stop}
 use Rattle.cola_window.specs.declared.seeking.Stop.TheVariants as stop
 use Rattle.cola_window.specs.Seeking.{nth, HasCell, AllBelow, StopsAt, SeekStops}
+use Rattle.cola_window.specs.Windows.{Spells}
 use Rattle.cola_look.specs.declared.scanning.Sight.{Sight}
 use Rattle.cola_look.specs.Scanning.{Sees, StopsThere}
 use Rattle.cola_look.specs.Seek.{seat_at, as_seat}
 use Rattle.cola_look.proofs.Seats.{seat_of_hit, seat_of_miss}
 
 -- the seat at a cell, by whether its key is the key sought
-seat_by : (key : List ℕ) (pos : ℕ) (c : Cell) (hit : Option Item) (link : ℕ) (b : Bool) → is_eq (key_cmp (key_of c) key) ≡ b → hit ≡ (if b then item_of c else None) → link ≡ link_of c →
+pub seat_by : (key : List ℕ) (pos : ℕ) (c : Cell) (hit : Option Item) (link : ℕ) (b : Bool) → is_eq (key_cmp (key_of c) key) ≡ b → hit ≡ (if b then item_of c else None) → link ≡ link_of c →
     as_seat (record { pos = pos; hit = hit; link = link }) ≡ seat_at key pos (as_cell c)
 seat_by key pos c hit link true e h l = seat_of_hit key pos c hit link e h l
 seat_by key pos c hit link false e h l = seat_of_miss key pos c hit link e h l
@@ -71,3 +73,28 @@ left_behind format key bytes most n why (inr e) h = ended (subst (λ (x : Stop).
     ended : (n ≡ most) ⊎ (length (drop (n * width format) bytes) < width format) → (n ≡ most) ⊎ (HasCell format bytes n → IsNoSpelling format (nth format bytes n))
     ended (inl all) = inl all
     ended (inr short) = inr (λ has. absurd (let there : width format ≤ length (drop (n * width format) bytes) = has in omega (arith, there, short)))
+
+-- ---- that what it accessed are cells, and one at least where the first is one
+
+pub spelled_below : (format : Format) (key bytes : List ℕ) (n : ℕ) → AllBelow format key bytes n → AreSpelled format n bytes
+spelled_below format key bytes n below k h = (below k h).1.spells
+
+pub spelled_at : (format : Format) (key bytes : List ℕ) (most n : ℕ) (order : Ordering) → AllBelow format key bytes n → StopsAt format key bytes most n order →
+    AreSpelled format (n + 1) bytes
+spelled_at format key bytes most n order below at k h =
+    let cases : (k < n) ⊎ (n ≡ k) = grind arith in
+    elim cases [
+      | inl l ↦ (below k l).1.spells
+      | inr e ↦ subst (λ (m : ℕ). Spells format (nth format bytes m)) e at.ordered.spells
+    ]
+
+pub some_behind : (format : Format) (bytes : List ℕ) (most n : ℕ) → 0 < most → (n ≡ most) ⊎ (HasCell format bytes n → IsNoSpelling format (nth format bytes n)) →
+    AreSpelled format 1 bytes → 0 < n
+some_behind format bytes most (suc n) some left first = omega arith
+some_behind format bytes most zero some (inl all) first = absurd (omega (arith, all, some))
+some_behind format bytes most zero some (inr bad) first =
+    let cell = first 0 (omega arith) in
+    let size = cell.size in
+    let long = length-take (width format) (drop (0 * width format) bytes) in
+    let has : HasCell format bytes 0 = omega (arith, size, long) in
+    absurd (bad has (standing format (nth format bytes 0)) cell)

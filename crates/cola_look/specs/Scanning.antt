@@ -1,14 +1,18 @@
 -- What a search of a window sees.
-use Rattle.std.specs.Prelude.{◌≡◌, ℕ, ◌+◌, ◌≤◌, ◌<◌, ◌⊎◌, true, false, if◌then◌else◌, List}
+use Rattle.std.specs.Prelude.{◌≡◌, ℕ, ◌+◌, ◌≤◌, ◌<◌, ◌⊎◌, true, false, not, if◌then◌else◌, List, Result, Ok, Err}
 use Rattle.std.specs.Ordering.{is_lt}
+use Rattle.cola_cell.specs.declared.cell.Cell.{Cell}
+use Rattle.cola_cell.specs.declared.fault.ReadFault.{ReadFault}
 use Rattle.cola_cell.specs.declared.format.Format.{Format}
 use Rattle.cola_cell.specs.Cell.{key_of}
 use Rattle.cola_cell.specs.Decoded.{standing}
 use Rattle.cola_cell.specs.Held.{as_cell}
 use Rattle.cola_cell.specs.Order.{key_cmp}
+use Rattle.cola_cell.specs.Reads.{Reads}
 use Rattle.cola_cell.specs.Spelling.{IsNoSpelling}
+use Rattle.cola_cell.specs.Spent.{Search}
 use Rattle.cola_cell.specs.State.{State}
-use Rattle.cola_cell.specs.Windows.{Scans}
+use Rattle.cola_cell.specs.Windows.{Scanned}
 use Rattle.cola_cell.specs.declared.cell.Run.{Run}
 use Rattle.cola_cell.specs.declared.windows.Reach.{Reach}
 use Rattle.cola_window.specs.Seeking.{nth, HasCell, AllBelow}
@@ -39,11 +43,24 @@ pub record Sees (before after : Sight) (key : List ℕ) (format : Format) (bytes
 abbrev pub reach_of : Run → ℕ → Reach
 reach_of run index = record { run = run; from = index }
 
--- a search of so many cells at most saw what the object has at hand of them
-pub record IsSeen (old new : State) (reach : Reach) (most : ℕ) (key : List ℕ) (sight : Sight) (from to : ℕ) : Type 0 where
+-- a search of so many cells at most saw a window of the run
+pub record IsScanned (old new : State) (run : Run) (index most : ℕ) (key : List ℕ) (sight : Sight) (from to : ℕ) : Type 0 where
   pub blank : Sight
   pub most_is : blank.most ≡ most
-  pub none_passed : blank.passed ≡ 0
-  pub goes_on : blank.stops ≡ false
   pub ticks : ℕ
-  pub scans : Scans Sees old new reach blank sight key from to ticks
+  pub scanned : Scanned Sees old new (reach_of run index) blank sight key from to ticks
+
+-- a search saw one cell of the run, which it read: it passed it, or stopped there
+pub record IsReadAlone (old new : State) (run : Run) (index : ℕ) (key : List ℕ) (sight : Sight) (from to : ℕ) : Type 0 where
+  pub cell : Cell
+  pub read : Reads old new Search run.level run.slot index (Ok cell)
+  pub one_tick : to ≡ from + 1
+  pub passed_is : sight.passed ≡ (if sight.stops then 0 else 1)
+  pub order_is : is_lt (key_cmp (key_of cell) key) ≡ not sight.stops
+  pub seat : sight.stops ≡ true → (pos : ℕ) → as_seat (record { pos = pos; hit = sight.hit; link = sight.link }) ≡ seat_at key pos (as_cell cell)
+
+-- a search looked on from a cell of a run: what it saw, or that this cell was refused
+abbrev pub LooksOn : (old new : State) → Run → (index most : ℕ) → List ℕ → (from to : ℕ) → Result Sight ReadFault → Type 0
+LooksOn old new run index most key from to (Ok sight) =
+    IsScanned old new run index most key sight from to ⊎ IsReadAlone old new run index key sight from to
+LooksOn old new run index most key from to (Err fault) = Reads old new Search run.level run.slot index (Err fault) × (to ≡ from + 1)

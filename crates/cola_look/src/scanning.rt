@@ -1,5 +1,5 @@
 //! A search of a run where the bytes of its cells lie.
-ghost use Rattle.std.specs.Prelude.{◌≡◌, true, false};
+ghost use Rattle.std.specs.Prelude.{◌≡◌, ◌<◌, true, false};
 ghost use Rattle.cola_look.specs.Scanning.{Sees};
 
 use cola_cell::{Format, Item, Key, WindowSearch, item_in, link_in};
@@ -30,7 +30,7 @@ impl Sight {
 
     /// A search that stopped at no cell, behind so many.
     #[inline(always)]
-    fn behind(most: u32, passed: u32) -> Sight
+    pub(crate) fn behind(most: u32, passed: u32) -> Sight
         ensures most { result.most ≡ most }
         ensures passed { result.passed ≡ passed }
         ensures stops { result.stops ≡ false }
@@ -46,7 +46,7 @@ impl Sight {
 
     /// A search that stopped at the cell behind so many.
     #[inline(always)]
-    fn at(most: u32, passed: u32, hit: Option<Item>, link: u32) -> Sight
+    pub(crate) fn at(most: u32, passed: u32, hit: Option<Item>, link: u32) -> Sight
         ensures passed { result.passed ≡ passed }
         ensures stops { result.stops ≡ true }
         ensures hit { result.hit ≡ hit }
@@ -66,6 +66,8 @@ impl WindowSearch for Sight {
     type Probe = Key;
 
     ghost sought = { Sees };
+
+    ghost can = { λ sight. 0 < sight.most };
 
     #[inline(always)]
     fn seek(&mut self, probe: &Key, format: Format, bytes: &[u8]) -> u32 {

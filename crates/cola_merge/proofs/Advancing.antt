@@ -1,16 +1,13 @@
 -- What a call of a merge says, from the steps that it took.
-use Rattle.std.proofs.Common.{◌≡◌, ℕ, ◌+◌, ◌-◌, ◌*◌, ◌<◌, ◌≤◌, min, List, length, map, Option, Some, None, Result, Ok, Err, OnOk, refl, ap, sym, subst, ◌∙◌, arith}
+use Rattle.std.proofs.Common.{◌≡◌, ℕ, ◌+◌, ◌-◌, ◌*◌, ◌≤◌, List, length, map, Some, None, Result, Ok, Err, OnOk, refl, ap, sym, subst, ◌∙◌, arith}
 use Rattle.std.specs.Cmp.Lexicographic.{nat_list_cmp_total}
 use Rattle.std.specs.List.Sorted.{IsStrictlySortedBy}
-use Rattle.std.proofs.lemmas.List.{length-map}
 use Rattle.cola_runs.specs.Cells as laws
 use Rattle.cola_runs.specs.Cells.{IsRising}
-use Rattle.cola_runs.specs.Weave.{weave}
 use Rattle.cola_runs.specs.Steps as runs
 use Rattle.cola_runs.specs.Steps.{Action, Take, Ended, Build, steps, cells_left, IsUnderWay, IsAdvanced}
 use Rattle.cola_runs.proofs.Stepping.{steps_are_advanced}
 use Rattle.cola_runs.proofs.Builds.{used_up, has_room}
-use Rattle.cola_cell.specs.declared.cell.Cell.{Cell}
 use Rattle.cola_cell.specs.declared.cell.Reader.{Reader}
 use Rattle.cola_cell.specs.declared.cell.Reader.TheVariants.{Own, Incoming, Sample}
 use Rattle.cola_cell.specs.declared.fault.StepFault.{StepFault}
@@ -26,15 +23,15 @@ use Rattle.cola_merge.specs.declared.aims.Progress.TheVariants.{Done, More}
 use Rattle.cola_merge.specs.declared.merging.Merger.{Merger}
 use Rattle.cola_cell.specs.ToldCells.{cell_at, shadow_cells}
 use Rattle.cola_cell.specs.Order.{key_cmp}
-use Rattle.cola_merge.specs.Feeds.{part_of, feed_of, feed_len, feed_spots, feed_cells, feed_keys, IsFeedTold, IsBadAt}
-use Rattle.cola_merge.specs.Heads.{fresh, fresh_head, head_of, consumed, missing_head, missing, fetched_of, fetched, IsReady, IsUsedUp, AreFeedsTold, build_of}
+use Rattle.cola_merge.specs.Feeds.{part_of, feed_of, feed_len, feed_cells, feed_keys, IsFeedTold, IsBadAt}
+use Rattle.cola_merge.specs.Heads.{fresh, fresh_head, head_of, consumed, fetched_of, fetched, IsReady, IsUsedUp, AreFeedsTold, build_of}
 use Rattle.cola_merge.specs.Rules.{next_action, Emits}
-use Rattle.cola_merge.specs.States.{IsSavedByBlocks, MergeState, len_of, TurnsWithin, WritesWithin, Goes, Took, Refused, IsOverfull, TakesQuota}
-use Rattle.cola_merge.specs.Advance.{Consumes, whole_run, IsGoing, GoesBy, GoesFurther, Gone, IsWhole, HasStepCause, IsCalm, IsDeviceFault, cells_read, refused_push, IsThrifty, BuildsBy, Advances}
+use Rattle.cola_merge.specs.States.{MergeState, len_of, Goes, Took, Refused, IsOverfull, TakesQuota}
+use Rattle.cola_merge.specs.Advance.{Consumes, whole_run, IsGoing, GoesBy, GoesFurther, Gone, IsWhole, HasStepCause, IsCalm, IsDeviceFault, cells_read, IsThrifty, BuildsBy, Advances}
 use Rattle.cola_cell.proofs.CellLists.{length-cells}
 use Rattle.cola_merge.proofs.Kept.{feed_cells-stay, feeds_told-stay}
-use Rattle.cola_merge.proofs.Reading.{heads_of}
-use Rattle.cola_merge.proofs.Ruling.{action_of_heads}
+use Rattle.cola_merge.proofs.Reading.{heads_of, three_of}
+use Rattle.cola_merge.proofs.Ruling.{feed_length, keys_length, action_of_heads}
 use Rattle.cola_merge.proofs.Stepping.{all_read}
 
 -- ---- whatever the answer
@@ -50,12 +47,6 @@ consumes_of (Ok Done) r = let h = r.steps.1 in let e = r.steps.2.goes.consumes i
 consumes_of (Err fault) r = let h = r.steps.1 in let e = r.steps.2.goes.consumes in (omega (arith, e), omega (arith, h, e))
 
 -- ---- a merge on its way
-
-feed_length : (held : Held) (f : Feed) → length (feed_cells held f) ≡ feed_len f
-feed_length held f = length-cells (feed_spots held f) 0 (feed_len f)
-
-keys_length : (held : Held) (f : Feed) → length (feed_keys held f) ≡ feed_len f
-keys_length held f = length-map (feed_cells held f) laws.key_of ∙ feed_length held f
 
 module _ {aim : Aim} (s t : MergeState) (r : IsReady s.held aim s.merger) (going : IsGoing s.held aim s.merger) where
   advanced : {count : ℕ} → Goes aim s t count → GoesBy s.held t.held aim s.merger t.merger count
@@ -95,34 +86,23 @@ module _ {aim : Aim} (s t : MergeState) (r : IsReady s.held aim s.merger) (going
       let a : length (feed_cells s.held aim.own) ≡ feed_len aim.own = feed_length s.held aim.own in
       let b : length (feed_cells s.held aim.incoming) ≡ feed_len aim.incoming = feed_length s.held aim.incoming in
       let c : length (feed_keys s.held aim.sample) ≡ feed_len aim.sample = keys_length s.held aim.sample in
-      zeros (length (feed_cells s.held aim.own)) (length (feed_cells s.held aim.incoming)) (length (feed_keys s.held aim.sample)) (feed_len aim.own) (feed_len aim.incoming) (feed_len aim.sample)
-      t.merger.own.at t.merger.incoming.at t.merger.sample.at a b c u.own u.incoming u.sample
-    where
-      zeros : (x y z a b c p q r : ℕ) → x ≡ a → y ≡ b → z ≡ c → a ≤ p → b ≤ q → c ≤ r → x - p + (y - q) + (z - r) ≡ 0
-      zeros x y z a b c p q r e f g h k l = omega (arith, e, f, g, h, k, l)
+      omega (arith, a, b, c, u.own, u.incoming, u.sample)
 
   -- where it is done, it took as many steps as it could of any larger quota
   done_advanced : {count quota : ℕ} → Goes aim s t count → count ≤ quota → IsUsedUp aim t.merger → GoesBy s.held t.held aim s.merger t.merger quota
   done_advanced {count} {quota} g l u =
       let a = advanced g in
       let z = none_left u in
-      let left = cells_left (feed_cells s.held aim.own) (feed_cells s.held aim.incoming) (feed_keys s.held aim.sample) (build_of s.held aim s.merger) in
       record {
         under_way = a.under_way;
-        consumes = more (runs.consumed (build_of t.held aim t.merger)) (runs.consumed (build_of s.held aim s.merger)) count quota left _ a.consumes a.leaves z l;
-        leaves = less count quota left _ a.leaves z l;
+        consumes = omega (arith, a.consumes, a.leaves, z, l);
+        leaves = omega (arith, a.leaves, z, l);
         emits = a.emits;
         extends = a.extends;
         own_rises = a.own_rises;
         incoming_rises = a.incoming_rises;
         sampled_rises = a.sampled_rises;
       }
-    where
-      more : (x y n q l m : ℕ) → x ≡ y + min n l → m ≡ l - n → m ≡ 0 → n ≤ q → x ≡ y + min q l
-      more x y n q l m e f g h = omega (arith, e, f, g, h)
-
-      less : (n q l m : ℕ) → m ≡ l - n → m ≡ 0 → n ≤ q → m ≡ l - q
-      less n q l m f g h = omega (arith, f, g, h)
 
   further : {quota : ℕ} (result : Result Progress StepFault) → TakesQuota aim s t quota result → GoesFurther s.held t.held aim s.merger t.merger quota result
   further (Ok More) k = advanced k.steps.0.goes
@@ -142,9 +122,7 @@ module _ {aim : Aim} (s t : MergeState) (r : IsReady s.held aim s.merger) (going
 
   whole_same : {count : ℕ} → Goes aim s t count → whole_run t.held aim ≡ whole_run s.held aim
   whole_same g =
-      ap (λ (x : List LawCell). weave key_cmp (part_of aim) x (feed_cells t.held aim.incoming) (feed_keys t.held aim.sample)) (own_same g)
-      ∙ ap (λ (x : List LawCell). weave key_cmp (part_of aim) (feed_cells s.held aim.own) x (feed_keys t.held aim.sample)) (incoming_same g)
-      ∙ ap (λ (x : List (List ℕ)). weave key_cmp (part_of aim) (feed_cells s.held aim.own) (feed_cells s.held aim.incoming) x) (keys_same g)
+      let a = own_same g in let b = incoming_same g in let c = keys_same g in cc
 
 -- ---- refusals
 
@@ -172,10 +150,7 @@ never_overfull {aim} {t} {level} r going fits o =
     let room = has_room nat_list_cmp_total (part_of aim) (feed_cells t.held aim.own) (feed_cells t.held aim.incoming) (feed_keys t.held aim.sample) going.own_rises going.incoming_rises going.keys_rise
     (build_of t.held aim t.merger) going.under_way e.0 e.1 (sym (action_of_heads t.held aim t.merger (heads_of r) o.fetched going.feeds) ∙ e.2) in
     let len : length (shadow_cells t.held aim.level) ≡ (t.held.shadows aim.level).len = length-cells (t.held.spots aim.level (t.held.shadows aim.level).slot) 0 (t.held.shadows aim.level).len in
-    no_room (length (shadow_cells t.held aim.level)) (t.held.shadows aim.level).len (slot_size aim.level) (length (whole_run t.held aim)) len o.full room fits
-  where
-    no_room : (a b c d : ℕ) → a ≡ b → b ≡ c → a < d → d ≤ c → ⊥
-    no_room a b c d e f g h = omega (arith, e, f, g, h)
+    omega (arith, len, o.full, room, fits)
 
 cause_of : {aim : Aim} {s t : MergeState} {quota : ℕ} (result : Result Progress StepFault) → TakesQuota aim s t quota result → HasStepCause aim s.spent.faults t result
 cause_of (Ok progress) k = tt
@@ -200,20 +175,10 @@ only_of {aim} {s} {t} (Err (Overfull level)) r k going fits =
 
 -- ---- costs
 
-missing_small : (m : Merger) → missing m ≤ 3
-missing_small m = three (missing_head m.own.cell) (missing_head m.incoming.cell) (missing_head m.sample.cell) (one m.own.cell) (one m.incoming.cell) (one m.sample.cell)
-  where
-    one : (c : Option Cell) → missing_head c ≤ 1
-    one None = omega arith
-    one (Some c) = omega arith
-
-    three : (x y z : ℕ) → x ≤ 1 → y ≤ 1 → z ≤ 1 → x + y + z ≤ 3
-    three x y z h k l = omega (arith, h, k, l)
-
 ticks_of : {aim : Aim} {s t : MergeState} {quota : ℕ} (result : Result Progress StepFault) → TakesQuota aim s t quota result → t.steps ≤ s.steps + (3 + 2 * quota)
-ticks_of {s = s} {t = t} (Ok More) k = let m = missing_small s.merger in let h = k.steps.0.ticks in omega (arith, m, h)
-ticks_of {s = s} {t = t} (Ok Done) k = let m = missing_small s.merger in let h = k.steps.2.ticks in let l = k.steps.1 in omega (arith, m, h, l)
-ticks_of {s = s} {t = t} (Err fault) k = let m = missing_small s.merger in let h = k.steps.2.ticks in let l = k.steps.1 in omega (arith, m, h, l)
+ticks_of {s = s} {t = t} (Ok More) k = let m = three_of s.merger in let h = k.steps.0.ticks in omega (arith, m, h)
+ticks_of {s = s} {t = t} (Ok Done) k = let m = three_of s.merger in let h = k.steps.2.ticks in let l = k.steps.1 in omega (arith, m, h, l)
+ticks_of {s = s} {t = t} (Err fault) k = let m = three_of s.merger in let h = k.steps.2.ticks in let l = k.steps.1 in omega (arith, m, h, l)
 
 fresh_of : (f : Feed) → fetched_of f fresh_head ≡ 0
 fresh_of (feed.Run run) = refl
@@ -222,10 +187,7 @@ fresh_of (feed.One c) = refl
 fresh_of feed.Nothing = refl
 
 fresh_fetched : (aim : Aim) (m : Merger) → m ≡ fresh → fetched aim m ≡ 0
-fresh_fetched aim m e = ap (λ (x : Merger). fetched aim x) e ∙ none (fetched_of aim.own fresh_head) (fetched_of aim.incoming fresh_head) (fetched_of aim.sample fresh_head) (fresh_of aim.own) (fresh_of aim.incoming) (fresh_of aim.sample)
-  where
-    none : (x y z : ℕ) → x ≡ 0 → y ≡ 0 → z ≡ 0 → x + y + z ≡ 0
-    none x y z e f g = omega (arith, e, f, g)
+fresh_fetched aim m e = ap (λ (x : Merger). fetched aim x) e ∙ (let a = fresh_of aim.own in let b = fresh_of aim.incoming in let c = fresh_of aim.sample in omega (arith, a, b, c))
 
 thrifty_ok : {aim : Aim} {s t : MergeState} {count : ℕ} (result : Result Progress StepFault) → Took aim s t count → len_of aim s ≤ slot_size aim.level → s.merger ≡ fresh →
     IsThrifty aim s.steps t.steps (len_of aim s) (len_of aim t) result
@@ -233,27 +195,18 @@ thrifty_ok {aim} {s} {t} result k l e =
     let none : fetched aim s.merger ≡ 0 = fresh_fetched aim s.merger e in
     let all : fetched aim t.merger ≤ cells_read aim = all_read (heads_of k.goes.ready) in
     record {
-      pushes = first t.steps s.steps (fetched aim s.merger) (fetched aim t.merger) (len_of aim s) (len_of aim t) (cells_read aim) (refused_push result) none all k.reads;
-      places = second t.steps s.steps (fetched aim s.merger) (fetched aim t.merger) (len_of aim s) (len_of aim t) (cells_read aim) (slot_size aim.level) none all k.reads (k.goes.grows.len_fits l);
+      pushes = omega (arith, none, all, k.reads);
+      places = omega (arith, none, all, k.reads, k.goes.grows.len_fits l);
     }
-  where
-    first : (t s m n l k a x : ℕ) → m ≡ 0 → n ≤ a → t + m + l ≤ s + n + k → t + l ≤ s + a + (k + x)
-    first t s m n l k a x e h g = omega (arith, e, h, g)
-
-    second : (t s m n l k a z : ℕ) → m ≡ 0 → n ≤ a → t + m + l ≤ s + n + k → k ≤ z → t + l ≤ s + a + z
-    second t s m n l k a z e h g f = omega (arith, e, h, g, f)
 
 thrifty_err : {aim : Aim} {s t : MergeState} {count : ℕ} (fault : StepFault) → Refused aim s t count fault → len_of aim s ≤ slot_size aim.level → s.merger ≡ fresh →
     IsThrifty aim s.steps t.steps (len_of aim s) (len_of aim t) (Err fault)
 thrifty_err {aim} {s} {t} fault k l e =
     let none : fetched aim s.merger ≡ 0 = fresh_fetched aim s.merger e in
     record {
-      pushes = without t.steps (fetched aim s.merger) (len_of aim s) (s.steps + cells_read aim + (len_of aim t + refused_push (Err fault))) none k.pushes;
-      places = without t.steps (fetched aim s.merger) (len_of aim s) (s.steps + cells_read aim + slot_size aim.level) none (k.reads l);
+      pushes = omega (arith, none, k.pushes);
+      places = omega (arith, none, k.reads l);
     }
-  where
-    without : (t m l a : ℕ) → m ≡ 0 → t + m + l ≤ a → t + l ≤ a
-    without t m l a e h = omega (arith, e, h)
 
 thrifty_of : {aim : Aim} {s t : MergeState} {quota : ℕ} (result : Result Progress StepFault) → TakesQuota aim s t quota result → len_of aim s ≤ slot_size aim.level → s.merger ≡ fresh →
     IsThrifty aim s.steps t.steps (len_of aim s) (len_of aim t) result
@@ -261,22 +214,11 @@ thrifty_of (Ok More) k l e = thrifty_ok (Ok More) k.steps.0 l e
 thrifty_of (Ok Done) k l e = thrifty_ok (Ok Done) k.steps.2 l e
 thrifty_of (Err fault) k l e = thrifty_err fault k.steps.2 l e
 
-turned_of : {aim : Aim} {s t : MergeState} {quota : ℕ} (result : Result Progress StepFault) → TakesQuota aim s t quota result →
-    OnOk result (TurnsWithin aim s t)
-turned_of (Ok More) k = k.steps.0.turned
-turned_of (Ok Done) k = k.steps.2.turned
-turned_of (Err fault) k = tt
-
-written_of : {aim : Aim} {s t : MergeState} {quota : ℕ} (result : Result Progress StepFault) → TakesQuota aim s t quota result →
-    OnOk result (WritesWithin aim s t)
-written_of (Ok More) k = k.steps.0.written
-written_of (Ok Done) k = k.steps.2.written
-written_of (Err fault) k = tt
-
-saved_of : {aim : Aim} {s t : MergeState} {quota : ℕ} (result : Result Progress StepFault) → TakesQuota aim s t quota result → OnOk result (IsSavedByBlocks s.held t.held aim.level)
-saved_of (Ok More) k = k.steps.0.saved
-saved_of (Ok Done) k = k.steps.2.saved
-saved_of (Err fault) k = tt
+-- what steps that were taken leave
+on_took : {aim : Aim} {s t : MergeState} {quota : ℕ} {P : Type 0} → ((count : ℕ) → Took aim s t count → P) → (result : Result Progress StepFault) → TakesQuota aim s t quota result → OnOk result P
+on_took {quota = quota} f (Ok More) k = f quota k.steps.0
+on_took f (Ok Done) k = f k.steps.0 k.steps.2
+on_took f (Err fault) k = tt
 
 -- ---- what a call says
 
@@ -295,7 +237,7 @@ advances {aim} {s} {t} result r l k =
       ready = g.ready;
       frames = g.grows;
       lasts = g.lasts;
-      saved = saved_of result k;
+      saved = on_took (λ _ k. k.saved) result k;
       consumes = consumes_of result k;
       rises = g.rises;
       emits = g.emits;
@@ -310,6 +252,6 @@ advances {aim} {s} {t} result r l k =
       ticks = ticks_of result k;
       begins = λ e. thrifty_of result k l e;
       spends = g.spends;
-      turned = turned_of result k;
-      written = written_of result k;
+      turned = on_took (λ _ k. k.turned) result k;
+      written = on_took (λ _ k. k.written) result k;
     }

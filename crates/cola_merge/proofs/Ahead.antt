@@ -1,13 +1,10 @@
 -- The cells that are ahead of a merge, and the first of them.
-use Rattle.std.proofs.Common.{◌≡◌, ℕ, suc, ◌+◌, ◌*◌, ◌<◌, ◌≤◌, ◌↔◌, min, List, [], ◌++◌, length, drop, Option, refl, ap, sym, subst, ◌∙◌, arith}
+use Rattle.std.proofs.Common.{◌≡◌, ℕ, suc, ◌+◌, ◌<◌, ◌≤◌, ◌↔◌, List, [], ◌++◌, length, drop, Option, refl, ap, sym, subst, ◌∙◌, arith}
 use Rattle.std.specs.Cmp.Lexicographic.{nat_list_cmp_total}
 use Rattle.std.specs.Option.{option_map, option_to_list}
-use Rattle.std.specs.List.{slice_get}
 use Rattle.std.specs.List.Sorted.{IsStrictlySortedBy}
 use Rattle.std.specs.declared.cmp.Ordering.{Ordering}
-use Rattle.std.proofs.lemmas.List.{length-map}
-use Rattle.cola_runs.specs.Cells as laws
-use Rattle.cola_runs.specs.Cells.{Cell, IsRising, count_looks}
+use Rattle.cola_runs.specs.Cells.{Cell, count_looks}
 use Rattle.cola_runs.specs.Weave.{Part, relinked, unlinked, weave, IsCut}
 use Rattle.cola_runs.specs.Steps as runs
 use Rattle.cola_runs.specs.Steps.{Action, Take, rule}
@@ -19,16 +16,14 @@ use Rattle.cola_cell.specs.declared.cell.Reader.TheVariants.{Own, Incoming, Samp
 use Rattle.cola_cell.specs.declared.cell.Cell as object
 use Rattle.cola_cell.specs.Held.{Held, LawCell, Stamped, as_cell}
 use Rattle.cola_cell.specs.Order.{key_cmp}
-use Rattle.cola_merge.specs.declared.aims.Feed.{Feed}
 use Rattle.cola_merge.specs.declared.aims.Aim.{Aim}
 use Rattle.cola_merge.specs.declared.merging.Merger.{Merger}
-use Rattle.cola_merge.specs.Feeds.{part_of, feed_len, feed_spots, feed_cells, feed_keys}
+use Rattle.cola_merge.specs.Feeds.{part_of, feed_len, feed_cells, feed_keys}
 use Rattle.cola_merge.specs.Heads.{fresh, head_at, head_of, with_head, HasHeads, IsUsedUp, AreFetched}
 use Rattle.cola_merge.specs.Rules.{as_head, next_action}
 use Rattle.cola_merge.specs.Advance.{whole_run}
 use Rattle.cola_merge.specs.Pulls.{AreInOrder, ahead}
-use Rattle.cola_cell.proofs.CellLists.{length-cells}
-use Rattle.cola_merge.proofs.Ruling.{action_of_heads}
+use Rattle.cola_merge.proofs.Ruling.{feed_length, keys_length, action_of_heads}
 
 -- ---- the first cells of a weave
 
@@ -56,12 +51,6 @@ one_less xs h = let e = left_from 1 xs in omega (arith, e, h)
 next_drop : {X : Type 0} (n : ℕ) (xs : List X) → drop 1 (drop n xs) ≡ drop (n + 1) xs
 next_drop {X} n xs = drop_one_more n xs ∙ ap (λ (k : ℕ). drop k xs) (let e : suc n ≡ n + 1 = omega arith in e)
 
-no_looks : (a l n : ℕ) → a + l ≡ l → a + n ≡ n
-no_looks a l n e = omega (arith, e)
-
-one_look : (a k l n : ℕ) → a + k ≡ l → k + 1 ≡ l → a + n ≡ n + 1
-one_look a k l n e f = omega (arith, e, f)
-
 -- ---- one step
 
 module _ (held : Held) (aim : Aim) (m : Merger) where
@@ -77,11 +66,10 @@ module _ (held : Held) (aim : Aim) (m : Merger) where
   right : HasHeads held aim m → AreFetched aim m → AreInOrder held aim → (a : Action (List ℕ) Stamped) → a ≡ next_action aim m → IsRight key_cmp (part_of aim) m.sample.at own incoming keys a
   right r f t a e =
       subst (IsRight key_cmp (part_of aim) m.sample.at own incoming keys)
-      (ap (λ (x : Option LawCell). rule key_cmp (part_of aim) (8 * m.sample.at) x (slice_get incoming 0) (slice_get keys 0)) (sym (get_from m.own.at (feed_cells held aim.own)))
-      ∙ ap (λ (x : Option LawCell). rule key_cmp (part_of aim) (8 * m.sample.at) (slice_get (feed_cells held aim.own) m.own.at) x (slice_get keys 0)) (sym (get_from m.incoming.at (feed_cells held aim.incoming)))
-      ∙ ap (λ (x : Option (List ℕ)). rule key_cmp (part_of aim) (8 * m.sample.at) (slice_get (feed_cells held aim.own) m.own.at) (slice_get (feed_cells held aim.incoming) m.incoming.at) x) (sym (get_from m.sample.at (feed_keys held aim.sample)))
-      ∙ sym (action_of_heads held aim m r f t.feeds)
-      ∙ sym e)
+      (let x = get_from m.own.at (feed_cells held aim.own) in
+      let y = get_from m.incoming.at (feed_cells held aim.incoming) in
+      let z = get_from m.sample.at (feed_keys held aim.sample) in
+      let k = action_of_heads held aim m r f t.feeds in cc)
       (rule_is_right nat_list_cmp_total (part_of aim) m.sample.at own incoming keys (sorted_from _ m.own.at (feed_cells held aim.own) t.own_rises) (sorted_from _ m.incoming.at (feed_cells held aim.incoming) t.incoming_rises)
       (sorted_from key_cmp m.sample.at (feed_keys held aim.sample) t.keys_rise))
 
@@ -91,17 +79,20 @@ module _ (held : Held) (aim : Aim) (m : Merger) where
   step_by : (reader : Reader) (cells : List LawCell) → AreInOrder held aim → TakesFirst key_cmp (part_of aim) m.sample.at own incoming keys (as_head reader) cells →
       ahead held aim m ≡ cells ++ ahead held aim (with_head m reader (head_at ((head_of m reader).at + 1)))
   step_by Own cells t r =
+      let e = counted key_cmp (part_of aim) m.sample.at own incoming keys (keys_rise t) runs.Own cells r in
       r.first
-      ∙ ap (λ (n : ℕ). cells ++ relinked n (unlinked key_cmp (part_of aim) (drop 1 own) incoming keys)) (no_looks (count_looks cells) (length keys) m.sample.at (counted key_cmp (part_of aim) m.sample.at own incoming keys (keys_rise t) runs.Own cells r))
+      ∙ ap (λ (n : ℕ). cells ++ relinked n (unlinked key_cmp (part_of aim) (drop 1 own) incoming keys)) (omega (arith, e))
       ∙ ap (λ (x : List LawCell). cells ++ relinked m.sample.at (unlinked key_cmp (part_of aim) x incoming keys)) (next_drop m.own.at (feed_cells held aim.own))
   step_by Incoming cells t r =
+      let e = counted key_cmp (part_of aim) m.sample.at own incoming keys (keys_rise t) runs.Incoming cells r in
       r.first
-      ∙ ap (λ (n : ℕ). cells ++ relinked n (unlinked key_cmp (part_of aim) own (drop 1 incoming) keys)) (no_looks (count_looks cells) (length keys) m.sample.at (counted key_cmp (part_of aim) m.sample.at own incoming keys (keys_rise t) runs.Incoming cells r))
+      ∙ ap (λ (n : ℕ). cells ++ relinked n (unlinked key_cmp (part_of aim) own (drop 1 incoming) keys)) (omega (arith, e))
       ∙ ap (λ (x : List LawCell). cells ++ relinked m.sample.at (unlinked key_cmp (part_of aim) own x keys)) (next_drop m.incoming.at (feed_cells held aim.incoming))
   step_by Sample cells t r =
+      let e = counted key_cmp (part_of aim) m.sample.at own incoming keys (keys_rise t) runs.Sample cells r in
+      let k = one_less keys r.there in
       r.first
-      ∙ ap (λ (n : ℕ). cells ++ relinked n (unlinked key_cmp (part_of aim) own incoming (drop 1 keys)))
-      (one_look (count_looks cells) (length (drop 1 keys)) (length keys) m.sample.at (counted key_cmp (part_of aim) m.sample.at own incoming keys (keys_rise t) runs.Sample cells r) (one_less keys r.there))
+      ∙ ap (λ (n : ℕ). cells ++ relinked n (unlinked key_cmp (part_of aim) own incoming (drop 1 keys))) (omega (arith, e, k))
       ∙ ap (λ (x : List (List ℕ)). cells ++ relinked (m.sample.at + 1) (unlinked key_cmp (part_of aim) own incoming x)) (next_drop m.sample.at (feed_keys held aim.sample))
 
   -- the step that the heads ask for emits the first of the cells ahead, or passes over a source cell
@@ -113,25 +104,19 @@ module _ (held : Held) (aim : Aim) (m : Merger) where
   pub ahead-none : IsUsedUp aim m → ahead held aim m ≡ []
   unfolding unlinked
   ahead-none u =
-      ap (λ (x : List LawCell). relinked m.sample.at (unlinked key_cmp (part_of aim) x incoming keys)) (past aim.own m.own.at u.own)
-      ∙ ap (λ (x : List LawCell). relinked m.sample.at (unlinked key_cmp (part_of aim) [] x keys)) (past aim.incoming m.incoming.at u.incoming)
-      ∙ ap (λ (x : List (List ℕ)). relinked m.sample.at (unlinked key_cmp (part_of aim) [] [] x)) (drop_all m.sample.at (feed_keys held aim.sample) (keys_past u.sample))
+      let a = past (feed_cells held aim.own) m.own.at (feed_len aim.own) (feed_length held aim.own) u.own in
+      let b = past (feed_cells held aim.incoming) m.incoming.at (feed_len aim.incoming) (feed_length held aim.incoming) u.incoming in
+      let c = past (feed_keys held aim.sample) m.sample.at (feed_len aim.sample) (keys_length held aim.sample) u.sample in
+      ap (λ (x : List LawCell). relinked m.sample.at (unlinked key_cmp (part_of aim) x incoming keys)) a
+      ∙ ap (λ (x : List LawCell). relinked m.sample.at (unlinked key_cmp (part_of aim) [] x keys)) b
+      ∙ ap (λ (x : List (List ℕ)). relinked m.sample.at (unlinked key_cmp (part_of aim) [] [] x)) c
     where
-      feed_length : (f : Feed) → length (feed_cells held f) ≡ feed_len f
-      feed_length f = length-cells (feed_spots held f) 0 (feed_len f)
-
-      past : (f : Feed) (n : ℕ) → feed_len f ≤ n → drop n (feed_cells held f) ≡ []
-      past f n h = drop_all n (feed_cells held f) (let e = feed_length f in omega (arith, e, h))
-
-      keys_past : feed_len aim.sample ≤ m.sample.at → length (feed_keys held aim.sample) ≤ m.sample.at
-      keys_past h = let e = length-map (feed_cells held aim.sample) laws.key_of in let g = feed_length aim.sample in omega (arith, e, g, h)
+      past : {X : Type 0} (xs : List X) (n l : ℕ) → length xs ≡ l → l ≤ n → drop n xs ≡ []
+      past xs n l e h = drop_all n xs (omega (arith, e, h))
 
 -- other heads at the same cursors
 pub ahead-same : (held : Held) (aim : Aim) (m n : Merger) → ((reader : Reader) → (head_of n reader).at ≡ (head_of m reader).at) → ahead held aim m ≡ ahead held aim n
-ahead-same held aim m n e =
-    ap (λ (x : ℕ). relinked m.sample.at (unlinked key_cmp (part_of aim) (drop x (feed_cells held aim.own)) (drop m.incoming.at (feed_cells held aim.incoming)) (drop m.sample.at (feed_keys held aim.sample)))) (sym (e Own))
-    ∙ ap (λ (x : ℕ). relinked m.sample.at (unlinked key_cmp (part_of aim) (drop n.own.at (feed_cells held aim.own)) (drop x (feed_cells held aim.incoming)) (drop m.sample.at (feed_keys held aim.sample)))) (sym (e Incoming))
-    ∙ ap (λ (x : ℕ). relinked x (unlinked key_cmp (part_of aim) (drop n.own.at (feed_cells held aim.own)) (drop n.incoming.at (feed_cells held aim.incoming)) (drop x (feed_keys held aim.sample)))) (sym (e Sample))
+ahead-same held aim m n e = let a = e Own in let b = e Incoming in let c = e Sample in cc
 
 -- ahead of a merge that has not begun is its whole run
 pub ahead-fresh : (held : Held) (aim : Aim) → ahead held aim fresh ≡ whole_run held aim
@@ -139,9 +124,6 @@ unfolding weave
 ahead-fresh held aim = refl
 
 -- ---- a cut
-
-looks_before : (a b c k : ℕ) → a + b ≡ c → b + min k c ≡ c → k ≤ c → a ≡ k
-looks_before a b c k e f h = omega (arith, e, f, h)
 
 module _ (held : Held) (aim : Aim) (m : Merger) (done : List LawCell) (t : AreInOrder held aim) (h : m.sample.at ≤ feed_len aim.sample) where
   abbrev left : List LawCell
@@ -155,10 +137,9 @@ module _ (held : Held) (aim : Aim) (m : Merger) (done : List LawCell) (t : AreIn
       let b = looks_append done (relinked n left) in
       let c = keys_of_weave key_cmp (part_of aim) n (feed_cells held aim.own) (feed_cells held aim.incoming) (feed_keys held aim.sample) t.keys_rise n (own held aim m) (incoming held aim m) (keys held aim m) (keys_rise held aim m t) in
       let d = keys_of_weave key_cmp (part_of aim) n (feed_cells held aim.own) (feed_cells held aim.incoming) (feed_keys held aim.sample) t.keys_rise 0 (feed_cells held aim.own) (feed_cells held aim.incoming) (feed_keys held aim.sample) t.keys_rise in
-      let l = length-map (feed_cells held aim.sample) laws.key_of in
-      let g = length-cells (feed_spots held aim.sample) 0 (feed_len aim.sample) in
+      let l = keys_length held aim.sample in
       let total : count_looks done + length (keys held aim m) ≡ length (feed_keys held aim.sample) = omega (arith, a, b, c, d) in
-      looks_before (count_looks done) (length (keys held aim m)) (length (feed_keys held aim.sample)) m.sample.at total (left_from m.sample.at (feed_keys held aim.sample)) (omega (arith, h, l, g))
+      let k = left_from m.sample.at (feed_keys held aim.sample) in omega (arith, total, k, h, l)
 
   pub cut_is_ahead : (done ++ ahead held aim m ≡ whole_run held aim)
       ↔ IsCut key_cmp (part_of aim) (feed_cells held aim.own) (feed_cells held aim.incoming) (feed_keys held aim.sample) (own held aim m) (incoming held aim m) (keys held aim m) done

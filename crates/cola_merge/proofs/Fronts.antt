@@ -1,12 +1,10 @@
 -- What stands in a window behind the cells that a head went on by.
-use Rattle.std.proofs.Common.{◌≡◌, inl, inr, ℕ, zero, suc, ◌+◌, ◌-◌, ◌*◌, ◌<◌, ◌≤◌, Bool, true, false, if◌then◌else◌, min, List, length, take, drop, Option, Some, None, refl, ap, sym, subst, ◌∙◌, arith}
-use Rattle.std.specs.Prelude.{IsSome, MatchBool, leb}
+use Rattle.std.proofs.Common.{◌≡◌, inl, inr, ℕ, zero, suc, ◌+◌, ◌-◌, ◌*◌, ◌<◌, ◌≤◌, min, List, length, take, drop, Option, Some, None, refl, ap, sym, ◌∙◌, arith}
 use Rattle.std.proofs.lemmas.Bool.Decides.{leb_tells}
 use Rattle.std.proofs.Math.ListN.{drop_of_length-le}
 use Rattle.std.proofs.Math.Seq.{take-length}
 use Rattle.std.proofs.lemmas.List.{length-drop}
-use Rattle.std.proofs.lemmas.Bool.{true≢false}
-use Rattle.std.specs.Prelude.{is_some}
+use Rattle.std.proofs.lemmas.Option.{none-some}
 use Rattle.cola_cell.specs.declared.cell.Cell.{Cell}
 use Rattle.cola_cell.specs.declared.format.Format.{Format}
 use Rattle.cola_merge.specs.Fetched.{Head}
@@ -21,7 +19,7 @@ gone_on format step count window at head h e =
   where
     by : (n : ℕ) (x : Option Cell) (bytes : List ℕ) → ((n ≡ 0) → x ≡ None) → stands format bytes ≡ gone_cell format n bytes x
     by zero None bytes h = refl
-    by zero (Some c) bytes h = let z : Some c ≡ None = h refl in absurd (let y : true ≡ false = ap is_some z in true≢false y)
+    by zero (Some c) bytes h = absurd (none-some c (sym (h refl)))
     by (suc n) x bytes h = refl
 
 -- nothing lies behind the end

@@ -1,6 +1,6 @@
 -- Blocks that are left of a run.
 use Rattle.std.proofs.Common.{◌≡◌, ◌≢◌, ◌⊎◌, inl, inr, ℕ, suc, ◌+◌, ◌-◌, ◌*◌, ◌/◌, ◌^◌, ◌<◌, ◌≤◌, Bool, true, false, ◌&&◌, ◌==◌, nat_lt, if◌then◌else◌, Option, Some, None, refl, ap, sym, subst, ◌∙◌, arith}
-use Rattle.std.proofs.lemmas.Bool.{true≢false, eqb-true, eq-eqb, ltb-true, lt-ltb}
+use Rattle.std.proofs.lemmas.Bool.{true≢false, false_from_ne_true, and_parts, eqb-true, eq-eqb, ltb-true, lt-ltb}
 use Rattle.std.specs.Cmp.Derive.{both_true}
 use Rattle.std.proofs.lemmas.Bool.Decides.{eqb_tells}
 use Rattle.std.proofs.lemmas.Nat.{le-div, div_below, div-mul-add}
@@ -37,51 +37,33 @@ sampled_block i d =
 
 -- ---- the block that was read last
 
-and_left : (a b : Bool) → (a && b) ≡ true → a ≡ true
-and_left true b e = refl
-and_left false b e = e
-
-and_right : (a b : Bool) → (a && b) ≡ true → b ≡ true
-and_right true b e = e
-and_right false b e = absurd (true≢false (sym e))
-
-not_true : (b : Bool) → (b ≡ true → ⊥) → b ≡ false
-not_true true h = absurd (h refl)
-not_true false h = refl
-
 -- the block that was read last is the one of its level, slot and number
 pub last_is : (last : Option Block) (l s k : ℕ) → is_last last l s k ≡ true → last ≡ Some (record { level = l; slot = s; number = k })
 last_is None l s k e = absurd (true≢false (sym e))
 last_is (Some b) l s k e =
-    let a : (b.level == l) ≡ true = and_left (b.level == l) ((b.slot == s) && (b.number == k)) e in
-    let r : ((b.slot == s) && (b.number == k)) ≡ true = and_right (b.level == l) ((b.slot == s) && (b.number == k)) e in
-    ap (λ (x : ℕ). Some (record { level = x; slot = b.slot; number = b.number })) (eqb-true b.level l a)
-    ∙ ap (λ (x : ℕ). Some (record { level = l; slot = x; number = b.number })) (eqb-true b.slot s (and_left (b.slot == s) (b.number == k) r))
-    ∙ ap (λ (x : ℕ). Some (record { level = l; slot = s; number = x })) (eqb-true b.number k (and_right (b.slot == s) (b.number == k) r))
+    let p = and_parts (b.level == l) ((b.slot == s) && (b.number == k)) e in
+    let q = and_parts (b.slot == s) (b.number == k) p.1 in
+    ap (λ (x : ℕ). Some (record { level = x; slot = b.slot; number = b.number })) (eqb-true b.level l p.0)
+    ∙ ap (λ (x : ℕ). Some (record { level = l; slot = x; number = b.number })) (eqb-true b.slot s q.0)
+    ∙ ap (λ (x : ℕ). Some (record { level = l; slot = s; number = x })) (eqb-true b.number k q.1)
 
 pub is_last-block : (l s k : ℕ) → is_last (Some (record { level = l; slot = s; number = k })) l s k ≡ true
 is_last-block l s k = both_true (eq-eqb l l refl) (both_true (eq-eqb s s refl) (eq-eqb k k refl))
 
 -- a block of another slot is not the one
 pub is_last-other : (b : Block) (l s k : ℕ) → (l ≢ b.level) ⊎ (s ≢ b.slot) → is_last (Some b) l s k ≡ false
-is_last-other b l s k (inl d) =
-    not_true (is_last (Some b) l s k) (λ e. d (sym (eqb-true b.level l (and_left (b.level == l) ((b.slot == s) && (b.number == k)) e))))
-is_last-other b l s k (inr d) =
-    not_true (is_last (Some b) l s k)
-    (λ e. d (sym (eqb-true b.slot s (and_left (b.slot == s) (b.number == k) (and_right (b.level == l) ((b.slot == s) && (b.number == k)) e)))))
+is_last-other b l s k d = false_from_ne_true (is_last (Some b) l s k) (λ e.
+    let p = and_parts (b.level == l) ((b.slot == s) && (b.number == k)) e in
+    elim d [ inl f ↦ f (sym (eqb-true b.level l p.0)) | inr f ↦ f (sym (eqb-true b.slot s (and_parts (b.slot == s) (b.number == k) p.1).0)) ])
 
 -- ---- groups
 
 groups-some : (size first end : ℕ) → first < end → groups size first end ≡ (end - 1) / size - first / size + 1
 groups-some size first end h = ap (λ (b : Bool). if b then (end - 1) / size - first / size + 1 else 0) (lt-ltb first end h)
 
-groups_by : (b : Bool) (g : ℕ) → (b ≡ true → ⊥) → (if b then g else 0) ≡ 0
-groups_by true g h = absurd (h refl)
-groups_by false g h = refl
-
 groups-none : (size first end : ℕ) → end ≤ first → groups size first end ≡ 0
 groups-none size first end h =
-    groups_by (nat_lt first end) ((end - 1) / size - first / size + 1) (λ e. let l : first < end = ltb-true first end e in omega (arith, l, h))
+    ap (λ (b : Bool). if b then (end - 1) / size - first / size + 1 else 0) (false_from_ne_true (nat_lt first end) (λ e. let l : first < end = ltb-true first end e in omega (arith, l, h)))
 
 -- a cell that is left lies in a block that is left
 pub groups-pos : (size first end : ℕ) → first < end → 1 ≤ groups size first end
@@ -120,24 +102,14 @@ read_left span before now run size end at o n h r small same moves =
 
 -- ---- one cell consumed
 
+one_small : (b : Bool) → one_if b ≤ 1
+one_small true = omega arith
+one_small false = omega arith
+
 next_by : (g h : ℕ) (x y : Bool) → (h ≡ g → y ≡ x) → (h ≡ g) ⊎ (suc h ≡ g) ⊎ (h ≡ 0) → h - one_if y ≤ g - one_if x
 next_by g h x y s (inl e) = subst (λ (z : Bool). h - one_if z ≤ g - one_if x) (sym (s e)) (omega (arith, e))
-next_by g h true true s (inr d) = less d where
-  less : (suc h ≡ g) ⊎ (h ≡ 0) → h - 1 ≤ g - 1
-  less (inl e) = omega (arith, e)
-  less (inr e) = omega (arith, e)
-next_by g h true false s (inr d) = less d where
-  less : (suc h ≡ g) ⊎ (h ≡ 0) → h - 0 ≤ g - 1
-  less (inl e) = omega (arith, e)
-  less (inr e) = omega (arith, e)
-next_by g h false true s (inr d) = less d where
-  less : (suc h ≡ g) ⊎ (h ≡ 0) → h - 1 ≤ g - 0
-  less (inl e) = omega (arith, e)
-  less (inr e) = omega (arith, e)
-next_by g h false false s (inr d) = less d where
-  less : (suc h ≡ g) ⊎ (h ≡ 0) → h - 0 ≤ g - 0
-  less (inl e) = omega (arith, e)
-  less (inr e) = omega (arith, e)
+next_by g h x y s (inr (inl e)) = let a = one_small x in omega (arith, e, a)
+next_by g h x y s (inr (inr e)) = omega (arith, e)
 
 near : (a b : ℕ) → a ≤ b → b ≤ a + 1 → (b ≡ a) ⊎ (b ≡ a + 1)
 near a b h k = elim (eqb_tells b a) [ inl e ↦ inl e.1 | inr e ↦ inr (let d : b ≢ a = e.1 in omega (arith, h, k, d)) ]

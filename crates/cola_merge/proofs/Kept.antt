@@ -125,22 +125,8 @@ left-stays doublings level slot before now reader (feed.One c) d k at = refl
 left-stays doublings level slot before now reader feed.Nothing d k at = refl
 
 is_other : (reader other : Reader) → other ≢ reader → (f : Feed) (level : ℕ) → IsOther reader f (By other level)
-is_other reader other d (feed.Run run) level = λ e. d (by_same e)
-  where
-    reader_of : Buffer → Reader
-    reader_of (By r l) = r
-    reader_of _ = other
-
-    by_same : By other level ≡ By reader run.level → other ≡ reader
-    by_same e = ap reader_of e
-is_other reader other d (feed.Sampled run) level = λ e. d (by_same e)
-  where
-    reader_of : Buffer → Reader
-    reader_of (By r l) = r
-    reader_of _ = other
-
-    by_same : By other level ≡ By reader run.level → other ≡ reader
-    by_same e = ap reader_of e
+is_other reader other d (feed.Run run) level = λ e. d cc
+is_other reader other d (feed.Sampled run) level = λ e. d cc
 is_other reader other d (feed.One c) level = tt
 is_other reader other d feed.Nothing level = tt
 

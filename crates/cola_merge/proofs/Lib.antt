@@ -1,13 +1,13 @@
 pub mod Groups
 pub mod Kept
 pub mod Sums
-pub mod Woven
 pub mod Fronts
 pub mod Reading
 pub mod Ruling
 pub mod Pushing
 pub mod Stepping
 pub mod Taking
+pub mod Woven
 pub mod Advancing
 pub mod Ahead
 pub mod Pulling

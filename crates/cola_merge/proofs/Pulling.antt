@@ -15,61 +15,36 @@ use Rattle.cola_merge.specs.declared.aims.Aim.{Aim}
 use Rattle.cola_merge.specs.declared.rules.Choice.{Choice}
 use Rattle.cola_merge.specs.declared.merging.Merger.{Merger}
 use Rattle.cola_merge.specs.Feeds.{feed_of, feed_len}
-use Rattle.cola_merge.specs.Heads.{head_at, head_of, with_head, consumed, HasHeads, fetched}
+use Rattle.cola_merge.specs.Heads.{head_at, head_of, with_head, consumed, HasHeads}
 use Rattle.cola_merge.specs.Rules.{HeadFits, Suits, emitted_of, choice_cell}
 use Rattle.cola_merge.specs.States.{MergeState, TurnsWithin, StepCause, StepCalm}
 use Rattle.cola_merge.specs.Pulls.{AreInOrder, Gives, IsEndedBy, FitsGiven, given_cells, HasPullCause, IsFrugal, Pulls, Looked, Unread, Chosen, Gave, Drawn}
 use Rattle.cola_merge.proofs.Sums.{spends_none, spends_then, cause_then}
-use Rattle.cola_merge.proofs.Reading.{head_in, consumed-with, rises-with, fetched-with, left-with}
-use Rattle.cola_merge.proofs.Stepping.{held_fits, head_there, held_below, fetched_some, feed_left-next, passed_heads}
-use Rattle.cola_merge.proofs.Taking.{kept_at}
+use Rattle.cola_merge.proofs.Reading.{head_in, with_passed, consumed-with, rises-with}
+use Rattle.cola_merge.proofs.Stepping.{held_fits, head_there, held_below, passed_reads, passed_left, passed_heads}
+use Rattle.cola_merge.proofs.Taking.{kept_at, looked_none, heads_there}
 use Rattle.cola_merge.proofs.Ruling.{ended_is_used_up}
 use Rattle.cola_merge.proofs.Ahead.{ahead-next, ahead-none, ahead-same}
 
 -- ---- parts of a call
 
-pub gave_none : {aim : Aim} (s : MergeState) → HasHeads s.held aim s.merger → Gave aim s s []
-gave_none s h = record {
-  cells_stay = refl;
-  heads = h;
-  rises = λ reader. omega arith;
-  consumes = omega arith;
-  gives = λ _. refl;
-  spends = spends_none s.spent s.steps;
-  written_is = refl;
-  others_stay = λ buffer d. refl;
-  reads = omega arith;
-  turned = omega arith;
-  calm = refl;
-}
-
-gave_same : {aim : Aim} {s t u : MergeState} {given : List LawCell} → Gave aim s t [] → Gave aim (kept_at s.held t) u given → Gave aim s u given
-gave_same {aim} {s} {t} {u} {given} g h = record {
-  cells_stay = h.cells_stay;
-  heads = h.heads;
-  rises = λ reader. let x = g.rises reader in let y = h.rises reader in omega (arith, x, y);
-  consumes = more (consumed s.merger) (consumed t.merger) (consumed u.merger) (length given) g.consumes h.consumes;
-  gives = λ o. g.gives o ∙ h.gives o;
-  spends = spends_then g.spends h.spends;
-  written_is = h.written_is ∙ g.written_is;
-  others_stay = λ buffer d. h.others_stay buffer d ∙ g.others_stay buffer d;
-  reads = up s.steps t.steps u.steps (fetched aim s.merger) (fetched aim t.merger) (fetched aim u.merger) g.reads h.reads;
-  turned = at_most _ _ _ g.turned h.turned;
-  calm = h.calm ∙ g.calm;
-}
-  where
-    more : (x y z l : ℕ) → x + 0 ≤ y → y + l ≤ z → x + l ≤ z
-    more x y z l g h = omega (arith, g, h)
-
-    up : (i j k x y z : ℕ) → j + x ≤ i + y → k + y ≤ j + z → k + x ≤ i + z
-    up i j k x y z g h = omega (arith, g, h)
-
-    at_most : (a b c : ℕ) → b ≤ a → c ≤ b → c ≤ a
-    at_most a b c g h = omega (arith, g, h)
-
 -- cells are given behind source cells that gave none
 pub gave_then : {aim : Aim} {s t u : MergeState} {given : List LawCell} → Gave aim s t [] → Gave aim t u given → Gave aim s u given
-gave_then {aim} {s} {t} {u} {given} g h = gave_same g (subst (λ (x : Held). Gave aim (kept_at x t) u given) g.cells_stay h)
+gave_then {aim} {s} {t} {u} {given} g k =
+    let h = subst (λ (x : Held). Gave aim (kept_at x t) u given) g.cells_stay k in
+    record {
+      cells_stay = h.cells_stay;
+      heads = h.heads;
+      rises = λ reader. let x = g.rises reader in let y = h.rises reader in omega (arith, x, y);
+      consumes = omega (arith, g.consumes, h.consumes);
+      gives = λ o. g.gives o ∙ h.gives o;
+      spends = spends_then g.spends h.spends;
+      written_is = h.written_is ∙ g.written_is;
+      others_stay = λ buffer d. h.others_stay buffer d ∙ g.others_stay buffer d;
+      reads = omega (arith, g.reads, h.reads);
+      turned = omega (arith, g.turned, h.turned);
+      calm = h.calm ∙ g.calm;
+    }
 
 -- heads that were read
 gave_look : {aim : Aim} {s t : MergeState} → Looked aim s t → Gave aim s t []
@@ -87,6 +62,9 @@ gave_look {aim} {s} {t} f = record {
   calm = f.calm;
 }
 
+pub gave_none : {aim : Aim} (s : MergeState) → HasHeads s.held aim s.merger → Gave aim s s []
+gave_none s h = gave_look (looked_none s h)
+
 given_small : (c : Option Cell) → length (option_to_list (option_map as_cell c)) ≤ 1
 given_small None = omega arith
 given_small (Some c) = omega arith
@@ -101,11 +79,8 @@ passed_at t choice = record {
 }
 
 module _ {aim : Aim} {s t : MergeState} (choice : Choice) (h : Chosen aim s t (Some choice)) where
-  pub heads_chosen : HasHeads t.held aim t.merger
-  heads_chosen = subst (λ (x : Held). HasHeads x aim t.merger) (sym h.looked.looks.cells_stay) h.looked.looks.heads
-
   below : (head_of t.merger choice.head).at < feed_len (feed_of aim choice.head)
-  below = held_below t.held (feed_of aim choice.head) (head_of t.merger choice.head).at (head_of t.merger choice.head).cell (head_in choice.head heads_chosen).cell (head_there aim t.merger choice.head (choice_cell t.merger choice) h.asked)
+  below = held_below (head_in choice.head (heads_there h.looked)) (head_there aim t.merger choice.head (choice_cell t.merger choice) h.asked)
 
   one_more : consumed (passed_at t choice).merger ≡ consumed t.merger + 1
   one_more = consumed-with t.merger choice.head (head_at ((head_of t.merger choice.head).at + 1)) 1 refl
@@ -114,36 +89,32 @@ module _ {aim : Aim} {s t : MergeState} (choice : Choice) (h : Chosen aim s t (S
   gave_consumed : Gave aim t (passed_at t choice) (option_to_list (option_map as_cell (choice_cell t.merger choice)))
   gave_consumed = record {
     cells_stay = refl;
-    heads = passed_heads choice.head heads_chosen below;
+    heads = passed_heads choice.head (heads_there h.looked) below;
     rises = λ other. rises-with t.merger choice.head (head_at ((head_of t.merger choice.head).at + 1)) (omega arith) other;
     consumes = (let l = given_small (choice_cell t.merger choice) in let e = one_more in omega (arith, l, e));
-    gives = λ o. ahead-next t.held aim t.merger choice.head (choice_cell t.merger choice) heads_chosen h.fetched o h.asked;
+    gives = λ o. ahead-next t.held aim t.merger choice.head (choice_cell t.merger choice) (heads_there h.looked) h.fetched o h.asked;
     spends = spends_none t.spent t.steps;
     written_is = refl;
     others_stay = λ buffer d. refl;
-    reads = same t.steps (fetched aim (passed_at t choice).merger) (fetched aim t.merger) _ _ (fetched-with aim t.merger choice.head (head_at ((head_of t.merger choice.head).at + 1)))
-        (fetched_some (feed_of aim choice.head) (head_of t.merger choice.head) (head_there aim t.merger choice.head (choice_cell t.merger choice) h.asked));
-    turned = up t.spent.turned _ _
-        (left-with aim t.merger t.held.fixed.doublings t.spent.lasts t.spent.lasts 0 0 choice.head (head_at ((head_of t.merger choice.head).at + 1))
-        (let l = feed_left-next t.held.fixed.doublings t.spent.lasts choice.head (feed_of aim choice.head) (head_of t.merger choice.head).at below in omega (arith, l)) (λ buffer d. refl));
+    reads = (let a = passed_reads aim t.merger choice.head (head_there aim t.merger choice.head (choice_cell t.merger choice) h.asked) in omega (arith, a));
+    turned = (let l = passed_left aim t.merger t.held.fixed.doublings t.spent.lasts choice.head below in omega (arith, l));
     calm = refl;
   }
-    where
-      same : (j n m x y : ℕ) → n + y ≡ m + x → x ≡ y → j + m ≤ j + n
-      same j n m x y e f = omega (arith, e, f)
 
-      up : (k x y : ℕ) → 0 + x ≤ 0 + y → k + x ≤ k + y
-      up k x y l = omega (arith, l)
+  module _ {head passed : Head} (v : head ≡ head_of t.merger choice.head) (e : passed ≡ head_at (head.at + 1)) where
+    -- the head is read and consumed, and what becomes of its cell is given
+    pub gave_chosen : (cell : Option Cell) → cell ≡ emitted_of choice.pass head.cell →
+        Gave aim s (record { held = t.held; spent = t.spent; merger = with_head t.merger choice.head passed; steps = t.steps }) (option_to_list (option_map as_cell cell))
+    gave_chosen cell is =
+        subst (λ (x : Option Cell). Gave aim s (record { held = t.held; spent = t.spent; merger = with_head t.merger choice.head passed; steps = t.steps }) (option_to_list (option_map as_cell x)))
+        (sym (is ∙ ap (λ (x : Head). emitted_of choice.pass x.cell) v))
+        (subst (λ (x : Merger). Gave aim s (record { held = t.held; spent = t.spent; merger = x; steps = t.steps }) (option_to_list (option_map as_cell (choice_cell t.merger choice))))
+        (sym (with_passed t.merger choice.head head passed v e)) (gave_then (gave_look h.looked) gave_consumed))
 
-  -- the head is read and consumed, where the merger is named otherwise
-  pub gave_chosen : (o : Merger) → o ≡ (passed_at t choice).merger → Gave aim s (record { held = t.held; spent = t.spent; merger = o; steps = t.steps }) (option_to_list (option_map as_cell (choice_cell t.merger choice)))
-  gave_chosen o e = subst (λ (x : Merger). Gave aim s (record { held = t.held; spent = t.spent; merger = x; steps = t.steps }) (option_to_list (option_map as_cell (choice_cell t.merger choice)))) (sym e)
-      (gave_then (gave_look h.looked) gave_consumed)
-
-  pub consumed_chosen : (o : Merger) → o ≡ (passed_at t choice).merger → consumed s.merger < consumed o
-  consumed_chosen o e =
-      let x = h.looked.looks.at_is Own in let y = h.looked.looks.at_is Incoming in let z = h.looked.looks.at_is Sample in
-      let k : consumed o ≡ consumed t.merger + 1 = ap consumed e ∙ one_more in omega (arith, k, x, y, z)
+    pub consumed_chosen : consumed s.merger < consumed (with_head t.merger choice.head passed)
+    consumed_chosen =
+        let x = h.looked.looks.at_is Own in let y = h.looked.looks.at_is Incoming in let z = h.looked.looks.at_is Sample in
+        let k = ap consumed (with_passed t.merger choice.head head passed v e) ∙ one_more in omega (arith, k, x, y, z)
 
   -- the head of the choice, as it was asked for
   pub suits_by : {head : Head} → head ≡ head_of t.merger choice.head → Suits choice.pass head.cell
@@ -153,13 +124,6 @@ module _ {aim : Aim} {s t : MergeState} (choice : Choice) (h : Chosen aim s t (S
   given_fits cell fits e =
       fits (subst (λ (x : Head). HeadFits s.held.fixed.format x.cell) (sym e)
       (held_fits s.held (feed_of aim choice.head) (head_of t.merger choice.head).at (head_of t.merger choice.head).cell (head_in choice.head h.looked.looks.heads).cell))
-
-pub given_by : {head : Head} (n : Merger) (choice : Choice) → head ≡ head_of n choice.head → emitted_of choice.pass head.cell ≡ choice_cell n choice
-given_by n choice e = ap (λ (h : Head). emitted_of choice.pass h.cell) e
-
-pub given_gave : {aim : Aim} {s t : MergeState} (n : Merger) (choice : Choice) (cell : Option Cell) → cell ≡ choice_cell n choice
-    → Gave aim s t (option_to_list (option_map as_cell (choice_cell n choice))) → Gave aim s t (option_to_list (option_map as_cell cell))
-given_gave {aim} {s} {t} n choice cell e g = subst (λ (x : Option Cell). Gave aim s t (option_to_list (option_map as_cell x))) (sym e) g
 
 -- ---- the calls of a loop
 
@@ -230,7 +194,7 @@ module _ {aim : Aim} {s t u : MergeState} {fault : ReadFault} (g : Gave aim s t 
     consumes = (let x = rises Own in let y = rises Incoming in let z = rises Sample in omega (arith, x, y, z));
     cause = cause_then aim s.spent.faults t.spent.faults (kept_at s.held u) (step_of_read fault) g.calm (subst (λ (x : Held). StepCause aim t.spent.faults (kept_at x u) (step_of_read fault)) n.looks.cells_stay n.cause);
     calm = read_calm s.spent.faults t.spent.faults u.spent.faults fault g.calm n.calm;
-    ticks = (up s.steps t.steps u.steps (fetched aim s.merger) (fetched aim t.merger) (fetched aim u.merger) g.reads n.reads, n.left);
+    ticks = (omega (arith, g.reads, n.reads), n.left);
     spends = spends_then g.spends n.looks.spends;
     written = n.looks.written_is ∙ g.written_is;
     turned = tt;
@@ -238,9 +202,6 @@ module _ {aim : Aim} {s t u : MergeState} {fault : ReadFault} (g : Gave aim s t 
     where
       rises : (reader : Reader) → (head_of s.merger reader).at ≤ (head_of u.merger reader).at
       rises reader = let x = g.rises reader in let e = n.looks.at_is reader in omega (arith, x, e)
-
-      up : (i j k x y z : ℕ) → j + x ≤ i + y → k + y ≤ j + (z + 1) → k + x ≤ i + (z + 1)
-      up i j k x y z g h = omega (arith, g, h)
 
 pub pulls : {aim : Aim} {s t : MergeState} (result : Result (Option Cell) ReadFault) → Drawn aim s t result → Pulls aim s t result
 pulls (Ok (Some c)) d = let g = d.draws.0 in one_of (Ok (Some c)) g refl g.gives tt d.draws.1 tt g.calm g.reads g.turned

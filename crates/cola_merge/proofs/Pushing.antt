@@ -1,5 +1,5 @@
 -- What an emitted cell changes.
-use Rattle.std.proofs.Common.{◌≡◌, ◌≢◌, ◌⊎◌, inl, inr, ℕ, zero, suc, ◌+◌, ◌*◌, ◌/◌, ◌%◌, ◌^◌, ◌<◌, ◌≤◌, ◌==◌, List, [], ◌∷◌, ◌++◌, Option, Some, None, Result, Ok, Err, refl, ap, sym, subst, ◌∙◌, arith}
+use Rattle.std.proofs.Common.{◌≡◌, ◌≢◌, ◌⊎◌, inl, inr, ℕ, zero, suc, ◌+◌, ◌*◌, ◌/◌, ◌%◌, ◌^◌, ◌<◌, ◌≤◌, ◌==◌, List, [], ◌∷◌, ◌++◌, Option, Some, Result, Ok, Err, refl, ap, sym, subst, ◌∙◌, arith}
 use Rattle.std.proofs.lemmas.Bool.Decides.{eqb_tells}
 use Rattle.std.proofs.lemmas.Nat.{div_below}
 use Rattle.std.proofs.Math.Nat.{div-add-mod}
@@ -17,15 +17,10 @@ use Rattle.cola_cell.proofs.RunLemmas.{pushed_is_told, slot_stays}
 use Rattle.cola_cell.specs.ToldCells.{cell_at, IsTold, cells, shadow_cells, IsShadowTold}
 use Rattle.cola_merge.specs.States.{Grows, Spends, KeepsBlocks, Emitted, PushFailed, Unpushed, Emission}
 use Rattle.cola_cell.proofs.CellLists.{cells-same, cells-more}
-use Rattle.cola_merge.proofs.Kept.{grows_none, forgets_keeps}
+use Rattle.cola_merge.proofs.Kept.{forgets_keeps}
 use Rattle.cola_merge.proofs.Groups.{div-next}
-use Rattle.cola_merge.proofs.Sums.{spends_none}
 
-append_nil : {X : Type 0} (xs : List X) → xs ≡ xs ++ []
-append_nil [] = refl
-append_nil (x ∷ xs) = ap (λ z. x ∷ z) (append_nil xs)
-
-span_pos : (d : ℕ) → 0 < 8 * 2 ^ d
+pub span_pos : (d : ℕ) → 0 < 8 * 2 ^ d
 span_pos d = let h : 0 < 2 ^ d = pow_pos d in omega (arith, h)
 
 -- ---- any push
@@ -50,16 +45,13 @@ push_spends : {A : Type 0} {old new : State} {level : ℕ} {result : Result A Pu
     (n ≡ 0 → new.spent.written ≡ old.spent.written) → n ≤ 1 → Spends old.spent new.spent from to
 push_spends {old = old} {new = new} n from to w k e z l = record {
   steps_stay = omega (arith, e);
-  ticked_is = ticks n from to old.spent.ticked new.spent.ticked e (subst (λ (m : ℕ). new.spent.ticked % 2 ^ 64 ≡ (old.spent.ticked + m) % 2 ^ 64) k w.writes.ticks_made);
+  ticked_is = let h = subst (λ (m : ℕ). new.spent.ticked % 2 ^ 64 ≡ (old.spent.ticked + m) % 2 ^ 64) k w.writes.ticks_made in omega (arith, e, h);
   turned_stays = omega (arith, w.writes.turned_is);
   written_stays = w.writes.written_stays;
   transfers = moved n from to old.spent.turned new.spent.turned old.spent.written new.spent.written e w.writes.turned_is w.writes.written_rises z l;
   faults_stay = w.writes.faults_stay;
 }
   where
-    ticks : (n from to a b : ℕ) → to ≡ from + n → b % 2 ^ 64 ≡ (a + n) % 2 ^ 64 → (b + from) % 2 ^ 64 ≡ (a + to) % 2 ^ 64
-    ticks n from to a b e h = omega (arith, e, h)
-
     moved : (n from to a b x y : ℕ) → to ≡ from + n → b ≡ a → y ≤ x + 1 → (n ≡ 0 → y ≡ x) → n ≤ 1 → b + y + from ≤ a + x + to
     moved zero from to a b x y e f h z l = let k : y ≡ x = z refl in omega (arith, e, f, k)
     moved (suc n) from to a b x y e f h z l = omega (arith, e, f, h, l)
@@ -78,7 +70,7 @@ same_shadow {old} {new} {level} g e =
     (λ k h. g.others_stay level (old.shadows level).slot k (inr (inr (omega (arith, h)))))
 
 -- a place of the shadow that was told is told
-still_told : {old new : Held} {level : ℕ} → Grows old new level → (i : ℕ) → i < (old.shadows level).len → IsTold (old.spots level (old.shadows level).slot i) → IsTold (new.spots level (new.shadows level).slot i)
+pub still_told : {old new : Held} {level : ℕ} → Grows old new level → (i : ℕ) → i < (old.shadows level).len → IsTold (old.spots level (old.shadows level).slot i) → IsTold (new.spots level (new.shadows level).slot i)
 still_told {old} {new} {level} g i h t =
     subst (λ (s : ℕ). IsTold (new.spots level s i)) (sym g.slot_is)
     (subst (λ (x : Spot). x ≡ Told (cell_at x)) (sym (g.others_stay level (old.shadows level).slot i (inr (inr h)))) t)
@@ -140,22 +132,6 @@ emitted_push {A} {old} {new} {level} {c} a from to p w e level_in slot_in =
       | inr d ↦ let k : i < (old.held.shadows level).len = (let f : i ≢ (old.held.shadows level).len = d.1 in omega (arith, m, f)) in still_told g i k (h i k)
     ]
 
--- nothing to emit
-pub emitted_none : (s : State) (level n : ℕ) → Emitted s s level None n n
-emitted_none s level n = record {
-  grows = grows_none s.held level;
-  len_is = omega arith;
-  done = λ _. append_nil (shadow_cells s.held level);
-  told = λ _ h. h;
-  saved = record { still = λ _. refl; grew = λ h. absurd (omega (arith, h)) };
-  spends = spends_none s.spent n;
-  ticks = omega arith;
-  turned_is = refl;
-  keeps = λ buffer l s k d. refl;
-  written = omega arith;
-  calm = refl;
-}
-
 -- ---- a push that is refused
 
 refused_len : (A : Type 0) (size : ℕ) (shadow : Shadow) (fault : PushFault) → (after_push {A = A} size shadow (Err fault)).len ≡ shadow.len
@@ -190,9 +166,6 @@ unpushed {A} {old} {new} {level} {c} fault from to p w e =
     }
 
 -- ---- a cell, if there is one
-
-pub none_emitted : {s : State} {level : ℕ} (cell : Option Cell) (n : ℕ) → cell ≡ None → Emitted s s level cell n n
-none_emitted {s} {level} cell n e = subst (λ (x : Option Cell). Emitted s s level x n n) (sym e) (emitted_none s level n)
 
 pub emission_of : {A : Type 0} {old new : State} {level : ℕ} (cell : Option Cell) (c : Cell) (slot from to : ℕ) (result : Result A PushFault) → cell ≡ Some c →
     Pushes old new level c result → PushSpends old new level result → to ≡ from + push_ticks result → level < old.held.fixed.levels → slot < 2 → slot ≡ (old.held.shadows level).slot →

@@ -1,33 +1,35 @@
 -- What the rules take of the heads that are held, and that it is the step of the laws.
-use Rattle.std.proofs.Common.{◌≡◌, ℕ, ◌+◌, ◌*◌, ◌^◌, ◌<◌, ◌≤◌, Bool, true, false, cond, List, Option, Some, None, IsSome, refl, ap, sym, subst, ◌∙◌, arith}
+use Rattle.std.proofs.Common.{◌≡◌, ℕ, ◌+◌, ◌*◌, ◌/◌, ◌^◌, ◌<◌, ◌≤◌, Bool, true, false, cond, List, length, Option, Some, None, IsSome, refl, ap, sym, subst, ◌∙◌, arith}
 use Rattle.std.specs.declared.cmp.Ordering.{Ordering}
 use Rattle.std.specs.declared.cmp.Ordering.TheVariants.{Less, Equal, Greater}
 use Rattle.std.specs.Ordering.{is_gt, match_ordering}
 use Rattle.std.specs.Option.{option_map}
 use Rattle.std.specs.List.{slice_get}
 use Rattle.std.proofs.lemmas.Bool.{true≢false}
-use Rattle.std.proofs.lemmas.Option.{slice_get-map}
+use Rattle.std.proofs.lemmas.List.{length-map}
+use Rattle.std.proofs.Math.Pow.{pow_mono}
+use Rattle.std.proofs.Math.Nat.{div-le_self}
+use Rattle.std.proofs.lemmas.Option.{slice_get-map, none-some}
 use Rattle.cola_runs.specs.Cells as laws
 use Rattle.cola_runs.specs.Weave.{Part}
 use Rattle.cola_runs.specs.Steps as runs
 use Rattle.cola_runs.specs.Steps.{Action, Take, Ended, Build, emitted, item_or_look, least, rule, skips_own, skips_incoming, after, step}
 use Rattle.cola_cell.specs.declared.cell.Cell.{Cell}
+use Rattle.cola_cell.specs.declared.cell.Run.{Run}
 use Rattle.cola_cell.specs.declared.cell.Cell.TheVariants as cell
 use Rattle.cola_cell.specs.Cell.{key_of}
-use Rattle.cola_cell.specs.Places.{slot_size}
-use Rattle.cola_cell.specs.Held.{Held, Fixed, LawCell, Stamped, as_cell}
+use Rattle.cola_cell.specs.Held.{Held, Fixed, Told, Tells, LawCell, Stamped, as_cell}
 use Rattle.cola_cell.proofs.RunLemmas.{given_is_told}
-use Rattle.cola_cell.proofs.PlaceNumbers.{slot_size-mono}
 use Rattle.cola_merge.specs.declared.aims.Feed.{Feed}
 use Rattle.cola_merge.specs.declared.aims.Feed.TheVariants as feed
 use Rattle.cola_merge.specs.declared.aims.Aim.{Aim}
 use Rattle.cola_merge.specs.declared.merging.Merger.{Merger}
 use Rattle.cola_cell.specs.ToldCells.{cell_at}
 use Rattle.cola_cell.specs.Order.{key_cmp}
-use Rattle.cola_merge.specs.Feeds.{part_of, feed_len, feed_spots, feed_cells, feed_keys, IsFeedTold, IsFeed}
+use Rattle.cola_merge.specs.Feeds.{part_of, feed_len, feed_spots, feed_cells, feed_keys, IsFeedTold, IsFeed, IsSource}
 use Rattle.cola_merge.specs.Heads.{IsHeldCell, HasHeads, IsUsedUp, AreFetched, AreFeedsTold, build_of}
 use Rattle.cola_merge.specs.Rules.{next_action}
-use Rattle.cola_cell.proofs.CellLists.{get-cells, past-cells}
+use Rattle.cola_cell.proofs.CellLists.{get-cells, past-cells, length-cells}
 
 -- ---- what a rule takes is there
 
@@ -82,21 +84,9 @@ module _ {K V : Type 0} (cmp : K → K → Ordering) (part : Part) (link : ℕ) 
 not_below : (at n : ℕ) → (at < n → ⊥) → n ≤ at
 not_below at n h = omega (arith, h)
 
-none_left : (f : Feed) (at : ℕ) (c : Option Cell) → option_map as_cell c ≡ None → (at < feed_len f → IsSome c) → feed_len f ≤ at
-none_left f at None e h = not_below at (feed_len f) (λ l. true≢false (sym (h l)))
-none_left f at (Some c) e h = absurd (true≢false (ap is_there e))
-  where
-    is_there : Option LawCell → Bool
-    is_there None = false
-    is_there (Some x) = true
-
-no_key : (f : Feed) (at : ℕ) (c : Option Cell) → option_map key_of c ≡ None → (at < feed_len f → IsSome c) → feed_len f ≤ at
-no_key f at None e h = not_below at (feed_len f) (λ l. true≢false (sym (h l)))
-no_key f at (Some c) e h = absurd (true≢false (ap is_there e))
-  where
-    is_there : Option (List ℕ) → Bool
-    is_there None = false
-    is_there (Some x) = true
+none_left : {X : Type 0} (read : Cell → X) (f : Feed) (at : ℕ) (c : Option Cell) → option_map read c ≡ None → (at < feed_len f → IsSome c) → feed_len f ≤ at
+none_left read f at None e h = not_below at (feed_len f) (λ l. true≢false (sym (h l)))
+none_left read f at (Some c) e h = absurd (none-some (read c) (sym e))
 
 -- where the rules end, each feed is used up
 pub ended_is_used_up : (aim : Aim) (m : Merger) → AreFetched aim m → Ended ≡ next_action aim m → IsUsedUp aim m
@@ -105,23 +95,33 @@ ended_is_used_up aim m f e =
     subst (IsTaken (option_map as_cell m.own.cell) (option_map as_cell m.incoming.cell) (option_map key_of m.sample.cell)) (sym e)
     (rule_taken key_cmp (part_of aim) (8 * m.sample.at) (option_map as_cell m.own.cell) (option_map as_cell m.incoming.cell) (option_map key_of m.sample.cell)) in
     record {
-      own = none_left aim.own m.own.at m.own.cell t.0 f.own;
-      incoming = none_left aim.incoming m.incoming.at m.incoming.cell t.1 f.incoming;
-      sample = no_key aim.sample m.sample.at m.sample.cell t.2 f.sample;
+      own = none_left as_cell aim.own m.own.at m.own.cell t.0 f.own;
+      incoming = none_left as_cell aim.incoming m.incoming.at m.incoming.cell t.1 f.incoming;
+      sample = none_left key_of aim.sample m.sample.at m.sample.cell t.2 f.sample;
     }
 
 -- ---- the heads are the cells at the cursors
+
+pub feed_length : (held : Held) (f : Feed) → length (feed_cells held f) ≡ feed_len f
+feed_length held f = length-cells (feed_spots held f) 0 (feed_len f)
+
+pub keys_length : (held : Held) (f : Feed) → length (feed_keys held f) ≡ feed_len f
+keys_length held f = length-map (feed_cells held f) laws.key_of ∙ feed_length held f
+
+-- the told cell of a feed at a cursor
+pub told_get : (held : Held) (f : Feed) (at : ℕ) (c : LawCell) → at < feed_len f → IsFeedTold held f → Tells (feed_spots held f at) (Told c) → slice_get (feed_cells held f) at ≡ Some c
+told_get held f at c l told h =
+    get-cells (feed_spots held f) 0 (feed_len f) at l
+    ∙ ap (λ (n : ℕ). Some (cell_at (feed_spots held f n))) (let z : 0 + at ≡ at = omega arith in z)
+    ∙ ap Some (given_is_told (feed_spots held f at) (cell_at (feed_spots held f at)) c (told at l) h)
 
 pub held_is : (held : Held) (f : Feed) (at : ℕ) (c : Option Cell) → IsHeldCell held f at c → (at < feed_len f → IsSome c) → IsFeedTold held f →
     option_map as_cell c ≡ slice_get (feed_cells held f) at
 held_is held f at None h t told = sym (past-cells (feed_spots held f) 0 (feed_len f) at (not_below at (feed_len f) (λ l. true≢false (sym (t l)))))
 held_is held f at (Some c) h t told =
-    let e : cell_at (feed_spots held f at) ≡ as_cell c = given_is_told (feed_spots held f at) (cell_at (feed_spots held f at)) (as_cell c) (told at h.0) h.1 in
-    sym (get-cells (feed_spots held f) 0 (feed_len f) at h.0
-    ∙ ap (λ (n : ℕ). Some (cell_at (feed_spots held f n))) (let z : 0 + at ≡ at = omega arith in z)
-    ∙ ap (λ (x : LawCell). Some x) e)
+    sym (told_get held f at (as_cell c) h.0 told h.1)
 
-key_of-as_cell : (c : Cell) → key_of c ≡ laws.key_of (as_cell c)
+pub key_of-as_cell : (c : Cell) → key_of c ≡ laws.key_of (as_cell c)
 key_of-as_cell (cell.Item key item young link) = refl
 key_of-as_cell (cell.Look key link) = refl
 
@@ -142,9 +142,7 @@ action_of_heads held aim m r f t =
     let s : option_map as_cell m.sample.cell ≡ slice_get (feed_cells held aim.sample) m.sample.at = held_is held aim.sample m.sample.at m.sample.cell r.sample.cell f.sample t.sample in
     let k : option_map key_of m.sample.cell ≡ slice_get keys m.sample.at =
     keys-as_cell m.sample.cell ∙ ap (option_map laws.key_of) s ∙ sym (slice_get-map laws.key_of (feed_cells held aim.sample) m.sample.at) in
-    ap (λ (x : Option LawCell). rule key_cmp (part_of aim) (8 * m.sample.at) x (option_map as_cell m.incoming.cell) (option_map key_of m.sample.cell)) a
-    ∙ ap (λ (x : Option LawCell). rule key_cmp (part_of aim) (8 * m.sample.at) (slice_get own m.own.at) x (option_map key_of m.sample.cell)) b
-    ∙ ap (λ (x : Option (List ℕ)). rule key_cmp (part_of aim) (8 * m.sample.at) (slice_get own m.own.at) (slice_get incoming m.incoming.at) x) k
+    cc
 
 -- the step of the laws is that of the heads
 pub step_of_heads : (held : Held) (aim : Aim) (m : Merger) → HasHeads held aim m → AreFetched aim m → AreFeedsTold held aim →
@@ -154,10 +152,15 @@ step_of_heads held aim m r f t = ap (λ (x : Action (List ℕ) Stamped). after x
 
 -- ---- a cursor is small
 
+-- the length of a feed
+run_small : (fixed : Fixed) (run : Run) → fixed.levels ≤ 23 → IsSource fixed run → run.len ≤ 2 ^ 25
+run_small fixed run few s = let a = s.level_in in let b = s.within in let c : 2 ^ (run.level + 2) ≤ 2 ^ 25 = pow_mono (let z : run.level + 2 ≤ 25 = omega (arith, a, few) in z) in omega (arith, b, c)
+
+pub feed_small : (fixed : Fixed) (f : Feed) → fixed.levels ≤ 23 → IsFeed fixed f → feed_len f ≤ 2 ^ 25
+feed_small fixed (feed.Run run) few s = run_small fixed run few s
+feed_small fixed (feed.Sampled run) few s = let a = run_small fixed run few s in let d : run.len / 8 ≤ run.len = div-le_self run.len 8 in omega (arith, a, d)
+feed_small fixed (feed.One c) few s = omega arith
+feed_small fixed feed.Nothing few s = omega arith
+
 pub small_cursor : (fixed : Fixed) (f : Feed) (at : ℕ) → fixed.levels ≤ 23 → IsFeed fixed f → at ≤ feed_len f → 8 * at < 2 ^ 32
-small_cursor fixed (feed.Run run) at l h e =
-    let a : slot_size run.level ≤ slot_size 22 = slot_size-mono run.level 22 (omega (arith, h.level_in, l)) in omega (arith, a, h.within, e)
-small_cursor fixed (feed.Sampled run) at l h e =
-    let a : slot_size run.level ≤ slot_size 22 = slot_size-mono run.level 22 (omega (arith, h.level_in, l)) in omega (arith, a, h.within, e)
-small_cursor fixed (feed.One c) at l h e = omega (arith, e)
-small_cursor fixed feed.Nothing at l h e = omega (arith, e)
+small_cursor fixed f at l h e = let a = feed_small fixed f l h in omega (arith, a, e)

@@ -1,5 +1,5 @@
 -- How steps add up.
-use Rattle.std.proofs.Common.{◌≡◌, ◌≢◌, inl, inr, ℕ, zero, suc, ◌+◌, ◌*◌, ◌/◌, ◌%◌, ◌^◌, ◌<◌, ◌≤◌, ◌==◌, List, refl, ap, sym, subst, ◌∙◌, arith}
+use Rattle.std.proofs.Common.{◌≡◌, ◌≢◌, inl, inr, ℕ, zero, suc, ◌+◌, ◌*◌, ◌/◌, ◌%◌, ◌^◌, ◌<◌, ◌≤◌, ◌==◌, List, ap, sym, subst, ◌∙◌, arith}
 use Rattle.std.specs.declared.cmp.Ordering.{Ordering}
 use Rattle.std.proofs.lemmas.Bool.Decides.{eqb_tells}
 use Rattle.cola_outside.specs.Faults.{Rose}
@@ -9,17 +9,15 @@ use Rattle.cola_runs.specs.Steps.{Build, step, steps}
 use Rattle.cola_cell.specs.declared.sink.Shadow.{Shadow}
 use Rattle.cola_cell.specs.declared.fault.StepFault.{StepFault}
 use Rattle.cola_cell.specs.declared.fault.StepFault.TheVariants.{Device, BadCell, Overfull}
-use Rattle.cola_cell.specs.Places.{slot_size}
-use Rattle.cola_cell.specs.Held.{Fixed, LawCell, Stamped, IsTelling, span}
+use Rattle.cola_cell.specs.Held.{Fixed, LawCell, IsTelling, span}
 use Rattle.cola_cell.specs.Spent.{Spent}
 use Rattle.cola_cell.proofs.RunLemmas.{telling_stays}
 use Rattle.cola_merge.specs.declared.aims.Aim.{Aim}
 use Rattle.cola_cell.specs.Order.{key_cmp}
-use Rattle.cola_merge.specs.Feeds.{part_of, read_len, feed_cells, feed_keys}
-use Rattle.cola_merge.specs.Heads.{consumed, IsReady, missing, fetched, AreFeedsTold, build_of}
-use Rattle.cola_merge.specs.States.{Spends, MergeState, len_of, blocks_in_all, Goes, Took, Refused, StepCause, StepCalm, failed_push}
-use Rattle.cola_merge.proofs.Kept.{grows_none, grows_then, feed_cells-stay, feeds_told-stay}
-use Rattle.std.proofs.Common.{map}
+use Rattle.cola_merge.specs.Feeds.{part_of, feed_cells, feed_keys}
+use Rattle.cola_merge.specs.Heads.{IsReady, AreFeedsTold, build_of}
+use Rattle.cola_merge.specs.States.{Spends, MergeState, len_of, blocks_in_all, Goes, Took, Refused, StepCause, StepCalm}
+use Rattle.cola_merge.proofs.Kept.{grows_then, feed_cells-stay, feeds_told-stay}
 
 -- ---- steps of the laws
 
@@ -54,29 +52,6 @@ spends_then {a} {b} {c} {i} {j} {k} g h = record {
 
 -- ---- steps
 
-pub goes_none : {aim : Aim} (s : MergeState) → IsReady s.held aim s.merger → Goes aim s s 0
-goes_none {aim} s r = record {
-  ready = r;
-  grows = grows_none s.held aim.level;
-  consumes = omega arith;
-  rises = λ reader. omega arith;
-  emits = omega arith;
-  samples = omega arith;
-  builds = λ _ _. refl;
-  told = λ _ h. h;
-  spends = spends_none s.spent s.steps;
-  lasts = λ buffer b l s k d. refl;
-}
-
-plus : (a b c m n : ℕ) → b ≡ a + m → c ≡ b + n → c ≡ a + (m + n)
-plus a b c m n e f = omega (arith, e, f)
-
-under : (a b c x y z : ℕ) → b + x ≤ a + y → c + y ≤ b + z → c + x ≤ a + z
-under a b c x y z e f = omega (arith, e, f)
-
-over : (a b c x y z : ℕ) → a + y ≤ b + x → b + z ≤ c + y → a + z ≤ c + x
-over a b c x y z e f = omega (arith, e, f)
-
 builds_then : {aim : Aim} {s t u : MergeState} {m n : ℕ} → (g : Goes aim s t m) (h : Goes aim t u n) → IsReady s.held aim s.merger → IsTelling s.held → (f : AreFeedsTold s.held aim) →
     build_of u.held aim u.merger ≡ steps key_cmp (part_of aim) (feed_cells s.held aim.own) (feed_cells s.held aim.incoming) (feed_keys s.held aim.sample) (m + n) (build_of s.held aim s.merger)
 builds_then {aim} {s} {t} {u} {m} {n} g h r tells f =
@@ -85,46 +60,25 @@ builds_then {aim} {s} {t} {u} {m} {n} g h r tells f =
     let keys : List (List ℕ) = feed_keys s.held aim.sample in
     let stays = feed_cells-stay g.grows aim.slot r.slot_is in
     let first : build_of t.held aim t.merger ≡ steps key_cmp (part_of aim) own incoming keys m (build_of s.held aim s.merger) = g.builds tells f in
-    h.builds (telling_stays s.held t.held aim.level g.grows.around tells) (feeds_told-stay g.grows r f)
-    ∙ ap (λ (x : List LawCell). steps key_cmp (part_of aim) x (feed_cells t.held aim.incoming) (feed_keys t.held aim.sample) n (build_of t.held aim t.merger)) (stays aim.own r.own_apart)
-    ∙ ap (λ (x : List LawCell). steps key_cmp (part_of aim) own x (feed_keys t.held aim.sample) n (build_of t.held aim t.merger)) (stays aim.incoming r.incoming_apart)
-    ∙ ap (λ (x : List LawCell). steps key_cmp (part_of aim) own incoming (map laws.key_of x) n (build_of t.held aim t.merger)) (stays aim.sample r.sample_apart)
-    ∙ ap (λ (p : Build (List ℕ) Stamped). steps key_cmp (part_of aim) own incoming keys n p) first
-    ∙ sym (steps-add key_cmp (part_of aim) own incoming keys m n (build_of s.held aim s.merger))
+    let second = h.builds (telling_stays s.held t.held aim.level g.grows.around tells) (feeds_told-stay g.grows r f) in
+    let a = stays aim.own r.own_apart in
+    let b = stays aim.incoming r.incoming_apart in
+    let c = stays aim.sample r.sample_apart in
+    let all = steps-add key_cmp (part_of aim) own incoming keys m n (build_of s.held aim s.merger) in cc
 
 pub goes_then : {aim : Aim} {s t u : MergeState} {m n : ℕ} → IsReady s.held aim s.merger → Goes aim s t m → Goes aim t u n → Goes aim s u (m + n)
 goes_then {aim} {s} {t} {u} {m} {n} r g h = record {
   ready = h.ready;
   grows = grows_then g.grows h.grows;
-  consumes = plus (consumed s.merger) (consumed t.merger) (consumed u.merger) m n g.consumes h.consumes;
+  consumes = omega (arith, g.consumes, h.consumes);
   rises = λ reader. let a = g.rises reader in let b = h.rises reader in omega (arith, a, b);
-  emits = under (len_of aim s) (len_of aim t) (len_of aim u) (consumed s.merger) (consumed t.merger) (consumed u.merger) g.emits h.emits;
-  samples = over (len_of aim s) (len_of aim t) (len_of aim u) s.merger.sample.at t.merger.sample.at u.merger.sample.at g.samples h.samples;
+  emits = omega (arith, g.emits, h.emits);
+  samples = omega (arith, g.samples, h.samples);
   builds = λ tells f. builds_then g h r tells f;
   told = λ tells w. h.told (telling_stays s.held t.held aim.level g.grows.around tells) (g.told tells w);
   spends = spends_then g.spends h.spends;
   lasts = λ buffer b l q k d. h.lasts buffer b l q k d ∙ g.lasts buffer b l q k d;
 }
-
-pub took_none : {aim : Aim} (s : MergeState) → IsReady s.held aim s.merger → Took aim s s 0
-took_none {aim} s r = record {
-  goes = goes_none s r;
-  ticks = omega arith;
-  reads = omega arith;
-  turned = omega arith;
-  written = omega arith;
-  saved = record { still = λ _. refl; grew = λ h. absurd (omega (arith, h)) };
-  calm = refl;
-}
-
-twice : (a b c x y z m n : ℕ) → b + y ≤ a + x + 2 * m → c + z ≤ b + y + 2 * n → c + z ≤ a + x + 2 * (m + n)
-twice a b c x y z m n e f = omega (arith, e, f)
-
-sums : (a b c p q r x y z : ℕ) → b + p + x ≤ a + q + y → c + q + y ≤ b + r + z → c + p + x ≤ a + r + z
-sums a b c p q r x y z e f = omega (arith, e, f)
-
-at_most : (a b c : ℕ) → b ≤ a → c ≤ b → c ≤ a
-at_most a b c e f = omega (arith, e, f)
 
 grew_then : (span x y z : ℕ) (t u : Shadow) → x ≤ y → y ≤ z → x < z → (z ≡ y → u ≡ t) → (x < y → t.saved ≡ (y % span == 0)) → (y < z → u.saved ≡ (z % span == 0)) → u.saved ≡ (z % span == 0)
 grew_then span x y z t u h k l same first second = elim (eqb_tells z y) [
@@ -148,10 +102,10 @@ took_then {aim} {s} {t} {u} {m} {n} r g h =
     let b = took_by g.goes h in
     record {
       goes = goes_then r g.goes h.goes;
-      ticks = twice s.steps t.steps u.steps (missing s.merger) (missing t.merger) (missing u.merger) m n g.ticks h.ticks;
-      reads = sums s.steps t.steps u.steps (fetched aim s.merger) (fetched aim t.merger) (fetched aim u.merger) (len_of aim s) (len_of aim t) (len_of aim u) g.reads h.reads;
-      turned = at_most _ _ _ g.turned b.0;
-      written = under s.spent.written t.spent.written u.spent.written (len_of aim s / span s.held) (len_of aim t / span s.held) (len_of aim u / span s.held) g.written b.1;
+      ticks = omega (arith, g.ticks, h.ticks);
+      reads = omega (arith, g.reads, h.reads);
+      turned = omega (arith, g.turned, b.0);
+      written = omega (arith, g.written, b.1);
       saved = record {
         still = λ f. both_still g.goes.grows.len_rises h.goes.grows.len_rises f;
         grew = λ l. grew_then (span s.held) (len_of aim s) (len_of aim t) (len_of aim u) (t.held.shadows aim.level) (u.held.shadows aim.level)
@@ -175,15 +129,6 @@ calm_then before between now Device e c = tt
 calm_then before between now (BadCell number) e c = c ∙ e
 calm_then before between now (Overfull level) e c = c ∙ e
 
-once_more : (a b c x y z m n : ℕ) → b + y ≤ a + x + 2 * m → c + z ≤ b + y + (2 * n + 1) → c + z ≤ a + x + (2 * (m + n) + 1)
-once_more a b c x y z m n e f = omega (arith, e, f)
-
-all_read : (a b c p q x y r z : ℕ) → b + p + x ≤ a + q + y → c + q + y ≤ b + r + z → c + p + x ≤ a + r + z
-all_read a b c p q x y r z e f = omega (arith, e, f)
-
-under_more : (a b c x y z : ℕ) → b + x ≤ a + y → c + y ≤ b + (z + 1) → c + x ≤ a + (z + 1)
-under_more a b c x y z e f = omega (arith, e, f)
-
 pub refused_then : {aim : Aim} {s t u : MergeState} {m n : ℕ} {fault : StepFault} → IsReady s.held aim s.merger → Took aim s t m → Refused aim t u n fault → Refused aim s u (m + n) fault
 refused_then {aim} {s} {t} {u} {m} {n} {fault} r g h =
     let e : t.held.fixed ≡ s.held.fixed = g.goes.grows.around.fixed_is in
@@ -191,10 +136,10 @@ refused_then {aim} {s} {t} {u} {m} {n} {fault} r g h =
     subst (λ (f : Fixed). u.spent.written + len_of aim t / (8 * 2 ^ f.doublings) ≤ t.spent.written + (len_of aim u / (8 * 2 ^ f.doublings) + 1)) e h.written in
     record {
       goes = goes_then r g.goes h.goes;
-      ticks = once_more s.steps t.steps u.steps (missing s.merger) (missing t.merger) (missing u.merger) m n g.ticks h.ticks;
-      reads = λ l. all_read s.steps t.steps u.steps (fetched aim s.merger) (fetched aim t.merger) (len_of aim s) (len_of aim t) (read_len aim.own + read_len aim.incoming + read_len aim.sample) (slot_size aim.level) g.reads (h.reads (g.goes.grows.len_fits l));
-      pushes = all_read s.steps t.steps u.steps (fetched aim s.merger) (fetched aim t.merger) (len_of aim s) (len_of aim t) (read_len aim.own + read_len aim.incoming + read_len aim.sample) (len_of aim u + failed_push fault) g.reads h.pushes;
-      written = under_more s.spent.written t.spent.written u.spent.written (len_of aim s / span s.held) (len_of aim t / span s.held) (len_of aim u / span s.held) g.written written;
+      ticks = omega (arith, g.ticks, h.ticks);
+      reads = λ l. let a = h.reads (g.goes.grows.len_fits l) in omega (arith, g.reads, a);
+      pushes = omega (arith, g.reads, h.pushes);
+      written = omega (arith, g.written, written);
       cause = cause_then aim s.spent.faults t.spent.faults u fault g.calm h.cause;
       calm = calm_then s.spent.faults t.spent.faults u.spent.faults fault g.calm h.calm;
     }

@@ -2,7 +2,7 @@
 use Rattle.std.proofs.Common.{◌≡◌, ◌≢◌, ◌⊎◌, inl, inr, ℕ, suc, ◌+◌, ◌*◌, ◌/◌, ◌<◌, ◌≤◌, List, [], ◌∷◌, Some, refl, ap, sym, ◌∙◌, arith}
 use Rattle.std.specs.Option.{option_map}
 use Rattle.std.specs.List.{slice_get}
-use Rattle.std.proofs.lemmas.Option.{slice_get-map, none-some}
+use Rattle.std.proofs.lemmas.Option.{slice_get-map, none-some, same_Some}
 use Rattle.std.proofs.lemmas.Bool.Decides.{leb_tells}
 use Rattle.cola_runs.specs.Cells as laws
 use Rattle.cola_runs.specs.Cells.{sample}
@@ -22,14 +22,11 @@ use Rattle.cola_cell.proofs.CellLists.{get-cells, past-cells}
 
 -- ---- the sample
 
-some_same : {X : Type 0} (x y : X) → Some x ≡ Some y → x ≡ y
-some_same x y e = cc
-
 same_lists : {X : Type 0} (xs ys : List X) → ((i : ℕ) → slice_get xs i ≡ slice_get ys i) → xs ≡ ys
 same_lists [] [] h = refl
 same_lists [] (y ∷ ys) h = absurd (none-some y (h 0))
 same_lists (x ∷ xs) [] h = absurd (none-some x (sym (h 0)))
-same_lists {X} (x ∷ xs) (y ∷ ys) h = ap (λ (z : X). z ∷ xs) (some_same x y (h 0)) ∙ ap (λ (zs : List X). y ∷ zs) (same_lists xs ys (λ i. h (suc i)))
+same_lists {X} (x ∷ xs) (y ∷ ys) h = ap (λ (z : X). z ∷ xs) (same_Some x y (h 0)) ∙ ap (λ (zs : List X). y ∷ zs) (same_lists xs ys (λ i. h (suc i)))
 
 -- a cell of the sample, by where it stands
 sampled_cell : (spots : ℕ → Spot) (len i : ℕ) → (len / 8 ≤ i) ⊎ (i < len / 8) → slice_get (cells (λ k. spots (8 * k + 7)) 0 (len / 8)) i ≡ slice_get (cells spots 0 len) (8 * i + 7)

@@ -1,67 +1,56 @@
 -- Steps over windows are steps of the merge.
-use Rattle.std.proofs.Common.{◌≡◌, ◌≢◌, ◌⊎◌, inl, inr, ℕ, zero, suc, ◌+◌, ◌-◌, ◌*◌, ◌/◌, ◌%◌, ◌^◌, ◌<◌, ◌≤◌, ◌==◌, Bool, true, false, if◌then◌else◌, List, [], ◌∷◌, ◌++◌, length, take, drop, Option, Some, None, refl, ap, sym, subst, ◌∙◌, arith}
+use Rattle.std.proofs.Common.{◌≡◌, ◌≢◌, ◌⊎◌, inl, inr, ℕ, zero, suc, ◌+◌, ◌-◌, ◌*◌, ◌/◌, ◌%◌, ◌<◌, ◌≤◌, ◌==◌, Bool, true, false, if◌then◌else◌, List, [], ◌∷◌, ◌++◌, length, take, drop, Option, Some, None, map, refl, ap, sym, subst, ◌∙◌, arith}
+use Rattle.std.proofs.lemmas.Bool.{eqb-true, false_from_ne_true}
 use Rattle.std.proofs.lemmas.Bool.Decides.{eqb_tells, leb_tells}
-use Rattle.std.proofs.lemmas.List.{append_assoc, length-drop}
-use Rattle.std.proofs.lemmas.Option.{slice_get_past, slice_get-map}
+use Rattle.std.proofs.lemmas.List.{append_assoc, append-nil, length-drop, take_all}
+use Rattle.std.proofs.lemmas.Option.{slice_get-map}
 use Rattle.std.specs.Option.{option_map}
-use Rattle.std.proofs.Math.Pow.{pow_mono}
-use Rattle.std.proofs.Math.Nat.{div-le_self}
+use Rattle.std.specs.Prelude.{IfSome}
 use Rattle.cola_runs.specs.Cells as laws
-use Rattle.cola_cell.specs.declared.cell.Cell.TheVariants as cell
-use Rattle.cola_cell.specs.Decoded.{decoded, spot_of_bytes, stands}
+use Rattle.cola_cell.specs.Decoded.{decoded, spot_of_bytes, stands, standing}
 use Rattle.cola_cell.specs.Flat.{spot_of}
-use Rattle.cola_cell.proofs.DecodedLemmas.{decoded_fits}
-use Rattle.cola_cell.specs.Held.{Fixed}
-use Rattle.cola_merge.specs.Heads.{IsHeldCell, fetched_of}
-use Rattle.cola_merge.specs.Feeds.{IsFeed}
-use Rattle.cola_merge.specs.Weaving.{gone_cell, gone}
-use Rattle.cola_merge.proofs.Sums.{took_none}
-use Rattle.std.proofs.lemmas.Nat.{le-div, mod-mul-add, pow_pos}
+use Rattle.cola_cell.proofs.DecodedLemmas.{decoded_fits, decoded_is, standing-is, spot_told}
+use Rattle.cola_merge.specs.Heads.{IsHeldCell, fetched_of, head_of, consumed, IsHead, IsReady, held_head, missing_head, missing, fetched, AreFeedsTold, build_of}
+use Rattle.cola_merge.specs.Weaving.{gone_cell, gone, Passes, PassesOver, IsIncoming, with_incoming, one_at, unless_given, rules_of, IsReachOf, IsIncomingReachOf, IsSampleReachOf}
+use Rattle.cola_merge.proofs.Taking.{took_none}
+use Rattle.std.proofs.lemmas.Nat.{le-div, mod-mul-add}
 use Rattle.std.proofs.Math.Nat.{div-mul-le_self, div-add-mod, mul_comm, lt_of_mul-lt-mul_right}
-use Rattle.cola_cell.specs.declared.cell.Run.{Run}
 use Rattle.cola_cell.specs.declared.format.Format.TheVariants.{One, Two}
-use Rattle.cola_cell.specs.Held.{Tells}
+use Rattle.cola_cell.specs.Held.{Tells, Held, Spot, Told, LawCell, as_cell, span, IsTelling}
 use Rattle.cola_cell.specs.Places.{Block}
-use Rattle.cola_cell.proofs.CellLists.{get-cells, past-cells}
-use Rattle.cola_cell.proofs.DecodedLemmas.{spot_told}
-use Rattle.cola_cell.proofs.RunLemmas.{given_is_told}
+use Rattle.cola_cell.proofs.CellLists.{past-cells, cells-same, cells-more}
+use Rattle.cola_cell.proofs.RunLemmas.{put_is_told}
 use Rattle.cola_merge.specs.declared.aims.Feed.{Feed}
 use Rattle.cola_merge.specs.declared.aims.Feed.TheVariants as feed
-use Rattle.cola_merge.specs.Feeds.{feed_len, feed_spots, IsFeedTold, IsApart}
-use Rattle.cola_merge.specs.Blocks.{Lasts, is_last}
-use Rattle.cola_merge.proofs.Kept.{left-stays}
+use Rattle.cola_merge.specs.Feeds.{feed_len, feed_spots, IsFeed, IsFeedTold, IsApart, part_of, feed_cells, feed_keys}
+use Rattle.cola_merge.specs.Blocks.{Lasts, is_last, feed_left}
+use Rattle.cola_merge.proofs.Groups.{div-mono}
+use Rattle.cola_merge.proofs.Kept.{left-stays, ready-stays}
+use Rattle.cola_merge.proofs.Pushing.{span_pos, still_told}
+use Rattle.cola_merge.proofs.Ruling.{told_get, key_of-as_cell}
+use Rattle.cola_merge.proofs.Reading.{heads_of, ready_by, heads_with, one_of}
 use Rattle.cola_merge.proofs.Stepping.{feed_left-next}
-use Rattle.cola_cell.specs.Windows.{IsShown, grown}
+use Rattle.cola_cell.specs.Spelling.{IsSpelling}
+use Rattle.cola_cell.specs.Windows.{Views, IsShown, grown, Grown, OnlyTicks, Wove, cell_bytes_at}
 use Rattle.cola_cell.specs.declared.cell.Cell.{Cell}
 use Rattle.cola_cell.specs.declared.format.Format.{Format}
 use Rattle.cola_cell.specs.declared.sink.Shadow.{Shadow}
-use Rattle.cola_cell.specs.Decoded.{standing}
-use Rattle.cola_cell.specs.Held.{Held, Spot, Told, LawCell, as_cell, span, IsTelling}
 use Rattle.cola_cell.specs.State.{State}
 use Rattle.cola_cell.specs.ToldCells.{cell_at, IsTold, cells, shadow_cells, IsShadowTold}
-use Rattle.cola_cell.proofs.CellLists.{cells-same, cells-more}
-use Rattle.cola_cell.specs.Format.{width}
+use Rattle.cola_cell.specs.Format.{width, CellFits}
 use Rattle.cola_cell.specs.Order.{key_cmp}
-use Rattle.cola_cell.specs.Held.{Stamped}
 use Rattle.cola_cell.specs.Spent.{Buffer}
 use Rattle.cola_cell.specs.declared.cell.Reader.{Reader}
 use Rattle.cola_cell.specs.declared.cell.Reader.TheVariants.{Own, Incoming, Sample}
-use Rattle.cola_cell.proofs.RunLemmas.{put_is_told}
-use Rattle.cola_runs.specs.Steps.{Build, steps}
+use Rattle.cola_runs.specs.Steps.{steps}
 use Rattle.cola_window.specs.Windows as windows
 use Rattle.cola_window.specs.Windows.{cells_in, Shows, key_read, behind}
 use Rattle.cola_window.specs.declared.windows.Rules.{Rules}
 use Rattle.cola_merge.specs.declared.aims.Aim.{Aim}
 use Rattle.cola_merge.specs.declared.merging.Merger.{Merger}
 use Rattle.cola_merge.specs.declared.weaving.Share.{Share}
-use Rattle.cola_merge.specs.Blocks.{feed_left}
-use Rattle.cola_merge.specs.Feeds.{part_of, feed_cells, feed_keys, feed_of}
 use Rattle.cola_merge.specs.Fetched.{Head}
-use Rattle.cola_merge.specs.Heads.{head_of, consumed, IsHead, IsReady, missing_head, missing, held_head, fetched, AreFeedsTold, build_of}
-use Rattle.cola_merge.specs.States.{Grows, Spends, Goes, Took, IsSavedByBlocks, state, KeepsBlocks, MergeState, blocks_in_all}
-use Rattle.cola_merge.specs.Weaving.{Passes, held_heads, rules_of, bytes_of, lasts_of, IsReachOf, IsSampleReachOf}
-use Rattle.cola_merge.proofs.Kept.{ready-stays}
-use Rattle.cola_cell.specs.Windows.{Grown, OnlyTicks, Wove, cell_bytes_at}
+use Rattle.cola_merge.specs.States.{Grows, Spends, Took, IsSavedByBlocks, state, KeepsBlocks, MergeState, blocks_in_all}
 use Rattle.cola_cell.specs.declared.windows.Reach.{Reach}
 
 widen : {A B C D : Type 0} → A ⊎ (B ⊎ C) → A ⊎ (B ⊎ (C ⊎ D))
@@ -82,10 +71,6 @@ grown_grows {old} {new} {level} {count} g =
       others_stay = λ l s i d. g.others_stay l s i (widen d);
     }
 
-nothing_more : {X : Type 0} (xs : List X) → xs ≡ xs ++ []
-nothing_more [] = refl
-nothing_more (x ∷ xs) = ap (λ (ys : List _). x ∷ ys) (nothing_more xs)
-
 -- the cells of places that go on as a room spells
 pub cells-grown : (format : Format) (f g : ℕ → Spot) (len n : ℕ) (room : List ℕ) → ((k : ℕ) → k < len → f k ≡ g k) →
     ((k : ℕ) → k < n → f (len + k) ≡ Told (as_cell (standing format (cell_bytes_at format k room)))) →
@@ -93,7 +78,7 @@ pub cells-grown : (format : Format) (f g : ℕ → Spot) (len n : ℕ) (room : L
 cells-grown format f g len zero room h k =
     ap (λ (m : ℕ). cells f 0 m) (let e : len + 0 ≡ len = omega arith in e)
     ∙ cells-same f g 0 len (λ j l. h j (omega (arith, l)))
-    ∙ nothing_more (cells g 0 len)
+    ∙ sym (append-nil (cells g 0 len))
 cells-grown format f g len (suc n) room h k =
     ap (λ (m : ℕ). cells f 0 m) (let e : len + suc n ≡ suc (len + n) = omega arith in e)
     ∙ cells-more f 0 (len + n)
@@ -104,20 +89,14 @@ cells-grown format f g len (suc n) room h k =
 
 -- ticks alone are spent
 pub only_spends : {old new : State} {from to count : ℕ} → OnlyTicks old new from to count → Spends old.spent new.spent from to
-only_spends {old} {new} {from} {to} {count} o =
-    let e = o.steps_are in
-    let t = o.ticked_are in
-    let f = o.faults_are in
-    let u = o.turned_is in
-    let w = o.written_is in
-    record {
-      steps_stay = omega (arith, e);
-      ticked_is = omega (arith, e, t);
-      turned_stays = omega (arith, u);
-      written_stays = omega (arith, w);
-      transfers = omega (arith, e, u, w);
-      faults_stay = omega (arith, f);
-    }
+only_spends o = record {
+  steps_stay = omega (arith, o.steps_are);
+  ticked_is = omega (arith, o.steps_are, o.ticked_are);
+  turned_stays = omega (arith, o.turned_is);
+  written_stays = omega (arith, o.written_is);
+  transfers = omega (arith, o.steps_are, o.turned_is, o.written_is);
+  faults_stay = omega (arith, o.faults_are);
+}
 
 -- a shadow that fills no block
 in_block : (n c k : ℕ) → 0 < k → n % k + c < k → (n + c) % k ≡ n % k + c
@@ -128,21 +107,11 @@ in_block n c k p h =
 grown_zero : (x : Shadow) → grown 0 x ≡ x
 grown_zero x = ap (λ (l : ℕ). record { slot = x.slot; len = l; saved = x.saved }) (let e : x.len + 0 ≡ x.len = omega arith in e)
 
-not_zero : (c : ℕ) → (suc c == 0) ≡ false
-not_zero c = elim (eqb_tells (suc c) 0) [ inl e ↦ let f : suc c ≡ 0 = e.1 in absurd (omega (arith, f)) | inr e ↦ e.0 ]
-
 grown_saved : (c : ℕ) (x : Shadow) (k : ℕ) → 0 < k → c ≢ 0 → x.len % k + c < k → (grown c x).saved ≡ ((x.len + c) % k == 0)
-grown_saved zero x k p d h = absurd (d refl)
-grown_saved (suc c) x k p d h = elim (eqb_tells ((x.len + suc c) % k) 0) [
-  | inl e ↦ let f : (x.len + suc c) % k ≡ 0 = e.1 in let z : (x.len + suc c) % k ≡ x.len % k + suc c = in_block x.len (suc c) k p h in absurd (omega (arith, f, z))
-  | inr e ↦ ap (λ (b : Bool). if b then x.saved else false) (not_zero c) ∙ sym e.0
+grown_saved c x k p d h = elim (eqb_tells ((x.len + c) % k) 0) [
+  | inl e ↦ let f : (x.len + c) % k ≡ 0 = e.1 in let z : (x.len + c) % k ≡ x.len % k + c = in_block x.len c k p h in absurd (d (omega (arith, f, z)))
+  | inr e ↦ ap (λ (b : Bool). if b then x.saved else false) (false_from_ne_true (c == 0) (λ y. d (eqb-true c 0 y))) ∙ sym e.0
 ]
-
-span_some : (d : ℕ) → 0 < 8 * 2 ^ d
-span_some d = let h : 0 < 2 ^ d = pow_pos d in omega (arith, h)
-
-div_grows : (n c k : ℕ) → 0 < k → n / k ≤ (n + c) / k
-div_grows n c k p = let e : n / k * k ≤ n = div-mul-le_self n k in le-div (n / k) (n + c) k p (omega (arith, e))
 
 -- a feed has no more blocks left behind more of its cells
 left_falls : (d : ℕ) (lasts : Lasts) (reader : Reader) (f : Feed) (at n : ℕ) → at + n ≤ feed_len f → feed_left d lasts reader f (at + n) ≤ feed_left d lasts reader f at
@@ -153,14 +122,6 @@ left_falls d lasts reader f at (suc n) h =
     let e : feed_left d lasts reader f (at + suc n) ≡ feed_left d lasts reader f (at + n + 1) = ap (λ (x : ℕ). feed_left d lasts reader f x) (let z : at + suc n ≡ at + n + 1 = omega arith in z) in
     omega (arith, l, k, e)
 
-left_moves : (d level slot : ℕ) (before now : Lasts) (reader : Reader) (f : Feed) (at to n : ℕ) → IsApart level slot f → ((buffer : Buffer) → KeepsBlocks level slot buffer before now) → to ≡ at + n → at + n ≤ feed_len f →
-    feed_left d now reader f to ≤ feed_left d before reader f at
-left_moves d level slot before now reader f at to n apart keeps e h =
-    let a = left_falls d now reader f at n h in
-    let b = left-stays d level slot before now reader f apart keeps at in
-    let c : feed_left d now reader f to ≡ feed_left d now reader f (at + n) = ap (λ (x : ℕ). feed_left d now reader f x) e in
-    omega (arith, a, b, c)
-
 -- ---- what windows show
 
 width_some : (format : Format) → 0 < width format
@@ -169,10 +130,6 @@ width_some Two = omega arith
 
 cells_fit : (w a b : ℕ) → a * w < b * w → a < b
 cells_fit w a b h = lt_of_mul-lt-mul_right w {m = a} {n = b} h
-
--- cells that were taken of a window stand in it
-taken_fits : (w a b : ℕ) → 0 < w → a * w ≤ b * w → a ≤ b
-taken_fits w a b p h = let e : (b + 1) * w ≡ b * w + w = grind arith in let z : a < b + 1 = cells_fit w a (b + 1) (omega (arith, h, e, p)) in omega (arith, z)
 
 -- a place of a window where a cell begins
 place_fits : (w n many : ℕ) (bytes : List ℕ) → length bytes ≡ many * w → w ≤ length (drop (n * w) bytes) → 0 < w → n < many
@@ -186,124 +143,51 @@ place_ends w n many bytes e h =
     let f : (n + 1) * w ≡ n * w + w = grind arith in
     let z : many < n + 1 = cells_fit w many (n + 1) (omega (arith, d, e, h, f)) in omega (arith, z)
 
-shows_run : (held : Held) (run : Run) (at : ℕ) (bytes : List ℕ) (is_last : Bool) → IsShown held (record { run = run; from = at }) bytes is_last → IsFeedTold held (feed.Run run) →
-    Shows as_cell held.fixed.format (width held.fixed.format) is_last bytes (feed_cells held (feed.Run run)) at
-shows_run held run at bytes is_last s told = record {
-  cells = λ n fits spelled.
-      let below : n < s.many = place_fits (width held.fixed.format) n s.many bytes s.size fits (width_some held.fixed.format) in
-      let within = s.within in
-      let inside : at + n < run.len = omega (arith, below, within) in
-      get-cells (feed_spots held (feed.Run run)) 0 run.len (at + n) inside
-      ∙ ap (λ (j : ℕ). Some (cell_at (held.spots run.level run.slot j))) (let e : 0 + (at + n) ≡ at + n = omega arith in e)
-      ∙ ap Some (given_is_told (held.spots run.level run.slot (at + n)) (cell_at (held.spots run.level run.slot (at + n))) (as_cell (standing held.fixed.format (cell_bytes_at held.fixed.format n bytes))) (told (at + n) inside)
-      (subst (λ (x : Spot). Tells (held.spots run.level run.slot (at + n)) x) (spot_told held.fixed.format (standing held.fixed.format (cell_bytes_at held.fixed.format n bytes)) (cell_bytes_at held.fixed.format n bytes) spelled) (s.shows n below)));
-  ends = λ n short last.
-      let past = place_ends (width held.fixed.format) n s.many bytes s.size short in
-      let ends = s.ends last in
-      past-cells (feed_spots held (feed.Run run)) 0 run.len (at + n) (omega (arith, past, ends));
-}
+-- the next cells of a feed are cells of a run from a place on, so many from one to the next, and these are so many bytes
+record IsReached (held : Held) (f : Feed) (apart step at : ℕ) (reach : Reach) : Type 0 where
+  step_is : step ≡ apart * width held.fixed.format
+  stands : (n : ℕ) → reach.from + apart * n < reach.run.len →
+      (at + n < feed_len f) × (held.spots reach.run.level reach.run.slot (reach.from + apart * n) ≡ feed_spots held f (at + n))
+  past : (n : ℕ) → reach.run.len ≤ reach.from + apart * n → feed_len f ≤ at + n
+  fetched : (head : Head) → IsHead held f head → fetched_of f head ≡ head.at + held_head head.cell
 
-shows_nothing : {X : Type 0} (read : Cell → X) (held : Held) (step : ℕ) (at : ℕ) (bytes : List ℕ) (is_last : Bool) → length bytes ≡ 0 → Shows read held.fixed.format step is_last bytes [] at
-shows_nothing read held step at bytes is_last e = record {
-  cells = λ n fits spelled. let d : length (drop (n * step) bytes) ≡ length bytes - n * step = length-drop (n * step) bytes in let p = width_some held.fixed.format in absurd (omega (arith, d, e, fits, p));
-  ends = λ n short last. slice_get_past [] (at + n) (omega arith);
-}
+none_fetched : (held : Held) (at : ℕ) (c : Option Cell) → at ≤ 0 → IsHeldCell held feed.Nothing at c → 0 ≡ at + held_head c
+none_fetched held at None l h = omega (arith, l)
+none_fetched held at (Some c) l h = let k : at < 0 = h.0 in absurd (omega (arith, k))
 
-none_shown : (held : Held) (bytes : List ℕ) (is_last : Bool) → IsShown held (record { run = record { level = 0; slot = 0; len = 0 }; from = 0 }) bytes is_last → length bytes ≡ 0
-none_shown held bytes is_last s =
-    let w = s.within in let z : s.many ≡ 0 = omega (arith, w) in
-    s.size ∙ ap (λ (x : ℕ). x * width held.fixed.format) z ∙ (let y : 0 * width held.fixed.format ≡ 0 = grind arith in y)
+none_reached : (held : Held) (apart step at : ℕ) (reach : Reach) → step ≡ apart * width held.fixed.format → reach ≡ record { run = record { level = 0; slot = 0; len = 0 }; from = 0 } →
+    IsReached held feed.Nothing apart step at reach
+none_reached held apart step at reach s e = subst (IsReached held feed.Nothing apart step at) (sym e) (record {
+  step_is = s;
+  stands = λ n h. absurd (omega (arith, h));
+  past = λ n h. omega arith;
+  fetched = λ head h. none_fetched held head.at head.cell h.within h.cell;
+})
 
-shows_feed : (held : Held) (f : Feed) (at : ℕ) (reach : Reach) (bytes : List ℕ) (is_last : Bool) → IsReachOf f at reach → IsShown held reach bytes is_last → IsFeedTold held f →
-    Shows as_cell held.fixed.format (width held.fixed.format) is_last bytes (feed_cells held f) at
-shows_feed held (feed.Run run) at reach bytes is_last e s told = shows_run held run at bytes is_last (subst (λ (x : Reach). IsShown held x bytes is_last) e s) told
-shows_feed held (feed.Sampled run) at reach bytes is_last e s told = absurd e
-shows_feed held (feed.One c) at reach bytes is_last e s told = absurd e
-shows_feed held feed.Nothing at reach bytes is_last e s told =
-    shows_nothing as_cell held (width held.fixed.format) at bytes is_last (none_shown held bytes is_last (subst (λ (x : Reach). IsShown held x bytes is_last) e s))
+reached : (held : Held) (f : Feed) (at : ℕ) (reach : Reach) → IsReachOf f at reach → IsReached held f 1 (width held.fixed.format) at reach
+reached held (feed.Run run) at reach e = subst (IsReached held (feed.Run run) 1 (width held.fixed.format) at) (sym e) (record {
+  step_is = omega arith;
+  stands = λ n h. (omega (arith, h), ap (held.spots run.level run.slot) (let z : at + 1 * n ≡ at + n = omega arith in z));
+  past = λ n h. omega (arith, h);
+  fetched = λ head h. refl;
+})
+reached held (feed.Sampled run) at reach e = absurd e
+reached held (feed.One c) at reach e = absurd e
+reached held feed.Nothing at reach e = none_reached held 1 (width held.fixed.format) at reach (omega arith) e
 
--- a cursor that went on in its feed stays in it
-feed_within : (held : Held) (f : Feed) (at taken : ℕ) (reach : Reach) (bytes : List ℕ) (is_last : Bool) → IsReachOf f at reach → IsShown held reach bytes is_last → at ≤ feed_len f → taken * width held.fixed.format ≤ length bytes → at + taken ≤ feed_len f
-feed_within held (feed.Run run) at taken reach bytes is_last e s h l =
-    let v : IsShown held (record { run = run; from = at }) bytes is_last = subst (λ (x : Reach). IsShown held x bytes is_last) e s in
-    let within = v.within in
-    let size = v.size in
-    let few : taken ≤ v.many = taken_fits (width held.fixed.format) taken v.many (width_some held.fixed.format) (omega (arith, size, l)) in
-    omega (arith, within, few, h)
-feed_within held (feed.Sampled run) at taken reach bytes is_last e s h l = absurd e
-feed_within held (feed.One c) at taken reach bytes is_last e s h l = absurd e
-feed_within held feed.Nothing at taken reach bytes is_last e s h l =
-    let z : length bytes ≡ 0 = none_shown held bytes is_last (subst (λ (x : Reach). IsShown held x bytes is_last) e s) in
-    let few : taken ≤ 0 = taken_fits (width held.fixed.format) taken 0 (width_some held.fixed.format) (omega (arith, z, l)) in
-    omega (arith, few, h)
-
--- the sample
-key_same : (c : Cell) → laws.key_of (as_cell c) ≡ key_read c
-key_same (cell.Item key item young link) = refl
-key_same (cell.Look key link) = refl
-
-shows_sampled : (held : Held) (run : Run) (at : ℕ) (bytes : List ℕ) (last : Bool) → IsShown held (record { run = run; from = 8 * at + 7 }) bytes last → IsFeedTold held (feed.Sampled run) →
-    Shows key_read held.fixed.format (8 * width held.fixed.format) last bytes (feed_keys held (feed.Sampled run)) at
-shows_sampled held run at bytes last s told = record {
-  cells = λ n fits spelled.
-      let w = width held.fixed.format in
-      let far : n * (8 * w) ≡ 8 * n * w = grind arith in
-      let below : 8 * n < s.many = place_fits w (8 * n) s.many bytes s.size (subst (λ (x : ℕ). w ≤ length (drop x bytes)) far fits) (width_some held.fixed.format) in
-      let within = s.within in
-      let inside : at + n < run.len / 8 = (let z : (at + n + 1) * 8 ≤ run.len = omega (arith, below, within) in let y = le-div (at + n + 1) run.len 8 (omega arith) z in omega (arith, y)) in
-      let bytes_here : List ℕ = take w (drop (n * (8 * w)) bytes) in
-      let same : cell_bytes_at held.fixed.format (8 * n) bytes ≡ bytes_here = ap (λ (x : ℕ). take w (drop x bytes)) (sym far) in
-      let there : Tells (held.spots run.level run.slot (8 * (at + n) + 7)) (spot_of_bytes held.fixed.format bytes_here) =
-      subst (λ (x : List ℕ). Tells (held.spots run.level run.slot (8 * (at + n) + 7)) (spot_of_bytes held.fixed.format x)) same
-      (subst (λ (x : ℕ). Tells (held.spots run.level run.slot x) (spot_of_bytes held.fixed.format (cell_bytes_at held.fixed.format (8 * n) bytes))) (let z : 8 * at + 7 + 8 * n ≡ 8 * (at + n) + 7 = omega arith in z) (s.shows (8 * n) below)) in
-      let found : cell_at (held.spots run.level run.slot (8 * (at + n) + 7)) ≡ as_cell (standing held.fixed.format bytes_here) =
-      given_is_told (held.spots run.level run.slot (8 * (at + n) + 7)) (cell_at (held.spots run.level run.slot (8 * (at + n) + 7))) (as_cell (standing held.fixed.format bytes_here)) (told (at + n) inside)
-      (subst (λ (x : Spot). Tells (held.spots run.level run.slot (8 * (at + n) + 7)) x) (spot_told held.fixed.format (standing held.fixed.format bytes_here) bytes_here spelled) there) in
-      slice_get-map laws.key_of (feed_cells held (feed.Sampled run)) (at + n)
-      ∙ ap (λ (x : Option LawCell). option_map laws.key_of x) (get-cells (feed_spots held (feed.Sampled run)) 0 (run.len / 8) (at + n) inside
-      ∙ ap (λ (j : ℕ). Some (cell_at (feed_spots held (feed.Sampled run) j))) (let e : 0 + (at + n) ≡ at + n = omega arith in e)
-      ∙ ap Some found)
-      ∙ ap Some (key_same (standing held.fixed.format bytes_here));
-  ends = λ n short is.
-      let w = width held.fixed.format in
-      let far : n * (8 * w) ≡ 8 * n * w = grind arith in
-      let past = place_ends w (8 * n) s.many bytes s.size (subst (λ (x : ℕ). length (drop x bytes) < w) far short) in
-      let ends = s.ends is in
-      let less : run.len / 8 ≤ at + n = (let d : run.len / 8 * 8 ≤ run.len = div-mul-le_self run.len 8 in omega (arith, d, past, ends)) in
-      slice_get-map laws.key_of (feed_cells held (feed.Sampled run)) (at + n)
-      ∙ ap (λ (x : Option LawCell). option_map laws.key_of x) (past-cells (feed_spots held (feed.Sampled run)) 0 (run.len / 8) (at + n) less);
-}
-
-shows_sample : (held : Held) (f : Feed) (at : ℕ) (reach : Reach) (bytes : List ℕ) (last : Bool) → IsSampleReachOf f at reach → IsShown held reach bytes last → IsFeedTold held f →
-    Shows key_read held.fixed.format (8 * width held.fixed.format) last bytes (feed_keys held f) at
-shows_sample held (feed.Run run) at reach bytes last e s told = absurd e
-shows_sample held (feed.Sampled run) at reach bytes last e s told = shows_sampled held run at bytes last (subst (λ (x : Reach). IsShown held x bytes last) e s) told
-shows_sample held (feed.One c) at reach bytes last e s told = absurd e
-shows_sample held feed.Nothing at reach bytes last e s told =
-    shows_nothing key_read held (8 * width held.fixed.format) at bytes last (none_shown held bytes last (subst (λ (x : Reach). IsShown held x bytes last) e s))
-
-sampled_within : (held : Held) (f : Feed) (at taken : ℕ) (reach : Reach) (bytes : List ℕ) (last : Bool) → IsSampleReachOf f at reach → IsShown held reach bytes last → at ≤ feed_len f →
-    taken * (8 * width held.fixed.format) ≤ length bytes + 7 * width held.fixed.format → at + taken ≤ feed_len f
-sampled_within held (feed.Run run) at taken reach bytes last e s h l = absurd e
-sampled_within held (feed.Sampled run) at taken reach bytes last e s h l =
-    let v : IsShown held (record { run = run; from = 8 * at + 7 }) bytes last = subst (λ (x : Reach). IsShown held x bytes last) e s in
-    let w = width held.fixed.format in
-    let within = v.within in
-    let size = v.size in
-    let left : 8 * taken * w ≡ taken * (8 * w) = grind arith in
-    let right : (v.many + 7) * w ≡ v.many * w + 7 * w = grind arith in
-    let few : 8 * taken ≤ v.many + 7 = taken_fits w (8 * taken) (v.many + 7) (width_some held.fixed.format) (omega (arith, size, l, left, right)) in
-    let d : run.len / 8 * 8 ≤ run.len = div-mul-le_self run.len 8 in
-    le-div (at + taken) run.len 8 (omega arith) (omega (arith, d, h, few, within))
-sampled_within held (feed.One c) at taken reach bytes last e s h l = absurd e
-sampled_within held feed.Nothing at taken reach bytes last e s h l =
-    let z : length bytes ≡ 0 = none_shown held bytes last (subst (λ (x : Reach). IsShown held x bytes last) e s) in
-    let w = width held.fixed.format in
-    let left : 8 * taken * w ≡ taken * (8 * w) = grind arith in
-    let few : 8 * taken ≤ 7 = taken_fits w (8 * taken) 7 (width_some held.fixed.format) (omega (arith, z, l, left)) in
-    omega (arith, few, h)
-
--- ---- heads that went on
+sample_reached : (held : Held) (f : Feed) (at : ℕ) (reach : Reach) → IsSampleReachOf f at reach → IsReached held f 8 (8 * width held.fixed.format) at reach
+sample_reached held (feed.Run run) at reach e = absurd e
+sample_reached held (feed.Sampled run) at reach e = subst (IsReached held (feed.Sampled run) 8 (8 * width held.fixed.format) at) (sym e) (record {
+  step_is = refl;
+  stands = λ n h. (
+    (let y = le-div (at + n + 1) run.len 8 (omega arith) (omega (arith, h)) in omega (arith, y)),
+    ap (held.spots run.level run.slot) (let z : 8 * at + 7 + 8 * n ≡ 8 * (at + n) + 7 = omega arith in z),
+  );
+  past = λ n h. let d : run.len / 8 * 8 ≤ run.len = div-mul-le_self run.len 8 in omega (arith, d, h);
+  fetched = λ head h. refl;
+})
+sample_reached held (feed.One c) at reach e = absurd e
+sample_reached held feed.Nothing at reach e = none_reached held 8 (8 * width held.fixed.format) at reach refl e
 
 stands_so : (format : Format) (bytes : List ℕ) (P : Option Cell → Type 0) → P None → (width format ≤ length bytes → (c : Cell) → decoded format (take (width format) bytes) ≡ Some c → P (Some c)) → P (stands format bytes)
 stands_so format bytes P none some = elim (leb_tells (width format) (length bytes)) [
@@ -320,96 +204,235 @@ gone_so format zero bytes (Some c) P kept new = kept
 gone_so format zero bytes None P kept new = new
 gone_so format (suc n) bytes cell P kept new = new
 
-stands_run : (held : Held) (run : Run) (at count : ℕ) (bytes : List ℕ) (last : Bool) → IsShown held (record { run = run; from = at }) bytes last →
-    IsHeldCell held (feed.Run run) (at + count) (stands held.fixed.format (drop (count * width held.fixed.format) bytes))
-stands_run held run at count bytes last s =
-    stands_so held.fixed.format (drop (count * width held.fixed.format) bytes) (IsHeldCell held (feed.Run run) (at + count)) tt
-    (λ fits c is.
-    let below : count < s.many = place_fits (width held.fixed.format) count s.many bytes s.size fits (width_some held.fixed.format) in
-    let within = s.within in (
-      omega (arith, below, within),
-      subst (λ (x : Option Cell). Tells (held.spots run.level run.slot (at + count)) (spot_of x)) is (s.shows count below),
-      decoded_fits held.fixed.format (cell_bytes_at held.fixed.format count bytes) c is,
-    ))
+-- a head that went on by so many cells
+record HasGone (held : Held) (f : Feed) (head next : Head) (n : ℕ) : Type 0 where
+  at_is : next.at ≡ head.at + n
+  is_head : IsHead held f next
+  fetched : fetched_of f next + held_head head.cell ≡ fetched_of f head + n + held_head next.cell
 
-head_run : (held : Held) (run : Run) (head : Head) (count : ℕ) (bytes : List ℕ) (last : Bool) → IsShown held (record { run = run; from = head.at }) bytes last → IsHead held (feed.Run run) head → head.at + count ≤ run.len →
-    IsHead held (feed.Run run) (gone held.fixed.format (width held.fixed.format) count bytes head)
-head_run held run head count bytes last s h l = record {
-  within = l;
-  cell = gone_so held.fixed.format count (drop (count * width held.fixed.format) bytes) head.cell (λ n x. IsHeldCell held (feed.Run run) (head.at + n) x)
-      (subst (λ (n : ℕ). IsHeldCell held (feed.Run run) n head.cell) (let e : head.at ≡ head.at + 0 = omega arith in e) h.cell)
-      (stands_run held run head.at count bytes last s);
+module _ {held : Held} {f : Feed} {apart step at : ℕ} {reach : Reach} {bytes : List ℕ} {last : Bool} (g : IsReached held f apart step at reach) (s : IsShown held reach bytes last) where
+  abbrev wide : ℕ
+  wide = width held.fixed.format
+
+  abbrev bytes_at : ℕ → List ℕ
+  bytes_at n = take wide (drop (n * step) bytes)
+
+  far : (n : ℕ) → n * step ≡ apart * n * wide
+  far n = ap (λ (x : ℕ). n * x) g.step_is ∙ (let z : n * (apart * wide) ≡ apart * n * wide = grind arith in z)
+
+  -- a cell of the window is that of the feed
+  found : (n : ℕ) → wide ≤ length (drop (n * step) bytes) → (at + n < feed_len f) × Tells (feed_spots held f (at + n)) (spot_of_bytes held.fixed.format (bytes_at n))
+  found n fits =
+      let below : apart * n < s.many = place_fits wide (apart * n) s.many bytes s.size (subst (λ (x : ℕ). wide ≤ length (drop x bytes)) (far n) fits) (width_some held.fixed.format) in
+      let within = s.within in
+      let there = g.stands n (omega (arith, below, within)) in
+      let same : cell_bytes_at held.fixed.format (apart * n) bytes ≡ bytes_at n = ap (λ (x : ℕ). take wide (drop x bytes)) (sym (far n)) in (
+        there.0,
+        subst (λ (x : Spot). Tells x (spot_of_bytes held.fixed.format (bytes_at n))) there.1
+            (subst (λ (x : List ℕ). Tells (held.spots reach.run.level reach.run.slot (reach.from + apart * n)) (spot_of_bytes held.fixed.format x)) same (s.shows (apart * n) below)),
+      )
+
+  -- the window shows the cells of the feed
+  shows : IsFeedTold held f → Shows as_cell held.fixed.format step last bytes (feed_cells held f) at
+  shows told = record {
+    cells = λ n fits spelled.
+        let k = found n fits in
+        told_get held f (at + n) (as_cell (standing held.fixed.format (bytes_at n))) k.0 told
+        (subst (Tells (feed_spots held f (at + n))) (spot_told held.fixed.format (standing held.fixed.format (bytes_at n)) (bytes_at n) spelled) k.1);
+    ends = λ n short is.
+        let past = place_ends wide (apart * n) s.many bytes s.size (subst (λ (x : ℕ). length (drop x bytes) < wide) (far n) short) in
+        let ends = s.ends is in
+        past-cells (feed_spots held f) 0 (feed_len f) (at + n) (g.past n (omega (arith, past, ends)));
+  }
+
+  -- a cursor that went on in the window stays in its feed
+  within : (n : ℕ) → at ≤ feed_len f → n * step + wide ≤ length bytes + step → at + n ≤ feed_len f
+  within zero h l = omega (arith, h)
+  within (suc n) h l =
+      let a : suc n * step ≡ n * step + step = grind arith in
+      let d : length (drop (n * step) bytes) ≡ length bytes - n * step = length-drop (n * step) bytes in
+      let e = (found n (omega (arith, a, d, l))).0 in omega (arith, e)
+
+  gone_on : (cell : Option Cell) (n : ℕ) → IsHeldCell held f at cell → at + n ≤ feed_len f → IsHead held f (gone held.fixed.format step n bytes (record { at = at; cell = cell }))
+  gone_on cell n h l = record {
+    within = l;
+    cell = gone_so held.fixed.format n (drop (n * step) bytes) cell (λ m x. IsHeldCell held f (at + m) x)
+        (subst (λ (m : ℕ). IsHeldCell held f m cell) (let z : at ≡ at + 0 = omega arith in z) h)
+        (stands_so held.fixed.format (drop (n * step) bytes) (IsHeldCell held f (at + n)) tt (λ fits c is.
+        let k = found n fits in (k.0, subst (λ (x : Option Cell). Tells (feed_spots held f (at + n)) (spot_of x)) is k.1, decoded_fits held.fixed.format (bytes_at n) c is)));
+  }
+
+  has_gone : (cell : Option Cell) (next : Head) (n : ℕ) → IsHead held f (record { at = at; cell = cell }) → next ≡ gone held.fixed.format step n bytes (record { at = at; cell = cell }) →
+      n * step + wide ≤ length bytes + step → HasGone held f (record { at = at; cell = cell }) next n
+  has_gone cell next n h e l =
+      let k : IsHead held f next = subst (IsHead held f) (sym e) (gone_on cell n h.cell (within n h.within l)) in
+      let a : next.at ≡ at + n = ap (λ (x : Head). x.at) e in
+      let x = g.fetched (record { at = at; cell = cell }) h in
+      let y = g.fetched next k in
+      record { at_is = a; is_head = k; fetched = omega (arith, a, x, y) }
+
+left_moves : {held : Held} {f : Feed} {next : Head} (head : Head) (n d level slot : ℕ) (before now : Lasts) (reader : Reader) → IsApart level slot f →
+    ((buffer : Buffer) → KeepsBlocks level slot buffer before now) → next.at ≡ head.at + n → IsHead held f next → feed_left d now reader f next.at ≤ feed_left d before reader f head.at
+left_moves {f = f} head n d level slot before now reader apart keeps e h =
+    let a = left_falls d now reader f head.at n (omega (arith, e, h.within)) in
+    let b = left-stays d level slot before now reader f apart keeps head.at in
+    let c = ap (feed_left d now reader f) e in
+    omega (arith, a, b, c)
+
+-- the keys of the cells that a window shows
+shows_keys : {format : Format} {step at : ℕ} {last : Bool} {bytes : List ℕ} {list : List LawCell} → Shows as_cell format step last bytes list at → Shows key_read format step last bytes (map laws.key_of list) at
+shows_keys {format} {step} {at} {last} {bytes} {list} s = record {
+  cells = λ n fits spelled.
+      slice_get-map laws.key_of list (at + n) ∙ ap (λ (x : Option LawCell). option_map laws.key_of x) (s.cells n fits spelled)
+      ∙ ap Some (sym (key_of-as_cell (standing format (take (width format) (drop (n * step) bytes)))));
+  ends = λ n short is. slice_get-map laws.key_of list (at + n) ∙ ap (λ (x : Option LawCell). option_map laws.key_of x) (s.ends n short is);
 }
 
-stands_none : (held : Held) (f : Feed) (at : ℕ) (bytes : List ℕ) → length bytes ≡ 0 → IsHeldCell held f at (stands held.fixed.format bytes)
-stands_none held f at bytes e = stands_so held.fixed.format bytes (IsHeldCell held f at) tt (λ fits c is. let p = width_some held.fixed.format in absurd (omega (arith, e, fits, p)))
+-- ---- the window of what comes in
 
-head_nothing : (held : Held) (head : Head) (step count : ℕ) (bytes : List ℕ) → length bytes ≡ 0 → IsHead held feed.Nothing head → head.at + count ≤ 0 →
-    IsHead held feed.Nothing (gone held.fixed.format step count bytes head)
-head_nothing held head step count bytes e h l = record {
-  within = l;
-  cell = gone_so held.fixed.format count (drop (count * step) bytes) head.cell (λ n x. IsHeldCell held feed.Nothing (head.at + n) x)
-      (subst (λ (n : ℕ). IsHeldCell held feed.Nothing n head.cell) (let z : head.at ≡ head.at + 0 = omega arith in z) h.cell)
-      (stands_none held feed.Nothing (head.at + count) (drop (count * step) bytes) (let d : length (drop (count * step) bytes) ≡ length bytes - count * step = length-drop (count * step) bytes in omega (arith, d, e)));
-}
+-- a head of what comes in that went on by so many cells: the object read none of them where the one cell is given
+record HasCome (held : Held) (f : Feed) (one : Option Cell) (head next : Head) (n : ℕ) : Type 0 where
+  at_is : next.at ≡ head.at + n
+  is_head : IsHead held f next
+  fetched : fetched_of f next + unless_given one (held_head head.cell) ≡ fetched_of f head + unless_given one n + unless_given one (held_head next.cell)
 
-head_goes : (held : Held) (f : Feed) (head : Head) (count : ℕ) (reach : Reach) (bytes : List ℕ) (last : Bool) → IsReachOf f head.at reach → IsShown held reach bytes last → IsHead held f head → head.at + count ≤ feed_len f →
-    IsHead held f (gone held.fixed.format (width held.fixed.format) count bytes head)
-head_goes held (feed.Run run) head count reach bytes last e s h l = head_run held run head count bytes last (subst (λ (x : Reach). IsShown held x bytes last) e s) h l
-head_goes held (feed.Sampled run) head count reach bytes last e s h l = absurd e
-head_goes held (feed.One c) head count reach bytes last e s h l = absurd e
-head_goes held feed.Nothing head count reach bytes last e s h l =
-    head_nothing held head (width held.fixed.format) count bytes (none_shown held bytes last (subst (λ (x : Reach). IsShown held x bytes last) e s)) h l
+-- a window by which a merge reads what comes in from a cursor on
+record Serves (held : Held) (f : Feed) (one : Option Cell) (at : ℕ) (bytes : List ℕ) (last : Bool) : Type 0 where
+  shows : IsFeedTold held f → Shows as_cell held.fixed.format (width held.fixed.format) last bytes (feed_cells held f) at
+  comes : (cell : Option Cell) (next : Head) (n : ℕ) → IsHead held f (record { at = at; cell = cell }) → next ≡ gone held.fixed.format (width held.fixed.format) n bytes (record { at = at; cell = cell }) →
+      n * width held.fixed.format ≤ length bytes → HasCome held f one (record { at = at; cell = cell }) next n
 
-stands_sampled : (held : Held) (run : Run) (at count : ℕ) (bytes : List ℕ) (last : Bool) → IsShown held (record { run = run; from = 8 * at + 7 }) bytes last →
-    IsHeldCell held (feed.Sampled run) (at + count) (stands held.fixed.format (drop (count * (8 * width held.fixed.format)) bytes))
-stands_sampled held run at count bytes last s =
+serves_reach : {held : Held} {f : Feed} {at : ℕ} {reach : Reach} (views : Views) {bytes : List ℕ} {last : Bool} → IsReached held f 1 (width held.fixed.format) at reach → IsShown held reach views.incoming views.incoming_last →
+    IsIncoming None held.fixed.format views bytes last → Serves held f None at bytes last
+serves_reach {held} {f} {at} {reach} views {bytes} {last} g s i =
+    let t : IsShown held reach bytes last = subst (λ (x : List ℕ). IsShown held reach x last) (sym i.0) (subst (λ (x : Bool). IsShown held reach views.incoming x) (sym i.1) s) in
+    record {
+      shows = shows g t;
+      comes = λ cell next n h e l. let x = has_gone g t cell next n h e (omega (arith, l)) in record { at_is = x.at_is; is_head = x.is_head; fetched = x.fetched };
+    }
+
+begins : (format : Format) (bytes : List ℕ) → drop (0 * width format) bytes ≡ bytes
+begins format bytes = ap (λ (x : ℕ). drop x bytes) (let e : 0 * width format ≡ 0 = grind arith in e)
+
+-- the cell that bytes spell stands at their beginning, and none behind it
+one_stands : (format : Format) (c : Cell) (bytes : List ℕ) → IsSpelling format c bytes → stands format bytes ≡ Some c
+one_stands format c bytes s = elim (leb_tells (width format) (length bytes)) [
+  | inl e ↦ ap (λ (b : Bool). if b then decoded format (take (width format) bytes) else None) e.0 ∙ ap (decoded format) (take_all (width format) bytes (omega (arith, s.size))) ∙ decoded_is format c bytes s
+  | inr e ↦ let l = e.1 in absurd (omega (arith, l, s.size))
+]
+
+none_stands : (format : Format) (n : ℕ) (bytes : List ℕ) → length bytes ≤ n * width format → stands format (drop (n * width format) bytes) ≡ None
+none_stands format n bytes e =
+    let d : length (drop (n * width format) bytes) ≡ length bytes - n * width format = length-drop (n * width format) bytes in
+    let p = width_some format in
+    stands_so format (drop (n * width format) bytes) (λ x. x ≡ None) refl (λ fits c is. absurd (omega (arith, d, e, p, fits)))
+
+one_held : (held : Held) (c : Cell) (n : ℕ) (bytes : List ℕ) → IsSpelling held.fixed.format c bytes → IsHeldCell held (feed.One c) n (stands held.fixed.format (drop (n * width held.fixed.format) bytes))
+one_held held c zero bytes s =
+    subst (IsHeldCell held (feed.One c) 0) (sym (ap (stands held.fixed.format) (begins held.fixed.format bytes) ∙ one_stands held.fixed.format c bytes s)) (let l : 0 < 1 = omega arith in (l, refl, s.fits))
+one_held held c (suc n) bytes s =
+    let m : suc n * width held.fixed.format ≡ width held.fixed.format + n * width held.fixed.format = grind arith in
+    subst (IsHeldCell held (feed.One c) (suc n)) (sym (none_stands held.fixed.format (suc n) bytes (omega (arith, m, s.size)))) tt
+
+-- so many cells of a window, which has room for so many
+few_fit : (w n many : ℕ) → 0 < w → n * w ≤ many * w → n ≤ many
+few_fit w n many p l = let e : suc many * w ≡ w + many * w = grind arith in let h = cells_fit w n (suc many) (omega (arith, e, l, p)) in omega (arith, h)
+
+serves_one : (held : Held) (c : Cell) (bytes : List ℕ) → IsSpelling held.fixed.format c bytes → Serves held (feed.One c) (Some c) 0 bytes true
+serves_one held c bytes s =
     let w = width held.fixed.format in
-    let far : count * (8 * w) ≡ 8 * count * w = grind arith in
-    subst (λ (x : ℕ). IsHeldCell held (feed.Sampled run) (at + count) (stands held.fixed.format (drop x bytes))) (sym far)
-    (stands_so held.fixed.format (drop (8 * count * w) bytes) (IsHeldCell held (feed.Sampled run) (at + count)) tt
-    (λ fits c is.
-    let below : 8 * count < s.many = place_fits w (8 * count) s.many bytes s.size fits (width_some held.fixed.format) in
-    let within = s.within in (
-      (let z : (at + count + 1) * 8 ≤ run.len = omega (arith, below, within) in let y = le-div (at + count + 1) run.len 8 (omega arith) z in omega (arith, y)),
-      subst (λ (x : ℕ). Tells (held.spots run.level run.slot x) (Told (as_cell c))) (let z : 8 * at + 7 + 8 * count ≡ 8 * (at + count) + 7 = omega arith in z)
-          (subst (λ (x : Option Cell). Tells (held.spots run.level run.slot (8 * at + 7 + 8 * count)) (spot_of x)) is (s.shows (8 * count) below)),
-      decoded_fits held.fixed.format (cell_bytes_at held.fixed.format (8 * count) bytes) c is,
-    )))
+    let one : length bytes ≡ 1 * w = omega (arith, s.size) in
+    record {
+      shows = λ told. record {
+        cells = λ n fits spelled.
+            let l : n < 1 = place_fits w n 1 bytes one fits (width_some held.fixed.format) in
+            let begin : n * w ≡ 0 = ap (λ (x : ℕ). x * w) (let e : n ≡ 0 = omega (arith, l) in e) ∙ (let e : 0 * w ≡ 0 = grind arith in e) in
+            let here : take w (drop (n * w) bytes) ≡ bytes = ap (λ (x : ℕ). take w (drop x bytes)) begin ∙ take_all w bytes (omega (arith, s.size)) in
+            told_get held (feed.One c) (0 + n) (as_cell (standing held.fixed.format (take w (drop (n * w) bytes)))) (omega (arith, l)) told
+            (ap (λ (x : Cell). Told (as_cell x)) (sym (ap (standing held.fixed.format) here ∙ standing-is held.fixed.format c bytes s)));
+        ends = λ n short is. past-cells (feed_spots held (feed.One c)) 0 1 (0 + n) (let l = place_ends w n 1 bytes one short in omega (arith, l));
+      };
+      comes = λ cell next n h e l. record {
+        at_is = ap (λ (x : Head). x.at) e;
+        is_head = subst (IsHead held (feed.One c)) (sym e) (record {
+          within = let f = few_fit w n 1 (width_some held.fixed.format) (omega (arith, l, one)) in omega (arith, f);
+          cell = gone_so held.fixed.format n (drop (n * w) bytes) cell (λ m x. IsHeldCell held (feed.One c) (0 + m) x) h.cell
+              (subst (λ (m : ℕ). IsHeldCell held (feed.One c) m (stands held.fixed.format (drop (n * w) bytes))) (let z : n ≡ 0 + n = omega arith in z) (one_held held c n bytes s));
+        });
+        fetched = refl;
+      };
+    }
 
-sample_goes : (held : Held) (f : Feed) (head : Head) (count : ℕ) (reach : Reach) (bytes : List ℕ) (last : Bool) → IsSampleReachOf f head.at reach → IsShown held reach bytes last → IsHead held f head → head.at + count ≤ feed_len f →
-    IsHead held f (gone held.fixed.format (8 * width held.fixed.format) count bytes head)
-sample_goes held (feed.Run run) head count reach bytes last e s h l = absurd e
-sample_goes held (feed.Sampled run) head count reach bytes last e s h l = record {
-  within = l;
-  cell = gone_so held.fixed.format count (drop (count * (8 * width held.fixed.format)) bytes) head.cell (λ n x. IsHeldCell held (feed.Sampled run) (head.at + n) x)
-      (subst (λ (n : ℕ). IsHeldCell held (feed.Sampled run) n head.cell) (let z : head.at ≡ head.at + 0 = omega arith in z) h.cell)
-      (stands_sampled held run head.at count bytes last (subst (λ (x : Reach). IsShown held x bytes last) e s));
+-- nothing is left of it
+used_up : (held : Held) (c : Cell) (k : ℕ) (cell : Option Cell) → 1 ≤ k → IsHeldCell held (feed.One c) k cell → held_head cell ≡ 0
+used_up held c k None m h = refl
+used_up held c k (Some d) m h = let l : k < 1 = h.0 in absurd (omega (arith, l, m))
+
+serves_consumed : (held : Held) (c : Cell) (k : ℕ) (bytes : List ℕ) (last : Bool) → length bytes ≡ 0 → Serves held (feed.One c) None (suc k) bytes last
+serves_consumed held c k bytes last e = record {
+  shows = λ told. record {
+    cells = λ n fits spelled. let d : length (drop (n * width held.fixed.format) bytes) ≡ length bytes - n * width held.fixed.format = length-drop (n * width held.fixed.format) bytes in let p = width_some held.fixed.format in absurd (omega (arith, d, e, fits, p));
+    ends = λ n short is. past-cells (feed_spots held (feed.One c)) 0 1 (suc k + n) (omega arith);
+  };
+  comes = λ cell next n h is l.
+      let few : n ≤ 0 = few_fit (width held.fixed.format) n 0 (width_some held.fixed.format) (omega (arith, l, e)) in
+      let head : IsHead held (feed.One c) next = subst (IsHead held (feed.One c)) (sym is) (record {
+        within = let w = h.within in omega (arith, w, few);
+        cell = gone_so held.fixed.format n (drop (n * width held.fixed.format) bytes) cell (λ m x. IsHeldCell held (feed.One c) (suc k + m) x)
+            (subst (λ (m : ℕ). IsHeldCell held (feed.One c) m cell) (let z : suc k ≡ suc k + 0 = omega arith in z) h.cell)
+            (subst (IsHeldCell held (feed.One c) (suc k + n)) (sym (none_stands held.fixed.format n bytes (omega (arith, e)))) tt);
+      }) in
+      let at : next.at ≡ suc k + n = ap (λ (x : Head). x.at) is in
+      let a = used_up held c (suc k) cell (omega arith) h.cell in
+      let b = used_up held c next.at next.cell (omega (arith, at)) head.cell in
+      record { at_is = at; is_head = head; fetched = omega (arith, a, b, few) };
 }
-sample_goes held (feed.One c) head count reach bytes last e s h l = absurd e
-sample_goes held feed.Nothing head count reach bytes last e s h l =
-    head_nothing held head (8 * width held.fixed.format) count bytes (none_shown held bytes last (subst (λ (x : Reach). IsShown held x bytes last) e s)) h l
 
-none_held : (held : Held) (at : ℕ) (c : Option Cell) → IsHeldCell held feed.Nothing at c → held_head c ≡ 0
-none_held held at None h = refl
-none_held held at (Some c) h = let l : at < 0 = h.0 in absurd (omega (arith, l))
+serves_incoming : (held : Held) (f : Feed) (at : ℕ) (reach : Reach) (views : Views) (bytes : List ℕ) (last : Bool) → IsIncomingReachOf f at reach → IsShown held reach views.incoming views.incoming_last →
+    IsIncoming (one_at f at) held.fixed.format views bytes last → Serves held f (one_at f at) at bytes last
+serves_incoming held (feed.Run run) at reach views bytes last e s i = serves_reach views (reached held (feed.Run run) at reach e) s i
+serves_incoming held (feed.Sampled run) at reach views bytes last e s i = absurd e
+serves_incoming held (feed.One c) zero reach views bytes last e s i = subst (Serves held (feed.One c) (Some c) 0 bytes) (sym i.1) (serves_one held c bytes i.0)
+serves_incoming held (feed.One c) (suc k) reach views bytes last e s i =
+    let none : IsShown held (record { run = record { level = 0; slot = 0; len = 0 }; from = 0 }) views.incoming views.incoming_last = subst (λ (x : Reach). IsShown held x views.incoming views.incoming_last) e s in
+    let w = none.within in
+    let z : none.many * width held.fixed.format ≡ 0 = ap (λ (x : ℕ). x * width held.fixed.format) (let y : none.many ≡ 0 = omega (arith, w) in y) ∙ (let y : 0 * width held.fixed.format ≡ 0 = grind arith in y) in
+    serves_consumed held c k bytes last (ap length i.0 ∙ none.size ∙ z)
+serves_incoming held feed.Nothing at reach views bytes last e s i = serves_reach views (reached held feed.Nothing at reach e) s i
 
--- what the object read of a feed whose head went on
-fetched_goes : (held : Held) (f : Feed) (head next : Head) (count : ℕ) → ((c : Cell) → f ≡ feed.One c → ⊥) → next.at ≡ head.at + count → next.at ≤ feed_len f → IsHead held f head → IsHead held f next →
-    fetched_of f next + held_head head.cell ≡ fetched_of f head + count + held_head next.cell
-fetched_goes held (feed.Run run) head next count d e l h k = omega (arith, e)
-fetched_goes held (feed.Sampled run) head next count d e l h k = omega (arith, e)
-fetched_goes held (feed.One c) head next count d e l h k = absurd (d c refl)
-fetched_goes held feed.Nothing head next count d e l h k =
-    let a = none_held held head.at head.cell h.cell in
-    let b = none_held held next.at next.cell k.cell in
-    omega (arith, a, b, e, l)
+-- the one cell fits the format
+pub one_fits : (held : Held) (f : Feed) (at : ℕ) {one : Option Cell} → IsFeed held.fixed f → one ≡ one_at f at → IfSome one (CellFits held.fixed.format)
+one_fits held f at s e = subst (λ (x : Option Cell). IfSome x (CellFits held.fixed.format)) (sym e) (by f at s)
+  where
+    by : (f : Feed) (at : ℕ) → IsFeed held.fixed f → IfSome (one_at f at) (CellFits held.fixed.format)
+    by (feed.Run run) at s = tt
+    by (feed.Sampled run) at s = tt
+    by (feed.One c) zero s = s
+    by (feed.One c) (suc k) s = tt
+    by feed.Nothing at s = tt
 
-not_one : (f : Feed) (at : ℕ) (reach : Reach) → IsReachOf f at reach → (c : Cell) → f ≡ feed.One c → ⊥
-not_one f at reach e c is = subst (λ (x : Feed). IsReachOf x at reach) is e
+-- counts of what comes in, of which none is read where the one cell is given
+pub held_most : (cell : Option Cell) → held_head cell ≤ 1
+held_most None = omega arith
+held_most (Some c) = omega arith
 
-not_one_sampled : (f : Feed) (at : ℕ) (reach : Reach) → IsSampleReachOf f at reach → (c : Cell) → f ≡ feed.One c → ⊥
-not_one_sampled f at reach e c is = subst (λ (x : Feed). IsSampleReachOf x at reach) is e
+pub given_sums : (one : Option Cell) (a b c d : ℕ) → a + b ≡ c + d → unless_given one a + unless_given one b ≡ unless_given one c + unless_given one d
+given_sums None a b c d e = e
+given_sums (Some x) a b c d e = refl
+
+-- where the one cell is given, no head is missing that was not, but behind the cell
+one_missing : (format : Format) (c : Cell) (bytes : List ℕ) (n : ℕ) (head : Head) → IsSpelling format c bytes → missing_head (gone format (width format) n bytes head).cell ≤ missing_head head.cell + n
+one_missing format c bytes (suc n) head s = let m = one_of (gone format (width format) (suc n) bytes head).cell in omega (arith, m)
+one_missing format c bytes zero head s = by head.cell
+  where
+    by : (cell : Option Cell) → missing_head (gone_cell format 0 (drop (0 * width format) bytes) cell) ≤ missing_head cell + 0
+    by (Some d) = omega arith
+    by None = subst (λ (x : Option Cell). missing_head x ≤ 1 + 0) (sym (ap (stands format) (begins format bytes) ∙ one_stands format c bytes s)) (omega arith)
+
+missing_incoming : (format : Format) (one : Option Cell) (views : Views) (bytes : List ℕ) (last : Bool) (head : Head) (n : ℕ) → IsIncoming one format views bytes last →
+    missing_head (gone format (width format) n bytes head).cell + unless_given one (held_head (gone format (width format) n bytes head).cell) + unless_given one n ≤ missing_head head.cell + unless_given one (held_head head.cell) + n
+missing_incoming format None views bytes last head n i = let a = one_of (gone format (width format) n bytes head).cell in let b = one_of head.cell in omega (arith, a, b)
+missing_incoming format (Some c) views bytes last head n i = let a = one_missing format c bytes n head i.0 in omega (arith, a)
 
 -- nothing happened
 pub took_same : {aim : Aim} (old new : State) (m n : Merger) (from to count : ℕ) → IsReady old.held aim m → new ≡ old → n ≡ m → to ≡ from → count ≡ 0 → Took aim (state old m from) (state new n to) count
@@ -419,35 +442,16 @@ took_same {aim} old new m n from to count r e f g h =
     (subst (λ (x : ℕ). Took aim (state old m from) (state old m x) count) (sym g)
     (subst (λ (x : ℕ). Took aim (state old m from) (state old m from) x) (sym h) (took_none (state old m from) r))))
 
--- the length of a feed
-pub feed_small : (fixed : Fixed) (f : Feed) → fixed.levels ≤ 23 → IsFeed fixed f → feed_len f ≤ 2 ^ 25
-feed_small fixed (feed.Run run) few s = let a = s.level_in in let b = s.within in let c : 2 ^ (run.level + 2) ≤ 2 ^ 25 = pow_mono (let z : run.level + 2 ≤ 25 = omega (arith, a, few) in z) in omega (arith, b, c)
-feed_small fixed (feed.Sampled run) few s =
-    let a = s.level_in in let b = s.within in let c : 2 ^ (run.level + 2) ≤ 2 ^ 25 = pow_mono (let z : run.level + 2 ≤ 25 = omega (arith, a, few) in z) in
-    let d : run.len / 8 ≤ run.len = div-le_self run.len 8 in omega (arith, b, c, d)
-feed_small fixed (feed.One c) few s = omega arith
-feed_small fixed feed.Nothing few s = omega arith
-
--- ---- counts
-
-one_of : (c : Option Cell) → missing_head c + held_head c ≡ 1
-one_of None = refl
-one_of (Some c) = refl
-
-three_of : (m : Merger) → missing m + held_heads m ≡ 3
-three_of m =
-    let a = one_of m.own.cell in
-    let b = one_of m.incoming.cell in
-    let c = one_of m.sample.cell in
-    omega (arith, a, b, c)
-
 -- ---- a pass over windows
 
 module _ {aim : Aim} (old new : State) (m n : Merger) (from to count : ℕ) (job : Share) (own incoming sample : Reach) (r : IsReady old.held aim m) (slot_in : (old.held.shadows aim.level).slot < 2)
     (w : Wove Passes old new aim.level own incoming sample m n job from to count) (rules : job.rules ≡ rules_of aim)
-    (o : IsReachOf aim.own m.own.at own) (i : IsReachOf aim.incoming m.incoming.at incoming) (k : IsSampleReachOf aim.sample m.sample.at sample) where
-  abbrev p : Passes m n job old.held.fixed.format w.views w.room w.passed
-  p = w.wove_is
+    (one : job.one ≡ one_at aim.incoming m.incoming.at) (o : IsReachOf aim.own m.own.at own) (i : IsIncomingReachOf aim.incoming m.incoming.at incoming) (k : IsSampleReachOf aim.sample m.sample.at sample) where
+  abbrev q : Passes m n job old.held.fixed.format w.views w.room w.passed
+  q = w.wove_is
+
+  abbrev p : PassesOver m n job old.held.fixed.format (with_incoming q.bytes q.last w.views) w.room w.passed
+  p = q.over
 
   abbrev s : MergeState
   s = state old m from
@@ -464,31 +468,60 @@ module _ {aim : Aim} (old new : State) (m n : Merger) (from to count : ℕ) (job
   len_is : (new.held.shadows aim.level).len ≡ len + p.taken.pushed
   len_is = ap (λ (x : Shadow). x.len) w.grown_is.shadow_is ∙ ap (λ (x : ℕ). len + x) p.cells_are
 
-  own_at : n.own.at ≡ m.own.at + p.taken.own
-  own_at = ap (λ (h : Head). h.at) p.own_is
+  own_gone : HasGone old.held aim.own m.own n.own p.taken.own
+  own_gone = has_gone (reached old.held aim.own m.own.at own o) w.own_shown m.own.cell n.own p.taken.own r.own p.own_is (omega (arith, p.merged.own_within))
 
-  incoming_at : n.incoming.at ≡ m.incoming.at + p.taken.incoming
-  incoming_at = ap (λ (h : Head). h.at) p.incoming_is
+  given : IsIncoming (one_at aim.incoming m.incoming.at) old.held.fixed.format w.views q.bytes q.last
+  given = subst (λ (x : Option Cell). IsIncoming x old.held.fixed.format w.views q.bytes q.last) one q.incoming
 
-  sample_at : n.sample.at ≡ m.sample.at + p.taken.sample
-  sample_at = ap (λ (h : Head). h.at) p.sample_is
+  serves : Serves old.held aim.incoming (one_at aim.incoming m.incoming.at) m.incoming.at q.bytes q.last
+  serves = serves_incoming old.held aim.incoming m.incoming.at incoming w.views q.bytes q.last i w.incoming_shown given
+
+  incoming_gone : HasCome old.held aim.incoming (one_at aim.incoming m.incoming.at) m.incoming n.incoming p.taken.incoming
+  incoming_gone = serves.comes m.incoming.cell n.incoming p.taken.incoming r.incoming p.incoming_is p.merged.incoming_within
+
+  sample_gone : HasGone old.held aim.sample m.sample n.sample p.taken.sample
+  sample_gone = has_gone (sample_reached old.held aim.sample m.sample.at sample k) w.sample_shown m.sample.cell n.sample p.taken.sample r.sample p.sample_is (omega (arith, p.merged.sample_within))
 
   count_is : count ≡ p.taken.own + p.taken.incoming + p.taken.sample
   count_is = w.steps_is ∙ p.steps_are
 
   consumed_is : consumed n ≡ consumed m + count
-  consumed_is = omega (arith, own_at, incoming_at, sample_at, count_is)
+  consumed_is = omega (arith, own_gone.at_is, incoming_gone.at_is, sample_gone.at_is, count_is)
 
-  ticks_are : to + held_heads m ≡ from + count + p.taken.pushed + held_heads n
-  ticks_are = let a = w.only_ticks.steps_are in let b = p.ticks_are in omega (arith, a, b, count_is)
+  -- what the object read of what comes in
+  abbrev read_in : ℕ → ℕ
+  read_in x = unless_given (one_at aim.incoming m.incoming.at) x
+
+  ticks_are : to + held_head m.own.cell + read_in (held_head m.incoming.cell) + held_head m.sample.cell
+      ≡ from + p.taken.own + read_in p.taken.incoming + p.taken.sample + p.taken.pushed + held_head n.own.cell + read_in (held_head n.incoming.cell) + held_head n.sample.cell
+  ticks_are =
+      let a = w.only_ticks.steps_are in
+      let b : w.passed.ticks + (held_head m.own.cell + read_in (held_head m.incoming.cell) + held_head m.sample.cell)
+      ≡ p.taken.own + read_in p.taken.incoming + p.taken.sample + p.taken.pushed + (held_head n.own.cell + read_in (held_head n.incoming.cell) + held_head n.sample.cell) =
+      subst (λ (x : Option Cell). w.passed.ticks + (held_head m.own.cell + unless_given x (held_head m.incoming.cell) + held_head m.sample.cell)
+      ≡ p.taken.own + unless_given x p.taken.incoming + p.taken.sample + p.taken.pushed + (held_head n.own.cell + unless_given x (held_head n.incoming.cell) + held_head n.sample.cell)) one p.ticks_are in
+      omega (arith, a, b)
 
   emits : p.taken.pushed ≤ count
   emits = let a = p.merged.emits in omega (arith, a, count_is)
 
+  -- no head more is missing than there are steps
+  ticks_most : to + missing n ≤ from + missing m + 2 * count
+  ticks_most =
+      let a = one_of m.own.cell in
+      let b = one_of n.own.cell in
+      let c = one_of m.sample.cell in
+      let d = one_of n.sample.cell in
+      let e : missing_head n.incoming.cell + read_in (held_head n.incoming.cell) + read_in p.taken.incoming ≤ missing_head m.incoming.cell + read_in (held_head m.incoming.cell) + p.taken.incoming =
+      subst (λ (h : Head). missing_head h.cell + read_in (held_head h.cell) + read_in p.taken.incoming ≤ missing_head m.incoming.cell + read_in (held_head m.incoming.cell) + p.taken.incoming) (sym p.incoming_is)
+      (missing_incoming old.held.fixed.format (one_at aim.incoming m.incoming.at) w.views q.bytes q.last m.incoming p.taken.incoming given) in
+      omega (arith, a, b, c, d, e, ticks_are, emits, count_is)
+
   rises : (reader : Reader) → (head_of m reader).at ≤ (head_of n reader).at
-  rises Own = omega (arith, own_at)
-  rises Incoming = omega (arith, incoming_at)
-  rises Sample = omega (arith, sample_at)
+  rises Own = omega (arith, own_gone.at_is)
+  rises Incoming = omega (arith, incoming_gone.at_is)
+  rises Sample = omega (arith, sample_gone.at_is)
 
   end_told : IsTelling old.held → (j : ℕ) → j < w.passed.cells →
       new.held.spots aim.level (old.held.shadows aim.level).slot (len + j) ≡ Told (as_cell (standing old.held.fixed.format (cell_bytes_at old.held.fixed.format j w.room)))
@@ -504,66 +537,20 @@ module _ {aim : Aim} (old new : State) (m n : Merger) (from to count : ℕ) (job
       (λ j l. w.grown_is.others_stay aim.level (old.held.shadows aim.level).slot j (inr (inr (inl l)))) (end_told tells)
       ∙ ap (λ (x : ℕ). shadow_cells old.held aim.level ++ cells_in old.held.fixed.format x w.room) p.cells_are
 
-  -- the windows show the feeds
-  own_shows : IsTelling old.held → AreFeedsTold old.held aim → Shows as_cell old.held.fixed.format (width old.held.fixed.format) w.views.own_last w.views.own (feed_cells old.held aim.own) m.own.at
-  own_shows tells told = shows_feed old.held aim.own m.own.at own w.views.own w.views.own_last o w.own_shown told.own
-
-  incoming_shows : IsTelling old.held → AreFeedsTold old.held aim → Shows as_cell old.held.fixed.format (width old.held.fixed.format) w.views.incoming_last w.views.incoming (feed_cells old.held aim.incoming) m.incoming.at
-  incoming_shows tells told = shows_feed old.held aim.incoming m.incoming.at incoming w.views.incoming w.views.incoming_last i w.incoming_shown told.incoming
-
-  sample_shows : IsTelling old.held → AreFeedsTold old.held aim → Shows key_read old.held.fixed.format (8 * width old.held.fixed.format) w.views.sample_last w.views.sample (feed_keys old.held aim.sample) m.sample.at
-  sample_shows tells told = shows_sample old.held aim.sample m.sample.at sample w.views.sample w.views.sample_last k w.sample_shown told.sample
-
   builds : IsTelling old.held → AreFeedsTold old.held aim → build_of new.held aim n
       ≡ steps key_cmp (part_of aim) (feed_cells old.held aim.own) (feed_cells old.held aim.incoming) (feed_keys old.held aim.sample) count (build_of old.held aim m)
   builds tells told =
       let merged = p.merged.merges (feed_cells old.held aim.own) (feed_cells old.held aim.incoming) (feed_keys old.held aim.sample) (build_of old.held aim m)
-      (own_shows tells told) (incoming_shows tells told) (sample_shows tells told) refl in
+      (shows (reached old.held aim.own m.own.at own o) w.own_shown told.own) (serves.shows told.incoming)
+      (shows_keys (shows (sample_reached old.held aim.sample m.sample.at sample k) w.sample_shown told.sample)) refl in
       let ruled : steps key_cmp (windows.part_of (rules_of aim)) (feed_cells old.held aim.own) (feed_cells old.held aim.incoming) (feed_keys old.held aim.sample) (windows.consumed p.taken) (build_of old.held aim m)
       ≡ behind old.held.fixed.format (build_of old.held aim m) p.taken w.room =
       subst (λ (x : Rules). steps key_cmp (windows.part_of x) (feed_cells old.held aim.own) (feed_cells old.held aim.incoming) (feed_keys old.held aim.sample) (windows.consumed p.taken) (build_of old.held aim m)
       ≡ behind old.held.fixed.format (build_of old.held aim m) p.taken w.room) rules merged in
-      ap (λ (x : ℕ). record { own = x; incoming = n.incoming.at; sampled = n.sample.at; done = shadow_cells new.held aim.level }) own_at
-      ∙ ap (λ (x : ℕ). record { own = m.own.at + p.taken.own; incoming = x; sampled = n.sample.at; done = shadow_cells new.held aim.level }) incoming_at
-      ∙ ap (λ (x : ℕ). record { own = m.own.at + p.taken.own; incoming = m.incoming.at + p.taken.incoming; sampled = x; done = shadow_cells new.held aim.level }) sample_at
-      ∙ ap (λ (x : List LawCell). record { own = m.own.at + p.taken.own; incoming = m.incoming.at + p.taken.incoming; sampled = m.sample.at + p.taken.sample; done = x }) (done tells)
-      ∙ sym ruled
-      ∙ ap (λ (x : ℕ). steps key_cmp (part_of aim) (feed_cells old.held aim.own) (feed_cells old.held aim.incoming) (feed_keys old.held aim.sample) x (build_of old.held aim m)) (sym count_is)
-
-  own_within : m.own.at + p.taken.own ≤ feed_len aim.own
-  own_within = feed_within old.held aim.own m.own.at p.taken.own own w.views.own w.views.own_last o w.own_shown r.own.within p.merged.own_within
-
-  incoming_within : m.incoming.at + p.taken.incoming ≤ feed_len aim.incoming
-  incoming_within = feed_within old.held aim.incoming m.incoming.at p.taken.incoming incoming w.views.incoming w.views.incoming_last i w.incoming_shown r.incoming.within p.merged.incoming_within
-
-  sample_within : m.sample.at + p.taken.sample ≤ feed_len aim.sample
-  sample_within = sampled_within old.held aim.sample m.sample.at p.taken.sample sample w.views.sample w.views.sample_last k w.sample_shown r.sample.within p.merged.sample_within
-
-  own_head : IsHead old.held aim.own n.own
-  own_head = subst (λ (x : Head). IsHead old.held aim.own x) (sym p.own_is) (head_goes old.held aim.own m.own p.taken.own own w.views.own w.views.own_last o w.own_shown r.own own_within)
-
-  incoming_head : IsHead old.held aim.incoming n.incoming
-  incoming_head = subst (λ (x : Head). IsHead old.held aim.incoming x) (sym p.incoming_is)
-      (head_goes old.held aim.incoming m.incoming p.taken.incoming incoming w.views.incoming w.views.incoming_last i w.incoming_shown r.incoming incoming_within)
-
-  sample_head : IsHead old.held aim.sample n.sample
-  sample_head = subst (λ (x : Head). IsHead old.held aim.sample x) (sym p.sample_is)
-      (sample_goes old.held aim.sample m.sample p.taken.sample sample w.views.sample w.views.sample_last k w.sample_shown r.sample sample_within)
+      let a = own_gone.at_is in let b = incoming_gone.at_is in let c = sample_gone.at_is in let d = done tells in let e = count_is in cc
 
   ready : IsReady new.held aim n
-  ready = ready-stays grows (record {
-    level_in = r.level_in;
-    slot_is = r.slot_is;
-    own_feed = r.own_feed;
-    incoming_feed = r.incoming_feed;
-    sample_feed = r.sample_feed;
-    own_apart = r.own_apart;
-    incoming_apart = r.incoming_apart;
-    sample_apart = r.sample_apart;
-    own = own_head;
-    incoming = incoming_head;
-    sample = sample_head;
-  })
+  ready = ready-stays grows (ready_by r (heads_with Sample (heads_with Incoming (heads_with Own (heads_of r) own_gone.is_head) incoming_gone.is_head) sample_gone.is_head))
 
   told : IsTelling old.held → IsShadowTold old.held aim.level → IsShadowTold new.held aim.level
   told tells h j l = elim (leb_tells len j) [
@@ -576,25 +563,21 @@ module _ {aim : Aim} (old new : State) (m n : Merger) (from to count : ℕ) (job
         (subst (λ (x : Spot). x ≡ Told (cell_at x)) (sym (end_told tells (j - len) k)) refl))
     | inr e ↦
         let a : j < len = e.1 in
-        subst (λ (x : ℕ). IsTold (new.held.spots aim.level x j)) (sym grows.slot_is)
-        (subst (λ (x : Spot). x ≡ Told (cell_at x)) (sym (w.grown_is.others_stay aim.level (old.held.shadows aim.level).slot j (inr (inr (inl a))))) (h j a))
+        still_told grows j a (h j a)
   ]
 
-  fetched_is : fetched aim n + held_heads m ≡ fetched aim m + count + held_heads n
-  fetched_is =
-      let a = fetched_goes old.held aim.own m.own n.own p.taken.own (not_one aim.own m.own.at own o) own_at own_head.within r.own own_head in
-      let b = fetched_goes old.held aim.incoming m.incoming n.incoming p.taken.incoming (not_one aim.incoming m.incoming.at incoming i) incoming_at incoming_head.within r.incoming incoming_head in
-      let c = fetched_goes old.held aim.sample m.sample n.sample p.taken.sample (not_one_sampled aim.sample m.sample.at sample k) sample_at sample_head.within r.sample sample_head in
-      omega (arith, a, b, c, count_is)
+  fetched_is : fetched aim n + held_head m.own.cell + read_in (held_head m.incoming.cell) + held_head m.sample.cell
+      ≡ fetched aim m + p.taken.own + read_in p.taken.incoming + p.taken.sample + held_head n.own.cell + read_in (held_head n.incoming.cell) + held_head n.sample.cell
+  fetched_is = omega (arith, own_gone.fetched, incoming_gone.fetched, sample_gone.fetched)
 
   keeps : (buffer : Buffer) → KeepsBlocks aim.level aim.slot buffer old.spent.lasts new.spent.lasts
   keeps buffer l q j d = ap (λ (x : Option Block). is_last x l q j) (w.only_ticks.lasts_are buffer)
 
   left : blocks_in_all old.held.fixed.doublings aim t ≤ blocks_in_all old.held.fixed.doublings aim s
   left =
-      let a = left_moves old.held.fixed.doublings aim.level aim.slot old.spent.lasts new.spent.lasts Own aim.own m.own.at n.own.at p.taken.own r.own_apart keeps own_at own_within in
-      let b = left_moves old.held.fixed.doublings aim.level aim.slot old.spent.lasts new.spent.lasts Incoming aim.incoming m.incoming.at n.incoming.at p.taken.incoming r.incoming_apart keeps incoming_at incoming_within in
-      let c = left_moves old.held.fixed.doublings aim.level aim.slot old.spent.lasts new.spent.lasts Sample aim.sample m.sample.at n.sample.at p.taken.sample r.sample_apart keeps sample_at sample_within in
+      let a = left_moves m.own p.taken.own old.held.fixed.doublings aim.level aim.slot old.spent.lasts new.spent.lasts Own r.own_apart keeps own_gone.at_is own_gone.is_head in
+      let b = left_moves m.incoming p.taken.incoming old.held.fixed.doublings aim.level aim.slot old.spent.lasts new.spent.lasts Incoming r.incoming_apart keeps incoming_gone.at_is incoming_gone.is_head in
+      let c = left_moves m.sample p.taken.sample old.held.fixed.doublings aim.level aim.slot old.spent.lasts new.spent.lasts Sample r.sample_apart keeps sample_gone.at_is sample_gone.is_head in
       let u = w.only_ticks.turned_is in
       omega (arith, a, b, c, u)
 
@@ -605,14 +588,14 @@ module _ {aim : Aim} (old new : State) (m n : Merger) (from to count : ℕ) (job
         let l = p.cells_are in
         let some : w.passed.cells ≢ 0 = λ z. absurd (let y : w.passed.cells ≡ 0 = z in omega (arith, h, len_is, l, y)) in
         ap (λ (x : Shadow). x.saved) w.grown_is.shadow_is
-        ∙ grown_saved w.passed.cells (old.held.shadows aim.level) (span old.held) (span_some old.held.fixed.doublings) some (w.grown_is.in_block some)
+        ∙ grown_saved w.passed.cells (old.held.shadows aim.level) (span old.held) (span_pos old.held.fixed.doublings) some (w.grown_is.in_block some)
         ∙ ap (λ (x : ℕ). x % span old.held == 0) (let z : len + w.passed.cells ≡ (new.held.shadows aim.level).len = omega (arith, len_is, l) in z);
   }
 
   written : new.spent.written + len / span old.held ≤ old.spent.written + (new.held.shadows aim.level).len / span old.held
   written =
       let u = w.only_ticks.written_is in
-      let d : len / span old.held ≤ (len + p.taken.pushed) / span old.held = div_grows len p.taken.pushed (span old.held) (span_some old.held.fixed.doublings) in
+      let d : len / span old.held ≤ (len + p.taken.pushed) / span old.held = div-mono len (len + p.taken.pushed) (span old.held) (span_pos old.held.fixed.doublings) (omega arith) in
       let e : (new.held.shadows aim.level).len / span old.held ≡ (len + p.taken.pushed) / span old.held = ap (λ (x : ℕ). x / span old.held) len_is in
       omega (arith, u, d, e)
 
@@ -624,13 +607,13 @@ module _ {aim : Aim} (old new : State) (m n : Merger) (from to count : ℕ) (job
       consumes = consumed_is;
       rises = rises;
       emits = omega (arith, consumed_is, len_is, emits);
-      samples = let a = p.merged.samples in omega (arith, a, len_is, sample_at);
+      samples = let a = p.merged.samples in omega (arith, a, len_is, sample_gone.at_is);
       builds = builds;
       told = told;
       spends = only_spends w.only_ticks;
       lasts = λ buffer b. keeps buffer;
     };
-    ticks = let a = three_of m in let b = three_of n in omega (arith, a, b, ticks_are, emits);
+    ticks = ticks_most;
     reads = omega (arith, fetched_is, ticks_are, len_is);
     turned = left;
     written = written;

@@ -1,11 +1,12 @@
 -- What the feeds of a merge are, and which part it builds.
-use Rattle.std.specs.Prelude.{ℕ, ◌≢◌, ◌⊎◌, ◌+◌, ◌*◌, ◌/◌, ◌<◌, ◌≤◌, Bool, true, false, List, map, ⊤}
+use Rattle.std.specs.Prelude.{ℕ, ◌≢◌, ◌⊎◌, ◌+◌, ◌*◌, ◌/◌, ◌<◌, ◌≤◌, Bool, true, false, List, map, Option, Some, None, ⊤}
 use Rattle.cola_clock.specs.declared.state.Part as clock
 use Rattle.cola_clock.specs.declared.state.Part.TheVariants.{All, Young}
 use Rattle.cola_runs.specs.Cells.{key_of}
 use Rattle.cola_runs.specs.Weave.{Part}
 use Rattle.cola_cell.specs.declared.cell.Run.{Run}
 use Rattle.cola_cell.specs.declared.cell.Reader.{Reader}
+use Rattle.cola_cell.specs.declared.windows.Reach.{Reach}
 use Rattle.cola_cell.specs.declared.cell.Reader.TheVariants.{Own, Incoming, Sample}
 use Rattle.cola_cell.specs.Format.{CellFits}
 use Rattle.cola_cell.specs.Places.{slot_size}
@@ -44,6 +45,13 @@ read_len (feed.Run run) = run.len
 read_len (feed.Sampled run) = run.len / 8
 read_len (feed.One c) = 0
 read_len feed.Nothing = 0
+
+-- where a feed reads the cell at a cursor, if that needs an access
+abbrev pub place_of : Feed → ℕ → Option Reach
+place_of (feed.Run run) at = Some (record { run = run; from = at })
+place_of (feed.Sampled run) at = Some (record { run = run; from = 8 * at + 7 })
+place_of (feed.One c) at = None
+place_of feed.Nothing at = None
 
 -- what is told of the cells of a feed, by its cursor
 abbrev pub feed_spots : Held → Feed → ℕ → Spot

@@ -1,5 +1,5 @@
 -- Cursors and held heads: what is asked of them, and what of the feeds is left.
-use Rattle.std.specs.Prelude.{ℕ, ◌≡◌, ◌+◌, ◌<◌, ◌≤◌, Option, None, Some, IsSome, ⊤}
+use Rattle.std.specs.Prelude.{ℕ, ◌≡◌, ◌+◌, ◌<◌, ◌≤◌, Option, None, Some, IsSome, ⊤, List}
 use Rattle.cola_runs.specs.Steps.{Build}
 use Rattle.cola_cell.specs.declared.cell.Cell.{Cell}
 use Rattle.cola_cell.specs.declared.cell.Reader.{Reader}
@@ -13,7 +13,6 @@ use Rattle.cola_merge.specs.Fetched.{Head}
 use Rattle.cola_merge.specs.declared.merging.Merger.{Merger}
 use Rattle.cola_cell.specs.ToldCells.{shadow_cells}
 use Rattle.cola_merge.specs.Feeds.{feed_len, feed_spots, IsFeed, IsApart, IsFeedTold}
-use Rattle.std.specs.Prelude.{List}
 
 -- no cell consumed, and none held
 abbrev pub fresh_head : Head

@@ -1,12 +1,13 @@
 -- What a merge does that runs over windows.
-use Rattle.std.specs.Prelude.{◌≡◌, ℕ, zero, suc, ◌+◌, ◌*◌, ◌≤◌, ◌<◌, ◌^◌, nat_le, if◌then◌else◌, List, length, take, drop, Option, None, Some}
+use Rattle.std.specs.Prelude.{◌≡◌, ℕ, zero, suc, ◌+◌, ◌*◌, ◌≤◌, ◌<◌, ◌^◌, Bool, true, List, drop, Option, None, Some, IfSome}
 use Rattle.cola_merge.specs.declared.aims.Feed.{Feed}
 use Rattle.cola_merge.specs.declared.aims.Feed.TheVariants as feed
 use Rattle.cola_cell.specs.declared.windows.Reach.{Reach}
 use Rattle.cola_cell.specs.declared.cell.Cell.{Cell}
 use Rattle.cola_cell.specs.declared.format.Format.{Format}
 use Rattle.cola_cell.specs.Decoded.{stands}
-use Rattle.cola_cell.specs.Format.{width}
+use Rattle.cola_cell.specs.Format.{width, CellFits}
+use Rattle.cola_cell.specs.Spelling.{IsSpelling}
 use Rattle.cola_window.specs.declared.windows.Taken.{Taken}
 use Rattle.cola_window.specs.declared.windows.Lasts.{Lasts}
 use Rattle.cola_window.specs.declared.windows.Rules.{Rules}
@@ -35,10 +36,6 @@ gone format step count window head = record { at = head.at + count; cell = gone_
 abbrev pub standing_head : Format → ℕ → List ℕ → Head
 standing_head format at bytes = record { at = at; cell = stands format bytes }
 
--- how many heads are held
-abbrev pub held_heads : Merger → ℕ
-held_heads m = held_head m.own.cell + held_head m.incoming.cell + held_head m.sample.cell
-
 abbrev pub bytes_of : Views → windows.Bytes
 bytes_of views = record { own = views.own; incoming = views.incoming; sample = views.sample }
 
@@ -49,15 +46,29 @@ lasts_of views = record { own = views.own_last; incoming = views.incoming_last; 
 abbrev pub rules_of : Aim → Rules
 rules_of aim = record { only_young = takes_young aim.part; marks_young = aim.young; drops_tombstones = aim.bottom }
 
--- cursors that a pass may move
-pub record CanPass (m : Merger) (job : Share) : Type 0 where
+-- cursors that a pass may move, and a cell that fits the format, where one is given
+pub record CanPass (m : Merger) (job : Share) (format : Format) : Type 0 where
   pub own : m.own.at ≤ 2 ^ 25
   pub incoming : m.incoming.at ≤ 2 ^ 25
   pub sample : m.sample.at ≤ 2 ^ 25
   pub quota : job.quota ≤ 65536
+  pub one : IfSome job.one (CellFits format)
 
--- a merge ran over windows: it took so many cells of each, its heads went on, and each cell that it tested and did not hold, and each that it put, is a tick
-pub record Passes (before after : Merger) (job : Share) (format : Format) (views : Views) (room : List ℕ) (passed : Passed) : Type 0 where
+-- a count of what is read of the object: none where the one cell is given
+abbrev pub unless_given : Option Cell → ℕ → ℕ
+unless_given None n = n
+unless_given (Some c) n = 0
+
+-- how many cells of what was taken the object read: all but the one that was given
+abbrev pub cells_read : Share → Taken → ℕ
+cells_read job taken = taken.own + unless_given job.one taken.incoming + taken.sample
+
+-- how many heads of cells of the object are held
+abbrev pub heads_read : Share → Merger → ℕ
+heads_read job m = held_head m.own.cell + unless_given job.one (held_head m.incoming.cell) + held_head m.sample.cell
+
+-- a merge ran over windows: it took so many cells of each, its heads went on, and each cell of the object that it tested and did not hold, and each that it put, is a tick
+pub record PassesOver (before after : Merger) (job : Share) (format : Format) (views : Views) (room : List ℕ) (passed : Passed) : Type 0 where
   pub taken : Taken
   pub merged : windows.Merged format job.rules (8 * before.sample.at) (bytes_of views) (lasts_of views) room taken
   pub own_is : after.own ≡ gone format (width format) taken.own views.own before.own
@@ -68,7 +79,38 @@ pub record Passes (before after : Merger) (job : Share) (format : Format) (views
   pub stops : MergeStops format (bytes_of views) (lasts_of views) room taken job.quota
   pub goes_on : CanStep format (bytes_of views) (lasts_of views) room job.quota → 0 < windows.consumed taken
   pub cells_are : passed.cells ≡ taken.pushed
-  pub ticks_are : passed.ticks + held_heads before ≡ windows.consumed taken + taken.pushed + held_heads after
+  pub ticks_are : passed.ticks + heads_read job before ≡ cells_read job taken + taken.pushed + heads_read job after
+
+-- the window of what comes in: that of the one cell that was given, or that of the object
+abbrev pub IsIncoming : Option Cell → Format → Views → List ℕ → Bool → Type 0
+IsIncoming (Some c) format views bytes last = IsSpelling format c bytes × (last ≡ true)
+IsIncoming None format views bytes last = (bytes ≡ views.incoming) × (last ≡ views.incoming_last)
+
+-- the windows with this one in the place of what comes in
+abbrev pub with_incoming : List ℕ → Bool → Views → Views
+with_incoming bytes last views = record {
+  own = views.own;
+  incoming = bytes;
+  sample = views.sample;
+  own_last = views.own_last;
+  incoming_last = last;
+  sample_last = views.sample_last;
+}
+
+-- a merge ran over the object's windows, of which the one cell that was given has its own
+pub record Passes (before after : Merger) (job : Share) (format : Format) (views : Views) (room : List ℕ) (passed : Passed) : Type 0 where
+  pub bytes : List ℕ
+  pub last : Bool
+  pub incoming : IsIncoming job.one format views bytes last
+  pub over : PassesOver before after job format (with_incoming bytes last views) room passed
+
+-- the one cell of a feed of one, where it was not consumed
+abbrev pub one_at : Feed → ℕ → Option Cell
+one_at (feed.Run run) at = None
+one_at (feed.Sampled run) at = None
+one_at (feed.One c) zero = Some c
+one_at (feed.One c) (suc at) = None
+one_at feed.Nothing at = None
 
 -- where the next cell of a feed stands, if the object has it
 abbrev pub IsReachOf : Feed → ℕ → Reach → Type 0
@@ -76,6 +118,13 @@ IsReachOf (feed.Run run) at reach = reach ≡ record { run = run; from = at }
 IsReachOf (feed.Sampled run) at reach = ⊥
 IsReachOf (feed.One c) at reach = ⊥
 IsReachOf feed.Nothing at reach = reach ≡ record { run = record { level = 0; slot = 0; len = 0 }; from = 0 }
+
+-- the same of the feed that comes in, of which one cell is a run of none
+abbrev pub IsIncomingReachOf : Feed → ℕ → Reach → Type 0
+IsIncomingReachOf (feed.Run run) at reach = IsReachOf (feed.Run run) at reach
+IsIncomingReachOf (feed.Sampled run) at reach = IsReachOf (feed.Sampled run) at reach
+IsIncomingReachOf (feed.One c) at reach = IsReachOf feed.Nothing at reach
+IsIncomingReachOf feed.Nothing at reach = IsReachOf feed.Nothing at reach
 
 -- the same of a sample
 abbrev pub IsSampleReachOf : Feed → ℕ → Reach → Type 0

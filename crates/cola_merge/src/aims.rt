@@ -1,7 +1,7 @@
 //! What a merge reads and builds.
-ghost use Rattle.std.specs.Prelude.{◌≡◌};
+ghost use Rattle.std.specs.Prelude.{◌≡◌, ◌<◌};
 
-use cola_cell::{Cell, Run};
+use cola_cell::{Cell, Reach, Run};
 use cola_clock::Part;
 
 /// A source of a merge.
@@ -52,9 +52,10 @@ pub(crate) struct Ends {
 }
 
 impl Feed {
-    ghost use Rattle.cola_merge.specs.Feeds.{feed_len};
+    ghost use Rattle.cola_merge.specs.Feeds.{feed_len, place_of};
 
     /// How many cells it has.
+    #[inline(always)]
     pub(crate) fn len(&self) -> u32
         ensures { result ≡ feed_len self.now }
     {
@@ -65,12 +66,36 @@ impl Feed {
             Feed::Nothing => 0,
         }
     }
+
+    /// Where it reads the cell at a cursor that is below its length; none where that needs no access.
+    #[inline(always)]
+    pub(crate) fn place(&self, at: u32) -> Option<Reach>
+        requires { at < feed_len self.now }
+        ensures { result ≡ place_of self.now at }
+    {
+        match self {
+            Feed::Run(run) => Some(Reach {
+                run: *run,
+                from: at,
+            }),
+            Feed::Sampled(run) => {
+                // it is below the length, which fits its type
+                let _len = run.len;
+                Some(Reach {
+                    run: *run,
+                    from: 8 * at + 7,
+                })
+            }
+            Feed::One(_) | Feed::Nothing => None,
+        }
+    }
 }
 
 impl Aim {
     ghost use Rattle.cola_merge.specs.Ends.{ends_of};
 
     /// How many cells each feed has.
+    #[inline(always)]
     pub(crate) fn ends(&self) -> Ends
         ensures { result ≡ ends_of self.now }
     {

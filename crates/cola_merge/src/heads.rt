@@ -64,8 +64,7 @@ impl Head {
         requires { CellFits Format.Two cell.now }
         ensures { self.new ≡ held_at self.old.at cell.now }
     {
-        self.room.packed = Packed::of_cell(Format::Two, cell);
-        self.room.is_filled = true;
+        self.room.put(&Packed::of_cell(Format::Two, cell));
     }
 
     /// Goes on behind the cell, where it stands.
@@ -139,38 +138,14 @@ impl Head {
         ensures fetch { Fetch (W.state work.old) (W.state work.new) reader feed.now self.old self.new
             steps.old steps.new result }
     {
-        match feed {
-            Feed::Run(run) => {
-                let index = self.at;
-                let room = &mut self.room;
-                work.read_packed(
-                    Some(reader),
-                    run.level,
-                    run.slot,
-                    index,
-                    &mut room.packed,
-                    steps,
-                )?;
-                room.is_filled = true;
+        let Some(next) = feed.place(self.at) else {
+            if let Feed::One(cell) = feed {
+                self.hold(cell);
             }
-            Feed::Sampled(run) => {
-                // it is below the length, which fits its type
-                let _len = run.len;
-                let index = 8 * self.at + 7;
-                let room = &mut self.room;
-                work.read_packed(
-                    Some(reader),
-                    run.level,
-                    run.slot,
-                    index,
-                    &mut room.packed,
-                    steps,
-                )?;
-                room.is_filled = true;
-            }
-            Feed::One(cell) => self.hold(cell),
-            Feed::Nothing => {}
-        }
-        Ok(())
+            return Ok(());
+        };
+        let run = next.run;
+        self.room
+            .read(work, Some(reader), run.level, run.slot, next.from, steps)
     }
 }

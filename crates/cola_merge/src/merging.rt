@@ -75,6 +75,7 @@ impl Merger {
     ghost use Rattle.cola_merge.specs.Calls.{AdvanceLeaves, PullLeaves, NextLeaves, StepLeaves, TakeLeaves, RunLeaves, DrawLeaves};
 
     /// A merge that has consumed nothing.
+    #[inline(always)]
     pub fn begin() -> Merger
         ensures { result ≡ fresh }
     {
@@ -82,6 +83,7 @@ impl Merger {
     }
 
     /// A merge that has consumed so many cells of its own run, of the incoming one and of the sample.
+    #[inline(always)]
     pub fn resume(own: u32, incoming: u32, sample: u32) -> Merger
         ensures { result ≡ merger_at own incoming sample }
     {
@@ -93,6 +95,7 @@ impl Merger {
     }
 
     /// How many cells of its own run were consumed.
+    #[inline(always)]
     pub fn own(&self) -> u32
         ensures { result ≡ self.now.own.at }
     {
@@ -100,6 +103,7 @@ impl Merger {
     }
 
     /// How many cells of the incoming run were consumed.
+    #[inline(always)]
     pub fn incoming(&self) -> u32
         ensures { result ≡ self.now.incoming.at }
     {
@@ -107,6 +111,7 @@ impl Merger {
     }
 
     /// How many cells of the sample were consumed.
+    #[inline(always)]
     pub fn sample(&self) -> u32
         ensures { result ≡ self.now.sample.at }
     {
@@ -130,6 +135,7 @@ impl Merger {
     ///
     /// It is refused where the device failed, where the cell that a feed reads next is bad, and as overfull where the
     /// run fills its slot and a step would emit another cell.
+    #[inline(always)]
     pub fn advance<W: CellSink, L: Ledger>(
         &mut self,
         work: &mut W,

@@ -1,24 +1,28 @@
 //! A merge over windows.
-ghost use Rattle.std.specs.Prelude.{◌≡◌, ◌+◌, ◌*◌, ◌^◌, ◌≤◌, ◌<◌, IfSome};
+ghost use Rattle.std.specs.Prelude.{◌≡◌, ◌+◌, ◌*◌, ◌^◌, ◌≤◌, ◌<◌, IfSome, length};
 ghost use Rattle.cola_merge.specs.Feeds.{IsFeed, IsApart, feed_len};
 ghost use Rattle.cola_merge.specs.Heads.{IsReady};
 ghost use Rattle.cola_merge.specs.States.{Took, state};
-ghost use Rattle.cola_merge.specs.Weaving.{CanPass, Passes, rules_of, IsReachOf, IsSampleReachOf};
+ghost use Rattle.cola_cell.specs.Format.{width};
+ghost use Rattle.cola_cell.specs.Windows.{AreSpelled, views_of};
+ghost use Rattle.cola_merge.specs.Weaving.{CanPass, Passes, PassesOver, rules_of, one_at, unless_given, IsReachOf, IsIncomingReachOf, IsSampleReachOf};
 
 use crate::aims::{Aim, Feed};
 use crate::heads::Head;
 use crate::merging::Merger;
-use cola_cell::{CellSink, Format, Passed, Reach, Run, Window, WindowMerge};
+use cola_cell::{Cell, CellSink, Format, Passed, Reach, Run, Window, WindowMerge, encode_in};
 use cola_clock::Part;
 use cola_outside::Steps;
 use cola_window::{Rules, merge_windows};
 use std::sync::ledger::Ledger;
 
-/// What a pass of a merge is told: its rules, and how many steps it takes at most.
+/// What a pass of a merge is told: its rules, how many steps it takes at most, and the one cell that comes in, where the
+/// feed that comes in is one cell and has it still.
 #[derive(Clone, Copy, Debug)]
 pub struct Share {
     pub(crate) rules: Rules,
     pub(crate) quota: u32,
+    pub(crate) one: Option<Cell>,
 }
 
 impl WindowMerge for Merger {
@@ -37,22 +41,16 @@ impl WindowMerge for Merger {
         sample: Window,
         room: &mut [u8],
     ) -> Passed {
-        let base = 8 * self.sample.at();
-        let taken = merge_windows(
-            format, job.rules, base, own, incoming, sample, room, job.quota,
-        );
-        let width = format.width();
-        let owns = self.own.go(format, own.bytes, taken.own, width);
-        let incomings = self
-            .incoming
-            .go(format, incoming.bytes, taken.incoming, width);
-        let samples = self
-            .sample
-            .go(format, sample.bytes, taken.sample, 8 * width);
-        Passed {
-            steps: taken.own + taken.incoming + taken.sample,
-            cells: taken.pushed,
-            ticks: owns + incomings + samples + taken.pushed,
+        match &job.one {
+            Some(cell) => {
+                let mut room_of_one = [0u8; 128];
+                let bytes = &mut room_of_one[..format.width()];
+                encode_in(format, cell, bytes);
+                let is_last = true;
+                let one = Window { bytes, is_last };
+                self.pass_over(job, format, own, one, sample, room)
+            }
+            None => self.pass_over(job, format, own, incoming, sample, room),
         }
     }
 }
@@ -74,6 +72,45 @@ fn reach_of(feed: &Feed, at: u32) -> Option<Reach>
             from: 0,
         }),
         _ => None,
+    }
+}
+
+/// The same of the feed that comes in, of which one cell is a run of none.
+#[inline]
+fn incoming_reach_of(feed: &Feed, at: u32) -> Option<Reach>
+    requires within { at ≤ feed_len feed.now }
+    requires few { feed_len feed.now ≤ 2 ^ 25 }
+    ensures { IfSome result (IsIncomingReachOf feed.now at) }
+{
+    match feed {
+        Feed::One(_) => Some(Reach {
+            run: Run::default(),
+            from: 0,
+        }),
+        _ => reach_of(feed, at),
+    }
+}
+
+/// The one cell of a feed of one, where it was not consumed.
+#[inline]
+fn one_of(feed: &Feed, at: u32) -> Option<Cell>
+    ensures { result ≡ one_at feed.now at }
+{
+    match feed {
+        Feed::One(cell) => { if at == 0 { Some(*cell) } else { None } }
+        _ => None,
+    }
+}
+
+/// How many of so many cells that came in the object read: none where the one cell is given.
+#[inline(always)]
+fn reads_of(one: &Option<Cell>, count: u32) -> u32
+    ensures value { result ≡ unless_given one.now count }
+    ensures few { result ≤ count }
+{
+    match one {
+        Some(_) => 0,
+        None => count,
     }
 }
 
@@ -110,6 +147,44 @@ fn rules(aim: &Aim) -> Rules
 }
 
 impl Merger {
+    /// A pass over the windows of its sources, of which the one that comes in may be that of one cell: no tick is made for it.
+    #[inline(always)]
+    fn pass_over(
+        &mut self,
+        job: &Share,
+        format: Format,
+        own: Window,
+        incoming: Window,
+        sample: Window,
+        room: &mut [u8],
+    ) -> Passed
+        requires can { CanPass self.old job.now format }
+        ensures size { length room.new ≡ length room.old }
+        ensures fits { result.cells * width format ≤ length room.old }
+        ensures spelled { AreSpelled format result.cells room.new }
+        ensures passes { PassesOver self.old self.new job.now format (views_of own.entry incoming.entry sample.entry)
+            room.new result }
+    {
+        let base = 8 * self.sample.at();
+        let taken = merge_windows(
+            format, job.rules, base, own, incoming, sample, room, job.quota,
+        );
+        let width = format.width();
+        let owns = self.own.go(format, own.bytes, taken.own, width);
+        let incomings = self
+            .incoming
+            .go(format, incoming.bytes, taken.incoming, width);
+        let samples = self
+            .sample
+            .go(format, sample.bytes, taken.sample, 8 * width);
+        let reads = owns + samples + reads_of(&job.one, incomings);
+        Passed {
+            steps: taken.own + taken.incoming + taken.sample,
+            cells: taken.pushed,
+            ticks: reads + taken.pushed,
+        }
+    }
+
     /// Takes as many steps as the object lets it take over the bytes of its sources, at most so many; none where it is
     /// not to be asked.
     #[inline]
@@ -135,7 +210,7 @@ impl Merger {
         let Some(own) = reach_of(&aim.own, self.own.at()) else {
             return 0;
         };
-        let Some(incoming) = reach_of(&aim.incoming, self.incoming.at()) else {
+        let Some(incoming) = incoming_reach_of(&aim.incoming, self.incoming.at()) else {
             return 0;
         };
         let Some(sample) = sample_reach_of(&aim.sample, self.sample.at()) else {
@@ -144,6 +219,7 @@ impl Merger {
         let share = Share {
             rules: rules(aim),
             quota: quota.min(65536),
+            one: one_of(&aim.incoming, self.incoming.at()),
         };
         work.weave(aim.level, own, incoming, sample, self, &share, steps)
     }

@@ -1,16 +1,16 @@
 -- Flips and ends of windows, one level after another.
-use Rattle.std.proofs.Common.{◌≡◌, ◌≢◌, ◌⊎◌, inl, inr, ℕ, suc, ◌+◌, ◌-◌, ◌*◌, ◌^◌, ◌<◌, ◌≤◌, Bool, true, false, ◌&&◌, not, cond, refl, ap, sym, subst, ◌∙◌, arith, IsTrue}
+use Rattle.std.proofs.Common.{◌≡◌, ◌≢◌, ◌⊎◌, inl, inr, ℕ, zero, suc, ◌+◌, ◌-◌, ◌*◌, ◌^◌, ◌<◌, ◌≤◌, Bool, true, false, ◌&&◌, not, cond, List, [], ◌∷◌, refl, ap, sym, subst, ◌∙◌, arith, IsTrue}
 use Rattle.std.proofs.lemmas.Bool.{true≢false}
 use Rattle.std.proofs.lemmas.Bool.Decides.{eqb_tells, leb_tells}
-use Rattle.cola_clock.specs.Clock.{flips, ends, visible_slot}
-use Rattle.cola_clock.proofs.Laws.{flips-zero, ends-flips}
+use Rattle.cola_clock.specs.Clock.{flips, ends, period, is_odd, visible_slot}
+use Rattle.cola_clock.proofs.Laws.{flips-zero, flips-suc, ends-flips}
 use Rattle.cola_cell.specs.declared.sink.Shadow.{Shadow}
 use Rattle.cola_cell.specs.Held.{Held, Fixed}
 use Rattle.cola_cell.specs.Places.{slot_size}
 use Rattle.cola_cell.specs.Shadows.{emptied, IsKept, Restarts}
 use Rattle.cola_level.specs.declared.level.Level.{Level}
 use Rattle.cola_level.specs.Marks.{out_of_window, flipped}
-use Rattle.cola_mutation.specs.Ends.{ended, IsStaying, Restarted}
+use Rattle.cola_mutation.specs.Ends.{ended, all_ended, IsStaying, Restarted}
 
 -- ---- one level
 
@@ -68,25 +68,23 @@ restarted_one {a} {b} t j f r = record {
   spots_stay = λ l s k h. spots_one t j l s k f r h;
 }
 
-pub restarted_not : (held : Held) (t j : ℕ) → flips t j ≡ false → Restarted t j 1 held held
-restarted_not held t j f = record {
+-- where none of these levels flips
+pub restarted_still : (held : Held) (t j n : ℕ) → ((l : ℕ) → j ≤ l → l < j + n → flips t l ≡ false) → Restarted t j n held held
+restarted_still held t j n f = record {
   fixed_is = refl;
   telling_is = λ l s k. refl;
-  flipped = λ l lo hi g. absurd (true≢false (sym g ∙ ap (λ (n : ℕ). flips t n) (only_one j l lo hi) ∙ f));
+  flipped = λ l lo hi g. absurd (true≢false (sym g ∙ f l lo hi));
   others_stay = λ l h. refl;
   spots_stay = λ l s k h. refl;
 }
+
+pub restarted_not : (held : Held) (t j : ℕ) → flips t j ≡ false → Restarted t j 1 held held
+restarted_not held t j f = restarted_still held t j 1 (λ l lo hi. ap (λ (n : ℕ). flips t n) (only_one j l lo hi) ∙ f)
 
 -- ---- all levels
 
 pub restarted_none : (held : Held) (t j : ℕ) → Restarted t j 0 held held
-restarted_none held t j = record {
-  fixed_is = refl;
-  telling_is = λ l s k. refl;
-  flipped = λ l lo hi g. absurd (omega (arith, lo, hi));
-  others_stay = λ l h. refl;
-  spots_stay = λ l s k h. refl;
-}
+restarted_none held t j = restarted_still held t j 0 (λ l lo hi. absurd (omega (arith, lo, hi)))
 
 staying_first : (t j n l : ℕ) → IsStaying t j (suc n) l → IsStaying t j 1 l
 staying_first t j n l (inl h) = inl h
@@ -145,3 +143,25 @@ restarted_then {a} {b} {c} t j n g h = record {
   others_stay = λ l k. h.others_stay l (staying_rest t j n l k) ∙ g.others_stay l (staying_first t j n l k);
   spots_stay = λ l s k d. h.spots_stay l s k (later_spots t j n l s g d) ∙ g.spots_stay l s k (first_spots t j n l s d);
 }
+
+-- ---- behind a level that does not flip
+
+next_stays : (t j : ℕ) → flips t j ≡ false → flips t (suc j) ≡ false
+next_stays t j f = flips-suc t j ∙ ap (λ (b : Bool). b && is_odd (period t j)) f
+
+stays_by : (t j k l : ℕ) → flips t j ≡ false → l ≡ k + j → flips t l ≡ false
+stays_by t j zero l f e = ap (λ (n : ℕ). flips t n) (let x : l ≡ j = omega (arith, e) in x) ∙ f
+stays_by t j (suc k) l f e = ap (λ (n : ℕ). flips t n) (let x : l ≡ suc (k + j) = omega (arith, e) in x) ∙ next_stays t (k + j) (stays_by t j k (k + j) f refl)
+
+stays_behind : (t j l : ℕ) → flips t j ≡ false → j ≤ l → flips t l ≡ false
+stays_behind t j l f h = stays_by t j (l - j) l f (omega (arith, h))
+
+pub none_ended : (t j : ℕ) (ls : List Level) → flips t j ≡ false → all_ended t (suc j) ls ≡ ls
+none_ended t j [] f = refl
+none_ended t j (l ∷ ls) f =
+    let g = next_stays t j f in
+    ap (λ (x : Level). x ∷ all_ended t (suc (suc j)) ls) (ended_stays t (suc j) l g (ends_where t j false g f))
+    ∙ ap (λ (xs : List Level). l ∷ xs) (none_ended t (suc j) ls g)
+
+pub restarted_alone : {a b : Held} (t j n : ℕ) → flips t j ≡ false → Restarted t j 1 a b → Restarted t j (suc n) a b
+restarted_alone {a} {b} t j n f r = restarted_then t j n r (restarted_still b t (suc j) n (λ l lo hi. stays_behind t j l f (omega (arith, lo))))

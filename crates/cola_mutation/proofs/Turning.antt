@@ -1,5 +1,5 @@
 -- One level's turn, and the turns of all levels.
-use Rattle.std.proofs.Common.{◌≡◌, inl, inr, ℕ, suc, ◌+◌, ◌*◌, ◌<◌, ◌≤◌, min, Bool, true, false, cond, List, [], ◌∷◌, Result, Ok, Err, IfErr, OnOk, refl, ap, sym, subst, ◌∙◌, arith}
+use Rattle.std.proofs.Common.{◌≡◌, inl, inr, ℕ, zero, suc, ◌+◌, ◌*◌, ◌<◌, ◌≤◌, min, Bool, true, false, cond, List, [], ◌∷◌, ◌++◌, length, take, drop, get_or, Result, Ok, Err, IfErr, OnOk, refl, ap, sym, subst, ◌∙◌, arith}
 use Rattle.std.proofs.lemmas.Bool.{true≢false}
 use Rattle.std.specs.Result.{IsErrAnd}
 use Rattle.cola_clock.specs.Clock.{works}
@@ -21,7 +21,7 @@ use Rattle.cola_level.specs.Aims.{aim_at}
 use Rattle.cola_level.specs.Standing.{visible_cells, stood, all_stood}
 use Rattle.cola_level.specs.Work.{taken, sources, IsSavedAtEnd}
 use Rattle.cola_level.specs.Works.{Works}
-use Rattle.cola_mutation.specs.Levels.{Fits, AreFit}
+use Rattle.cola_mutation.specs.Levels.{Fits, AreFit, DoRest, last_visible}
 use Rattle.cola_mutation.specs.Work.{WorkState, object_of, with_merger, transfers, Keeps, IsBeside, IsQuiet, HaveTurned, Costs, one_working, many_working, HasTaken, IsTurnRefused, TakesTurn, TakeTurns}
 use Rattle.cola_mutation.proofs.Keeping.{keeps_same, keeps_then, keeps_weaker, keeps_grows, apart_of, quiet_beside, quiet_below, aim_level, fits_stay, all_fit_stay}
 use Rattle.cola_mutation.proofs.Marking.{fits_below}
@@ -139,7 +139,7 @@ turn_works r t i above s u l m below w f h =
 
 -- ---- all turns
 
-pub turns_none : {A : Type 0} (a : A) (t i above : ℕ) (s : WorkState) → TakeTurns t i above s s [] [] (Ok a)
+turns_none : {A : Type 0} (a : A) (t i above : ℕ) (s : WorkState) → TakeTurns t i above s s [] [] (Ok a)
 turns_none a t i above s = record {
   fit = tt;
   keeps = keeps_same (IsQuiet t i) s.held;
@@ -212,3 +212,47 @@ err_is (Err y) f h = ap Err h
 -- what the levels behind one stand on after its turn
 pub rest_fit : {A : Type 0} (r : Result A StepFault) (t i above : ℕ) (s u : WorkState) (l m : Level) (ls : List Level) → AreFit s.held t i above (l ∷ ls) → TakesTurn t i above s u l m (all_marks_of ls) r → AreFit u.held t (suc i) m.visible ls
 rest_fit r t i above s u l m ls f h = subst (λ (n : ℕ). AreFit u.held t (suc i) n ls) (sym h.turned.visible) (all_fit_stay t i (suc i) l.visible ls (omega arith) h.keeps f.1)
+
+-- ---- levels that rest are passed over
+
+rests_first : (t i n : ℕ) → DoRest t i (suc n) → works t (suc i) ≡ false
+rests_first t i n d = ap (λ (x : ℕ). works t x) (let e : suc i ≡ i + 0 + 1 = omega arith in e) ∙ d 0 (omega arith)
+
+rests_later : (t i n : ℕ) → DoRest t i (suc n) → DoRest t (suc i) n
+rests_later t i n d k h = ap (λ (x : ℕ). works t x) (let e : suc i + k + 1 ≡ i + suc k + 1 = omega arith in e) ∙ d (suc k) (omega (arith, h))
+
+pub fit_past : (held : Held) (t i above n : ℕ) (ls : List Level) → AreFit held t i above ls → n ≤ length ls → AreFit held t (i + n) (last_visible above (take n ls)) (drop n ls)
+fit_past held t i above zero ls f h = subst (λ (x : ℕ). AreFit held t x above ls) (let e : i ≡ i + 0 = omega arith in e) f
+fit_past held t i above (suc n) [] f h = absurd (omega (arith, h))
+fit_past held t i above (suc n) (l ∷ ls) f h =
+    subst (λ (x : ℕ). AreFit held t x (last_visible l.visible (take n ls)) (drop n ls)) (let e : suc i + n ≡ i + suc n = omega arith in e) (fit_past held t (suc i) l.visible n ls f.1 (omega (arith, h)))
+
+pub turns_past : {A : Type 0} (r : Result A StepFault) (t i above n : ℕ) (s u : WorkState) (ls ms : List Level) → DoRest t i n → AreFit s.held t i above ls → n ≤ length ls →
+    TakeTurns t (i + n) (last_visible above (take n ls)) s u (drop n ls) ms r → TakeTurns t i above s u ls (take n ls ++ ms) r
+turns_past r t i above zero s u ls ms d f h g = subst (λ (x : ℕ). TakeTurns t x above s u ls ms r) (let e : i + 0 ≡ i = omega arith in e) g
+turns_past r t i above (suc n) s u [] ms d f h g = absurd (omega (arith, h))
+turns_past r t i above (suc n) s u (l ∷ ls) ms d f h g =
+    turns_then r zero t i above s s u l l ls (take n ls ++ ms) f.0 (turn_rests zero t i above s l (all_marks_of ls) (rests_first t i n d) f.0)
+    (turns_past r t (suc i) l.visible n s u ls ms (rests_later t i n d) f.1 (omega (arith, h))
+    (subst (λ (x : ℕ). TakeTurns t x (last_visible l.visible (take n ls)) s u (drop n ls) ms r) (let e : i + suc n ≡ suc i + n = omega arith in e) g))
+
+pub last_there : (above n : ℕ) (ls : List Level) (d : Level) → n < length ls → (get_or ls n d).visible ≡ last_visible above (take (suc n) ls)
+last_there above n [] d h = absurd (omega (arith, h))
+last_there above zero (l ∷ ls) d h = refl
+last_there above (suc n) (l ∷ ls) d h = last_there l.visible n ls d (omega (arith, h))
+
+-- the same of the parts of the levels, cut behind those that rest
+pub past_fit : (held : Held) (t i above n : ℕ) {over : ℕ} (ls : List Level) {left : List Level} (l : Level) (below : List Level) → AreFit held t i above ls → n ≤ length ls → over ≡ last_visible above (take n ls) → left ≡ drop n ls → left ≡ l ∷ below →
+    AreFit held t (i + n) over (l ∷ below)
+past_fit held t i above n {over} ls l below f h o d e =
+    subst (λ (x : List Level). AreFit held t (i + n) over x) (sym d ∙ e) (subst (λ (x : ℕ). AreFit held t (i + n) x (drop n ls)) (sym o) (fit_past held t i above n ls f h))
+
+pub past_turns : {A : Type 0} (r : Result A StepFault) (t i above n : ℕ) {over : ℕ} (s u : WorkState) (ls : List Level) {front left : List Level} (ms : List Level) → DoRest t i n → AreFit s.held t i above ls → n ≤ length ls →
+    over ≡ last_visible above (take n ls) → front ≡ take n ls → left ≡ drop n ls → TakeTurns t (i + n) over s u left ms r → TakeTurns t i above s u ls (front ++ ms) r
+past_turns r t i above n s u ls {left = left} ms d f h o e k g =
+    subst (λ (x : List Level). TakeTurns t i above s u ls (x ++ ms) r) (sym e)
+    (turns_past r t i above n s u ls ms d f h (subst (λ (x : List Level). TakeTurns t (i + n) (last_visible above (take n ls)) s u x ms r) k (subst (λ (x : ℕ). TakeTurns t (i + n) x s u left ms r) o g)))
+
+pub turns_no_level : {A : Type 0} (a : A) (t i above : ℕ) (s : WorkState) (ls : List Level) → length ls ≡ 0 → TakeTurns t i above s s ls ls (Ok a)
+turns_no_level a t i above s [] e = turns_none a t i above s
+turns_no_level a t i above s (l ∷ ls) e = absurd (omega (arith, e))

@@ -1,5 +1,5 @@
 -- Levels as they stand on an object of cells, whatever its cells are.
-use Rattle.std.specs.Prelude.{◌≡◌, ℕ, suc, ◌-◌, ◌<◌, ◌≤◌, ◌^◌, true, false, List, [], ◌∷◌, length, ⊤}
+use Rattle.std.specs.Prelude.{◌≡◌, ℕ, suc, ◌-◌, ◌<◌, ◌≤◌, ◌^◌, true, false, List, [], ◌∷◌, length, ⊤, ◌+◌}
 use Rattle.cola_clock.specs.Clock.{works, visible_slot}
 use Rattle.cola_clock.specs.Marks.{Marks, AreChainMarks}
 use Rattle.cola_cell.specs.Held.{Held}
@@ -22,6 +22,15 @@ pub record Fits (held : Held) (t i above : ℕ) (l : Level) (below : List Marks)
 abbrev pub AreFit : Held → ℕ → ℕ → ℕ → List Level → Type 0
 AreFit held t i above [] = ⊤
 AreFit held t i above (l ∷ below) = Fits held t i above l (all_marks_of below) × AreFit held t (suc i) l.visible below
+
+-- so many levels from level i + 1 on rest at the clock
+abbrev pub DoRest : ℕ → ℕ → ℕ → Type 0
+DoRest t i n = (k : ℕ) → k < n → works t (i + k + 1) ≡ false
+
+-- the length of the last visible run of levels, or of the one above them, where there are none
+abbrev pub last_visible : ℕ → List Level → ℕ
+last_visible above [] = above
+last_visible above (l ∷ ls) = last_visible l.visible ls
 
 -- level 0 between two mutations: its shadow is empty and stands in the slot that is not visible, and no merge is under way
 pub record IsTop (held : Held) (t : ℕ) (top : Level) : Type 0 where

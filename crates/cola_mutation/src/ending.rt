@@ -11,6 +11,7 @@ use cola_level::Level;
 
 /// Ends the mutation at one level: where the level flips, its shadow is visible, and its new shadow is empty and stands
 /// in the slot of the run that was visible; where its window ends, its cursors are 0.
+#[inline(always)]
 fn end_level<W: CellSink>(work: &mut W, level: &mut Level, clock: u64, number: u8)
     requires level_in { number < (W.CellSource.state work.old).held.fixed.levels }
     requires number_in { number ≤ 22 }
@@ -51,5 +52,8 @@ pub(crate) fn end_levels<W: CellSink>(work: &mut W, levels: &mut [Level], clock:
         return;
     };
     end_level(work, level, clock, number);
-    end_levels(work, below, clock, number + 1);
+    // behind a level that does not flip no level flips, and no window ends
+    if flips(clock, number) {
+        end_levels(work, below, clock, number + 1);
+    }
 }

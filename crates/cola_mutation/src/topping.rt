@@ -13,6 +13,7 @@ const ENOUGH: u32 = 7;
 
 /// Builds the shadow of level 0 whole from its visible run, the new cell and the sample of level 1, which is `next`. It
 /// makes at most 9 ticks.
+#[inline(always)]
 pub(crate) fn build_top<W: CellSink, L: Ledger>(
     work: &mut W,
     top: &mut Level,

@@ -1,13 +1,13 @@
 //! The work of the levels of 1 and more in one mutation.
-ghost use Rattle.std.specs.Prelude.{◌≡◌, ◌+◌, ◌<◌, ◌≤◌, ◌^◌, true, length};
+ghost use Rattle.std.specs.Prelude.{◌≡◌, ◌+◌, ◌<◌, ◌≤◌, ◌^◌, true, length, take};
 ghost use Rattle.cola_clock.specs.Clock.{works};
-ghost use Rattle.cola_mutation.specs.Levels.{Fits, AreFit};
+ghost use Rattle.cola_mutation.specs.Levels.{Fits, AreFit, DoRest, last_visible};
 ghost use Rattle.cola_mutation.specs.Calls.{TurnLeaves, TurnsLeave};
 ghost use Rattle.cola_level.specs.Marks.{all_marks_of};
 
 use cola_cell::{CellSink, CellSource, StepFault};
 use cola_clock::works;
-use cola_level::{Level, aim_of};
+use cola_level::{Level, work_by};
 use cola_outside::Steps;
 use std::sync::ledger::Ledger;
 
@@ -32,37 +32,41 @@ fn work_now<W: CellSink, L: Ledger>(
     ensures turn { TurnLeaves W.CellSource work.old work.new steps.old steps.new
         clock upper above level.old level.new below.now result }
 {
-    let aim = aim_of(clock, upper + 1, level.visible, above, below);
-    level.work(work, &aim, steps)
+    work_by(level, work, clock, upper + 1, above, below, steps)
 }
 
-/// The turn of one level: its work, where it works at the clock. The aim of a level that works is made apart, so that one
-/// that rests takes no time for it.
-fn work_level<W: CellSink, L: Ledger>(
-    work: &mut W,
-    level: &mut Level,
-    below: &[Level],
-    clock: u64,
-    upper: u8,
-    above: u32,
-    steps: &mut Steps<L>,
-) -> Result<(), StepFault>
-    requires fits { Fits (W.CellSource.state work.old).held clock upper above
-        level.old (all_marks_of below.now) }
+/// How many of the levels behind the one of number `upper` rest at the clock before the first that works.
+#[inline]
+fn resting(levels: &[Level], clock: u64, upper: u8) -> usize
     requires clock_in { clock < 2 ^ 23 }
-    requires levels_in { upper + length below.now < 22 }
-    ensures kept { W.CellSource.kept work.new ≡ W.CellSource.kept work.old }
-    ensures turn { TurnLeaves W.CellSource work.old work.new steps.old steps.new
-        clock upper above level.old level.new below.now result }
+    requires levels_in { upper + length levels.now ≤ 22 }
+    ensures few { result ≤ length levels.now }
+    ensures rest { DoRest clock upper result }
+    ensures next { result < length levels.now → works clock (upper + result + 1) ≡ true }
 {
-    let number = upper + 1;
-    if !works(clock, number) {
-        return Ok(());
+    for i in 0..levels.len() {
+        if works(clock, upper + i as u8 + 1) {
+            return i;
+        }
     }
-    work_now(work, level, below, clock, upper, above, steps)
+    levels.len()
 }
 
-/// The turns of all levels behind the one of number `upper`, down to the bottom, up to the first that is refused.
+/// The length of the visible run above the levels behind the first ones, so many, where there are these `above` the first.
+#[inline]
+fn above_behind(levels: &[Level], count: usize, above: u32) -> u32
+    requires { count ≤ length levels.now }
+    ensures { result ≡ last_visible above (take count levels.now) }
+{
+    if count == 0 {
+        above
+    } else {
+        levels[count - 1].visible
+    }
+}
+
+/// The turns of all levels behind the one of number `upper`, down to the bottom, up to the first that is refused. A level that
+/// rests is passed over.
 pub(crate) fn work_levels<W: CellSink, L: Ledger>(
     work: &mut W,
     levels: &mut [Level],
@@ -78,9 +82,13 @@ pub(crate) fn work_levels<W: CellSink, L: Ledger>(
     ensures turns { TurnsLeave W.CellSource work.old work.new steps.old steps.new
         clock upper above levels.old levels.new result }
 {
-    let Some((level, below)) = levels.split_first_mut() else {
+    let rest = resting(levels, clock, upper);
+    let over = above_behind(levels, rest, above);
+    let (_, left) = levels.split_at_mut(rest);
+    let Some((level, below)) = left.split_first_mut() else {
         return Ok(());
     };
-    work_level(work, level, below, clock, upper, above, steps)?;
-    work_levels(work, below, clock, upper + 1, level.visible, steps)
+    let number = upper + rest as u8;
+    work_now(work, level, below, clock, number, over, steps)?;
+    work_levels(work, below, clock, number + 1, level.visible, steps)
 }

@@ -1,11 +1,12 @@
 -- Cells among bytes of which some were written.
-use Rattle.std.proofs.Common.{◌≡◌, ◌≢◌, ℕ, ◌+◌, ◌*◌, ◌/◌, ◌%◌, ◌<◌, ◌≤◌, List, length, inl, inr, sym, ap, ◌∙◌, arith}
+use Rattle.std.proofs.lemmas.List.{drop-drop}
+use Rattle.std.proofs.Common.{◌≡◌, ◌≢◌, ℕ, ◌+◌, ◌*◌, ◌/◌, ◌%◌, ◌<◌, ◌≤◌, List, length, inl, inr, sym, ap, ◌∙◌, arith, drop, ◌-◌}
 use Rattle.std.proofs.Math.Nat.{mul_comm, mul_left_comm}
 use Rattle.cola_cell.specs.declared.format.Format.{Format}
 use Rattle.cola_cell.specs.declared.format.Format.TheVariants.{One, Two}
 use Rattle.cola_cell.specs.Format.{width}
 use Rattle.cola_device.specs.Bytes.{part, splice}
-use Rattle.cola_device.proofs.BytesLemmas.{part-splice_inside, part-splice_below, part-splice_above, part-part}
+use Rattle.cola_device.proofs.BytesLemmas.{drop-splice_end, part-splice_inside, part-splice_below, part-splice_above, part-part}
 use Rattle.cola_front.specs.Front.{cell_bytes}
 use Rattle.cola_run.proofs.Numbers.{split, block-apart}
 
@@ -72,3 +73,13 @@ block-cell f bytes block c some =
     ap (λ (at : ℕ). cell_bytes f (part bytes at (width f * block)) (c % block)) (block-from f block (c / block))
     ∙ cell-part f bytes (block * (c / block)) block (c % block) s.rest
     ∙ ap (λ (n : ℕ). cell_bytes f bytes n) s.is
+
+-- what lies behind a piece that was written stays
+pub drop-behind : (bytes new : List ℕ) (at end : ℕ) → at + length new ≤ length bytes → at + length new ≤ end → drop end (splice bytes at new) ≡ drop end bytes
+drop-behind bytes new at end holds behind =
+    let e : at + length new + (end - (at + length new)) ≡ end = omega (arith, behind) in
+    ap (λ (n : ℕ). drop n (splice bytes at new)) (sym e)
+    ∙ sym (drop-drop (end - (at + length new)) (at + length new) (splice bytes at new))
+    ∙ ap (λ (xs : List ℕ). drop (end - (at + length new)) xs) (drop-splice_end bytes at new (omega (arith, holds)))
+    ∙ drop-drop (end - (at + length new)) (at + length new) bytes
+    ∙ ap (λ (n : ℕ). drop n bytes) e

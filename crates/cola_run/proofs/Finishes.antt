@@ -1,5 +1,5 @@
 -- What a finish of the shadow of a level on the device leaves of the cells.
-use Rattle.std.proofs.Common.{◌≡◌, ◌≢◌, ◌⊎◌, inl, inr, ℕ, ◌+◌, ◌*◌, ◌/◌, ◌%◌, ◌<◌, ◌≤◌, Bool, true, false, List, length, Option, IfSome, Result, Ok, Err, is_ok, refl, sym, ap, subst, ◌∙◌, arith}
+use Rattle.std.proofs.Common.{◌≡◌, ◌≢◌, ◌⊎◌, inl, inr, ℕ, ◌+◌, ◌*◌, ◌/◌, ◌%◌, ◌<◌, ◌≤◌, Bool, true, false, List, length, Option, IfSome, Result, Ok, Err, is_ok, refl, sym, ap, subst, ◌∙◌, arith, option_map}
 use Rattle.std.proofs.lemmas.Bool.{cases_eq, false≢true}
 use Rattle.cola_outside.specs.Told.{Both}
 use Rattle.cola_cell.specs.declared.fault.PushFault.{PushFault}
@@ -12,6 +12,8 @@ use Rattle.cola_layout.specs.declared.geometry.Geometry.{Geometry}
 use Rattle.cola_layout.proofs.Places.{slot-blocks}
 use Rattle.cola_run.specs.Cells.{IsOnDevice, Lower, block_cells, block_bytes, file_bytes, block_number, tail_number, is_in_tail, device_cell, spots_of, IsShadow, IsShape, IsSaved, IsBacked, cells_by}
 use Rattle.cola_run.specs.Parts.{tail_of, TailFinished, IsFinished}
+use Rattle.cola_run.specs.Store.{beside}
+use Rattle.cola_run.proofs.Sinks.{beside-tail, long-of}
 use Rattle.cola_run.proofs.Spots.{both-so, both-same, both-with, both-second, in-tail, device-in, device-out, device-is, spots-stay}
 use Rattle.cola_run.proofs.Steps.{tail_many, tail-cell, written-there}
 use Rattle.cola_run.proofs.Lowers.{IsAround, around-same, around-written, TailsStay, other-cell, backed-by, shape-by}
@@ -33,6 +35,26 @@ ends-within g front shadows tails level shape device unsaved =
         | inr d ↦ omega (arith, most, d)
       ];
     }
+
+-- the device tells its bytes after a finish where it told them before
+pub finish-told : {T : Type 0} (g : Geometry) (old new : Lower) (level : ℕ) (result : Result T PushFault) → IsFinished g old new level result → Both old.told new.told (λ _ _. Unit {0})
+finish-told g old new level result finished = by-test (shadow_at old.shadows level) (shadow_at old.shadows level).saved finished.device
+  where
+    by-test : (s : Shadow) (t : Bool) → TailFinished t result g old.tails level s.slot s.len old.told new.told → Both old.told new.told (λ _ _. Unit {0})
+    by-test s false w = both-so old.told new.told (WroteSome result (block_number g level s.slot s.len * block_bytes g) (tail_of g old.tails level)) (λ _ _. Unit {0}) (λ _ _ _. tt) w
+    by-test s true w = subst (λ (x : Option (List ℕ)). Both old.told x (λ _ _. Unit {0})) (sym w.0) (both-same old.told (λ _ _. Unit {0}) (λ _. tt))
+
+-- and what lies beside the levels on the device stays
+pub finish-beside : {T : Type 0} (g : Geometry) (front : FrontCells) (old new : Lower) (level : ℕ) (result : Result T PushFault) → IsShape g front old.shadows old.tails → IsOnDevice g level
+    → IsFinished g old new level result → IfSome old.told (IsBacked g old.shadows old.tails) → option_map (beside g) new.told ≡ option_map (beside g) old.told
+finish-beside g front old new level result shape device finished backed = by-test (shadow_at old.shadows level).saved refl finished.device
+  where
+    by-test : (t : Bool) → (shadow_at old.shadows level).saved ≡ t → TailFinished t result g old.tails level (shadow_at old.shadows level).slot (shadow_at old.shadows level).len old.told new.told
+        → option_map (beside g) new.told ≡ option_map (beside g) old.told
+    by-test false e w =
+        beside-tail result g old.tails level (shadow_at old.shadows level).slot (shadow_at old.shadows level).len old.told new.told shape.block device.whole
+        (ends-within g front old.shadows old.tails level shape device e) (tail_many g old.tails level shape.block device shape.tails_many) (long-of g old.shadows old.tails old.told backed) w
+    by-test true e w = ap (λ (x : Option (List ℕ)). option_map (beside g) x) w.0
 
 -- the two ways of a finish: nothing is written, or the shadow's block is, which is the tail where the finish is accepted
 data Way (g : Geometry) (tails b c : List ℕ) (level : ℕ) (shadow : Shadow) (accepted : Bool) : Type 0 where

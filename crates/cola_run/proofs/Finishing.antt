@@ -1,7 +1,6 @@
 -- That finishes of levels on the device meet the trait.
-use Rattle.std.proofs.Common.{◌≡◌, ◌≢◌, ◌⊎◌, inl, inr, ℕ, ◌+◌, ◌-◌, ◌*◌, ◌^◌, ◌<◌, ◌≤◌, not, Bool, true, false, List, Option, option_map, Result, Ok, Err, is_ok, refl, sym, ap, subst, ◌∙◌, arith}
+use Rattle.std.proofs.Common.{◌≡◌, ◌≢◌, ◌⊎◌, inl, inr, ℕ, ◌+◌, ◌-◌, ◌*◌, ◌^◌, ◌<◌, ◌≤◌, not, Bool, true, false, List, Option, Result, Ok, Err, is_ok, refl, ap, ◌∙◌, arith}
 use Rattle.std.proofs.lemmas.Bool.{false≢true}
-use Rattle.cola_outside.specs.Told.{Both}
 use Rattle.cola_cell.specs.declared.fault.PushFault.{PushFault}
 use Rattle.cola_cell.specs.declared.fault.PushFault.TheVariants.{Device, Overfull}
 use Rattle.cola_cell.specs.declared.sink.Shadow.{Shadow}
@@ -10,19 +9,16 @@ use Rattle.cola_cell.specs.Places.{slot_size, IsPlace}
 use Rattle.cola_cell.specs.Spent.{Ticks}
 use Rattle.cola_cell.specs.Shadows.{IsKept, FinishAnswers, Finishes, FinishSpends}
 use Rattle.cola_device.specs.declared.counts.Counts.{Counts}
-use Rattle.cola_device.specs.Bytes.{WroteSome}
 use Rattle.cola_front.specs.Front.{FrontCells}
 use Rattle.cola_layout.specs.declared.geometry.Geometry.{Geometry}
 use Rattle.cola_layout.proofs.Powers.{power-le}
-use Rattle.cola_run.specs.Cells.{IsOnDevice, Lower, block_bytes, block_number, spots_of, IsShape, cells_by}
-use Rattle.cola_run.specs.Store.{Store, IsStore, cells_of, held_of, state_of, kept_of, beside}
-use Rattle.cola_run.specs.Parts.{TailFinished, tail_of, MetFault, IsFinished}
+use Rattle.cola_run.specs.Cells.{IsOnDevice, Lower, block_number, spots_of, IsShape, cells_by}
+use Rattle.cola_run.specs.Store.{Store, IsStore, cells_of, held_of, state_of, kept_of}
+use Rattle.cola_run.specs.Parts.{TailFinished, MetFault, IsFinished}
 use Rattle.cola_run.specs.Turns.{Writing}
-use Rattle.cola_run.proofs.Steps.{tail_many}
 use Rattle.cola_run.proofs.Reading.{span-is}
-use Rattle.cola_run.proofs.Spots.{both-so, both-same}
-use Rattle.cola_run.proofs.Finishes.{ends-within, finish-stays, finish-shape, finish-backed}
-use Rattle.cola_run.proofs.Sinks.{beside-tail, long-of, kept-by, HasCauseOf, cause-of, calm-of, lasts-many, sound-by, around-by, spends-nothing, spends-writes}
+use Rattle.cola_run.proofs.Finishes.{finish-beside, ends-within, finish-told, finish-stays, finish-shape, finish-backed}
+use Rattle.cola_run.proofs.Sinks.{kept-by, HasCauseOf, cause-of, calm-of, lasts-many, sound-by, around-by, spends-nothing, spends-writes}
 
 -- a finish of a level on the device
 module _ {D K T : Type 0} (bytes : D → Option (List ℕ)) (counts : D → Counts) (kept : D → K) (store now : Store D) (level : ℕ) (result : Result T PushFault)
@@ -53,27 +49,15 @@ module _ {D K T : Type 0} (bytes : D → Option (List ℕ)) (counts : D → Coun
       unsaved true e = absurd (false≢true e)
       unsaved false e = refl
 
-  told-both : Both (bytes store.buffers.cache.device) (bytes now.buffers.cache.device) (λ _ _. Unit {0})
-  told-both = by-test shadow.saved finished.device
-    where
-      by-test : (t : Bool) → TailFinished t result g store.tails level shadow.slot shadow.len (bytes store.buffers.cache.device) (bytes now.buffers.cache.device) → Both (bytes store.buffers.cache.device) (bytes now.buffers.cache.device) (λ _ _. Unit {0})
-      by-test false w = both-so (bytes store.buffers.cache.device) (bytes now.buffers.cache.device) (WroteSome result (block_number g level shadow.slot shadow.len * block_bytes g) (tail_of g store.tails level)) (λ _ _. Unit {0}) (λ _ _ _. tt) w
-      by-test true w = subst (λ (x : Option (List ℕ)). Both (bytes store.buffers.cache.device) x (λ _ _. Unit {0})) (sym w.0) (both-same (bytes store.buffers.cache.device) (λ _ _. Unit {0}) (λ _. tt))
-
   pub finished-sound : IsStore (bytes now.buffers.cache.device) now
   finished-sound =
       sound-by bytes store now sound same front (finish-shape g store.front lower lower-now level result shape device finished) (finish-backed g store.front lower lower-now level result shape device finished sound.cells.backed)
       writing.stays.size writing.stays.many (lasts-many (not shadow.saved) (block_number g level shadow.slot shadow.len) store.buffers.lasts now.buffers.lasts writing.lasts_are)
 
   pub finished-keeps : kept_of bytes counts kept now ≡ kept_of bytes counts kept store
-  finished-keeps = kept-by bytes counts kept store now same writing.stays.blocks writing.kept_is (by-test shadow.saved refl finished.device) (let low = writing.called.others_stay in let high = writing.called.others_rise in omega (arith, low, high))
-    where
-      by-test : (t : Bool) → shadow.saved ≡ t → TailFinished t result g store.tails level shadow.slot shadow.len (bytes store.buffers.cache.device) (bytes now.buffers.cache.device)
-          → option_map (beside g) (bytes now.buffers.cache.device) ≡ option_map (beside g) (bytes store.buffers.cache.device)
-      by-test false e w =
-          beside-tail result g store.tails level shadow.slot shadow.len (bytes store.buffers.cache.device) (bytes now.buffers.cache.device) shape.block device.whole (ends-within g store.front store.shadows store.tails level shape device e)
-          (tail_many g store.tails level shape.block device shape.tails_many) (long-of g store.shadows store.tails (bytes store.buffers.cache.device) sound.cells.backed) w
-      by-test true e w = ap (λ (x : Option (List ℕ)). option_map (beside g) x) w.0
+  finished-keeps =
+      kept-by bytes counts kept store now same writing.stays.blocks writing.kept_is (finish-beside g store.front lower lower-now level result shape device finished sound.cells.backed)
+      (let low = writing.called.others_stay in let high = writing.called.others_rise in omega (arith, low, high))
 
   spots-now : (l s i : ℕ) → spots_of (cells_of (bytes now.buffers.cache.device) now) l s i ≡ spots_of (cells_by g store.front lower-now) l s i
   spots-now l s i = ap (λ (x : Geometry). spots_of (cells_by x now.front lower-now) l s i) same ∙ ap (λ (x : FrontCells). spots_of (cells_by g x lower-now) l s i) front
@@ -93,7 +77,7 @@ module _ {D K T : Type 0} (bytes : D → Option (List ℕ)) (counts : D → Coun
 
   pub finished-meets : Finishes (state_of bytes counts store) (state_of bytes counts now) level result
   finished-meets = record {
-    around = around-by bytes store now level same writing.stays.made (λ l apart. finished.shadow.others l apart) told-both;
+    around = around-by bytes store now level same writing.stays.made (λ l apart. finished.shadow.others l apart) (finish-told g lower lower-now level result finished);
     answer = answers result refl finished.fault (cause-of result writing.called);
     calm = calm-of result finished.fault writing.called;
     shadow_is = finished.shadow.is;

@@ -25,6 +25,7 @@ use Rattle.cola_run.specs.Cells.{Lower, block_bytes, spots_of, IsShape, IsBacked
 use Rattle.cola_run.specs.Store.{Beside, beside}
 use Rattle.cola_run.specs.Saving.{IsFlushed, AreLevelSpots, SameFront, SameLevels, SameBehind, SettlesTwice}
 use Rattle.cola_run.specs.Loading.{StayRead, SameCells, AreSavedBelow}
+use Rattle.cola_run.proofs.Spots.{both-two}
 use Rattle.cola_run.proofs.Heads.{heads-backed, heads-behind, heads-spots, head-long, level-spots, saved-spots}
 
 -- the bytes of the front's two blocks
@@ -33,6 +34,13 @@ image-many front header is head =
     ap (λ (xs : List ℕ). length xs) (sym (image_is front is header head))
     ∙ length-append (header ++ drop 512 (stored_all front.format (take front.block front.cells))) (second_block front)
     ∙ (let a = headed_many front is header head in let b = second_many front is header head in omega (arith, a, b))
+
+pub front-size : (g : Geometry) (front : FrontCells) (shadows : List Shadow) (tails : List ℕ) → IsShape g front shadows tails → block_size front ≡ block_bytes g
+front-size g front shadows tails shape = ap (λ (f : Format). width f * front.block) shape.format ∙ ap (λ (n : ℕ). width g.format * n) shape.front_block
+
+pub image-fits : (g : Geometry) (front : FrontCells) (shadows : List Shadow) (tails header : List ℕ) → IsShape g front shadows tails → IsFront front → length header ≡ 512
+    → 0 + length (image front header) ≤ 2 * block_bytes g
+image-fits g front shadows tails header shape is head = let size = front-size g front shadows tails shape in let many = image-many front header is head in omega (arith, many, size)
 
 -- places without a cell are zeros
 stored-none : (f : Format) (cells : List (Option Cell)) (n : ℕ) → n ≤ length cells → ((place : ℕ) → place < n → get_or cells place None ≡ None) → take (width f * n) (stored_all f cells) ≡ replicate (width f * n) 0
@@ -109,38 +117,20 @@ module _ (front : FrontCells) (header bytes : List ℕ) (is : IsFront front) (he
   written-head = inside 0 (8 * width front.format) (head-room front.format front.block is.some) ∙ image-head front header is head
 
 -- steps of a flush, one behind the other
-behind-two : (g : Geometry) (x y z : Option (List ℕ)) → Both x y (SameBehind g) → Both y z (SameBehind g) → Both x z (SameBehind g)
-behind-two g None None None h k = tt
-behind-two g None None (Some c) h k = absurd k
-behind-two g None (Some b) z h k = absurd h
-behind-two g (Some a) None z h k = absurd h
-behind-two g (Some a) (Some b) None h k = absurd k
-behind-two g (Some a) (Some b) (Some c) h k = record { many = k.many ∙ h.many; behind = k.behind ∙ h.behind }
-
-behind-of : (g : Geometry) (x y : Option (List ℕ)) → Both x y (λ _ _. Unit {0}) → option_map (beside g) y ≡ option_map (beside g) x → Both x y (SameBehind g)
-behind-of g None None h e = tt
-behind-of g None (Some c) h e = absurd h
-behind-of g (Some b) None h e = absurd h
-behind-of g (Some b) (Some c) h e = record { many = ap (λ (o : Option Beside). size-of o) e; behind = ap (λ (o : Option Beside). behind-at o) e }
+beside-so : (g : Geometry) (P : List ℕ → List ℕ → Type 0) → ((b c : List ℕ) → beside g c ≡ beside g b → P b c)
+    → (x y : Option (List ℕ)) → Both x y (λ _ _. Unit {0}) → option_map (beside g) y ≡ option_map (beside g) x → Both x y P
+beside-so g P f None None h e = tt
+beside-so g P f None (Some c) h e = absurd h
+beside-so g P f (Some b) None h e = absurd h
+beside-so g P f (Some b) (Some c) h e = f b c (ap (λ (o : Option Beside). option_or o (beside g b)) e)
   where
-    size-of : Option Beside → ℕ
-    size-of None = 0
-    size-of (Some x) = x.size
-
-    behind-at : Option Beside → List ℕ
-    behind-at None = []
-    behind-at (Some x) = x.behind
+    option_or : Option Beside → Beside → Beside
+    option_or None y = y
+    option_or (Some x) y = x
 
 -- the first two blocks stay where all that lies beside the levels on the device does
 pub front-waits : (g : Geometry) (x y : Option (List ℕ)) → Both x y (λ _ _. Unit {0}) → option_map (beside g) y ≡ option_map (beside g) x → Both x y (SameFront g)
-front-waits g None None h e = tt
-front-waits g None (Some c) h e = absurd h
-front-waits g (Some b) None h e = absurd h
-front-waits g (Some b) (Some c) h e = ap (λ (o : Option Beside). front-of o) e
-  where
-    front-of : Option Beside → List ℕ
-    front-of None = []
-    front-of (Some x) = x.front
+front-waits g = beside-so g (SameFront g) (λ b c e. ap (λ (o : Beside). o.front) e)
 
 -- every cell of the levels on the device is in the file where each shadow is there
 pub levels-saved : (g : Geometry) (front : FrontCells) (shadows : List Shadow) (tails : List ℕ) (y : Option (List ℕ)) → IfSome y (IsBacked g shadows tails) → AreSavedBelow g shadows (g.bottom + 1)
@@ -150,7 +140,7 @@ levels-saved g front shadows tails (Some c) backed saved = level-spots g front (
 
 pub same-two : (g : Geometry) (front : FrontCells) (a b c : Lower) → SameCells g front a b → SameCells g front b c → SameCells g front a c
 same-two g front a b c x y = record {
-  behind = behind-two g a.told b.told c.told x.behind y.behind;
+  behind = both-two a.told b.told c.told (SameBehind g) (SameBehind g) (SameBehind g) (λ _ _ _ h k. record { many = k.many ∙ h.many; behind = k.behind ∙ h.behind }) x.behind y.behind;
   slots_stay = λ l. y.slots_stay l ∙ x.slots_stay l;
   lens_stay = λ l. y.lens_stay l ∙ x.lens_stay l;
   shadows_many = y.shadows_many ∙ x.shadows_many;
@@ -160,7 +150,7 @@ same-two g front a b c x y = record {
 
 pub same-read : (g : Geometry) (front : FrontCells) (a b : Lower) → IsShape g front a.shadows a.tails → IfSome a.told (IsBacked g a.shadows a.tails) → length b.shadows ≡ length a.shadows → StayRead g a b → SameCells g front a b
 same-read g front a b shape backed many x = record {
-  behind = behind-of g a.told b.told x.told (x.beside_stays front shape backed);
+  behind = beside-so g (SameBehind g) (λ b c e. record { many = ap (λ (o : Beside). o.size) e; behind = ap (λ (o : Beside). o.behind) e }) a.told b.told x.told (x.beside_stays front shape backed);
   slots_stay = x.slots_stay;
   lens_stay = x.lens_stay;
   shadows_many = many;
@@ -189,9 +179,8 @@ flushed-by T E value g front shadows tails header (Some x) None shape is head ba
 flushed-by T E value g front shadows tails header (Some x) (Some y) shape is head backed saved w =
     let v : WroteSome {E = E} (Ok value) 0 (image front header) x y = w in
     let at : y ≡ splice x 0 (image front header) = v.others_stay ∙ ap (λ (left : List ℕ). splice x 0 left) v.exact in
-    let size : block_size front ≡ block_bytes g = ap (λ (f : Format). width f * front.block) shape.format ∙ ap (λ (n : ℕ). width g.format * n) shape.front_block in
-    let many : length (image front header) ≡ 2 * block_size front = image-many front header is head in
-    let within : 0 + length (image front header) ≤ 2 * block_bytes g = omega (arith, many, size) in
+    let size = front-size g front shadows tails shape in
+    let within = image-fits g front shadows tails header shape is head in
     let ok : Result T E = Ok value in
     let file = heads-backed g shape.block shadows tails ok 0 (image front header) within (Some x) (Some y) w backed in
     let inside : 2 * block_size front ≤ length x = (let h = head-long g shape.block in let long = backed.long in omega (arith, h, long, size)) in

@@ -1,5 +1,5 @@
 -- A store behind a merge over the bytes of runs into its front.
-use Rattle.std.proofs.Common.{◌≡◌, ◌≢◌, ◌⊎◌, inl, inr, ℕ, ◌+◌, ◌-◌, ◌*◌, ◌%◌, ◌^◌, ◌≤◌, ◌<◌, List, length, Option, None, Some, IfSome, refl, ap, sym, subst, ◌∙◌, arith}
+use Rattle.std.proofs.Common.{◌≡◌, ◌≢◌, ◌⊎◌, inl, inr, ℕ, ◌+◌, ◌-◌, ◌%◌, ◌^◌, ◌≤◌, ◌<◌, List, length, Option, None, Some, refl, ap, sym, subst, ◌∙◌, arith}
 use Rattle.std.proofs.Math.Nat.{mod-eq_of_lt}
 use Rattle.std.proofs.lemmas.Bool.{cases_lt}
 use Rattle.std.proofs.lemmas.Nat.{pow_pos}
@@ -17,10 +17,11 @@ use Rattle.cola_layout.specs.declared.geometry.Geometry.{Geometry}
 use Rattle.cola_layout.proofs.Places.{place-differ}
 use Rattle.cola_layout.proofs.Powers.{power-le, next_power}
 use Rattle.cola_cache.specs.Blocks.{Blocks}
-use Rattle.cola_run.specs.Cells.{Lower, block_bytes, block_cells, file_blocks, device_levels, end_number, known_spot, told_spot, IsShape, IsBacked, cells_by}
+use Rattle.cola_run.specs.Cells.{Lower, block_cells, end_number, known_spot, told_spot, cells_by}
 use Rattle.cola_run.specs.Store.{Store, IsStore, cells_of, held_of}
 use Rattle.cola_run.specs.Weaving.{PutInFront}
 use Rattle.cola_run.proofs.Fronting.{same-around, spots-now}
+use Rattle.cola_run.proofs.Sinks.{shape-with, sound-with}
 use Rattle.cola_run.proofs.Reading.{span-is}
 use Rattle.cola_run.proofs.Spots.{known-told, spot-there, spot-front}
 use Rattle.cola_run.proofs.Standing.{front-stays, front-shape, front-backed}
@@ -52,24 +53,8 @@ module _ {D K : Type 0} (bytes : D → Option (List ℕ)) (counts : D → Counts
       let stands = sound.cells.shape.shadows_fit level within in
       let h = front-shape g store.front store.front lower lower-now level (grown count shadow) sound.cells.shape told-same tails put.shadow low (record { slot_in = stands.slot_in; within = few }) in
       let b = front-backed g store.front store.front lower lower-now level (grown count shadow) sound.cells.shape told-same tails put.shadow low sound.cells.backed in
-      record {
-        cells = record {
-          shape = subst (λ (x : Geometry). IsShape x now.front now.shadows now.tails) (sym same) (record {
-            block = h.block;
-            shallow = h.shallow;
-            format = put.shape.format ∙ h.format;
-            front_block = put.shape.block ∙ h.front_block;
-            shadows_many = h.shadows_many;
-            shadows_fit = h.shadows_fit;
-            tails_many = h.tails_many;
-            unsaved = h.unsaved;
-          });
-          backed = subst (λ (x : Geometry). IfSome (bytes now.buffers.cache.device) (IsBacked x now.shadows now.tails)) (sym same) b;
-        };
-        size = ap (λ (b : Blocks D). b.cache.size) buffers ∙ sound.size ∙ ap (λ (x : Geometry). block_bytes x) (sym same);
-        many = ap (λ (b : Blocks D). b.many) buffers ∙ sound.many ∙ ap (λ (x : Geometry). file_blocks x) (sym same);
-        buffers_many = ap (λ (b : Blocks D). length b.lasts) buffers ∙ sound.buffers_many ∙ ap (λ (x : Geometry). 1 + 3 * device_levels x) (sym same);
-      }
+      sound-with bytes store now sound same (shape-with put.shape.format put.shape.block h) b
+      (ap (λ (b : Blocks D). b.cache.size) buffers) (ap (λ (b : Blocks D). b.many) buffers) (ap (λ (b : Blocks D). length b.lasts) buffers)
 
   -- a slot of the front is less than a block
   small : slot_size level + 1 ≤ block_cells g

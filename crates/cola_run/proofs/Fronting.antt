@@ -1,5 +1,5 @@
 -- That restarts, and pushes and finishes of levels of the front, meet the trait.
-use Rattle.std.proofs.Common.{◌≡◌, inl, inr, ℕ, ◌+◌, ◌-◌, ◌*◌, ◌%◌, ◌^◌, ◌<◌, ◌≤◌, ◌==◌, Bool, true, List, length, set, Option, Some, IfSome, option_map, Result, Ok, Err, is_ok, refl, sym, ap, subst, ◌∙◌, arith}
+use Rattle.std.proofs.Common.{◌≡◌, inl, inr, ℕ, ◌+◌, ◌%◌, ◌^◌, ◌<◌, ◌≤◌, ◌==◌, Bool, true, List, length, set, Option, Some, IfSome, Result, Ok, Err, is_ok, refl, sym, ap, subst, ◌∙◌, arith}
 use Rattle.std.proofs.lemmas.Bool.{false≢true}
 use Rattle.cola_outside.specs.Told.{Both}
 use Rattle.cola_cell.specs.declared.cell.Cell.{Cell}
@@ -7,21 +7,21 @@ use Rattle.cola_cell.specs.declared.fault.PushFault.{PushFault}
 use Rattle.cola_cell.specs.declared.sink.Shadow.{Shadow}
 use Rattle.cola_cell.specs.Flat.{shadow_at}
 use Rattle.cola_cell.specs.Held.{span}
-use Rattle.cola_cell.specs.Places.{slot_size, number_of, IsPlace, block_of}
+use Rattle.cola_cell.specs.Places.{slot_size, number_of, IsPlace}
 use Rattle.cola_cell.specs.Spent.{Ticks}
-use Rattle.cola_cell.specs.Shadows.{emptied, IsKept, StaysAround, Restarts, after_push, PushAnswers, WriteCalm, Pushes, PushSpends, FinishAnswers, Finishes, FinishSpends}
+use Rattle.cola_cell.specs.Shadows.{emptied, IsKept, StaysAround, Restarts, after_push, PushAnswers, WriteCalm, Pushes, FinishAnswers, Finishes}
 use Rattle.cola_device.specs.declared.counts.Counts.{Counts}
 use Rattle.cola_front.specs.Front.{FrontCells}
 use Rattle.cola_layout.specs.declared.geometry.Geometry.{Geometry}
 use Rattle.cola_layout.proofs.Powers.{power-le}
 use Rattle.cola_cache.specs.Blocks.{Blocks}
-use Rattle.cola_run.specs.Cells.{Lower, block_bytes, file_blocks, device_levels, spots_of, IsShadow, IsShape, IsBacked, cells_by}
-use Rattle.cola_run.specs.Store.{Store, IsStore, cells_of, held_of, state_of, kept_of, beside}
+use Rattle.cola_run.specs.Cells.{Lower, spots_of, IsShadow, IsShape, IsBacked, cells_by}
+use Rattle.cola_run.specs.Store.{Store, IsStore, cells_of, held_of, state_of}
 use Rattle.cola_run.specs.Parts.{OneShadow, fills}
 use Rattle.cola_run.proofs.Reading.{span-is}
 use Rattle.cola_run.proofs.Spots.{both-same}
 use Rattle.cola_run.proofs.Standing.{restart-others, restart-kept, restart-shape, restart-backed, front-stays, front-shape, front-backed, put-elsewhere, put-end}
-use Rattle.cola_run.proofs.Sinks.{kept-by, sound-by, around-by, writes-none}
+use Rattle.cola_run.proofs.Sinks.{shape-with, sound-with, sound-by, around-by}
 
 -- a change of one shadow, and perhaps of the front, that leaves the device and the tails
 module _ {D K : Type 0} (bytes : D → Option (List ℕ)) (counts : D → Counts) (kept : D → K) (store now : Store D) (level : ℕ) (shadow-now : Shadow)
@@ -38,10 +38,6 @@ module _ {D K : Type 0} (bytes : D → Option (List ℕ)) (counts : D → Counts
 
   told-same : bytes now.buffers.cache.device ≡ bytes store.buffers.cache.device
   told-same = ap (λ (b : Blocks D). bytes b.cache.device) buffers
-
-  pub same-keeps : kept_of bytes counts kept now ≡ kept_of bytes counts kept store
-  same-keeps =
-      kept-by bytes counts kept store now same (ap (λ (b : Blocks D). b.cache.blocks) buffers) (ap (λ (b : Blocks D). kept b.cache.device) buffers) (ap (λ (x : Option (List ℕ)). option_map (beside g) x) told-same) (ap (λ (b : Blocks D). (counts b.cache.device).others) buffers)
 
   pub same-around : StaysAround (held_of bytes store) (held_of bytes now) level
   same-around =
@@ -115,11 +111,6 @@ module _ {D K : Type 0} (bytes : D → Option (List ℕ)) (counts : D → Counts
         by-calm (Ok value) e = faults
         by-calm (Err fault) e = absurd (false≢true e)
 
-    pub front-finished-spends : FinishSpends (state_of bytes counts store) (state_of bytes counts now) level
-    front-finished-spends =
-        let w = writes-none counts store now 0 (block_of (8 * 2 ^ (g.block_exp - 3)) level (shadow_at store.shadows level).slot (shadow_at store.shadows level).len) buffers same ticked in
-        record { writes = w.0; only_needed = λ _. w.1 }
-
   -- a push to a level of the front
   module _ {T : Type 0} (cell : Cell) (result : Result T PushFault) (low : level + 2 < g.block_exp) (within : level ≤ g.bottom) (room : (shadow_at store.shadows level).len < slot_size level)
       (front : now.front ≡ record store.front { cells = set store.front.cells (number_of level (shadow_at store.shadows level).slot (shadow_at store.shadows level).len) (Some cell) })
@@ -140,24 +131,8 @@ module _ {D K : Type 0} (bytes : D → Option (List ℕ)) (counts : D → Counts
         let stands = sound.cells.shape.shadows_fit level within in
         let h = front-shape g store.front store.front lower lower-now level shadow-now sound.cells.shape told-same tails one low (subst (λ (x : Shadow). IsShadow level x) (sym is) (record { slot_in = stands.slot_in; within = omega (arith, room) })) in
         let b = front-backed g store.front store.front lower lower-now level shadow-now sound.cells.shape told-same tails one low sound.cells.backed in
-        record {
-          cells = record {
-            shape = subst (λ (f : FrontCells). IsShape now.geometry f now.shadows now.tails) (sym front) (subst (λ (x : Geometry). IsShape x put now.shadows now.tails) (sym same) (record {
-              block = h.block;
-              shallow = h.shallow;
-              format = h.format;
-              front_block = h.front_block;
-              shadows_many = h.shadows_many;
-              shadows_fit = h.shadows_fit;
-              tails_many = h.tails_many;
-              unsaved = h.unsaved;
-            }));
-            backed = subst (λ (x : Geometry). IfSome (bytes now.buffers.cache.device) (IsBacked x now.shadows now.tails)) (sym same) b;
-          };
-          size = ap (λ (b : Blocks D). b.cache.size) buffers ∙ sound.size ∙ ap (λ (x : Geometry). block_bytes x) (sym same);
-          many = ap (λ (b : Blocks D). b.many) buffers ∙ sound.many ∙ ap (λ (x : Geometry). file_blocks x) (sym same);
-          buffers_many = ap (λ (b : Blocks D). length b.lasts) buffers ∙ sound.buffers_many ∙ ap (λ (x : Geometry). 1 + 3 * device_levels x) (sym same);
-        }
+        sound-with bytes store now sound same (subst (λ (f : FrontCells). IsShape g f now.shadows now.tails) (sym front) (shape-with refl refl h)) b
+        (ap (λ (b : Blocks D). b.cache.size) buffers) (ap (λ (b : Blocks D). b.many) buffers) (ap (λ (b : Blocks D). length b.lasts) buffers)
 
     put-now : (l s i : ℕ) → spots_of (cells_of (bytes now.buffers.cache.device) now) l s i ≡ spots_of (cells_by g put lower-now) l s i
     put-now l s i = spots-now l s i ∙ ap (λ (x : FrontCells). spots_of (cells_by g x lower-now) l s i) front
@@ -182,12 +157,3 @@ module _ {D K : Type 0} (bytes : D → Option (List ℕ)) (counts : D → Counts
         by-shadow : (r : Result T PushFault) → is_ok r ≡ true → record { slot = shadow.slot; len = shadow.len + 1; saved = fills g shadow.len } ≡ after_push (span (held_of bytes store)) shadow r
         by-shadow (Ok value) e = ap (λ (n : ℕ). record { slot = shadow.slot; len = shadow.len + 1; saved = (shadow.len + 1) % n == 0 }) (sym (span-is g sound.cells.shape.block))
         by-shadow (Err fault) e = absurd (false≢true e)
-
-    pub front-pushed-spends : PushSpends (state_of bytes counts store) (state_of bytes counts now) level result
-    front-pushed-spends = by-result result accepted
-      where
-        by-result : (r : Result T PushFault) → is_ok r ≡ true → PushSpends (state_of bytes counts store) (state_of bytes counts now) level r
-        by-result (Ok value) e =
-            let w = writes-none counts store now 1 (block_of (8 * 2 ^ (g.block_exp - 3)) level shadow.slot shadow.len) buffers same ticked in
-            record { writes = w.0; only_full = λ _. w.1 }
-        by-result (Err fault) e = absurd (false≢true e)

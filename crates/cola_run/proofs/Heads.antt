@@ -1,8 +1,6 @@
 -- What writes to the two blocks of the front leave; and when the cells of a store are those of its file.
-use Rattle.std.proofs.Common.{◌≡◌, inl, inr, ℕ, ◌+◌, ◌-◌, ◌*◌, ◌^◌, ◌<◌, ◌≤◌, List, length, drop, Option, None, Some, IfSome, Result, Ok, Err, refl, sym, ap, subst, ◌∙◌, arith}
-use Rattle.std.specs.Prelude.{OnOk}
+use Rattle.std.proofs.Common.{◌≡◌, inl, inr, ℕ, ◌+◌, ◌*◌, ◌^◌, ◌<◌, ◌≤◌, List, length, drop, Option, None, Some, IfSome, Result, refl, sym, ap, subst, ◌∙◌, arith}
 use Rattle.std.proofs.lemmas.Bool.{cases_lt}
-use Rattle.std.proofs.lemmas.List.{drop-drop}
 use Rattle.cola_outside.specs.Told.{Both}
 use Rattle.cola_cell.specs.declared.format.Format.{Format}
 use Rattle.cola_cell.specs.declared.format.Format.TheVariants.{One, Two}
@@ -13,7 +11,7 @@ use Rattle.cola_cell.specs.Flat.{spot_of, shadow_at}
 use Rattle.cola_cell.specs.Format.{width}
 use Rattle.cola_cell.specs.Places.{number_of, IsPlace}
 use Rattle.cola_device.specs.Bytes.{splice, WroteSome, Wrote}
-use Rattle.cola_device.proofs.BytesLemmas.{length-splice, part-splice_above, drop-splice_end}
+use Rattle.cola_device.proofs.BytesLemmas.{length-splice, part-splice_above}
 use Rattle.cola_front.specs.Front.{FrontCells, cell_at, cell_bytes, IsLoaded}
 use Rattle.cola_layout.specs.declared.geometry.Geometry.{Geometry}
 use Rattle.cola_layout.specs.Geometry.{IsBlock}
@@ -22,9 +20,10 @@ use Rattle.cola_layout.proofs.Powers.{next_power, power-le}
 use Rattle.cola_run.specs.Cells.{Lower, block_cells, block_bytes, file_bytes, device_cell, known_spot, told_spot, spots_of, IsShape, IsBacked, cells_by}
 use Rattle.cola_run.specs.Saving.{AreFileSpots, AreLevelSpots, SameLevels, SameBehind}
 use Rattle.cola_layout.specs.Cells.{file_spots}
-use Rattle.cola_run.specs.Loading.{StaySound, AreSavedBelow}
+use Rattle.cola_run.specs.Loading.{AreSavedBelow}
+use Rattle.cola_run.proofs.Bytes.{drop-behind}
 use Rattle.cola_run.proofs.Lowers.{on-device}
-use Rattle.cola_run.proofs.Spots.{tail-is, device-in, device-out, device-is, spot-there, spot-front, spot-device, spots-stay}
+use Rattle.cola_run.proofs.Spots.{tail-is, device-in, device-out, device-is, spot-there, spot-front, spot-device, spots-stay, both-so, both-with, both-second}
 
 -- the bytes of the front's blocks end before those of a place on the device
 cell-behind : (f : Format) (b n m : ℕ) → 2 ^ (b + 1) ≤ n → m ≤ 2 * (width f * 2 ^ b) → m ≤ width f * n
@@ -34,15 +33,6 @@ cell-behind Two b n m h k = let t : 2 ^ (b + 1) ≡ 2 ^ b + 2 ^ b = next_power b
 -- and before the end of the file
 file-behind : (f : Format) (b bottom m : ℕ) → b ≤ bottom + 2 → m ≤ 2 * (width f * 2 ^ b) → m ≤ width f * 2 ^ (bottom + 4)
 file-behind f b bottom m few h = cell-behind f b (2 ^ (bottom + 4)) m (power-le (b + 1) (bottom + 4) (omega (arith, few))) h
-
-drop-behind : (bytes new : List ℕ) (at end : ℕ) → at + length new ≤ length bytes → at + length new ≤ end → drop end (splice bytes at new) ≡ drop end bytes
-drop-behind bytes new at end holds behind =
-    let e : at + length new + (end - (at + length new)) ≡ end = omega (arith, behind) in
-    ap (λ (n : ℕ). drop n (splice bytes at new)) (sym e)
-    ∙ sym (drop-drop (end - (at + length new)) (at + length new) (splice bytes at new))
-    ∙ ap (λ (xs : List ℕ). drop (end - (at + length new)) xs) (drop-splice_end bytes at new (omega (arith, holds)))
-    ∙ drop-drop (end - (at + length new)) (at + length new) bytes
-    ∙ ap (λ (n : ℕ). drop n bytes) e
 
 -- a device on which bytes of the front's blocks were written
 module _ (g : Geometry) (fits : IsBlock g.block_exp g.bottom) (bytes left : List ℕ) (at : ℕ) (long : file_bytes g ≤ length bytes) (within : at + length left ≤ 2 * block_bytes g) where
@@ -79,27 +69,18 @@ module _ (g : Geometry) (fits : IsBlock g.block_exp g.bottom) (bytes left : List
 -- the same where the device tells its bytes
 module _ {T E : Type 0} (g : Geometry) (fits : IsBlock g.block_exp g.bottom) (shadows : List Shadow) (tails : List ℕ) (result : Result T E) (at : ℕ) (from : List ℕ) (within : at + length from ≤ 2 * block_bytes g) where
   pub heads-backed : (x y : Option (List ℕ)) → Wrote result at from x y → IfSome x (IsBacked g shadows tails) → IfSome y (IsBacked g shadows tails)
-  heads-backed None None w b = tt
-  heads-backed None (Some y) w b = absurd w
-  heads-backed (Some x) None w b = absurd w
-  heads-backed (Some x) (Some y) w b =
-      let v : WroteSome result at from x y = w in
-      let many = v.as_many in
-      subst (λ (bytes : List ℕ). IsBacked g shadows tails bytes) (sym v.others_stay) (head-backed g fits x v.left at b.long (omega (arith, many, within)) shadows tails b)
-
-  pub heads-sound : (x y : Option (List ℕ)) → Wrote result at from x y → StaySound g (record { told = x; shadows = shadows; tails = tails }) (record { told = y; shadows = shadows; tails = tails })
-  heads-sound x y w = record { shape = λ front h. h; backed = λ front h b. heads-backed x y w b }
+  heads-backed x y w b =
+      both-second x y (λ c d. IsBacked g shadows tails c × WroteSome result at from c d) (IsBacked g shadows tails)
+      (λ c d (b, v). let many = v.as_many in subst (IsBacked g shadows tails) (sym v.others_stay) (head-backed g fits c v.left at b.long (omega (arith, many, within)) shadows tails b))
+      (both-with x y (IsBacked g shadows tails) (WroteSome result at from) b w)
 
   -- what the bytes of before and the written ones have, told contents have
   heads-have : (P : List ℕ → List ℕ → Type 0) → ((bytes left : List ℕ) → file_bytes g ≤ length bytes → at + length left ≤ 2 * block_bytes g → P bytes (splice bytes at left)) → (x y : Option (List ℕ)) → Wrote result at from x y → IfSome x (IsBacked g shadows tails)
       → Both x y P
-  heads-have P has None None w b = tt
-  heads-have P has None (Some y) w b = absurd w
-  heads-have P has (Some x) None w b = absurd w
-  heads-have P has (Some x) (Some y) w b =
-      let v : WroteSome result at from x y = w in
-      let many = v.as_many in
-      subst (λ (bytes : List ℕ). P x bytes) (sym v.others_stay) (has x v.left b.long (omega (arith, many, within)))
+  heads-have P has x y w b =
+      both-so x y (λ c d. IsBacked g shadows tails c × WroteSome result at from c d) P
+      (λ c d (b, v). let many = v.as_many in subst (λ (bytes : List ℕ). P c bytes) (sym v.others_stay) (has c v.left b.long (omega (arith, many, within))))
+      (both-with x y (IsBacked g shadows tails) (WroteSome result at from) b w)
 
   pub heads-behind : (x y : Option (List ℕ)) → Wrote result at from x y → IfSome x (IsBacked g shadows tails) → Both x y (SameBehind g)
   heads-behind = heads-have (SameBehind g) (λ bytes left long inside. record { many = head-many g fits bytes left at long inside; behind = head-behind g fits bytes left at long inside })
@@ -110,32 +91,9 @@ module _ {T E : Type 0} (g : Geometry) (fits : IsBlock g.block_exp g.bottom) (sh
   pub heads-spots : (front : FrontCells) (x y : Option (List ℕ)) → Wrote result at from x y → IfSome x (IsBacked g shadows tails) → (l s i : ℕ) →
       spots_of (record { geometry = g; front = front; lower = record { told = y; shadows = shadows; tails = tails } }) l s i ≡ spots_of (record { geometry = g; front = front; lower = record { told = x; shadows = shadows; tails = tails } }) l s i
   heads-spots front x y w b l s i =
-      spots-stay g front front (record { told = x; shadows = shadows; tails = tails }) (record { told = y; shadows = shadows; tails = tails }) l s i (λ p low. refl) (by-case x y w b)
-    where
-      by-case : (x y : Option (List ℕ)) → Wrote result at from x y → IfSome x (IsBacked g shadows tails) →
-          Both x y (λ b c. IsPlace (g.bottom + 1) l s i → g.block_exp ≤ l + 2 → device_cell g shadows tails c l s i ≡ device_cell g shadows tails b l s i)
-      by-case None None w b = tt
-      by-case None (Some y) w b = absurd w
-      by-case (Some x) None w b = absurd w
-      by-case (Some x) (Some y) w b =
-          λ p high.
-          let v : WroteSome result at from x y = w in
-          let many = v.as_many in
-          ap (λ (bytes : List ℕ). device_cell g shadows tails bytes l s i) v.others_stay ∙ head-cell g fits x v.left at b.long (omega (arith, many, within)) shadows tails l s i high
-
-exact-of : {T E : Type 0} (value : T) (r : Result T E) (at : ℕ) (from b c : List ℕ) (v : WroteSome {E = E} (Ok value) at from b c) → OnOk r (v.left ≡ from)
-exact-of value (Ok done) at from b c v = v.exact
-exact-of value (Err fault) at from b c v = tt
-
--- bytes that were to be written, by a call that was followed by another
-pub wrote-then : {T E : Type 0} (value : T) (result : Result T E) (at : ℕ) (from : List ℕ) (x y z : Option (List ℕ)) → z ≡ y → Wrote {E = E} (Ok value) at from x y → Wrote result at from x z
-wrote-then value result at from None None z same w = subst (λ (o : Option (List ℕ)). Wrote result at from None o) (sym same) tt
-wrote-then value result at from None (Some y) z same w = absurd w
-wrote-then value result at from (Some x) None z same w = absurd w
-wrote-then {E = E} value result at from (Some x) (Some y) z same w =
-    subst (λ (o : Option (List ℕ)). Wrote result at from (Some x) o) (sym same)
-    (let v : WroteSome {E = E} (Ok value) at from x y = w in
-    record { left = v.left; as_many = v.as_many; others_stay = v.others_stay; exact = exact-of value result at from x y v })
+      spots-stay g front front (record { told = x; shadows = shadows; tails = tails }) (record { told = y; shadows = shadows; tails = tails }) l s i (λ p low. refl)
+      (heads-have (λ b c. IsPlace (g.bottom + 1) l s i → g.block_exp ≤ l + 2 → device_cell g shadows tails c l s i ≡ device_cell g shadows tails b l s i)
+      (λ bytes left long inside p high. head-cell g fits bytes left at long inside shadows tails l s i high) x y w b)
 
 -- the cells of the levels on the device are those of the file where each shadow is there
 pub level-spots : (g : Geometry) (front : FrontCells) (lower : Lower) (bytes : List ℕ) → IsBacked g lower.shadows lower.tails bytes → AreSavedBelow g lower.shadows (g.bottom + 1)

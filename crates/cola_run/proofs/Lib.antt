@@ -23,3 +23,4 @@ pub mod News
 pub mod Shown
 pub mod Sounding
 pub mod Fronted
+pub mod Searching

@@ -10,7 +10,7 @@ use Rattle.cola_cell.specs.declared.fault.ReadFault.TheVariants.{Device, BadCell
 use Rattle.cola_cell.specs.Decoded.{decoded, spot_of_bytes}
 use Rattle.cola_cell.specs.Flat.{found, spot_of, shadow_at}
 use Rattle.cola_cell.specs.Format.{CellFits}
-use Rattle.cola_cell.specs.Held.{Held, Spot, Bad, Told, Tells, as_cell, span}
+use Rattle.cola_cell.specs.Held.{Held, Spot, Untold, Bad, Told, Tells, span}
 use Rattle.cola_cell.specs.Places.{slot_size, number_of, IsPlace, block_of}
 use Rattle.cola_cell.specs.Spent.{Buffer, buffer_for, Ticks, StaysAt, ReadAnswers, ReadCalm}
 use Rattle.cola_cell.specs.Reads.{Reads}
@@ -28,7 +28,7 @@ use Rattle.cola_run.specs.Parts.{Finds}
 use Rattle.cola_run.specs.Turns.{buffer_index, turned_last, Turns}
 use Rattle.cola_run.proofs.Calls.{spelled-fits}
 use Rattle.cola_run.proofs.Lasts.{block-number-is, held-is, others-stay, own-set, own-is, buffer-within}
-use Rattle.cola_run.proofs.Spots.{IsInTail, device-in, device-out, spot-there, spot-front, spot-device}
+use Rattle.cola_run.proofs.Spots.{on-ok, IsInTail, device-in, device-out, spot-there, spot-front, spot-device, if-told}
 
 -- the cells of a block
 pub span-is : (g : Geometry) → IsBlock g.block_exp g.bottom → 8 * 2 ^ (g.block_exp - 3) ≡ block_cells g
@@ -38,27 +38,19 @@ span-is g fits =
     sym (pow-add 2 3 (g.block_exp - 3)) ∙ ap (λ (n : ℕ). 2 ^ n) e
 
 -- what a place tells, where something is told
-tells-so : (x : Spot) (c : Option Cell) → x ≡ spot_of c → Tells x (spot_of c)
-tells-so x None e = subst (λ (y : Spot). Tells y Bad) (sym e) refl
-tells-so x (Some cell) e = subst (λ (y : Spot). Tells y (Told (as_cell cell))) (sym e) refl
+pub tells-same : (x y : Spot) → x ≡ y → Tells x y
+tells-same Untold y e = tt
+tells-same Bad y e = e
+tells-same (Told c) y e = e
 
 pub tells-by : (cells : Cells) (told : Option (List ℕ)) (l s i : ℕ) (c : Option Cell) → IfSome told (λ b. known_spot cells b l s i ≡ spot_of c) → Tells (told_spot cells told l s i) (spot_of c)
 tells-by cells None l s i c e = tt
-tells-by cells (Some b) l s i c e = tells-so (known_spot cells b l s i) c e
+tells-by cells (Some b) l s i c e = tells-same (known_spot cells b l s i) (spot_of c) e
 
 -- what was found has its cause
 pub found-says : (held : Held) (before now l s i n : ℕ) (c : Option Cell) → Tells (held.spots l s i) (spot_of c) → IfSome c (CellFits held.fixed.format) → n ≡ number_of l s i → ReadAnswers held before now l s i (found n c)
 found-says held before now l s i n None e h k = record { told = e; number_is = k }
 found-says held before now l s i n (Some c) e h k = record { told = e; fits = h }
-
--- a fact is one on Ok
-on-ok : {T E P : Type 0} (result : Result T E) → P → OnOk result P
-on-ok (Ok x) p = p
-on-ok (Err e) p = tt
-
-pub if-told : {P : List ℕ → Type 0} (x : Option (List ℕ)) → ((b : List ℕ) → P b) → IfSome x P
-if-told None f = tt
-if-told (Some b) f = f b
 
 -- a cell of the front that stands there fits
 pub front-fits : (f : Format) (c : Option Cell) → ComesBack f c → IfSome c (CellFits f)
@@ -116,32 +108,14 @@ tail-says bytes store faults l s i n c result p high inside is number answer =
     ∙ ap (λ (x : Option Cell). spot_of x) (sym is))))
     (subst (λ (x : Option Cell). IfSome x (CellFits store.geometry.format)) (sym is) (spelled-fits store.geometry.format (cell_bytes store.geometry.format store.tails (tail_number store.geometry l i)))) number)
 
--- a read of a cell on the device
+-- a read by way of a buffer, by what it answers
 module _ {D : Type 0} (bytes : D → Option (List ℕ)) (counts : D → Counts) (store : Store D) (now : Blocks D) (ticked : ℕ) (reader : Option Reader) (l s i : ℕ) (result : Result Cell ReadFault)
     (fits : IsBlock store.geometry.block_exp store.geometry.bottom) (many : length store.buffers.lasts ≡ 1 + 3 * device_levels store.geometry)
-    (p : IsPlace (store.geometry.bottom + 1) l s i) (device : IsOnDevice store.geometry l) (outside : IsInTail (block_cells store.geometry) (shadow_at store.shadows l) s i → ⊥)
-    (finds : Finds (bytes store.buffers.cache.device) store.geometry.format (number_of l s i) result)
+    (p : IsPlace (store.geometry.bottom + 1) l s i) (device : IsOnDevice store.geometry l)
+    (answer : ReadAnswers (held_of bytes store) (counts store.buffers.cache.device).faults (counts now.cache.device).faults l s i result)
     (turns : Turns counts store.buffers now (buffer_index store.geometry reader l) (block_number store.geometry l s i) result) (told_stays : bytes now.cache.device ≡ bytes store.buffers.cache.device) (ticks : Ticks store.ticked ticked 1) where
   abbrev g : Geometry
   g = store.geometry
-
-  spot-is : (c : Option Cell) → IfSome (bytes store.buffers.cache.device) (λ b. decoded g.format (cell_bytes g.format b (number_of l s i)) ≡ c) →
-      Tells (told_spot (cells_of (bytes store.buffers.cache.device) store) (bytes store.buffers.cache.device) l s i) (spot_of c)
-  spot-is c h = tells-by (cells_of (bytes store.buffers.cache.device) store) (bytes store.buffers.cache.device) l s i c (by-case (bytes store.buffers.cache.device) h)
-    where
-      by-case : (x : Option (List ℕ)) → IfSome x (λ b. decoded g.format (cell_bytes g.format b (number_of l s i)) ≡ c) → IfSome x (λ b. known_spot (cells_of (bytes store.buffers.cache.device) store) b l s i ≡ spot_of c)
-      by-case None h = tt
-      by-case (Some b) h =
-          spot-there (cells_of (bytes store.buffers.cache.device) store) b l s i p
-          ∙ spot-device (cells_of (bytes store.buffers.cache.device) store) b l s i device.whole
-          ∙ ap (λ (x : List ℕ). spot_of_bytes g.format x) (device-out g store.shadows store.tails b l s i outside)
-          ∙ ap (λ (x : Option Cell). spot_of x) h
-
-  answers : (r : Result Cell ReadFault) → Finds (bytes store.buffers.cache.device) g.format (number_of l s i) r → Turns counts store.buffers now (buffer_index g reader l) (block_number g l s i) r →
-      ReadAnswers (held_of bytes store) (counts store.buffers.cache.device).faults (counts now.cache.device).faults l s i r
-  answers (Ok cell) f t = record { told = spot-is (Some cell) f.1; fits = f.0 }
-  answers (Err Device) f t = t.cause
-  answers (Err (BadCell n)) f t = record { told = spot-is None f.1; number_is = f.0 }
 
   within : buffer_index g reader l < length store.buffers.lasts
   within = let h = buffer-within g reader l device in omega (arith, h, many)
@@ -178,10 +152,10 @@ module _ {D : Type 0} (bytes : D → Option (List ℕ)) (counts : D → Counts) 
   abbrev held-by : Made → Option (List ℕ) → Held
   held-by made told = record (held_of bytes store) { fixed = record (held_of bytes store).fixed { made = record { reads = made.reads; faults = made.faults } }; spots = spots_of (cells_of told store) }
 
-  pub reads-device : Reads (state_of bytes counts store) (state_of bytes counts (record store { buffers = now; ticked = ticked })) (buffer_for reader l) l s i result
-  reads-device = record {
+  pub reads-turned : Reads (state_of bytes counts store) (state_of bytes counts (record store { buffers = now; ticked = ticked })) (buffer_for reader l) l s i result
+  reads-turned = record {
     cells_stay = ap (λ (made : Made). held-by made (bytes now.cache.device)) turns.stays.made ∙ ap (λ (told : Option (List ℕ)). held-by store.buffers.made told) told_stays;
-    answer = answers result finds turns;
+    answer = answer;
     faults_stay = turns.faults_stay;
     calm = turns.calm;
     one_tick = ticks;
@@ -195,3 +169,30 @@ module _ {D : Type 0} (bytes : D → Option (List ℕ)) (counts : D → Counts) 
     others_stay = λ other apart.
         ap (λ (xs : List (Option ℕ)). last_of g xs other) turns.lasts_are ∙ others-stay g store.buffers.lasts reader l (turned_last (block_number g l s i) result) other device.whole apart;
   }
+
+-- a read of a cell on the device
+module _ {D : Type 0} (bytes : D → Option (List ℕ)) (counts : D → Counts) (store : Store D) (now : Blocks D) (ticked : ℕ) (reader : Option Reader) (l s i : ℕ) (result : Result Cell ReadFault)
+    (fits : IsBlock store.geometry.block_exp store.geometry.bottom) (many : length store.buffers.lasts ≡ 1 + 3 * device_levels store.geometry)
+    (p : IsPlace (store.geometry.bottom + 1) l s i) (device : IsOnDevice store.geometry l) (outside : IsInTail (block_cells store.geometry) (shadow_at store.shadows l) s i → ⊥)
+    (finds : Finds (bytes store.buffers.cache.device) store.geometry.format (number_of l s i) result)
+    (turns : Turns counts store.buffers now (buffer_index store.geometry reader l) (block_number store.geometry l s i) result) (told_stays : bytes now.cache.device ≡ bytes store.buffers.cache.device) (ticks : Ticks store.ticked ticked 1) where
+  spot-is : (c : Option Cell) → IfSome (bytes store.buffers.cache.device) (λ b. decoded store.geometry.format (cell_bytes store.geometry.format b (number_of l s i)) ≡ c) →
+      Tells (told_spot (cells_of (bytes store.buffers.cache.device) store) (bytes store.buffers.cache.device) l s i) (spot_of c)
+  spot-is c h = tells-by (cells_of (bytes store.buffers.cache.device) store) (bytes store.buffers.cache.device) l s i c (by-case (bytes store.buffers.cache.device) h)
+    where
+      by-case : (x : Option (List ℕ)) → IfSome x (λ b. decoded store.geometry.format (cell_bytes store.geometry.format b (number_of l s i)) ≡ c) → IfSome x (λ b. known_spot (cells_of (bytes store.buffers.cache.device) store) b l s i ≡ spot_of c)
+      by-case None h = tt
+      by-case (Some b) h =
+          spot-there (cells_of (bytes store.buffers.cache.device) store) b l s i p
+          ∙ spot-device (cells_of (bytes store.buffers.cache.device) store) b l s i device.whole
+          ∙ ap (λ (x : List ℕ). spot_of_bytes store.geometry.format x) (device-out store.geometry store.shadows store.tails b l s i outside)
+          ∙ ap (λ (x : Option Cell). spot_of x) h
+
+  answers : (r : Result Cell ReadFault) → Finds (bytes store.buffers.cache.device) store.geometry.format (number_of l s i) r → Turns counts store.buffers now (buffer_index store.geometry reader l) (block_number store.geometry l s i) r →
+      ReadAnswers (held_of bytes store) (counts store.buffers.cache.device).faults (counts now.cache.device).faults l s i r
+  answers (Ok cell) f t = record { told = spot-is (Some cell) f.1; fits = f.0 }
+  answers (Err Device) f t = t.cause
+  answers (Err (BadCell n)) f t = record { told = spot-is None f.1; number_is = f.0 }
+
+  pub reads-device : Reads (state_of bytes counts store) (state_of bytes counts (record store { buffers = now; ticked = ticked })) (buffer_for reader l) l s i result
+  reads-device = reads-turned bytes counts store now ticked reader l s i result fits many p device (answers result finds turns) turns told_stays ticks

@@ -1,4 +1,5 @@
 -- The bytes of runs, where they lie, show the cells of a store.
+use Rattle.std.proofs.Common.{eq-eqb}
 use Rattle.std.proofs.Common.{◌≡◌, inl, inr, ℕ, ◌+◌, ◌-◌, ◌*◌, ◌%◌, ◌≤◌, ◌<◌, ◌==◌, min, ◌||◌, not, Bool, true, false, nat_le, nat_lt, List, length, take, drop, Option, None, Some, IfSome, refl, ap, sym, subst, ◌∙◌, arith}
 use Rattle.std.proofs.Math.Nat.{mul_comm, mod-lt}
 use Rattle.std.proofs.lemmas.Nat.{pow_pos}
@@ -9,7 +10,7 @@ use Rattle.cola_cell.specs.declared.cell.Cell.{Cell}
 use Rattle.cola_cell.specs.Decoded.{decoded, spot_of_bytes}
 use Rattle.cola_cell.specs.Flat.{shadow_at, spot_of}
 use Rattle.cola_cell.specs.Format.{width}
-use Rattle.cola_cell.specs.Held.{Spot, Untold, Bad, Told, Tells}
+use Rattle.cola_cell.specs.Held.{Tells}
 use Rattle.cola_cell.specs.Places.{number_of, IsPlace}
 use Rattle.cola_device.specs.Bytes.{part, Gives}
 use Rattle.cola_device.proofs.BytesLemmas.{length-part, part-part}
@@ -18,19 +19,14 @@ use Rattle.cola_layout.specs.declared.geometry.Geometry.{Geometry}
 use Rattle.cola_run.specs.Cells.{Cells, IsBacked, block_bytes, block_cells, block_number, device_cell, is_in_tail, told_spot}
 use Rattle.cola_run.specs.Store.{Store, IsStore, held_of, cells_of}
 use Rattle.cola_run.specs.Weaving.{IsBelow, IsInFront, IsFound, IsRunHere, ahead, together, is_at_hand}
-use Rattle.std.proofs.lemmas.Bool.{true≢false, cases_lt, le-ltb}
-use Rattle.cola_run.proofs.Reading.{tells-by, if-told}
-use Rattle.std.proofs.lemmas.Bool.Decides.{leb_tells, eqb_tells}
+use Rattle.std.proofs.lemmas.Bool.{eqb-true, true≢false, cases_lt, le-ltb}
+use Rattle.cola_run.proofs.Reading.{tells-by, tells-same}
+use Rattle.std.proofs.lemmas.Bool.Decides.{leb_tells}
 use Rattle.cola_run.proofs.Bytes.{cell-part, block-from}
 use Rattle.cola_run.proofs.Numbers.{split, place-is}
-use Rattle.cola_run.proofs.Spots.{device-is, spot-there, spot-device, spot-front, tail-is}
+use Rattle.cola_run.proofs.Spots.{device-is, spot-there, spot-device, spot-front, tail-is, if-told}
 use Rattle.cola_cell.specs.declared.windows.Reach.{Reach}
 use Rattle.cola_cell.specs.Windows.{cell_bytes_at, IsRunIn, IsShown}
-
-tells_same : (x y : Spot) → x ≡ y → Tells x y
-tells_same Untold y e = tt
-tells_same Bad y e = e
-tells_same (Told c) y e = e
 
 -- the bytes of a cell of a window
 window_cell : (f : Format) (bytes window : List ℕ) (m many n : ℕ) → length window ≡ many * width f → window ≡ part bytes (width f * m) (length window) → n < many → cell_bytes_at f n window ≡ cell_bytes f bytes (m + n)
@@ -112,7 +108,7 @@ below_shows cells lends (Some bytes) reach window last n e backed found there wh
     (λ d. refl) in
     let window_is : cell_bytes_at g.format n window ≡ cell_bytes g.format bytes (number_of l s reach.from + n) = window_cell g.format bytes window (number_of l s reach.from) (together lends g reach) n found.size found.gives below in
     let number : number_of l s reach.from + n ≡ number_of l s i = omega arith in
-    tells_same (told_spot cells (Some bytes) l s i) (spot_of_bytes g.format (cell_bytes_at g.format n window))
+    tells-same (told_spot cells (Some bytes) l s i) (spot_of_bytes g.format (cell_bytes_at g.format n window))
     (spot-there cells bytes l s i place ∙ spot-device cells bytes l s i whole
     ∙ ap (λ (x : List ℕ). spot_of_bytes g.format x) (sym (window_is ∙ ap (λ (x : ℕ). cell_bytes g.format bytes x) number ∙ same)))
 
@@ -126,17 +122,11 @@ by_test false false false s e f h z = absurd (true≢false (sym z))
 least_not : (a b : ℕ) → b < a → nat_le a b ≡ false
 least_not a b h = elim (leb_tells a b) [ inl e ↦ let l : a ≤ b = e.1 in absurd (omega (arith, h, l)) | inr e ↦ e.0 ]
 
-same_is : (a b : ℕ) → a ≡ b → (a == b) ≡ true
-same_is a b h = elim (eqb_tells a b) [ inl e ↦ e.0 | inr e ↦ absurd (e.1 h) ]
-
 pub at_hand : (g : Geometry) (shadows : List Shadow) (reach : Reach) → is_at_hand g shadows reach ≡ true → reach.from < reach.run.len → g.block_exp ≤ reach.run.level + 2 →
     reach.run.slot ≡ (shadow_at shadows reach.run.level).slot → (shadow_at shadows reach.run.level).saved ≡ true
 at_hand g shadows reach e h whole z =
     by_test (nat_le reach.run.len reach.from) (nat_lt (reach.run.level + 2) g.block_exp) (reach.run.slot == (shadow_at shadows reach.run.level).slot) (shadow_at shadows reach.run.level).saved e
-    (least_not reach.run.len reach.from h) (le-ltb (reach.run.level + 2) g.block_exp whole) (same_is reach.run.slot (shadow_at shadows reach.run.level).slot z)
-
-same_by : (a b : ℕ) → (a == b) ≡ true → a ≡ b
-same_by a b h = elim (eqb_tells a b) [ inl e ↦ e.1 | inr e ↦ absurd (true≢false (sym h ∙ e.0)) ]
+    (least_not reach.run.len reach.from h) (le-ltb (reach.run.level + 2) g.block_exp whole) (eq-eqb reach.run.slot (shadow_at shadows reach.run.level).slot z)
 
 -- the cells of a run of the front
 front_shows : (cells : Cells) (told : Option (List ℕ)) (reach : Reach) (window : List ℕ) (last : Bool) (n : ℕ) → cells.front.format ≡ cells.geometry.format → IsInFront cells.front reach window last → IsRunHere cells.geometry reach →
@@ -180,7 +170,7 @@ found_shown bytes store lends reach window last sound found run hand = elim (cas
         many = together lends store.geometry reach;
         size = f.size;
         within = together_few lends store.geometry reach;
-        ends = λ e. same_by (together lends store.geometry reach) (ahead reach) (sym f.last ∙ e);
+        ends = λ e. eqb-true (together lends store.geometry reach) (ahead reach) (sym f.last ∙ e);
         shows = λ n h.
             let there : reach.from < reach.run.len = let few = together_few lends store.geometry reach in omega (arith, h, few) in
             below_shows (cells_of (bytes store.buffers.cache.device) store) lends (bytes store.buffers.cache.device) reach window last n refl sound.cells.backed f (here there) high
@@ -190,3 +180,25 @@ found_shown bytes store lends reach window last sound found run hand = elim (cas
   where
     here : reach.from < reach.run.len → IsRunHere store.geometry reach
     here there = let r = run there in let level = r.level_in in record { low = omega (arith, level); slot_in = r.slot_in; within = r.within }
+
+-- the first of them tells what stands at the index
+first_together : (lends : Bool) (g : Geometry) (reach : Reach) → reach.from < reach.run.len → 0 < together lends g reach
+first_together true g reach h = omega (arith, h)
+first_together false g reach h = let rest = mod-lt reach.from (pow_pos g.block_exp) in omega (arith, h, rest)
+
+pub first_shown : {D : Type 0} (bytes : D → Option (List ℕ)) (store : Store D) (lends : Bool) (reach : Reach) (window : List ℕ) (last : Bool) → IsStore (bytes store.buffers.cache.device) store →
+    IsFound lends (bytes store.buffers.cache.device) store.geometry store.front reach window last → IsRunIn (held_of bytes store) reach → is_at_hand store.geometry store.shadows reach ≡ true →
+    Tells ((held_of bytes store).spots reach.run.level reach.run.slot reach.from) (spot_of_bytes store.geometry.format (cell_bytes_at store.geometry.format 0 window))
+first_shown bytes store lends reach window last sound found run hand =
+    let told = bytes store.buffers.cache.device in
+    let level = run.level_in in
+    let some = run.some in
+    let here : IsRunHere store.geometry reach = record { low = omega (arith, level); slot_in = run.slot_in; within = run.within } in
+    let at : reach.from + 0 ≡ reach.from = omega arith in
+    subst (λ (i : ℕ). Tells ((held_of bytes store).spots reach.run.level reach.run.slot i) (spot_of_bytes store.geometry.format (cell_bytes_at store.geometry.format 0 window))) at
+    (elim (cases_lt (reach.run.level + 2) store.geometry.block_exp) [
+      | inl low ↦ front_shows (cells_of told store) told reach window last 0 sound.cells.shape.format (found.in_front low) here low (omega (arith, some))
+      | inr high ↦
+          below_shows (cells_of told store) lends told reach window last 0 refl sound.cells.backed (found.below high) here high
+          (at_hand store.geometry store.shadows reach hand some high) (first_together lends store.geometry reach some)
+    ])

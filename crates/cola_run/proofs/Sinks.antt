@@ -1,6 +1,6 @@
 -- What restarts, pushes and finishes of a store keep and spend.
 use Rattle.std.proofs.Common.{◌≡◌, ◌≢◌, inl, ℕ, ◌+◌, ◌-◌, ◌*◌, ◌^◌, ◌≤◌, Bool, true, false, if◌then◌else◌, List, length, map, take, drop, Option, None, Some, IfSome, option_map, Result, Ok, Err, refl, sym, ap, subst, ◌∙◌, arith}
-use Rattle.std.proofs.lemmas.List.{length-map, drop-drop}
+use Rattle.std.proofs.lemmas.List.{length-map}
 use Rattle.std.proofs.Math.Nat.{mul-le-mul_right}
 use Rattle.cola_outside.specs.Faults.{Rose}
 use Rattle.cola_outside.specs.Told.{Both}
@@ -14,7 +14,7 @@ use Rattle.cola_cell.specs.Shadows.{StaysAround, WriteCalm, Forgets, WritesNothi
 use Rattle.cola_device.specs.declared.counts.Counts.{Counts}
 use Rattle.cola_device.specs.Bytes.{splice, WroteSome}
 use Rattle.cola_device.specs.Counts.{Called}
-use Rattle.cola_device.proofs.BytesLemmas.{part-splice_below, drop-splice_end}
+use Rattle.cola_device.proofs.BytesLemmas.{part-splice_below}
 use Rattle.cola_front.specs.Front.{FrontCells}
 use Rattle.cola_layout.specs.declared.geometry.Geometry.{Geometry}
 use Rattle.cola_layout.specs.Geometry.{IsBlock}
@@ -23,6 +23,7 @@ use Rattle.cola_run.specs.Cells.{block_bytes, file_bytes, file_blocks, device_le
 use Rattle.cola_run.specs.Store.{Store, IsStore, cells_of, held_of, spent_of, kept_of, Beside, beside, last_of}
 use Rattle.cola_run.specs.Parts.{WroteTail, tail_of, MetFault}
 use Rattle.cola_run.specs.Turns.{Writing}
+use Rattle.cola_run.proofs.Bytes.{drop-behind}
 use Rattle.cola_run.proofs.Numbers.{block-behind}
 use Rattle.cola_run.proofs.Steps.{written-many, block-fits}
 use Rattle.cola_run.proofs.Lasts.{lasts-forget}
@@ -30,15 +31,6 @@ use Rattle.cola_run.proofs.Reading.{span-is}
 use Rattle.cola_run.proofs.Spots.{telling-is}
 
 -- nothing beside the levels on the device changes where a block of one was written
-drop-behind : (bytes new : List ℕ) (at end : ℕ) → at + length new ≤ length bytes → at + length new ≤ end → drop end (splice bytes at new) ≡ drop end bytes
-drop-behind bytes new at end holds behind =
-    let e : at + length new + (end - (at + length new)) ≡ end = omega (arith, behind) in
-    ap (λ (n : ℕ). drop n (splice bytes at new)) (sym e)
-    ∙ sym (drop-drop (end - (at + length new)) (at + length new) (splice bytes at new))
-    ∙ ap (λ (xs : List ℕ). drop (end - (at + length new)) xs) (drop-splice_end bytes at new (omega (arith, holds)))
-    ∙ drop-drop (end - (at + length new)) (at + length new) bytes
-    ∙ ap (λ (n : ℕ). drop n bytes) e
-
 pub beside-written : (g : Geometry) (level slot index : ℕ) (bytes left : List ℕ) → IsBlock g.block_exp g.bottom → g.block_exp ≤ level + 2 → IsPlace (g.bottom + 1) level slot index → file_bytes g ≤ length bytes → length left ≡ block_bytes g →
     beside g (splice bytes (block_number g level slot index * block_bytes g) left) ≡ beside g bytes
 beside-written g level slot index bytes left fits high place long whole =
@@ -115,25 +107,6 @@ module _ {D K T E : Type 0} (counts : D → Counts) (kept : D → K) (store now 
       by-test true e is buffer = at buffer e is
       by-test false e is buffer = inl (ap (λ (f : Buffer → Option Block). f buffer) lasts-now ∙ ap (λ (xs : List (Option ℕ)). last_of store.geometry xs buffer) is)
 
--- a call that writes nothing
-pub writes-none : {D : Type 0} (counts : D → Counts) (store now : Store D) (ticks : ℕ) (block : Block) → now.buffers ≡ store.buffers → now.geometry ≡ store.geometry → Ticks store.ticked now.ticked ticks →
-    Writes (spent_of counts store) (spent_of counts now) ticks block × WritesNothing (spent_of counts store) (spent_of counts now)
-writes-none counts store now ticks block buffers same ticked =
-    let lasts : (buffer : Buffer) → last_of now.geometry now.buffers.lasts buffer ≡ last_of store.geometry store.buffers.lasts buffer =
-    λ buffer. ap (λ (g : Geometry). last_of g now.buffers.lasts buffer) same ∙ ap (λ (b : Blocks _). last_of store.geometry b.lasts buffer) buffers in
-    let faults : (counts now.buffers.cache.device).faults ≡ (counts store.buffers.cache.device).faults = ap (λ (b : Blocks _). (counts b.cache.device).faults) buffers in
-    let writes : (counts now.buffers.cache.device).writes ≡ (counts store.buffers.cache.device).writes = ap (λ (b : Blocks _). (counts b.cache.device).writes) buffers in (
-      record {
-        faults_stay = omega (arith, faults);
-        ticks_made = ticked;
-        turned_is = ap (λ (b : Blocks _). (counts b.cache.device).reads) buffers;
-        written_stays = omega (arith, writes);
-        written_rises = omega (arith, writes);
-        lasts_forget = λ buffer. inl (lasts buffer);
-      },
-      record { written_is = writes; lasts_stay = lasts },
-    )
-
 -- the cause of a refused call, and that an accepted one met no fault
 abbrev pub HasCauseOf : {T : Type 0} → Result T PushFault → ℕ → ℕ → Type 0
 HasCauseOf (Ok value) before now = Unit {0}
@@ -153,19 +126,37 @@ pub lasts-many : (t : Bool) (block : ℕ) (lasts now : List (Option ℕ)) → no
 lasts-many true block lasts now e = ap (λ (xs : List (Option ℕ)). length xs) e ∙ length-map lasts (forgotten block)
 lasts-many false block lasts now e = ap (λ (xs : List (Option ℕ)). length xs) e
 
+-- a shape is that of another front of this format and block
+pub shape-with : {g : Geometry} {front now : FrontCells} {shadows : List Shadow} {tails : List ℕ} → now.format ≡ front.format → now.block ≡ front.block → IsShape g front shadows tails → IsShape g now shadows tails
+shape-with format block shape = record {
+  block = shape.block;
+  shallow = shape.shallow;
+  format = format ∙ shape.format;
+  front_block = block ∙ shape.front_block;
+  shadows_many = shape.shadows_many;
+  shadows_fit = shape.shadows_fit;
+  tails_many = shape.tails_many;
+  unsaved = shape.unsaved;
+}
+
 -- a store is sound whose cells are, and whose blocks have the same sizes
-pub sound-by : {D : Type 0} (bytes : D → Option (List ℕ)) (store now : Store D) → IsStore (bytes store.buffers.cache.device) store → now.geometry ≡ store.geometry → now.front ≡ store.front
-    → IsShape store.geometry store.front now.shadows now.tails → IfSome (bytes now.buffers.cache.device) (IsBacked store.geometry now.shadows now.tails)
+pub sound-with : {D : Type 0} (bytes : D → Option (List ℕ)) (store now : Store D) → IsStore (bytes store.buffers.cache.device) store → now.geometry ≡ store.geometry
+    → IsShape store.geometry now.front now.shadows now.tails → IfSome (bytes now.buffers.cache.device) (IsBacked store.geometry now.shadows now.tails)
     → now.buffers.cache.size ≡ store.buffers.cache.size → now.buffers.many ≡ store.buffers.many → length now.buffers.lasts ≡ length store.buffers.lasts → IsStore (bytes now.buffers.cache.device) now
-sound-by bytes store now sound same front shape backed size many lasts = record {
+sound-with bytes store now sound same shape backed size many lasts = record {
   cells = record {
-    shape = subst (λ (f : FrontCells). IsShape now.geometry f now.shadows now.tails) (sym front) (subst (λ (g : Geometry). IsShape g store.front now.shadows now.tails) (sym same) shape);
+    shape = subst (λ (g : Geometry). IsShape g now.front now.shadows now.tails) (sym same) shape;
     backed = subst (λ (g : Geometry). IfSome (bytes now.buffers.cache.device) (IsBacked g now.shadows now.tails)) (sym same) backed;
   };
   size = size ∙ sound.size ∙ ap (λ (g : Geometry). block_bytes g) (sym same);
   many = many ∙ sound.many ∙ ap (λ (g : Geometry). file_blocks g) (sym same);
   buffers_many = lasts ∙ sound.buffers_many ∙ ap (λ (g : Geometry). 1 + 3 * device_levels g) (sym same);
 }
+
+pub sound-by : {D : Type 0} (bytes : D → Option (List ℕ)) (store now : Store D) → IsStore (bytes store.buffers.cache.device) store → now.geometry ≡ store.geometry → now.front ≡ store.front
+    → IsShape store.geometry store.front now.shadows now.tails → IfSome (bytes now.buffers.cache.device) (IsBacked store.geometry now.shadows now.tails)
+    → now.buffers.cache.size ≡ store.buffers.cache.size → now.buffers.many ≡ store.buffers.many → length now.buffers.lasts ≡ length store.buffers.lasts → IsStore (bytes now.buffers.cache.device) now
+sound-by bytes store now sound same front shape = sound-with bytes store now sound same (subst (λ (f : FrontCells). IsShape store.geometry f now.shadows now.tails) (sym front) shape)
 
 -- what a call on one shadow leaves around it
 pub around-by : {D : Type 0} (bytes : D → Option (List ℕ)) (store now : Store D) (level : ℕ) → now.geometry ≡ store.geometry → now.buffers.made ≡ store.buffers.made

@@ -7,7 +7,7 @@ use Rattle.std.proofs.lemmas.Bool.Decides.{eqb_tells, leb_tells}
 use Rattle.cola_cell.specs.declared.sink.Shadow.{Shadow}
 use Rattle.cola_cell.specs.Flat.{shadow_at}
 use Rattle.cola_cell.specs.Format.{width}
-use Rattle.cola_cell.specs.Places.{number_of, slot_size, IsPlace}
+use Rattle.cola_cell.specs.Places.{number_of, IsPlace}
 use Rattle.cola_device.specs.Bytes.{splice}
 use Rattle.cola_device.proofs.BytesLemmas.{length-splice}
 use Rattle.cola_front.specs.Front.{FrontCells, cell_bytes}
@@ -19,6 +19,7 @@ use Rattle.cola_run.proofs.Bytes.{cell-below, cell-above, cell-inside}
 use Rattle.cola_run.proofs.Numbers.{block-before}
 use Rattle.cola_run.proofs.Spots.{in-tail, IsInTail, spot-there, spot-device, device-in, device-out, device-is, spots-stay, both-same}
 use Rattle.cola_run.proofs.Steps.{tail_room}
+use Rattle.cola_run.proofs.Lowers.{around-same, other-cell, backed-by, shape-by}
 use Rattle.cola_cell.specs.Windows.{grown, cell_bytes_at}
 use Rattle.cola_cell.specs.Decoded.{standing, spot_of_bytes}
 use Rattle.cola_cell.specs.Held.{Spot, is_untold, with_cell, as_cell}
@@ -71,45 +72,17 @@ module _ (g : Geometry) (front : FrontCells) (shadows now : List Shadow) (tails 
       let many = shape.tails_many in
       omega (arith, more, left, right, all, many, size)
 
-  -- the shadow of a level as it is and as it was
-  is_other : (l : ℕ) → l ≢ level → shadow_at now l ≡ shadow_at shadows l
-  is_other l d = one.others l d
-
-  fits_now : (l : ℕ) → l ≤ g.bottom → IsShadow l (shadow_at now l)
-  fits_now l low = elim (eqb_tells l level) [
-    | inr d ↦ subst (λ (x : Shadow). IsShadow l x) (sym (is_other l d.1)) (shape.shadows_fit l low)
-    | inl e ↦
-        let s = shape.shadows_fit l low in
-        let f : slot_size l ≡ slot_size level = ap (λ (x : ℕ). slot_size x) e.1 in
-        subst (λ (x : ℕ). IsShadow l (shadow_at now x)) (sym e.1)
-        (subst (λ (x : Shadow). IsShadow l x) (sym one.is)
-        (subst (λ (x : ℕ). IsShadow x (grown count (shadow_at shadows level))) (sym e.1)
-        (let t = shape.shadows_fit level device.within in let a = t.within in let c = t.slot_in in record { slot_in = c; within = omega (arith, few, a) })))
-  ]
+  stands : IsShadow level (grown count (shadow_at shadows level))
+  stands = let t = shape.shadows_fit level device.within in let a = t.within in record { slot_in = t.slot_in; within = omega (arith, few, a) }
 
   unsaved_by : (c : ℕ) → c ≤ room_cells g level len → (grown c (shadow_at shadows level)).saved ≡ false → (len + c) % b ≢ 0
   unsaved_by zero h e = λ z. shape.unsaved level device e (ap (λ (x : ℕ). x % b) (let y : len ≡ len + 0 = omega arith in y) ∙ z)
   unsaved_by (suc c) h e = λ z. let r = ends in let y : (len + suc c) % b ≡ len % b + suc c = in_block len (suc c) b some (omega (arith, r, h)) in absurd (let x : (len + suc c) % b ≡ 0 = z in omega (arith, x, y))
 
-  unsaved_now : (l : ℕ) → IsOnDevice g l → (shadow_at now l).saved ≡ false → (shadow_at now l).len % b ≢ 0
-  unsaved_now l there e = elim (eqb_tells l level) [
-    | inr d ↦ λ z. shape.unsaved l there (ap (λ (x : Shadow). x.saved) (sym (is_other l d.1)) ∙ e) (ap (λ (x : Shadow). x.len % b) (sym (is_other l d.1)) ∙ z)
-    | inl same ↦
-        let is : shadow_at now l ≡ grown count (shadow_at shadows level) = ap (λ (x : ℕ). shadow_at now x) same.1 ∙ one.is in
-        λ z. unsaved_by count few (ap (λ (x : Shadow). x.saved) (sym is) ∙ e) (ap (λ (x : Shadow). x.len % b) (sym is) ∙ z)
-  ]
-
   pub woven_shape : IsShape g front now after
-  woven_shape = record {
-    block = shape.block;
-    shallow = shape.shallow;
-    format = shape.format;
-    front_block = shape.front_block;
-    shadows_many = one.many ∙ shape.shadows_many;
-    shadows_fit = fits_now;
-    tails_many = ap (λ (xs : List ℕ). length xs) put ∙ length-splice tails (width g.format * tail_number g level len) room room_fits ∙ shape.tails_many;
-    unsaved = unsaved_now;
-  }
+  woven_shape =
+      shape-by g front shadows now tails after level (grown count (shadow_at shadows level)) shape one
+      (ap (λ (xs : List ℕ). length xs) put ∙ length-splice tails (width g.format * tail_number g level len) room room_fits) stands (λ _ e. unsaved_by count few e)
 
   -- a cell of the tails outside the room
   stays_below : (c : ℕ) → c + 1 ≤ tail_number g level len → cell_bytes g.format after c ≡ cell_bytes g.format tails c
@@ -152,18 +125,9 @@ module _ (g : Geometry) (front : FrontCells) (shadows now : List Shadow) (tails 
   saved_by bytes backed (suc c) is e = let f : false ≡ true = sym (ap (λ (t : Bool). if t then (shadow_at shadows level).saved else false) (not_zero c)) ∙ ap (λ (x : Shadow). x.saved) (sym is) ∙ e in absurd (true≢false (sym f))
 
   pub woven_backed : (bytes : List ℕ) → IsBacked g shadows tails bytes → IsBacked g now after bytes
-  woven_backed bytes backed = record {
-    long = backed.long;
-    saved = λ l there e. elim (eqb_tells l level) [
-      | inl same ↦ subst (λ (x : ℕ). IsSaved g now after bytes x) (sym same.1) (saved_by bytes backed count one.is (ap (λ (x : ℕ). (shadow_at now x).saved) (sym same.1) ∙ e))
-      | inr d ↦ λ i t.
-          let same = is_other l d.1 in
-          let here = subst (λ (x : Shadow). is_in_tail b x x.slot i ≡ true) same t in
-          ap (λ (x : Shadow). cell_bytes g.format bytes (number_of l x.slot i)) same
-          ∙ backed.saved l there (ap (λ (x : Shadow). x.saved) (sym same) ∙ e) i here
-          ∙ sym (other_tail l i there d.1)
-    ];
-  }
+  woven_backed bytes backed =
+      backed-by g front shadows now tails after bytes bytes level 0 0 (grown count (shadow_at shadows level)) shape backed one (around-same g bytes bytes level 0 0 refl) other_tail
+      (λ _ e. saved_by bytes backed count one.is (ap (λ (x : Shadow). x.saved) one.is ∙ e))
 
   -- ---- what stands in it
 
@@ -221,13 +185,6 @@ module _ (g : Geometry) (front : FrontCells) (shadows now : List Shadow) (tails 
       ∙ sym (put_is_told (spots_of (cells_by g front (lower (Some bytes))) level slot (len + k)) c old)
 
   -- every other place
-  stays_other : (bytes : List ℕ) (l s i : ℕ) → IsOnDevice g l → l ≢ level → device_cell g now after bytes l s i ≡ device_cell g shadows tails bytes l s i
-  stays_other bytes l s i there d =
-      let same = is_other l d in
-      device-is g shadows tails bytes l s i (device_cell g now after bytes l s i)
-      (λ p. device-in g now after bytes l s i (subst (λ (x : Shadow). IsInTail b x s i) (sym same) p) ∙ other_tail l i there d)
-      (λ n. device-out g now after bytes l s i (λ p. n (subst (λ (x : Shadow). IsInTail b x s i) same p)))
-
   stays_here : (bytes : List ℕ) (s i : ℕ) → (s ≢ slot) ⊎ ((i < len) ⊎ (len + count ≤ i)) → device_cell g now after bytes level s i ≡ device_cell g shadows tails bytes level s i
   stays_here bytes s i d =
       device-is g shadows tails bytes level s i (device_cell g now after bytes level s i)
@@ -244,7 +201,7 @@ module _ (g : Geometry) (front : FrontCells) (shadows now : List Shadow) (tails 
       spots-stay g front front (lower told) (lower_now told) l s i (λ p low. refl)
       (both-same told (λ x y. IsPlace (g.bottom + 1) l s i → g.block_exp ≤ l + 2 → device_cell g now after y l s i ≡ device_cell g shadows tails x l s i)
       (λ bytes p high. elim (eqb_tells l level) [
-        | inr other ↦ stays_other bytes l s i (let z = p.level_in in record { within = omega (arith, z); whole = high }) other.1
+        | inr other ↦ other-cell g shadows now tails after bytes bytes level 0 0 (grown count (shadow_at shadows level)) one (around-same g bytes bytes level 0 0 refl) other_tail l s i p high other.1
         | inl same ↦
             let here : (s ≢ slot) ⊎ ((i < len) ⊎ (len + count ≤ i)) = elim d [ inl h ↦ absurd (h same.1) | inr h ↦ h ] in
             subst (λ (x : ℕ). device_cell g now after bytes x s i ≡ device_cell g shadows tails bytes x s i) (sym same.1) (stays_here bytes s i here)

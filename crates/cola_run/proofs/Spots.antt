@@ -1,6 +1,7 @@
 -- What is told of a place: of one in the front, one in a tail, and one on the device.
-use Rattle.std.proofs.Common.{eq-eqb, ◌≡◌, inl, inr, ℕ, ◌+◌, ◌/◌, ◌<◌, ◌≤◌, ◌==◌, nat_lt, ◌&&◌, Bool, true, false, if◌then◌else◌, List, Option, None, Some, IfSome, is_some, refl, sym, ap, ◌∙◌}
+use Rattle.std.proofs.Common.{eq-eqb, ◌≡◌, inl, inr, ℕ, ◌+◌, ◌/◌, ◌<◌, ◌≤◌, ◌==◌, nat_lt, ◌&&◌, Bool, true, false, if◌then◌else◌, List, Option, None, Some, IfSome, is_some, refl, sym, ap, ◌∙◌, Result, Ok, Err}
 use Rattle.std.proofs.lemmas.Bool.{eqb-true, false≢true, ltb-true, lt-ltb, le-ltb, cases_lt}
+use Rattle.std.specs.Prelude.{OnOk}
 use Rattle.cola_outside.specs.Told.{Both}
 use Rattle.cola_cell.specs.declared.cell.Cell.{Cell}
 use Rattle.cola_cell.specs.declared.sink.Shadow.{Shadow}
@@ -28,6 +29,20 @@ both-hold true true e = (refl, refl)
 both-hold true false e = absurd (false≢true e)
 both-hold false b e = absurd (false≢true e)
 
+-- what is so of every content is so of one that is told; and what follows
+pub if-told : {A : Type 0} {P : A → Type 0} (x : Option A) → ((a : A) → P a) → IfSome x P
+if-told None f = tt
+if-told (Some a) f = f a
+
+pub if-so : {A : Type 0} (x : Option A) (P Q : A → Type 0) → ((a : A) → P a → Q a) → IfSome x P → IfSome x Q
+if-so None P Q f h = tt
+if-so (Some a) P Q f h = f a h
+
+-- a fact is one on Ok
+pub on-ok : {T E P : Type 0} (result : Result T E) → P → OnOk result P
+on-ok (Ok x) p = p
+on-ok (Err e) p = tt
+
 -- a relation of two told contents that follows from another
 pub both-so : {A B : Type 0} (a : Option A) (b : Option B) (P Q : A → B → Type 0) → ((x : A) (y : B) → P x y → Q x y) → Both a b P → Both a b Q
 both-so None None P Q f h = tt
@@ -39,6 +54,16 @@ both-so (Some x) (Some y) P Q f h = f x y h
 pub both-same : {A : Type 0} (a : Option A) (P : A → A → Type 0) → ((x : A) → P x x) → Both a a P
 both-same None P f = tt
 both-same (Some x) P f = f x
+
+-- relations of told contents, one behind the other
+pub both-two : {A B C : Type 0} (x : Option A) (y : Option B) (z : Option C) (P : A → B → Type 0) (Q : B → C → Type 0) (R : A → C → Type 0)
+    → ((a : A) (b : B) (c : C) → P a b → Q b c → R a c) → Both x y P → Both y z Q → Both x z R
+both-two None None None P Q R f h k = tt
+both-two None None (Some c) P Q R f h k = absurd k
+both-two None (Some b) z P Q R f h k = absurd h
+both-two (Some a) None z P Q R f h k = absurd h
+both-two (Some a) (Some b) None P Q R f h k = absurd k
+both-two (Some a) (Some b) (Some c) P Q R f h k = f a b c h k
 
 -- a place of the tail
 pub record IsInTail (span : ℕ) (shadow : Shadow) (slot index : ℕ) : Type 0 where

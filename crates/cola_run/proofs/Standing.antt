@@ -14,7 +14,7 @@ use Rattle.cola_layout.specs.declared.geometry.Geometry.{Geometry}
 use Rattle.cola_layout.proofs.Places.{place-differ}
 use Rattle.cola_run.specs.Cells.{IsOnDevice, Lower, Cells, block_cells, tail_number, device_cell, known_spot, told_spot, spots_of, IsShadow, IsShape, IsSaved, IsBacked, cells_by}
 use Rattle.cola_run.specs.Parts.{OneShadow}
-use Rattle.cola_run.proofs.Spots.{IsInTail, in-tail, tail-is, device-out, device-is, spot-there, spot-front, spots-stay, known-told, with-told}
+use Rattle.cola_run.proofs.Spots.{IsInTail, in-tail, tail-is, device-out, device-is, spot-there, spot-front, spots-stay, known-told, with-told, if-told, if-so}
 use Rattle.cola_run.proofs.Lowers.{around-same, other-cell, backed-by, shape-by, TailsStay}
 
 -- one shadow changed, by setting it
@@ -78,61 +78,45 @@ module _ (g : Geometry) (front : FrontCells) (old new : Lower) (level slot : ℕ
       ∙ sym (device-out g old.shadows old.tails b level s i (λ q.
       let h : i < (shadow_at old.shadows level).len = q.within in
       elim apart [ inl x ↦ x same | inr x ↦ elim x [ inl y ↦ y q.slot_is | inr y ↦ omega (arith, h, y) ] ]))))
-    where
-      if-told : {P : List ℕ → Type 0} (x : Option (List ℕ)) → ((b : List ℕ) → P b) → IfSome x P
-      if-told None f = tt
-      if-told (Some b) f = f b
 
   -- all of them do where those of its tail are on the device
   pub restart-kept : IfSome old.told (IsBacked g old.shadows old.tails) → (g.block_exp ≤ level + 2 → (shadow_at old.shadows level).saved ≡ true) → (l s i : ℕ) →
       spots_of (cells_by g front new) l s i ≡ spots_of (cells_by g front old) l s i
   restart-kept backed saved l s i =
-      shadow-stays g front front old new level (emptied slot) shape told tails one l s i (λ p low. refl) (by-case old.told backed)
-    where
-      by-case : (x : Option (List ℕ)) → IfSome x (IsBacked g old.shadows old.tails)
-          → IfSome x (λ b. l ≡ level → IsPlace (g.bottom + 1) level s i → g.block_exp ≤ level + 2 → device_cell g new.shadows new.tails b level s i ≡ device_cell g old.shadows old.tails b level s i)
-      by-case None h = tt
-      by-case (Some b) h =
-          λ same p high.
-          let low : level < g.bottom + 1 = p.level_in in
-          let sh = shadow_at old.shadows level in
-          device-is g old.shadows old.tails b level s i (device_cell g new.shadows new.tails b level s i)
-          (λ q.
-          device-out g new.shadows new.tails b level s i (none s i)
-          ∙ ap (λ (x : ℕ). cell_bytes g.format b (number_of level x i)) q.slot_is
-          ∙ h.saved level (record { within = omega (arith, low); whole = high }) (saved high) i (tail-is (block_cells g) sh sh.slot i (record { slot_is = refl; block_is = q.block_is; within = q.within })))
-          (λ d. device-out g new.shadows new.tails b level s i (none s i))
+      shadow-stays g front front old new level (emptied slot) shape told tails one l s i (λ p low. refl)
+      (if-so old.told (IsBacked g old.shadows old.tails)
+      (λ b. l ≡ level → IsPlace (g.bottom + 1) level s i → g.block_exp ≤ level + 2 → device_cell g new.shadows new.tails b level s i ≡ device_cell g old.shadows old.tails b level s i)
+      (λ b h same p high.
+      let low : level < g.bottom + 1 = p.level_in in
+      let sh = shadow_at old.shadows level in
+      device-is g old.shadows old.tails b level s i (device_cell g new.shadows new.tails b level s i)
+      (λ q.
+      device-out g new.shadows new.tails b level s i (none s i)
+      ∙ ap (λ (x : ℕ). cell_bytes g.format b (number_of level x i)) q.slot_is
+      ∙ h.saved level (record { within = omega (arith, low); whole = high }) (saved high) i (tail-is (block_cells g) sh sh.slot i (record { slot_is = refl; block_is = q.block_is; within = q.within })))
+      (λ d. device-out g new.shadows new.tails b level s i (none s i)))
+      backed)
 
   pub restart-shape : slot < 2 → IsShape g front new.shadows new.tails
   restart-shape within = shadow-shape g front front old new level (emptied slot) shape told tails one (record { slot_in = within; within = omega arith }) (λ on e. absurd (false≢true (sym e)))
 
   pub restart-backed : IfSome old.told (IsBacked g old.shadows old.tails) → IfSome new.told (IsBacked g new.shadows new.tails)
-  restart-backed backed = shadow-backed g front front old new level (emptied slot) shape told tails one backed (by-case old.told)
-    where
-      by-case : (x : Option (List ℕ)) → IfSome x (λ b. IsOnDevice g level → (emptied slot).saved ≡ true → IsSaved g new.shadows new.tails b level)
-      by-case None = tt
-      by-case (Some b) = λ on e i t. absurd (none (shadow_at new.shadows level).slot i (in-tail (block_cells g) (shadow_at new.shadows level) (shadow_at new.shadows level).slot i t))
+  restart-backed backed = shadow-backed g front front old new level (emptied slot) shape told tails one backed
+      (if-told old.told (λ b on e i t. absurd (none (shadow_at new.shadows level).slot i (in-tail (block_cells g) (shadow_at new.shadows level) (shadow_at new.shadows level).slot i t))))
 
 -- a shadow of a level of the front changes, and perhaps a cell there
 module _ (g : Geometry) (front now : FrontCells) (old new : Lower) (level : ℕ) (shadow : Shadow) (shape : IsShape g front old.shadows old.tails)
     (told : new.told ≡ old.told) (tails : new.tails ≡ old.tails) (one : OneShadow old.shadows new.shadows level shadow) (low : level + 2 < g.block_exp) where
   pub front-stays : (l s i : ℕ) → (IsPlace (g.bottom + 1) l s i → l + 2 < g.block_exp → cell_at now (number_of l s i) ≡ cell_at front (number_of l s i)) →
       spots_of (cells_by g now new) l s i ≡ spots_of (cells_by g front old) l s i
-  front-stays l s i fronts = shadow-stays g front now old new level shadow shape told tails one l s i fronts (by-case old.told)
-    where
-      by-case : (x : Option (List ℕ)) → IfSome x (λ b. l ≡ level → IsPlace (g.bottom + 1) level s i → g.block_exp ≤ level + 2 → device_cell g new.shadows new.tails b level s i ≡ device_cell g old.shadows old.tails b level s i)
-      by-case None = tt
-      by-case (Some b) = λ same p high. absurd (omega (arith, low, high))
+  front-stays l s i fronts = shadow-stays g front now old new level shadow shape told tails one l s i fronts (if-told old.told (λ b same p high. absurd (omega (arith, low, high))))
 
   pub front-shape : IsShadow level shadow → IsShape g front new.shadows new.tails
   front-shape stands = shadow-shape g front front old new level shadow shape told tails one stands (λ on e. let high : g.block_exp ≤ level + 2 = on.whole in absurd (omega (arith, low, high)))
 
   pub front-backed : IfSome old.told (IsBacked g old.shadows old.tails) → IfSome new.told (IsBacked g new.shadows new.tails)
-  front-backed backed = shadow-backed g front front old new level shadow shape told tails one backed (by-case old.told)
-    where
-      by-case : (x : Option (List ℕ)) → IfSome x (λ b. IsOnDevice g level → shadow.saved ≡ true → IsSaved g new.shadows new.tails b level)
-      by-case None = tt
-      by-case (Some b) = λ on. let high : g.block_exp ≤ level + 2 = on.whole in absurd (omega (arith, low, high))
+  front-backed backed = shadow-backed g front front old new level shadow shape told tails one backed
+      (if-told old.told (λ b on. let high : g.block_exp ≤ level + 2 = on.whole in absurd (omega (arith, low, high))))
 
 -- a cell is put at a place of the front
 pub put-elsewhere : (g : Geometry) (front : FrontCells) (cell : Cell) (level slot index l s i : ℕ) → IsPlace (g.bottom + 1) level slot index → IsElsewhere level slot index l s i → IsPlace (g.bottom + 1) l s i →

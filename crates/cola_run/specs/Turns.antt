@@ -1,5 +1,5 @@
 -- What the steps of a run store do to the blocks of its device.
-use Rattle.std.specs.Prelude.{◌≡◌, ℕ, ◌+◌, ◌≤◌, Bool, false, if◌then◌else◌, Option, None, Some, Result, Ok, Err, slice_set, map, ⊤}
+use Rattle.std.specs.Prelude.{◌≡◌, ◌≢◌, ℕ, ◌+◌, ◌≤◌, Bool, false, if◌then◌else◌, Option, None, Some, Result, Ok, Err, slice_set, map, length, ⊤}
 use Rattle.cola_outside.specs.Faults.{Rose}
 use Rattle.cola_cell.specs.declared.cell.Cell.{Cell}
 use Rattle.cola_cell.specs.declared.cell.Reader.{Reader}
@@ -8,6 +8,7 @@ use Rattle.cola_cell.specs.declared.fault.ReadFault.TheVariants.{Device, BadCell
 use Rattle.cola_cell.specs.Spent.{ReadCalm}
 use Rattle.cola_device.specs.declared.counts.Counts.{Counts}
 use Rattle.cola_device.specs.Counts.{Called}
+use Rattle.cola_device.specs.declared.device.Device as device
 use Rattle.cola_layout.specs.declared.geometry.Geometry.{Geometry}
 use Rattle.cola_cache.specs.Blocks.{Blocks, Stays, last_in, forgotten}
 use Rattle.cola_run.specs.Store.{buffer_number}
@@ -48,4 +49,17 @@ pub record Writing {D K T E : Type 0} (counts : D → Counts) (kept : D → K) (
   pub kept_is : kept now.cache.device ≡ kept before.cache.device
   pub lasts_are : now.lasts ≡ (if wrote then map (forgotten block) before.lasts else before.lasts)
   pub none : wrote ≡ false → now ≡ before
+  pub stays : Stays before now
+
+-- an answer that a read may give after its buffer was to be turned so: the device's fault exactly where that failed
+abbrev pub IsReadAfter : {T E : Type 0} → Result T E → Result Cell ReadFault → Type 0
+IsReadAfter (Ok value) answer = answer ≢ Err Device
+IsReadAfter (Err fault) answer = answer ≡ Err Device
+
+-- a call that turns a buffer leaves what the device tells and keeps, makes no call of it but reads, and has as many buffers
+pub record OnlyTurns {D : Type 0} (d : device.Ghosts D) (before now : Blocks D) : Type 0 where
+  pub bytes_stay : d.bytes now.cache.device ≡ d.bytes before.cache.device
+  pub kept_is : d.kept now.cache.device ≡ d.kept before.cache.device
+  pub others_are : (d.counts now.cache.device).others ≡ (d.counts before.cache.device).others
+  pub as_many : length now.lasts ≡ length before.lasts
   pub stays : Stays before now

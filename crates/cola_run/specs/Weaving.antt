@@ -1,8 +1,11 @@
 -- What a merge over the bytes of runs, where they lie, does to the parts of a store, and a search over them.
-use Rattle.std.specs.Prelude.{◌≡◌, ℕ, ◌+◌, ◌-◌, ◌*◌, ◌/◌, ◌%◌, ◌≤◌, ◌<◌, ◌⊎◌, ◌==◌, ◌||◌, not, nat_le, nat_lt, min, Bool, true, false, List, length, Option, Some}
-use Rattle.cola_cache.specs.Blocks.{last_in}
+use Rattle.std.specs.Prelude.{◌≡◌, ℕ, ◌+◌, ◌-◌, ◌*◌, ◌/◌, ◌%◌, ◌≤◌, ◌<◌, ◌⊎◌, ◌==◌, ◌||◌, not, nat_le, nat_lt, min, Bool, true, false, List, length, Option, Some, Result, Ok, Err}
+use Rattle.cola_cache.specs.Blocks.{Blocks, last_in}
+use Rattle.cola_cell.specs.declared.cell.Cell.{Cell}
 use Rattle.cola_cell.specs.declared.cell.Reader.{Reader}
 use Rattle.cola_cell.specs.declared.cell.Reader.TheVariants.{Own, Incoming, Sample}
+use Rattle.cola_cell.specs.declared.fault.ReadFault.{ReadFault}
+use Rattle.cola_cell.specs.declared.fault.ReadFault.TheVariants.{Device, BadCell}
 use Rattle.cola_cell.specs.declared.format.Format.{Format}
 use Rattle.cola_cell.specs.declared.sink.Shadow.{Shadow}
 use Rattle.cola_cell.specs.Flat.{shadow_at}
@@ -10,10 +13,11 @@ use Rattle.cola_cell.specs.Decoded.{standing}
 use Rattle.cola_cell.specs.Format.{width}
 use Rattle.cola_cell.specs.Places.{slot_size, number_of}
 use Rattle.cola_device.specs.Bytes.{Gives, splice}
+use Rattle.cola_device.specs.declared.counts.Counts.{Counts}
 use Rattle.cola_layout.specs.declared.geometry.Geometry.{Geometry}
 use Rattle.cola_run.specs.Cells.{block_cells, block_number, end_number, tail_number}
 use Rattle.cola_run.specs.Parts.{OneShadow}
-use Rattle.cola_run.specs.Turns.{buffer_index}
+use Rattle.cola_run.specs.Turns.{buffer_index, Turns}
 use Rattle.cola_cell.specs.declared.windows.Reach.{Reach}
 use Rattle.cola_cell.specs.declared.windows.Passed.{Passed}
 use Rattle.cola_cell.specs.Windows.{Views, AreSpelled, cell_bytes_at, grown}
@@ -138,10 +142,30 @@ RunsInFront wove lends told geometry front front_now shadows shadows_now level o
     (passed : Passed) × WoveInFront wove lends told geometry front front_now shadows shadows_now level own incoming sample before after job passed
     × (steps ≡ passed.steps)
 
--- a search ran over the bytes of a run from the index on
+-- a search ran over the bytes of a run from the index on: what it accessed are cells, and the first where that is one
 pub record ScansBelow {S P : Type 0} (sought : S → S → P → Format → List ℕ → ℕ → Type 0) (lends : Bool) (told : Option (List ℕ)) (geometry : Geometry) (front : FrontCells) (reach : Reach)
     (before after : S) (probe : P) (ticks : ℕ) : Type 0 where
   pub bytes : List ℕ
   pub is_last : Bool
   pub found : IsFound lends told geometry front reach bytes is_last
   pub sought_is : sought before after probe geometry.format bytes ticks
+  pub spelled : AreSpelled geometry.format ticks bytes
+  pub first : AreSpelled geometry.format 1 bytes → 0 < ticks
+
+-- it says how many cells it accessed, or names the first where its bytes spell none
+abbrev pub ScansThere : {S P : Type 0} (sought : S → S → P → Format → List ℕ → ℕ → Type 0) (lends : Bool) (told : Option (List ℕ)) (geometry : Geometry) (front : FrontCells) (reach : Reach)
+    (before after : S) (probe : P) → Result ℕ ReadFault → Type 0
+ScansThere sought lends told geometry front reach before after probe (Ok ticks) = ScansBelow sought lends told geometry front reach before after probe ticks × (0 < ticks)
+ScansThere sought lends told geometry front reach before after probe (Err Device) = ⊥
+ScansThere sought lends told geometry front reach before after probe (Err (BadCell number)) =
+    ScansBelow sought lends told geometry front reach before after probe 0 × (number ≡ number_of reach.run.level reach.run.slot reach.from)
+
+-- what a search answers, as a read of its first cell
+abbrev pub as_read : Cell → Result ℕ ReadFault → Result Cell ReadFault
+as_read cell (Ok ticks) = Ok cell
+as_read cell (Err fault) = Err fault
+
+-- a search of a run from the index on turned its buffer as a read of the first cell does, which answers so: where that is on a device that lends nothing
+abbrev pub SearchTurns : {D : Type 0} (counts : D → Counts) (lends : Bool) (geometry : Geometry) (before now : Blocks D) (reach : Reach) (answer : Result Cell ReadFault) → Type 0
+SearchTurns counts lends geometry before now reach answer = geometry.block_exp ≤ reach.run.level + 2 → lends ≡ false →
+    Turns counts before now 0 (block_number geometry reach.run.level reach.run.slot reach.from) answer

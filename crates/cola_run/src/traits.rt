@@ -1,5 +1,6 @@
 //! Reads, pushes, restarts and finishes of the cells of a store.
-ghost use Rattle.std.specs.Prelude.{◌≡◌, ◌+◌, ◌*◌, ◌≤◌, ◌<◌, true, Option, None, length};
+ghost use Rattle.std.specs.Prelude.{◌≡◌, ◌≢◌, ◌+◌, ◌*◌, ◌≤◌, ◌<◌, true, Option, None, Err, length};
+ghost use Rattle.cola_cell.specs.declared.fault.ReadFault.TheVariants.{Device};
 ghost use Rattle.cola_cell.specs.Places.{slot_size, IsPlace};
 ghost use Rattle.cola_cell.specs.Format.{CellFits};
 ghost use Rattle.cola_cell.specs.Packed.{given, passed, MayPass};
@@ -7,7 +8,7 @@ ghost use Rattle.cola_cell.specs.Shadows.{Restarts, Pushes, PushSpends, push_tic
 ghost use Rattle.cola_run.specs.Cells.{IsOnDevice};
 ghost use Rattle.cola_run.specs.Store.{IsStore, held_of, state_of, Kept, kept_of};
 ghost use Rattle.cola_cell.specs.Windows.{IsReach, Weaves, IsRunIn, Scans};
-ghost use Rattle.cola_run.specs.Weaving.{RunsBelow, RunsInFront, ScansBelow, HasWindow, HaveWindows, AreAtHand, is_at_hand};
+ghost use Rattle.cola_run.specs.Weaving.{RunsBelow, RunsInFront, ScansThere, HasWindow, HaveWindows, AreAtHand, is_at_hand};
 ghost use Rattle.cola_run.specs.Calls.{IsInTail, MemoryAnswers, ReadsBy};
 
 use crate::device_cells::{
@@ -15,7 +16,7 @@ use crate::device_cells::{
     read_by_buffer, saved, set_shadow, shadow_of, taken_or_bad,
 };
 use crate::run_store::RunStore;
-use crate::weaving::{buffer_of, window_of};
+use crate::weaving::{buffer_of, search_run};
 use cola_cell::{
     Cell, CellSink, CellSource, Packed, Pass, PushFault, Reach, ReadFault, Reader, Shadow,
     WindowMerge, WindowSearch, tick_all,
@@ -154,26 +155,33 @@ impl<D: Device> CellSource for RunStore<D> {
         search: &mut S,
         probe: &S::Probe,
         steps: &mut Steps<L>,
-    ) -> u32
-        requires { IsRunIn (state_of D.bytes D.counts self.old).held reach }
+    ) -> Result<u32, ReadFault>
+        requires run { IsRunIn (state_of D.bytes D.counts self.old).held reach }
+        requires can { S.can search.old }
         ensures kept { kept_of D.bytes D.counts D.kept self.new ≡ kept_of D.bytes D.counts D.kept self.old }
         ensures scans { Scans S.sought (state_of D.bytes D.counts self.old) (state_of D.bytes D.counts self.new) reach
             search.old search.new probe.now steps.old steps.new result }
-        ensures runs { is_at_hand self.old.geometry self.old.shadows reach ≡ true → HasWindow D.lends self.old.geometry self.old.buffers.lasts None reach →
-            ScansBelow S.sought D.lends (D.bytes self.old.buffers.cache.device) self.old.geometry self.old.front reach search.old search.new probe.now result }
+        ensures runs { is_at_hand self.old.geometry self.old.shadows reach ≡ true → result ≢ Err Device →
+            ScansThere S.sought D.lends (D.bytes self.old.buffers.cache.device) self.old.geometry self.old.front reach search.old search.new probe.now result }
+        ensures calm { HasWindow D.lends self.old.geometry self.old.buffers.lasts None reach →
+            (self.new.buffers ≡ self.old.buffers) × (result ≢ Err Device) }
     {
         if !self.is_at_hand(reach) {
-            return 0;
+            return Ok(0);
         }
-        match window_of(&self.front, &self.buffers, &self.geometry, None, reach) {
-            Some(window) => {
-                let ticks = search.seek(probe, self.geometry.format, window.bytes);
-                self.ticked = self.ticked.wrapping_add(ticks as u64);
-                tick_all(steps, ticks);
-                ticks
-            }
-            None => 0,
-        }
+        let answer = search_run(
+            &self.front,
+            &mut self.buffers,
+            &self.geometry,
+            reach,
+            search,
+            probe,
+        );
+        // A refusal is a tick, as that of a read is.
+        let ticks = answer.unwrap_or(1);
+        self.ticked = self.ticked.wrapping_add(ticks as u64);
+        tick_all(steps, ticks);
+        answer
     }
 
     fn ticked(&self) -> u64 {
@@ -266,7 +274,7 @@ impl<D: Device> CellSink for RunStore<D> {
         steps: &mut Steps<L>,
     ) -> u32
         requires level_in { level < (state_of D.bytes D.counts self.old).held.fixed.levels }
-        requires can { M.can merge.old job.now }
+        requires can { M.can merge.old job.now (state_of D.bytes D.counts self.old).held.fixed.format }
         requires own { IsReach (state_of D.bytes D.counts self.old).held level own }
         requires incoming { IsReach (state_of D.bytes D.counts self.old).held level incoming }
         requires sample { IsReach (state_of D.bytes D.counts self.old).held level sample }

@@ -1,5 +1,8 @@
-//! The bytes of runs where they lie, as a device lends them or a buffer has them, and a merge over them.
-ghost use Rattle.std.specs.Prelude.{◌≡◌, ℕ, ◌+◌, ◌*◌, ◌^◌, ◌≤◌, ◌<◌, false, Option, None, Some, IfSome, length};
+//! The bytes of runs where they lie, as a device lends them or a buffer has them, and a merge or a search over them.
+ghost use Rattle.std.specs.Prelude.{◌≡◌, ◌≢◌, ℕ, ◌+◌, ◌*◌, ◌^◌, ◌≤◌, ◌<◌, false, Option, None, Some, IfSome, Result, Err, OnOk, IsOk, length};
+ghost use Rattle.cola_cell.specs.declared.cell.Cell.{Cell};
+ghost use Rattle.cola_cell.specs.declared.fault.ReadFault.{ReadFault};
+ghost use Rattle.cola_cell.specs.declared.fault.ReadFault.TheVariants.{Device};
 ghost use Rattle.cola_cell.specs.Flat.{shadow_at};
 ghost use Rattle.cola_cell.specs.Places.{slot_size};
 ghost use Rattle.cola_cell.specs.Format.{width};
@@ -7,15 +10,17 @@ ghost use Rattle.cola_cell.specs.Windows.{AreSpelled, IsReach, Weaves, grown};
 ghost use Rattle.cola_device.specs.Bytes.{part};
 ghost use Rattle.cola_run.specs.Cells.{IsOnDevice, block_bytes, block_cells, device_levels, file_blocks, tails_bytes};
 ghost use Rattle.cola_run.specs.Store.{kept_of, reader_number, state_of};
-ghost use Rattle.cola_run.specs.Turns.{buffer_index};
-ghost use Rattle.cola_run.specs.Weaving.{IsRunHere, IsBelow, IsInFront, IsFound, IsTurnedTo, HasWindow, HaveWindows, AreAtHand, PutInFront, WoveBelow, WoveInFront, RunsBelow, RunsInFront, room_cells, is_at_hand};
+ghost use Rattle.cola_run.specs.Turns.{buffer_index, IsReadAfter, OnlyTurns};
+ghost use Rattle.cola_run.specs.Weaving.{IsRunHere, IsBelow, IsInFront, IsFound, IsTurnedTo, HasWindow, HaveWindows, AreAtHand, PutInFront, WoveBelow, WoveInFront, RunsBelow, RunsInFront, ScansThere, SearchTurns, as_read, room_cells, is_at_hand};
 
 use crate::device_cells::{cells_of_slot, set_shadow, shadow_of};
 use crate::run_store::RunStore;
 use crate::tails::{block_at, cells_of_block, place_in_tails};
 use cola_cache::Buffers;
-use cola_cell::{Passed, Reach, Reader, Shadow, Window, WindowMerge, tick_all};
-use cola_device::Device;
+use cola_cell::{
+    Passed, Reach, ReadFault, Reader, Shadow, Window, WindowMerge, WindowSearch, tick_all,
+};
+use cola_device::{Device, DeviceFault};
 use cola_front::Front;
 use cola_layout::Geometry;
 use cola_outside::Steps;
@@ -60,7 +65,38 @@ fn cells_in(block: &[u8], at: usize, count: usize, width: usize) -> &[u8]
     &block[at..at + count * width]
 }
 
-/// The bytes of a run from an index on, in the block that a buffer holds: as many as lie in that.
+/// The bytes of a run from an index on, in the block that a buffer holds, which is that of the cell there: as many as lie in it.
+#[inline(always)]
+fn window_held<'a, D: Device>(
+    buffers: &'a Buffers<D>,
+    geometry: &Geometry,
+    reader: Option<Reader>,
+    reach: Reach,
+) -> Window<'a>
+    requires some { reach.from < reach.run.len }
+    requires there { IsRunHere geometry.now reach }
+    requires whole { geometry.now.block_exp ≤ reach.run.level + 2 }
+    requires size { buffers.now.cache.size ≡ block_bytes geometry.now }
+    requires buffers { length buffers.now.lasts ≡ 1 + 3 * device_levels geometry.now }
+    requires turned { IsTurnedTo geometry.now buffers.now.lasts reader reach }
+    ensures { IsBelow false (D.bytes buffers.now.cache.device) geometry.now reach result.bytes.now result.is_last }
+{
+    let Reach { run, from } = reach;
+    let block = cells_of_block(geometry);
+    let at = from % block;
+    let ahead = run.len - from;
+    let count = ahead.min(block - at);
+    let bytes = cells_in(
+        buffers.copy(buffer_of(geometry, reader, run.level)),
+        at as usize,
+        count as usize,
+        geometry.format.width(),
+    );
+    let is_last = count == ahead;
+    Window { bytes, is_last }
+}
+
+/// The bytes of a run from an index on, in the block that a buffer holds; none where that is another block.
 #[inline(always)]
 fn window_in_block<'a, D: Device>(
     buffers: &'a Buffers<D>,
@@ -81,18 +117,7 @@ fn window_in_block<'a, D: Device>(
     if !buffers.holds(buffer, block_at(geometry, run.level, run.slot, from)) {
         return None;
     }
-    let block = cells_of_block(geometry);
-    let at = from % block;
-    let ahead = run.len - from;
-    let count = ahead.min(block - at);
-    let bytes = cells_in(
-        buffers.copy(buffer),
-        at as usize,
-        count as usize,
-        geometry.format.width(),
-    );
-    let is_last = count == ahead;
-    Some(Window { bytes, is_last })
+    Some(window_held(buffers, geometry, reader, reach))
 }
 
 /// The bytes of a run of the front from an index on.
@@ -108,6 +133,29 @@ fn window_in_front<'a>(front: &'a Front, geometry: &Geometry, reach: Reach) -> W
     let bytes = front.window(geometry.place(run.level, run.slot, from), run.len - from);
     let is_last = true;
     Window { bytes, is_last }
+}
+
+/// The bytes of a run on the device from an index on, where the device lends them: all.
+#[inline(always)]
+fn window_lent<'a, D: Device>(
+    buffers: &'a Buffers<D>,
+    geometry: &Geometry,
+    reach: Reach,
+) -> Option<Window<'a>>
+    requires some { reach.from < reach.run.len }
+    requires there { IsRunHere geometry.now reach }
+    requires whole { geometry.now.block_exp ≤ reach.run.level + 2 }
+    requires size { buffers.now.cache.size ≡ block_bytes geometry.now }
+    requires many { buffers.now.many ≡ file_blocks geometry.now }
+    ensures found { IfSome result (λ window. IsBelow D.lends (D.bytes buffers.now.cache.device) geometry.now reach window.bytes.now window.is_last) }
+    ensures none { result ≡ None → D.lends ≡ false }
+{
+    let count = reach.run.len - reach.from;
+    let width = geometry.format.width();
+    let number = geometry.place(reach.run.level, reach.run.slot, reach.from);
+    let bytes = buffers.lent(number * width as u64, count as usize * width)?;
+    let is_last = true;
+    Some(Window { bytes, is_last })
 }
 
 /// The bytes of a run on the device from an index on: all, where the device lends them, and else those in the block that a
@@ -128,21 +176,15 @@ fn window_below<'a, D: Device>(
     ensures found { IfSome result (λ window. IsBelow D.lends (D.bytes buffers.now.cache.device) geometry.now reach window.bytes.now window.is_last) }
     ensures none { result ≡ None → HasWindow D.lends geometry.now buffers.now.lasts reader reach → ⊥ }
 {
-    let count = reach.run.len - reach.from;
-    let width = geometry.format.width();
-    let number = geometry.place(reach.run.level, reach.run.slot, reach.from);
-    match buffers.lent(number * width as u64, count as usize * width) {
-        Some(bytes) => {
-            let is_last = true;
-            Some(Window { bytes, is_last })
-        }
+    match window_lent(buffers, geometry, reach) {
+        Some(window) => Some(window),
         None => window_in_block(buffers, geometry, reader, reach),
     }
 }
 
 /// The bytes of cells of a run from an index on, where they can be looked at.
 #[inline(always)]
-pub(crate) fn window_of<'a, D: Device>(
+fn window_of<'a, D: Device>(
     front: &'a Front,
     buffers: &'a Buffers<D>,
     geometry: &Geometry,
@@ -166,6 +208,117 @@ pub(crate) fn window_of<'a, D: Device>(
         return Some(window_in_front(front, geometry, reach));
     }
     window_below(buffers, geometry, reader, reach)
+}
+
+/// The bytes of a run from a cell on that can be looked at where it lies: as `window_of` finds them.
+#[inline(always)]
+fn window_there<'a, D: Device>(
+    front: &'a Front,
+    buffers: &'a Buffers<D>,
+    geometry: &Geometry,
+    reach: Reach,
+) -> Window<'a>
+    requires some { reach.from < reach.run.len }
+    requires there { IsRunHere geometry.now reach }
+    requires block { front.now.block ≡ block_cells geometry.now }
+    requires size { buffers.now.cache.size ≡ block_bytes geometry.now }
+    requires many { buffers.now.many ≡ file_blocks geometry.now }
+    requires buffers { length buffers.now.lasts ≡ 1 + 3 * device_levels geometry.now }
+    requires has { HasWindow D.lends geometry.now buffers.now.lasts None reach }
+    ensures { IsFound D.lends (D.bytes buffers.now.cache.device) geometry.now front.now reach result.bytes.now result.is_last }
+{
+    if reach.run.level + 2 < geometry.block_exp {
+        return window_in_front(front, geometry, reach);
+    }
+    match window_lent(buffers, geometry, reach) {
+        Some(window) => window,
+        None => window_held(buffers, geometry, None, reach),
+    }
+}
+
+/// Turns the buffer of searches to the block of a cell of a run, where that is on a device that lends no bytes.
+#[inline(always)]
+fn turn_for_search<D: Device>(
+    buffers: &mut Buffers<D>,
+    geometry: &Geometry,
+    reach: Reach,
+) -> Result<(), DeviceFault>
+    requires some { reach.from < reach.run.len }
+    requires there { IsRunHere geometry.now reach }
+    requires many { buffers.old.many ≡ file_blocks geometry.now }
+    requires buffers { length buffers.old.lasts ≡ 1 + 3 * device_levels geometry.now }
+    ensures has { OnOk result (HasWindow D.lends geometry.now buffers.new.lasts None reach) }
+    ensures calm { HasWindow D.lends geometry.now buffers.old.lasts None reach → (buffers.new ≡ buffers.old) × IsOk result }
+    ensures turns { (answer : Result Cell ReadFault) → IsReadAfter result answer → SearchTurns D.counts D.lends geometry.now buffers.old buffers.new reach answer }
+    ensures keeps { OnlyTurns D.Device buffers.old buffers.new }
+{
+    let Reach { run, from } = reach;
+    // A device lends all of its bytes or none.
+    if run.level + 2 < geometry.block_exp || buffers.lent(0, 0).is_some() {
+        return Ok(());
+    }
+    let search = buffer_of(geometry, None, run.level);
+    buffers.turn_to(search, block_at(geometry, run.level, run.slot, from))
+}
+
+/// Lets a search run over the bytes of a run from a cell on that can be looked at where it lies. It is refused where the bytes of
+/// that cell spell none.
+#[inline(always)]
+fn search_there<D: Device, S: WindowSearch>(
+    front: &Front,
+    buffers: &Buffers<D>,
+    geometry: &Geometry,
+    reach: Reach,
+    search: &mut S,
+    probe: &S::Probe,
+) -> Result<u32, ReadFault>
+    requires can { S.can search.old }
+    requires some { reach.from < reach.run.len }
+    requires there { IsRunHere geometry.now reach }
+    requires block { front.now.block ≡ block_cells geometry.now }
+    requires size { buffers.now.cache.size ≡ block_bytes geometry.now }
+    requires many { buffers.now.many ≡ file_blocks geometry.now }
+    requires buffers { length buffers.now.lasts ≡ 1 + 3 * device_levels geometry.now }
+    requires has { HasWindow D.lends geometry.now buffers.now.lasts None reach }
+    ensures { ScansThere S.sought D.lends (D.bytes buffers.now.cache.device) geometry.now front.now reach search.old search.new probe.now result }
+{
+    let window = window_there(front, buffers, geometry, reach);
+    let accessed = search.seek(probe, geometry.format, window.bytes);
+    if accessed == 0 {
+        let Reach { run, from } = reach;
+        return Err(ReadFault::BadCell(geometry.place(run.level, run.slot, from)));
+    }
+    Ok(accessed)
+}
+
+/// Lets a search run over the bytes of a run from a cell on. Where that is on a device that lends no bytes, the buffer of searches
+/// is turned to its block.
+#[inline(always)]
+pub(crate) fn search_run<D: Device, S: WindowSearch>(
+    front: &Front,
+    buffers: &mut Buffers<D>,
+    geometry: &Geometry,
+    reach: Reach,
+    search: &mut S,
+    probe: &S::Probe,
+) -> Result<u32, ReadFault>
+    requires can { S.can search.old }
+    requires some { reach.from < reach.run.len }
+    requires there { IsRunHere geometry.now reach }
+    requires block { front.now.block ≡ block_cells geometry.now }
+    requires size { buffers.old.cache.size ≡ block_bytes geometry.now }
+    requires many { buffers.old.many ≡ file_blocks geometry.now }
+    requires buffers { length buffers.old.lasts ≡ 1 + 3 * device_levels geometry.now }
+    ensures runs { result ≢ Err Device →
+        ScansThere S.sought D.lends (D.bytes buffers.old.cache.device) geometry.now front.now reach search.old search.new probe.now result }
+    ensures calm { HasWindow D.lends geometry.now buffers.old.lasts None reach → (buffers.new ≡ buffers.old) × (result ≢ Err Device) }
+    ensures turns { (cell : Cell) → SearchTurns D.counts D.lends geometry.now buffers.old buffers.new reach (as_read cell result) }
+    ensures keeps { OnlyTurns D.Device buffers.old buffers.new }
+{
+    match turn_for_search(buffers, geometry, reach) {
+        Ok(()) => search_there(front, buffers, geometry, reach, search, probe),
+        Err(_) => Err(ReadFault::Device),
+    }
 }
 
 /// How many cells the shadow of a level takes before the push that fills a block.
@@ -210,7 +363,7 @@ fn weave_on_device<D: Device, M: WindowMerge>(
     merge: &mut M,
     job: &M::Job,
 ) -> Option<Passed>
-    requires can { M.can merge.old job.now }
+    requires can { M.can merge.old job.now geometry.now.format }
     requires level { IsOnDevice geometry.now level }
     requires shadows { level < length shadows.old }
     requires within { (shadow_at shadows.old level).len ≤ slot_size level }
@@ -288,7 +441,7 @@ fn weave_into_front<D: Device, M: WindowMerge>(
     merge: &mut M,
     job: &M::Job,
 ) -> Option<Passed>
-    requires can { M.can merge.old job.now }
+    requires can { M.can merge.old job.now geometry.now.format }
     requires level { level + 2 < geometry.now.block_exp }
     requires low { level ≤ geometry.now.bottom }
     requires shadows { level < length shadows.old }
@@ -351,7 +504,7 @@ impl<D: Device> RunStore<D> {
         steps: &mut Steps<L>,
     ) -> u32
         requires level { IsOnDevice self.old.geometry level }
-        requires can { M.can merge.old job.now }
+        requires can { M.can merge.old job.now self.old.geometry.format }
         requires own { IsReach (state_of D.bytes D.counts self.old).held level own }
         requires incoming { IsReach (state_of D.bytes D.counts self.old).held level incoming }
         requires sample { IsReach (state_of D.bytes D.counts self.old).held level sample }
@@ -401,7 +554,7 @@ impl<D: Device> RunStore<D> {
     ) -> u32
         requires level { level + 2 < self.old.geometry.block_exp }
         requires low { level ≤ self.old.geometry.bottom }
-        requires can { M.can merge.old job.now }
+        requires can { M.can merge.old job.now self.old.geometry.format }
         requires own { IsReach (state_of D.bytes D.counts self.old).held level own }
         requires incoming { IsReach (state_of D.bytes D.counts self.old).held level incoming }
         requires sample { IsReach (state_of D.bytes D.counts self.old).held level sample }

@@ -3,8 +3,8 @@ use Rattle.cola_cell.specs.Held.{Held}
 use Rattle.cola_look.proofs.Looking.{looks_as, looks_then}
 use Rattle.cola_check.specs.Beside.{StepsBeside}
 use Rattle.cola_check.proofs.Carrying.{going_begins, going_on, going_ends, going_fails, going_less, fits_nothing, carried_each, each_carried}
-use Rattle.cola_check.proofs.Turning.{turns_then}
-use Rattle.cola_check.proofs.WalkBlocks.{apart-stays}
+use Rattle.cola_check.proofs.Fronts.{turns_then}
+use Rattle.cola_check.proofs.RunBlocks.{apart-stays}
 use Rattle.cola_check.proofs.carried.is_carried.Goals as goal
 
 pub loop-key-init : goal.loop-key-init
@@ -54,9 +54,5 @@ returns-clause-carried g c =
 pub returns-then-not-fits-clause-blocks : goal.returns-then-not-fits-clause-blocks
 returns-then-not-fits-clause-blocks g c =
     let i = c.loop-key.invariant in
-    let b = i.blocks in
     let more = (c.in_ok-step.ensures.blocks i.apart).blocks in
-    omega (arith, b, more)
-
-pub returns-clause-blocks : goal.returns-clause-blocks
-returns-clause-blocks g c = let b = c.loop-key.invariant.blocks in omega (arith, b)
+    omega (arith, i.blocks, more)

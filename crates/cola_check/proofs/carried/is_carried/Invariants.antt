@@ -1,4 +1,4 @@
-use Rattle.std.proofs.Common.{◌≡◌, ◌+◌, ◌≤◌}
+use Rattle.std.proofs.Common.{◌+◌, ◌≤◌}
 use Rattle.cola_check.specs.Walks.{Turns, ahead}
 use Rattle.cola_check.specs.Carrying.{FitsAt}
 use Rattle.cola_check.specs.Beside.{all_unread, ReadApart, beside_blocks, three_blocks}

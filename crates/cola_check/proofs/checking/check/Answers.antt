@@ -1,5 +1,5 @@
 -- What a test answers.
-use Rattle.cola_check.proofs.Made.{checks}
+use Rattle.cola_check.proofs.Judging.{checks}
 use Rattle.cola_check.proofs.checking.check.Goals as goal
 
 pub returns-in-Ok-clause-checks : goal.returns-in-Ok-clause-checks

@@ -2,7 +2,7 @@
 use Rattle.std.proofs.Common.{◌≡◌, ℕ, ◌-◌, List, Option, is_some, true, refl, sym, ap, subst, ◌∙◌, arith}
 use Rattle.cola_cell.specs.Held.{Fixed}
 use Rattle.cola_layout.specs.declared.geometry.Geometry.{Geometry}
-use Rattle.cola_run.specs.Store.{state_of, cells_of, Kept}
+use Rattle.cola_run.specs.Store.{state_of, cells_of}
 use Rattle.cola_run.proofs.Spots.{told-there}
 use Rattle.cola_check.proofs.Judging.{by-cells, by-load, tells-all}
 use Rattle.cola_check.proofs.FileBlocks.{file-blocks}
@@ -27,22 +27,3 @@ pub returns-in-Err-clause-answer : goal.returns-in-Err-clause-answer
 returns-in-Err-clause-answer g c =
     by-load g.D.Device c.args.header.now c.args.runs.now.buffers.cache.device c.load.new.self.buffers.cache.device c.in-Err.fault c.judged-in-Err.result
     (let load = c.load.ensures.spends.reads_rise in let same : c.args.header.now.geometry.bottom ≡ c.args.runs.now.geometry.bottom = ap (λ (x : Geometry). x.bottom) c.requires in omega (arith, load, same)) c.in-Err.ensures.answer c.in-Err.ensures.spends.calm c.judged-in-Err.ensures
-
-pub returns-in-Ok-clause-reads : goal.returns-in-Ok-clause-reads
-returns-in-Ok-clause-reads g c =
-    let load = c.load.ensures.spends in
-    let costs = c.test_cells.ensures.costs in
-    let same : c.args.header.now.geometry.bottom ≡ c.args.runs.now.geometry.bottom = ap (λ (x : Geometry). x.bottom) c.requires in
-    record {
-      steps_stay = costs.steps_stay;
-      few_ticks = costs.steps_rise;
-      spends = record {
-        faults_stay = omega (arith, load.faults_stay, costs.faults_stay);
-        reads_stay = omega (arith, load.reads_stay, costs.turned_stays);
-        reads_rise = omega (arith, load.reads_rise, costs.turned_rises, same);
-        writes_stay = omega (arith, load.writes_is, costs.written_is);
-        writes_rise = omega (arith, load.writes_is, costs.written_is);
-        others_stay = omega (arith, load.others_are, ap (λ (k : Kept g.D.Device.Kept). k.others) c.test_cells.ensures.looks.kept);
-        others_rise = omega (arith, load.others_are, ap (λ (k : Kept g.D.Device.Kept). k.others) c.test_cells.ensures.looks.kept);
-      };
-    }

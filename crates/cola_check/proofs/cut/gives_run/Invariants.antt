@@ -1,8 +1,8 @@
 -- The cells of the run up to the index were given.
 use Rattle.std.proofs.Common.{◌≡◌}
 use Rattle.cola_check.specs.Cut.{IsAway}
-use Rattle.cola_check.proofs.CutBlocks.{AlongReadsOn}
-use Rattle.cola_check.proofs.Following.{Following}
+use Rattle.cola_check.proofs.RunBlocks.{AlongReadsOn}
+use Rattle.cola_check.proofs.Cuts.{Following}
 use Rattle.cola_check.proofs.cut.gives_run.Given as goal
 
 abbrev pub invariant-loop-index : goal.invariant-loop-index

@@ -1,9 +1,8 @@
 -- Two merges are compared.
 use Rattle.std.proofs.Common.{refl, ◌∙◌}
 use Rattle.cola_merge.proofs.Reading.{err_is}
-use Rattle.cola_check.proofs.Following.{differ_by}
-use Rattle.cola_check.proofs.Comparing.{comparing_none, first_stops, second_stops, second_ends, cells_differ, compares_on, first_ends, fewer_given}
-use Rattle.cola_check.proofs.CutBlocks.{both-none, both-on, both-end}
+use Rattle.cola_check.proofs.Cuts.{differ_by, comparing_none, first_stops, second_stops, second_ends, both_differ, compares_on, first_ends, fewer_given}
+use Rattle.cola_check.proofs.RunBlocks.{both-none, both-on, both-end}
 use Rattle.cola_check.proofs.cut.gives_same.Goals as goal
 
 pub loop-one-init : goal.loop-one-init
@@ -29,7 +28,7 @@ returns-in_default-2-clause-compared g c =
 
 pub returns-then-not-is_same-clause-compared : goal.returns-then-not-is_same-clause-compared
 returns-then-not-is_same-clause-compared g c =
-    cells_differ (g.W.CellSource.state c.pull.new.work) c.loop-one.invariant.comparing c.in_ok-one.field-0 c.in_ok-one.ensures.pulls (g.W.CellSource.state c.pull_by_others.new.work)
+    both_differ (g.W.CellSource.state c.pull.new.work) c.loop-one.invariant.comparing c.in_ok-one.field-0 c.in_ok-one.ensures.pulls (g.W.CellSource.state c.pull_by_others.new.work)
     c.in_ok-other.field-0 c.in_ok-other.ensures.pulls c.in-Some.one c.in-Some-2.other c.in-Some.is c.in-Some-2.is (differ_by c.is_same.result c.is_same.ensures c.if-not-is_same.true)
 
 pub loop-one-smaller : goal.loop-one-smaller

@@ -3,8 +3,8 @@ use Rattle.std.proofs.Common.{◌≡◌, ◌+◌, ◌-◌}
 use Rattle.cola_merge.specs.Feeds.{feed_len}
 use Rattle.cola_merge.specs.Heads.{consumed}
 use Rattle.cola_check.specs.Cut.{IsSpread}
-use Rattle.cola_check.proofs.Comparing.{Comparing}
-use Rattle.cola_check.proofs.CutBlocks.{BothReadOn}
+use Rattle.cola_check.proofs.Cuts.{Comparing}
+use Rattle.cola_check.proofs.RunBlocks.{BothReadOn}
 use Rattle.cola_check.proofs.cut.gives_same.Given as goal
 
 abbrev pub invariant-loop-one : goal.invariant-loop-one

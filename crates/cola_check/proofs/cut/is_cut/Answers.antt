@@ -4,19 +4,12 @@ use Rattle.cola_cell.specs.Held.{Held}
 use Rattle.cola_merge.specs.declared.merging.Merger.{Merger}
 use Rattle.cola_merge.specs.Heads.{HasHeads}
 use Rattle.cola_merge.proofs.Reading.{err_is}
-use Rattle.cola_check.proofs.Cutting.{heads_at, heads_fresh, from_fresh, from_cursors, first_fails, first_differs, second_tells}
-use Rattle.cola_check.proofs.CutBlocks.{cut-differs, cut-compared}
+use Rattle.cola_check.proofs.Cuts.{heads_at, heads_fresh, from_fresh, from_cursors, first_fails, first_differs, second_tells}
+use Rattle.cola_check.proofs.RunBlocks.{cut-differs, cut-compared}
 use Rattle.cola_check.proofs.cut.is_cut.Goals as goal
 
 pub gives_run-requires-clause-heads : goal.gives_run-requires-clause-heads
 gives_run-requires-clause-heads g c = subst (λ (m : Merger). HasHeads (g.W.CellSource.state c.args.work.now).held c.args.aim.now m) (sym c.begin-whole.ensures) (heads_fresh c.requires.fits)
-
-pub gives_run-requires-clause-run : goal.gives_run-requires-clause-run
-gives_run-requires-clause-run g c = c.requires.fits.run
-
-pub gives_same-requires-clause-first : goal.gives_same-requires-clause-first
-gives_same-requires-clause-first g c =
-    subst (λ (h : Held). HasHeads h c.args.aim.now c.gives_run.new.merger) (sym c.in_ok-gives_run.ensures.looks.cells_stay) c.in_ok-gives_run.ensures.followed.heads
 
 pub gives_same-requires-clause-second : goal.gives_same-requires-clause-second
 gives_same-requires-clause-second g c =

@@ -3,8 +3,8 @@ use Rattle.cola_check.specs.Blocks.{run_blocks, blocks_below, shadow_blocks}
 use Rattle.cola_check.specs.Beside.{three_blocks}
 use Rattle.cola_check.specs.Found.{shadow_of}
 use Rattle.cola_cell.proofs.CostsLemmas.{costs_then, costs_within}
-use Rattle.cola_check.proofs.FinishedTests.{finished-answer, walk-cause, finished-ticks}
-use Rattle.cola_check.proofs.AllBlocks.{fit-in, finished-blocks}
+use Rattle.cola_check.proofs.ShadowTests.{finished-answer, walk-cause, finished-ticks}
+use Rattle.cola_check.proofs.FileBlocks.{fit-in, finished-blocks}
 use Rattle.cola_check.proofs.RunBlocks.{turns-then}
 use Rattle.cola_check.proofs.finished.is_finished.Goals as goal
 
@@ -28,8 +28,7 @@ returns-clause-reads g c = record {
 pub returns-then-not-branch-clause-blocks : goal.returns-then-not-branch-clause-blocks
 returns-then-not-branch-clause-blocks g c =
     let few = fit-in c.args.header.now (g.W.CellSource.state c.args.work.now).held c.args.level c.requires.above in
-    let b = c.in_ok-is_fit.ensures.blocks in
-    omega (arith, few, b)
+    omega (arith, few, c.in_ok-is_fit.ensures.blocks)
 
 pub returns-clause-blocks : goal.returns-clause-blocks
 returns-clause-blocks g c =

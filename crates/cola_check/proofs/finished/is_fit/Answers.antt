@@ -2,8 +2,8 @@ use Rattle.std.proofs.Common.{Bool, not, ap, subst, arith}
 use Rattle.cola_cell.proofs.CostsLemmas.{costs_within}
 use Rattle.cola_check.specs.Firsts.{AreFewAt}
 use Rattle.cola_merge.proofs.Reading.{err_is}
-use Rattle.cola_check.proofs.FinishedTests.{fit-ticks, next-runs, fit-cause, fit-answer}
-use Rattle.cola_check.proofs.AllBlocks.{fit-blocks}
+use Rattle.cola_check.proofs.ShadowTests.{fit-ticks, next-runs, fit-cause, fit-answer}
+use Rattle.cola_check.proofs.FileBlocks.{fit-blocks}
 use Rattle.cola_check.proofs.finished.is_fit.Goals as goal
 
 pub test_run-requires-clause-below : goal.test_run-requires-clause-below
@@ -36,5 +36,4 @@ returns-clause-reads g c = record {
 pub returns-clause-blocks : goal.returns-clause-blocks
 returns-clause-blocks g c =
     let few = fit-blocks c.args.header.now (g.W.CellSource.state c.args.work.now).held c.args.level c.shadow_run-shadow.result c.next_run-next.result c.shadow_run-shadow.ensures.value c.next_run-next.ensures in
-    let b = c.in_ok-tests.ensures.blocks in
-    omega (arith, few, b)
+    omega (arith, few, c.in_ok-tests.ensures.blocks)

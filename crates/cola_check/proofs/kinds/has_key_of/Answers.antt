@@ -2,8 +2,7 @@ use Rattle.std.proofs.Common.{◌≡◌, sym, ap, ◌∙◌}
 use Rattle.std.specs.Ordering.{is_eq}
 use Rattle.cola_cell.specs.Cell.{key_of}
 use Rattle.cola_cell.specs.Order.{key_cmp}
-use Rattle.cola_check.proofs.Keys.{key_same, same_key}
-use Rattle.cola_check.proofs.Least.{itself_equal}
+use Rattle.cola_check.proofs.LeastKeys.{key_same, same_key, itself_equal}
 use Rattle.cola_check.proofs.kinds.has_key_of.Goals as goal
 
 pub returns : goal.returns

@@ -1,11 +1,10 @@
 use Rattle.std.proofs.Common.{List, ℕ, Option, subst, arith}
 use Rattle.std.specs.Prelude.{IfSome}
 use Rattle.cola_check.specs.Check.{HasVerdict}
-use Rattle.cola_check.proofs.Bounds.{eighty}
+use Rattle.cola_check.proofs.Judging.{eighty}
 use Rattle.cola_check.proofs.laws.tested_files_are_read_by_blocks.Goals as goal
 
 pub returns-clause-ticks : goal.returns-clause-ticks
 returns-clause-ticks g c = λ device device' from to verdict bytes tested told.
-    let few = tested.reading.few_ticks in
     let same = eighty tested.header.bottom in
-    (tested.header, (subst (λ (o : Option (List ℕ)). IfSome o (HasVerdict tested.header verdict)) told tested.is).was, omega (arith, few, same))
+    (tested.header, (subst (λ (o : Option (List ℕ)). IfSome o (HasVerdict tested.header verdict)) told tested.is).was, omega (arith, tested.reading.few_ticks, same))

@@ -1,6 +1,6 @@
 use Rattle.std.proofs.Common.{◌-◌, sym, ◌∙◌, arith}
 use Rattle.std.proofs.lemmas.Bool.{true≢false}
-use Rattle.cola_check.proofs.Leading.{away-above}
+use Rattle.cola_check.proofs.LeastKeys.{away-above}
 use Rattle.cola_check.proofs.leasts.first_with.Goals as goal
 
 pub returns-then-not-is_key : goal.returns-then-not-is_key

@@ -1,9 +1,8 @@
 use Rattle.std.proofs.Common.{◌≡◌, Some, sym, ap, ◌∙◌}
 use Rattle.std.specs.Ordering.{is_eq}
 use Rattle.cola_cell.specs.Order.{key_cmp}
-use Rattle.cola_check.proofs.Keys.{same_key}
-use Rattle.cola_check.proofs.Least.{itself_equal}
-use Rattle.cola_check.proofs.Sampling.{some-same}
+use Rattle.cola_check.proofs.LeastKeys.{same_key, itself_equal}
+use Rattle.cola_check.proofs.Prefixes.{some-same}
 use Rattle.cola_check.proofs.leasts.is_key.Goals as goal
 
 pub returns-in-Some : goal.returns-in-Some

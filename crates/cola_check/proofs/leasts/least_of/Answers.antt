@@ -1,6 +1,6 @@
 use Rattle.std.proofs.Common.{◌-◌, length, sym, ◌∙◌, arith}
 use Rattle.std.proofs.lemmas.Bool.{eqb-false}
-use Rattle.cola_check.proofs.Leading.{last-is}
+use Rattle.cola_check.proofs.LeastKeys.{last-is}
 use Rattle.cola_check.proofs.leasts.least_of.Goals as goal
 
 pub returns : goal.returns

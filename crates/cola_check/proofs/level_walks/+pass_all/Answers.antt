@@ -1,4 +1,4 @@
-use Rattle.cola_check.proofs.LevelBlocks.{alls-read}
+use Rattle.cola_check.proofs.RunBlocks.{alls-read}
 use Rattle.cola_check.proofs.level_walks.+pass_all.Goals as goal
 
 pub returns-clause-blocks : goal.returns-clause-blocks

@@ -1,6 +1,6 @@
 use Rattle.std.proofs.Common.{rules, ◌-◌, ◌<◌, refl, subst, arith}
 use Rattle.cola_check.specs.Leasts.{AreAwayFrom}
-use Rattle.cola_check.proofs.Leading.{away-below, stays-then}
+use Rattle.cola_check.proofs.LeastKeys.{away-below, stays-then}
 use Rattle.cola_check.proofs.level_walks.+pass_below.Goals as goal
 
 pub pass_below-requires : goal.pass_below-requires

@@ -1,13 +1,14 @@
-use Rattle.std.proofs.Common.{rules, ◌≡◌, ℕ, ◌+◌, false, [], ◌∷◌, get_or, None, ◌∙◌, subst, arith}
+use Rattle.std.proofs.Common.{rules, ◌≡◌, ℕ, ◌+◌, false, [], ◌∷◌, get_or, None, subst, arith}
 use Rattle.std.proofs.lemmas.Grind.{common_steps}
+use Rattle.std.proofs.lemmas.List.{get_or_default}
 use Rattle.cola_cell.specs.Held.{Held}
 use Rattle.cola_look.proofs.Looking.{looks_then}
 use Rattle.cola_check.specs.declared.level_walks.LevelRuns.{LevelRuns}
 use Rattle.cola_check.specs.Reading.{PassCause}
 use Rattle.cola_check.specs.LevelWalks.{runs_of, BeginsLevel, StandsAt}
-use Rattle.cola_check.proofs.LevelBlocks.{stands-at, began-one, blocks-taken}
-use Rattle.cola_check.proofs.LevelLists.{got, each_next, length_push, begun_one, refused, cause_later, level_bad}
-use Rattle.cola_check.proofs.Turning.{turns_then}
+use Rattle.cola_check.proofs.RunBlocks.{stands-at, began-one, blocks-taken}
+use Rattle.cola_check.proofs.Levels.{each_next, length_push, begun_one, refused, cause_later, level_bad}
+use Rattle.cola_check.proofs.Fronts.{turns_then}
 use Rattle.cola_check.proofs.level_walks.begin_all.Goals as goal
 
 -- what an index beyond the end would give
@@ -19,7 +20,7 @@ loop-i-preserved g c =
     let i = c.loop-i.invariant in
     let held : Held = (g.W.CellSource.state c.args.work.now).held in
     let level : LevelRuns = get_or c.args.levels.now c.loop-i.i beyond in
-    let is = got c.args.levels.now c.loop-i.i beyond level c.loop-i-test.true in
+    let is = get_or_default c.args.levels.now c.loop-i.i beyond level c.loop-i-test.true in
     let new = c.in_ok-walks.walks in
     let F : Held → Type 0 = λ h. BeginsLevel h level new in
     record {
@@ -42,7 +43,7 @@ returns-in_err-walks-clause-reads g c = record {
       let held : Held = (w.state c.args.work.now).held in
       let i = c.loop-i.invariant in
       let level : LevelRuns = get_or c.args.levels.now c.loop-i.i beyond in
-      let is = got c.args.levels.now c.loop-i.i beyond level c.loop-i-test.true in
+      let is = get_or_default c.args.levels.now c.loop-i.i beyond level c.loop-i-test.true in
       let faults = (w.state c.args.work.now).spent.faults in
       let now = (w.state c.begin.new.work).spent.faults in
       refused c.from_residual.result c.in_err-walks.field-0.0 (PassCause held (runs_of c.args.levels.now) faults now) c.from_residual.ensures.1

@@ -6,13 +6,13 @@ use Rattle.cola_check.specs.declared.level_walks.LevelWalks.{LevelWalks}
 use Rattle.cola_check.specs.Reading.{PassCause}
 use Rattle.cola_check.specs.LevelWalks.{runs_of, cells_in, runs_in, LevelFits, IsLevelReady, all_ahead, ReadFrom}
 use Rattle.cola_check.specs.Tally.{IsWithin, visible_said, counted}
-use Rattle.cola_check.proofs.LevelBlocks.{read-from, read-from_stays}
-use Rattle.cola_check.proofs.LevelLists.{refused, cause_later}
-use Rattle.cola_check.proofs.LiveSteps.{has_rooms}
-use Rattle.cola_check.proofs.LiveWalk.{all_fit, all_ready, bad_of_levels, few_cells, counting_begins, counting_on, counting_less, counting_same, counting_many, counting_ends, stamped_ends, refilled_passes, refilled_unread, refilled_blocks, refilled_stay}
+use Rattle.cola_check.proofs.RunBlocks.{read-from, read-from_stays}
+use Rattle.cola_check.proofs.Levels.{refused, cause_later}
+use Rattle.cola_check.proofs.LiveKeys.{has_rooms, all_fit, all_ready, bad_of_levels, few_cells, counting_begins, counting_on, counting_less, counting_same, counting_many, counting_ends, stamped_ends}
+use Rattle.cola_check.proofs.LiveKeys.{refilled_passes, refilled_unread, refilled_blocks, refilled_stay}
 use Rattle.cola_check.specs.Leasts.{AreLeasts, AreFirstLeasts, AreAwayFrom}
-use Rattle.cola_check.proofs.Leading.{leads, leasts-many, kept-on, refilled-leasts}
-use Rattle.cola_check.proofs.Turning.{turns_then}
+use Rattle.cola_check.proofs.LeastKeys.{leads, leasts-many, kept-on, refilled-leasts}
+use Rattle.cola_check.proofs.Fronts.{turns_then}
 use Rattle.cola_check.proofs.live.count_live.Goals as goal
 
 pub loop-key-init : goal.loop-key-init
@@ -132,6 +132,3 @@ returns-clause-stamped g c = stamped_ends c.loop-key.invariant.counting (leads c
 
 pub returns-clause-many : goal.returns-clause-many
 returns-clause-many g c = counting_many c.loop-key.invariant.counting
-
-pub returns-clause-blocks : goal.returns-clause-blocks
-returns-clause-blocks g c = λ at. let b = c.loop-key.invariant.blocks at in omega (arith, b)

@@ -2,7 +2,7 @@ use Rattle.std.proofs.Common.{◌==◌, ap, ◌∙◌}
 use Rattle.cola_cell.specs.declared.cell.Run.{Run}
 use Rattle.cola_clock.specs.Clock.{period, is_odd}
 use Rattle.cola_clock.proofs.Wrap.{slot-of_parity}
-use Rattle.cola_check.proofs.Windows.{odd-slot, same-level}
+use Rattle.cola_check.proofs.LiveTests.{odd-slot, same-level}
 use Rattle.cola_check.proofs.living.counted_level.Goals as goal
 
 pub returns : goal.returns

@@ -1,4 +1,4 @@
-use Rattle.cola_check.proofs.LevelLists.{length_push}
+use Rattle.cola_check.proofs.Levels.{length_push}
 use Rattle.cola_check.proofs.LiveTests.{counted-next}
 use Rattle.cola_check.proofs.living.counted_levels.Goals as goal
 

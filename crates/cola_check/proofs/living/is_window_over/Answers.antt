@@ -1,4 +1,4 @@
-use Rattle.cola_check.proofs.Windows.{clock-fits, none-over, after-over}
+use Rattle.cola_check.proofs.LiveTests.{clock-fits, none-over, after-over}
 use Rattle.cola_check.proofs.living.is_window_over.Goals as goal
 
 pub returns-then-level-eq0 : goal.returns-then-level-eq0

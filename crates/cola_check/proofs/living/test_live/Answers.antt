@@ -5,8 +5,8 @@ use Rattle.cola_cell.proofs.CostsLemmas.{costs_within}
 use Rattle.cola_check.specs.declared.level_walks.LevelRuns.{LevelRuns}
 use Rattle.cola_check.specs.LevelWalks.{HasLevel}
 use Rattle.cola_check.specs.Testing.{TestCause}
-use Rattle.cola_check.proofs.AllBlocks.{counted-stand_all, counted-all}
-use Rattle.cola_check.proofs.LevelLists.{refused}
+use Rattle.cola_check.proofs.FileBlocks.{counted-stand_all, counted-all}
+use Rattle.cola_check.proofs.Levels.{refused}
 use Rattle.cola_check.proofs.LiveTests.{counted-many, levels-have, counting-cause, finds-verdict, few-counted}
 use Rattle.cola_check.proofs.living.test_live.Goals as goal
 

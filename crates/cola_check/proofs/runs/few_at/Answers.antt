@@ -11,8 +11,7 @@ young-fits level low = let is : (1 * 2 ^ level) % 2 ^ 32 ≡ 2 ^ level = one_shl
 pub overflow_mul-result : goal.overflow_mul-result
 overflow_mul-result c =
     let shallow : c.args.header.now.geometry.bottom ≤ 22 = c.args.header.now.geometry.shallow in
-    let low = c.requires in
-    let few = young-fits c.args.level (omega (arith, shallow, low)) in
+    let few = young-fits c.args.level (omega (arith, shallow, c.requires)) in
     elim c.if-odd.branch [
       | then-odd w ↦ subst (λ (n : ℕ). Fits w32 (n * ((1 * 2 ^ c.args.level) % 2 ^ 32))) (sym w.times-is) (Fits-of_lt (let l : 3 * ((1 * 2 ^ c.args.level) % 2 ^ 32) < 2 ^ 32 = omega (arith, few) in l))
       | else-odd w ↦ subst (λ (n : ℕ). Fits w32 (n * ((1 * 2 ^ c.args.level) % 2 ^ 32))) (sym w.times-is) (Fits-of_lt (let l : 2 * ((1 * 2 ^ c.args.level) % 2 ^ 32) < 2 ^ 32 = omega (arith, few) in l))

@@ -1,5 +1,5 @@
 use Rattle.cola_cell.proofs.CostsLemmas.{costs_within}
-use Rattle.cola_check.proofs.CutTests.{ticks-at, blocks-at, fits-at, cause-at, answer-at}
+use Rattle.cola_check.proofs.ShadowTests.{ticks-at, blocks-at, fits-at, cause-at, answer-at}
 use Rattle.cola_check.proofs.RunBlocks.{turns-within}
 use Rattle.cola_check.proofs.shadows.has_cut.Goals as goal
 

@@ -1,7 +1,7 @@
 use Rattle.std.proofs.Common.{sym, ◌∙◌}
 use Rattle.cola_check.specs.Found.{tested_by}
 use Rattle.cola_check.proofs.ShadowTests.{before-is, inside-is, before-has, inside-answer, after-answer}
-use Rattle.cola_check.proofs.Windows.{after-over}
+use Rattle.cola_check.proofs.LiveTests.{after-over}
 use Rattle.cola_check.proofs.shadows.has_shadow.Goals as goal
 
 pub has_cut-requires-clause-inside : goal.has_cut-requires-clause-inside

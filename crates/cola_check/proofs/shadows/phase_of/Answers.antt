@@ -1,4 +1,4 @@
-use Rattle.cola_check.proofs.Windows.{clock-fits}
+use Rattle.cola_check.proofs.LiveTests.{clock-fits}
 use Rattle.cola_check.proofs.shadows.phase_of.Goals as goal
 
 pub phase-requires-clause-clock_in_range : goal.phase-requires-clause-clock_in_range

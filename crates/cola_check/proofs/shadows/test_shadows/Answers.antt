@@ -9,7 +9,7 @@ use Rattle.cola_verdict.specs.Tests.{ShadowAt}
 use Rattle.cola_look.proofs.Looking.{looks_then}
 use Rattle.cola_check.specs.Found.{tested_by}
 use Rattle.cola_check.specs.Shadows.{IsReached}
-use Rattle.cola_check.proofs.AllBlocks.{shadow-done, shadows-all}
+use Rattle.cola_check.proofs.FileBlocks.{shadow-done, shadows-all}
 use Rattle.cola_check.proofs.BadRuns.{level-in}
 use Rattle.cola_check.proofs.ShadowTests.{one-more, one-fails, more-ticks, some-ticks}
 use Rattle.cola_check.proofs.shadows.test_shadows.Goals as goal
@@ -66,6 +66,5 @@ returns-then-not-branch-clause-blocks g c =
 
 pub returns-clause-blocks : goal.returns-clause-blocks
 returns-clause-blocks g c =
-    let b = c.loop-level.invariant.blocks in
     let all = shadows-all c.args.header.now (g.W.CellSource.state c.args.work.now).held in
-    omega (arith, b, all)
+    omega (arith, c.loop-level.invariant.blocks, all)

@@ -1,13 +1,13 @@
-use Rattle.std.proofs.Common.{◌≡◌, ℕ, suc, ◌-◌, ◌<◌, length, drop, refl, sym, ap, ◌∙◌, arith}
-use Rattle.cola_check.specs.Tally.{visible_said, shadow_said, counted}
-use Rattle.cola_check.proofs.Adding.{none_counted, next_has_room, first_stay, visible_next, shadow_next, counted_next}
-use Rattle.cola_check.proofs.LevelLists.{none_left}
+use Rattle.std.proofs.Common.{◌≡◌, ℕ, suc, ◌-◌, ◌<◌, length, refl, sym, ap, arith}
+use Rattle.std.proofs.lemmas.List.{drop_all}
+use Rattle.cola_check.specs.Tally.{visible_said, shadow_said}
+use Rattle.cola_check.proofs.LiveKeys.{none_counted, next_has_room, first_stay, visible_next, shadow_next, counted_next}
 use Rattle.cola_check.proofs.tally.add_live.Goals as goal
 
 pub loop-left-init : goal.loop-left-init
 loop-left-init c =
     let levels = c.args.levels.now in
-    let end = none_left levels (length levels) (omega arith) in
+    let end = drop_all (length levels) levels (omega arith) in
     record {
       within = omega arith;
       visible = sym (ap visible_said end);
@@ -37,11 +37,9 @@ loop-left-preserved c =
     let level = c.index-levels-left.result in
     let some = c.loop-left-test.true in
     let within = i.within in
-    let same = c.requires.same in
-    let size = c.loop-left.auto.counts in
     let many : n ≡ suc m = omega (arith, some) in
-    let in_counts : m < length counts = omega (arith, some, within, same, size) in
-    let in_olds : m < length olds = omega (arith, some, within, same) in
+    let in_counts : m < length counts = omega (arith, some, within, c.requires.same, c.loop-left.auto.counts) in
+    let in_olds : m < length olds = omega (arith, some, within, c.requires.same) in
     let in_levels : m < length levels = omega (arith, some, within) in
     let is = c.index-levels-left.is in
     let visible = visible_next counts olds levels n m many i.first in_counts in_olds level in_levels is c.loop-left.answers.visible c.loop-left.answers.shadow i.visible i.shadow c.under-answers.ensures.visible in
@@ -52,15 +50,4 @@ loop-left-preserved c =
       shadow = shadow;
       first = first_stay counts olds levels n m many i.first in_counts in_olds c.with.result;
       counted = counted_next counts olds levels n m many i.first in_counts in_olds level in_levels is c.with.result c.under-answers.result.visible c.under-answers.result.shadow i.counted visible shadow c.with.ensures.visible c.with.ensures.shadow;
-    }
-
-pub returns : goal.returns
-returns c =
-    let i = c.loop-left.invariant in
-    let none = c.loop-left-test.false in
-    let e : c.loop-left.left ≡ 0 = omega (arith, none) in
-    record {
-      visible = i.visible ∙ ap (λ (n : ℕ). visible_said (drop n c.args.levels.now)) e;
-      shadow = i.shadow ∙ ap (λ (n : ℕ). shadow_said (drop n c.args.levels.now)) e;
-      counted = sym (ap (λ (n : ℕ). drop n c.loop-left.counts) e) ∙ i.counted ∙ ap (λ (n : ℕ). counted (drop n c.args.counts.now) (drop n c.args.levels.now)) e;
     }

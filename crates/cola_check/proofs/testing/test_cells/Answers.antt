@@ -4,7 +4,7 @@ use Rattle.cola_check.specs.Blocks.{all_blocks}
 use Rattle.cola_check.proofs.RunBlocks.{turns-then}
 use Rattle.cola_cell.proofs.CostsLemmas.{costs_then, costs_within}
 use Rattle.cola_check.proofs.After.{of-runs}
-use Rattle.cola_check.proofs.Bounds.{all-ticks}
+use Rattle.cola_check.proofs.Judging.{all-ticks}
 use Rattle.cola_check.specs.BadCells.{all_cells}
 use Rattle.cola_check.proofs.testing.test_cells.Goals as goal
 

@@ -2,7 +2,7 @@ use Rattle.std.proofs.Common.{Some, sym, ap, ◌∙◌, arith}
 use Rattle.cola_runs.specs.Cells.{key_of}
 use Rattle.cola_cell.specs.Held.{as_cell}
 use Rattle.cola_check.proofs.RunBlocks.{sample-past, sample-reads}
-use Rattle.cola_check.proofs.Sampling.{sampled-at, sampled-past, some-same}
+use Rattle.cola_check.proofs.Prefixes.{sampled-at, sampled-past, some-same}
 use Rattle.cola_check.proofs.visible.has_sampled.Goals as goal
 
 pub returns-then-number-run-clause-sampled : goal.returns-then-number-run-clause-sampled

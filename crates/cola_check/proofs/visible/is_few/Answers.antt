@@ -7,11 +7,8 @@ use Rattle.cola_check.proofs.visible.is_few.Goals as goal
 pub returns-in-Items : goal.returns-in-Items
 returns-in-Items c = λ lists cells is.
     let all = length_counts cells in
-    let place = is.place_is in
-    let looks = is.looks_is in
-    let young = is.young_is in
     let holds = c.has_few_items.ensures in
     subst (λ (f : Few). IsTrue c.has_few_items.result ↔ IsFew f cells) (sym c.in-Items.is) (
-      λ t. let h = holds.0 t in let a = h.0 in let b = h.1 in record { few_items = omega (arith, all, place, looks, a); few_young = omega (arith, young, b) },
-      λ h. let a = h.few_items in let b = h.few_young in holds.1 (omega (arith, all, place, looks, a), omega (arith, young, b)),
+      λ t. let h = holds.0 t in let a = h.0 in let b = h.1 in record { few_items = omega (arith, all, is.place_is, is.looks_is, a); few_young = omega (arith, is.young_is, b) },
+      λ h. let a = h.few_items in let b = h.few_young in holds.1 (omega (arith, all, is.place_is, is.looks_is, a), omega (arith, is.young_is, b)),
     )

@@ -9,9 +9,9 @@ use Rattle.cola_cell.specs.ToldCells.{cells}
 use Rattle.cola_look.proofs.Looking.{looked_none, looks_read, looks_then}
 use Rattle.cola_check.specs.Prefix.{lists_below, sample_len, sample_reads, Suits, IsSeen}
 use Rattle.cola_check.specs.Reading.{IsRunTold, PassCause}
-use Rattle.cola_check.proofs.LevelLists.{refused, cause_later}
+use Rattle.cola_check.proofs.Levels.{refused, cause_later}
 use Rattle.cola_check.proofs.RunBlocks.{run-most, sample-most, own-read, sample-read}
-use Rattle.cola_check.proofs.Sampling.{given-at, cells-next, reads-one}
+use Rattle.cola_check.proofs.Prefixes.{given-at, cells-next, reads-one}
 use Rattle.cola_check.proofs.visible.read_all.Goals as goal
 
 pub loop-index-init : goal.loop-index-init
@@ -43,10 +43,9 @@ loop-index-preserved g c =
       looks = looks_then (looks_then i.looks (looks_read c.in_ok-read_packed.ensures.kept c.in_ok-read_packed.ensures.reads)) c.in_ok-suits.ensures.looks;
       cost = costs_within (costs_then {more = sample_reads below old.looks (as_cell cell)} {others = sample_reads below old.looks (as_cell cell)} (costs_read_then {buffer = By Own run.level} {result = Ok cell} i.cost c.in_ok-read_packed.ensures.reads c.in_ok-read_packed.ensures.one_tick) c.in_ok-suits.ensures.reads.cost) bound bound;
       blocks =
-          let b = i.blocks in
           let one = own-read run below cell index old.looks c.in_ok-read_packed.ensures.reads c.loop-index-test.true in
           let two = sample-read run below (index + 1) old.looks new.looks (count_looks (as_cell cell ∷ [])) c.in_ok-suits.ensures.looks.cells_stay c.take.ensures.looks c.in_ok-suits.ensures.blocks in
-          omega (arith, b, one, two);
+          omega (arith, i.blocks, one, two);
       place_is = let a = c.take.ensures.place in let b = i.place_is in omega (arith, a, b);
       seen = λ told rest.
           let given = subst (λ (h : Held). IsGiven h run.level run.slot index cell) i.looks.cells_stay c.in_ok-read_packed.ensures.reads.answer in
@@ -82,10 +81,5 @@ pub returns-clause-seen : goal.returns-clause-seen
 returns-clause-seen g c = λ told rest.
     let held = (g.W.CellSource.state c.args.work.now).held in
     let run = c.args.run.now in
-    let end = c.loop-index.auto.index-end in
-    let done = c.loop-index-test.false in
-    let whole : c.loop-index.index ≡ run.len = omega (arith, end, done) in
+    let whole : c.loop-index.index ≡ run.len = omega (arith, c.loop-index.auto.index-end, c.loop-index-test.false) in
     subst (λ (n : ℕ). IsSeen (lists_below held c.args.below rest) (cells (held.spots run.level run.slot) 0 n) c.loop-index.seen) whole (c.loop-index.invariant.seen told rest)
-
-pub returns-clause-blocks : goal.returns-clause-blocks
-returns-clause-blocks g c = let b = c.loop-index.invariant.blocks in omega (arith, b)

@@ -1,5 +1,5 @@
 use Rattle.std.proofs.Common.{sym, ◌∙◌}
-use Rattle.cola_check.proofs.Sampling.{sample-whole, sample-begins}
+use Rattle.cola_check.proofs.Prefixes.{sample-whole, sample-begins}
 use Rattle.cola_check.proofs.visible.tests_of.Goals as goal
 
 pub returns-clause-sampled : goal.returns-clause-sampled

@@ -1,4 +1,4 @@
-use Rattle.std.proofs.Common.{ap, rules, ◌≡◌, ◌+◌, ◌*◌, ◌^◌, ◌≤◌, ℕ, subst, ◌∙◌, arith}
+use Rattle.std.proofs.Common.{ap, rules, ◌≡◌, ◌+◌, ◌*◌, ◌^◌, ℕ, subst, arith}
 use Rattle.cola_cell.specs.Held.{Held}
 use Rattle.cola_cell.proofs.CostsLemmas.{costs_then, costs_within}
 use Rattle.cola_verdict.specs.Tests.{AreCellsTold}
@@ -6,17 +6,15 @@ use Rattle.cola_look.proofs.Looking.{looks_then}
 use Rattle.cola_check.specs.Blocks.{level_blocks, blocks_below}
 use Rattle.cola_check.specs.Firsts.{AreTestsAt, AreFirstFlaws}
 use Rattle.cola_check.specs.Found.{tested_by}
-use Rattle.cola_check.proofs.AllBlocks.{visibles-more, visibles-all}
-use Rattle.cola_check.proofs.TestsAt.{next-ticks, all-ticks}
+use Rattle.cola_check.proofs.FileBlocks.{visibles-more, visibles-all}
+use Rattle.cola_check.proofs.Prefixes.{next-ticks, all-ticks}
 use Rattle.cola_check.proofs.visibles.test_visibles.Goals as goal
 
 pub returns-in_err-tests-clause-reads : goal.returns-in_err-tests-clause-reads
 returns-in_err-tests-clause-reads g c = record {
   cause = search rules;
   cost =
-      let end = c.levels-level-end.ensures.value in
-      let here = c.loop-level-test.true in
-      let some = all-ticks c.args.header.now c.loop-level.level (omega (arith, end, here)) in
+      let some = all-ticks c.args.header.now c.loop-level.level (omega (arith, c.levels-level-end.ensures.value, c.loop-level-test.true)) in
       costs_within (costs_then {more = 5 * 2 ^ c.loop-level.level} {others = 5 * 2 ^ c.loop-level.level} c.loop-level.invariant.cost c.in_err-tests.ensures.reads.cost) some some;
 }
 
@@ -32,11 +30,9 @@ loop-level-preserved g c =
       looks = looks_then i.looks tests.looks;
       cost = costs_within (costs_then {more = 5 * 2 ^ level} {others = 5 * 2 ^ level} i.cost tests.reads.cost) some some;
       blocks =
-          let b = i.blocks in
           let more = visibles-more header held level in
-          let here = tests.blocks in
           let same = ap (λ (h : Held). level_blocks header h level + blocks_below header h level) i.looks.cells_stay in
-          omega (arith, b, more, here, same);
+          omega (arith, i.blocks, more, tests.blocks, same);
       placed = c.with-flaws.ensures.placed i.placed tests.within;
       found = λ told.
           c.with-flaws.ensures.found (tested_by header held) (i.found told)
@@ -47,16 +43,10 @@ pub returns-clause-finds : goal.returns-clause-finds
 returns-clause-finds g c =
     let header = c.args.header.now in
     let held = (g.W.CellSource.state c.args.work.now).held in
-    let end = c.levels-level-end.ensures.value in
-    let last = c.loop-level.auto.level-end in
-    let done = c.loop-level-test.false in
-    let whole : c.loop-level.level ≡ header.geometry.bottom + 1 = omega (arith, end, last, done) in
+    let whole : c.loop-level.level ≡ header.geometry.bottom + 1 = omega (arith, c.levels-level-end.ensures.value, c.loop-level.auto.level-end, c.loop-level-test.false) in
     c.verdict_by.ensures held (λ told. subst (λ (n : ℕ). AreFirstFlaws (tested_by header held) n c.loop-level.flaws) whole (c.loop-level.invariant.found told))
 
 pub returns-clause-blocks : goal.returns-clause-blocks
 returns-clause-blocks g c =
-    let end = c.levels-level-end.ensures.value in
-    let last = c.loop-level.auto.level-end in
-    let b = c.loop-level.invariant.blocks in
-    let all = visibles-all c.args.header.now (g.W.CellSource.state c.args.work.now).held c.loop-level.level (omega (arith, end, last)) in
-    omega (arith, b, all)
+    let all = visibles-all c.args.header.now (g.W.CellSource.state c.args.work.now).held c.loop-level.level (omega (arith, c.levels-level-end.ensures.value, c.loop-level.auto.level-end)) in
+    omega (arith, c.loop-level.invariant.blocks, all)

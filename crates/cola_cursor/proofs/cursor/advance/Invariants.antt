@@ -5,8 +5,8 @@ use Rattle.cola_cursor.specs.Saving.{Saves}
 use Rattle.cola_cursor.proofs.Going.{Quiet}
 use Rattle.cola_cursor.proofs.cursor.advance.Given as goal
 
-abbrev pub invariant-loop-key : goal.invariant-loop-key
-invariant-loop-key g l = record {
+abbrev pub invariant-loop-least : goal.invariant-loop-least
+invariant-loop-least g l = record {
   looks : Looked g.W.CellSource l.fn.work l.work;
   reading : Reading (g.W.CellSource.state l.fn.work) (g.W.CellSource.state l.work) l.fn.steps l.steps;
   left : l.steps + all_left l.lines ≤ l.fn.steps + all_left l.fn.lines;
@@ -14,5 +14,5 @@ invariant-loop-key g l = record {
   quiet : Quiet l.falls (g.W.CellSource.state l.fn.work).held l.end l.fn.lines l.lines;
 }
 
-abbrev pub decreases-loop-key : goal.decreases-loop-key
-decreases-loop-key g l = all_ahead l.lines
+abbrev pub decreases-loop-least : goal.decreases-loop-least
+decreases-loop-least g l = all_ahead l.lines

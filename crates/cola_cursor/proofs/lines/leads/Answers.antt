@@ -1,4 +1,4 @@
-use Rattle.std.proofs.Common.{◌≡◌, Ordering, Some, cond, refl, sym, ap, ◌∙◌}
+use Rattle.std.proofs.Common.{◌≡◌, Ordering, refl, sym, ap, ◌∙◌}
 use Rattle.std.specs.Ordering.{is_lt, is_gt, ordering_reverse}
 use Rattle.std.specs.Cmp.Lexicographic.{nat_list_cmp_total}
 use Rattle.cola_cell.specs.Cell.{key_of}
@@ -14,6 +14,5 @@ pub returns-then-falls : goal.returns-then-falls
 returns-then-falls c =
     let k = key_of c.args.cell.now in
     let l = key_of c.args.other.now in
-    ap (λ b. cond b (Some k) (Some l))
-    (c.is_gt.ensures ∙ ap is_gt c.cmp_keys-order.ensures ∙ above (key_cmp k l) ∙ ap is_lt (sym (nat_list_cmp_total.antisymm l k))
-    ∙ sym (ap (λ b. is_lt (way_cmp b k l)) c.if-falls.true))
+    c.is_gt.ensures ∙ ap is_gt c.cmp_keys-order.ensures ∙ above (key_cmp k l) ∙ ap is_lt (sym (nat_list_cmp_total.antisymm l k))
+    ∙ sym (ap (λ b. is_lt (way_cmp b k l)) c.if-falls.true)

@@ -1,12 +1,21 @@
-use Rattle.std.proofs.Common.{refl, sym, ◌∙◌}
-use Rattle.cola_look.proofs.Looking.{looks_then}
+use Rattle.std.proofs.Common.{refl, sym, ◌∙◌, arith}
+use Rattle.cola_look.proofs.Looking.{looked_none, looks_then}
 use Rattle.cola_cursor.specs.Lines.{LineFits, IsReady}
 use Rattle.cola_cursor.specs.Results.{LinesCause}
-use Rattle.cola_cursor.proofs.Lists.{refused}
-use Rattle.cola_cursor.proofs.Readings.{reading_then}
-use Rattle.cola_cursor.proofs.Saving.{saves_set, saves_then}
+use Rattle.cola_cursor.proofs.First.{pass_none}
+use Rattle.cola_cursor.proofs.Lists.{refused, left_split}
+use Rattle.cola_cursor.proofs.Readings.{reading_none, reading_then}
+use Rattle.cola_cursor.proofs.Saving.{saves_none, saves_set, saves_then}
 use Rattle.cola_cursor.proofs.Turns.{line_has, line_cause, turned_next, turned_stays, passed_next, passed_stays}
 use Rattle.cola_cursor.proofs.lines.pass_all.Goals as goal
+
+pub loop-i-init : goal.loop-i-init
+loop-i-init g c = record {
+  looks = looked_none;
+  reading = reading_none (g.W.CellSource.state c.args.work.now) c.args.steps.now;
+  turned = record { saves = saves_none c.requires.once; rest = refl; left = let e = left_split c.args.falls c.args.lines.now c.args.first in omega arith };
+  passed = pass_none c.args.falls (g.W.CellSource.state c.args.work.now).held c.args.key.now c.args.lines.now c.args.first c.requires.fit c.requires.ready c.requires.first;
+}
 
 pub loop-i-preserved-then-not-has_key : goal.loop-i-preserved-then-not-has_key
 loop-i-preserved-then-not-has_key g c =

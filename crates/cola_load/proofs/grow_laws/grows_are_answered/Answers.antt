@@ -1,4 +1,4 @@
-use Rattle.cola_load.proofs.GrowSaid.{says, stays}
+use Rattle.cola_load.proofs.Completing.{says, stays}
 use Rattle.cola_load.proofs.grow_laws.grows_are_answered.Goals as goal
 
 pub returns-clause-says : goal.returns-clause-says

@@ -3,7 +3,7 @@ use Rattle.std.proofs.Common.{◌+◌, sym, ap, ◌∙◌}
 use Rattle.cola_cell.specs.Held.{Fixed}
 use Rattle.cola_layout.specs.declared.geometry.Geometry.{Geometry}
 use Rattle.cola_run.specs.Store.{held_of}
-use Rattle.cola_load.proofs.Copied.{load-refused, begin-refused, store-copied}
+use Rattle.cola_load.proofs.Copying.{load-refused, begin-refused, store-copied}
 use Rattle.cola_load.proofs.growing.copy_store.Goals as goal
 
 pub fill-requires-clause-runs : goal.fill-requires-clause-runs

@@ -2,9 +2,8 @@
 use Rattle.std.proofs.Common.{◌≡◌, ◌∙◌, ◌≤◌, ◌+◌, ℕ, subst, inr, Result, Ok, Err, ap, arith}
 use Rattle.cola_outside.specs.Faults.{Rose}
 use Rattle.cola_device.specs.declared.device.DeviceFault.{DeviceFault}
-use Rattle.cola_load.proofs.Walking.{seek-refused, fill-refused, fill-walked, fill-unfinished}
-use Rattle.cola_opening.specs.Counted.{Spends}
-use Rattle.cola_opening.proofs.Spending.{spends-then, spends-more}
+use Rattle.cola_load.proofs.Copying.{seek-refused, fill-refused, fill-walked, fill-unfinished}
+use Rattle.cola_opening.proofs.Spending.{spends-then, spends-more, called-spends}
 use Rattle.cola_device.specs.declared.counts.Counts.{Counts}
 use Rattle.cola_device.specs.Counts.{Called}
 use Rattle.cola_layout.specs.declared.geometry.Geometry.{Geometry}
@@ -13,14 +12,6 @@ use Rattle.cola_cursor.proofs.Readings.{reading_then}
 use Rattle.cola_load.specs.declared.fault.GrowFault.{GrowFault}
 use Rattle.cola_load.specs.Growing.{WritesRows, BothCalm}
 use Rattle.cola_load.proofs.growing.fill.Goals as goal
-
--- ticks of two calls, one behind the other
-within : (s t u left most : ℕ) → u ≤ t + left → t + left ≤ s + most → u ≤ s + most
-within s t u left most h k = omega (arith, h, k)
-
--- what a call of a device spends
-called-spends : {T E : Type 0} {a b : Counts} {r w o : ℕ} {result : Result T E} → Called a b r w o result → Spends a b r w o
-called-spends c = record { faults_stay = c.faults_stay; reads_stay = c.reads_stay; reads_rise = c.reads_rise; writes_stay = c.writes_stay; writes_rise = c.writes_rise; others_stay = c.others_stay; others_rise = c.others_rise }
 
 -- the writes of a refused copy, and of a copy with a call behind it
 refused-writes : {geometry : Geometry} {a b : Counts} {more others : ℕ} {fault : GrowFault} → WritesRows geometry a b 0 0 (Err fault) → WritesRows geometry a b more others (Err fault)
@@ -58,7 +49,7 @@ pub returns-in-Err-copy_all-clause-reading : goal.returns-in-Err-copy_all-clause
 returns-in-Err-copy_all-clause-reading g c = reading_then c.in-Ok.ensures.seeks.reading c.copy_all.ensures.reading
 
 pub returns-in-Err-copy_all-clause-at_most : goal.returns-in-Err-copy_all-clause-at_most
-returns-in-Err-copy_all-clause-at_most g c = within _ _ _ _ _ c.copy_all.ensures.at_most c.in-Ok.ensures.seeks.left
+returns-in-Err-copy_all-clause-at_most g c = omega (arith, c.copy_all.ensures.at_most, c.in-Ok.ensures.seeks.left)
 
 pub returns-in-Err-copy_all-clause-kept : goal.returns-in-Err-copy_all-clause-kept
 returns-in-Err-copy_all-clause-kept g c = c.copy_all.ensures.kept ∙ c.seek.ensures.looks.kept
@@ -67,7 +58,7 @@ pub returns-in-Ok-finish-clause-reading : goal.returns-in-Ok-finish-clause-readi
 returns-in-Ok-finish-clause-reading g c = reading_then c.in-Ok.ensures.seeks.reading c.copy_all.ensures.reading
 
 pub returns-in-Ok-finish-clause-at_most : goal.returns-in-Ok-finish-clause-at_most
-returns-in-Ok-finish-clause-at_most g c = within _ _ _ _ _ c.copy_all.ensures.at_most c.in-Ok.ensures.seeks.left
+returns-in-Ok-finish-clause-at_most g c = omega (arith, c.copy_all.ensures.at_most, c.in-Ok.ensures.seeks.left)
 
 pub returns-in-Ok-finish-clause-kept : goal.returns-in-Ok-finish-clause-kept
 returns-in-Ok-finish-clause-kept g c = c.copy_all.ensures.kept ∙ c.seek.ensures.looks.kept
@@ -76,7 +67,7 @@ pub returns-in-Err-finish-clause-reading : goal.returns-in-Err-finish-clause-rea
 returns-in-Err-finish-clause-reading g c = reading_then c.in-Ok.ensures.seeks.reading c.copy_all.ensures.reading
 
 pub returns-in-Err-finish-clause-at_most : goal.returns-in-Err-finish-clause-at_most
-returns-in-Err-finish-clause-at_most g c = within _ _ _ _ _ c.copy_all.ensures.at_most c.in-Ok.ensures.seeks.left
+returns-in-Err-finish-clause-at_most g c = omega (arith, c.copy_all.ensures.at_most, c.in-Ok.ensures.seeks.left)
 
 pub returns-in-Err-finish-clause-kept : goal.returns-in-Err-finish-clause-kept
 returns-in-Err-finish-clause-kept g c = c.copy_all.ensures.kept ∙ c.seek.ensures.looks.kept

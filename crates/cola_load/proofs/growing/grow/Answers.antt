@@ -1,6 +1,6 @@
 -- What growing a file answers.
 use Rattle.std.proofs.Common.{arith}
-use Rattle.cola_load.proofs.Grown.{grown}
+use Rattle.cola_load.proofs.Completing.{grown}
 use Rattle.cola_load.proofs.growing.grow.Goals as goal
 
 pub returns-clause-grows : goal.returns-clause-grows

@@ -3,19 +3,16 @@ use Rattle.cola_cell.specs.declared.cell.Run.{Run}
 use Rattle.cola_cursor.specs.Seeking.{LevelsRise}
 use Rattle.cola_layout.specs.Marks.{all_numbers}
 use Rattle.cola_look.specs.Runs.{HasRun}
-use Rattle.cola_load.proofs.VisibleRuns.{levels-rise, header-has, all-pushed, one-more, run-of}
+use Rattle.cola_load.proofs.Copying.{levels-rise, header-has, all-pushed, one-more, run-of}
 use Rattle.cola_load.proofs.growing.visible_runs.Goals as goal
 
 pub loop-level-preserved : goal.loop-level-preserved
 loop-level-preserved c =
     let run : Run = record { level = c.loop-level.level; slot = c.visible_at.result; len = c.marks_at.result.visible } in
     let many = c.loop-level.invariant.many in
-    let len = c.push.ensures.len in
-    let within = c.loop-level-test.true in
-    let levels = c.levels-level-end.ensures.value in
     record {
-      many = omega (arith, many, len);
-      so_far = one-more c.args.header.now c.loop-level.level c.loop-level.runs.items c.push.new.self.items run (omega (arith, within, levels)) c.push.ensures.items
+      many = omega (arith, many, c.push.ensures.len);
+      so_far = one-more c.args.header.now c.loop-level.level c.loop-level.runs.items c.push.new.self.items run (omega (arith, c.loop-level-test.true, c.levels-level-end.ensures.value)) c.push.ensures.items
           (run-of c.args.header.now c.loop-level.level c.visible_at.result c.marks_at.result c.visible_at.ensures.value c.marks_at.ensures.value) c.loop-level.invariant.so_far;
     }
 

@@ -1,6 +1,6 @@
 use Rattle.cola_load.specs.Said.{said}
 use Rattle.cola_load.specs.Judged.{shape, word_next}
-use Rattle.cola_load.proofs.Answering.{row_told, nothing_told}
+use Rattle.cola_load.proofs.FirstWords.{row_told, nothing_told}
 use Rattle.cola_load.proofs.laws.answers_tell_lines.Goals as goal
 
 pub returns-clause-row : goal.returns-clause-row

@@ -1,4 +1,4 @@
-use Rattle.cola_load.proofs.Printed.{a_printed_row}
+use Rattle.cola_load.proofs.Chains.{a_printed_row}
 use Rattle.cola_load.proofs.laws.printed_rows_are_read.Goals as goal
 
 pub returns : goal.returns

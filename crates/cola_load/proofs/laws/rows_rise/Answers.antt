@@ -1,7 +1,6 @@
 use Rattle.std.proofs.Common.{[]}
 use Rattle.cola_load.specs.Rows.{lines_before_word}
-use Rattle.cola_load.proofs.Fitting.{rows_fit}
-use Rattle.cola_load.proofs.Sorted.{sound_rows}
+use Rattle.cola_load.proofs.Chains.{rows_fit, sound_rows}
 use Rattle.cola_load.proofs.laws.rows_rise.Goals as goal
 
 pub returns-clause-rising : goal.returns-clause-rising

@@ -1,6 +1,6 @@
 use Rattle.std.proofs.Common.{ℕ, ◌/◌, ap, sym, ◌∙◌, add-one}
 use Rattle.cola_load.specs.Filled.{run_len}
-use Rattle.cola_load.proofs.Lengths.{next-run}
+use Rattle.cola_load.proofs.Rowing.{next-run}
 use Rattle.cola_load.proofs.loader_header.len_of_run.Goals as goal
 
 pub loop-level-preserved : goal.loop-level-preserved

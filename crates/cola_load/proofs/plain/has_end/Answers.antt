@@ -3,7 +3,7 @@ use Rattle.cola_shapes.specs.Shapes.{shape_of}
 use Rattle.cola_load.specs.PlainLines.{lines_of}
 use Rattle.cola_load.specs.Said.{as_line, said}
 use Rattle.cola_load.specs.Rows.{has_end, is_end}
-use Rattle.cola_load.proofs.PlainLists.{text_at, end-more}
+use Rattle.cola_load.proofs.Chains.{text_at, end-more}
 use Rattle.cola_load.proofs.plain.has_end.Goals as goal
 use Rattle.cola_load.proofs.plain.has_end.Goals.{then-ended, else-ended}
 

@@ -1,7 +1,7 @@
 use Rattle.std.proofs.Common.{◌≡◌, ℕ, List, Option, Some, option_map, option_copied, ap, ◌∙◌, sym}
 use Rattle.std.specs.Ordering.{is_le}
 use Rattle.cola_load.specs.Rows.{is_not_above, last_key}
-use Rattle.cola_load.proofs.PlainLists.{last-got}
+use Rattle.cola_load.proofs.Chains.{last-got}
 use Rattle.cola_load.proofs.plain.is_not_above.Goals as goal
 
 pub returns-in-Some : goal.returns-in-Some

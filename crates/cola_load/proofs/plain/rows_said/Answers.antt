@@ -5,15 +5,13 @@ use Rattle.cola_load.specs.declared.said.Said.{Said}
 use Rattle.cola_load.specs.declared.said.Said.TheVariants as saying
 use Rattle.cola_load.specs.PlainLines.{lines_of}
 use Rattle.cola_load.specs.Rows.{row_of, rows_said}
-use Rattle.cola_load.proofs.PlainLists.{rows-more}
+use Rattle.cola_load.proofs.Chains.{rows-more}
 use Rattle.cola_load.proofs.plain.rows_said.Goals as goal
 use Rattle.cola_load.proofs.plain.rows_said.Goals.{in-Row+in_ok-push, in_default}
 
 no-row : (says : Said) (rows : List (List ℕ × List ℕ)) → ((key value : List ℕ) → says ≡ saying.Row key value → ⊥) → rows ≡ rows ++ row_of says
-no-row saying.Nothing rows other = sym (append-nil rows)
 no-row (saying.Row key value) rows other = absurd (other key value refl)
-no-row (saying.End number) rows other = sym (append-nil rows)
-no-row saying.Other rows other = sym (append-nil rows)
+no-row says rows other = sym (append-nil rows)
 
 pub loop-line-preserved : goal.loop-line-preserved
 loop-line-preserved c = λ keys.

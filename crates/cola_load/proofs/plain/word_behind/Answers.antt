@@ -1,6 +1,6 @@
 use Rattle.std.proofs.Common.{length, sym, ◌∙◌}
 use Rattle.cola_load.specs.Rows.{last_key, word_at}
-use Rattle.cola_load.proofs.PlainLists.{many-lines}
+use Rattle.cola_load.proofs.Chains.{many-lines}
 use Rattle.cola_load.proofs.plain.word_behind.Goals as goal
 
 pub returns : goal.returns

@@ -1,7 +1,7 @@
 use Rattle.cola_load.proofs.said.said_by.Goals as goal
 use Rattle.std.proofs.Common.{◌∙◌, sym}
 use Rattle.cola_shapes.specs.Shapes.{shape_of}
-use Rattle.cola_load.proofs.Saying.{some_said}
+use Rattle.cola_load.proofs.Chains.{some_said}
 
 pub returns-clause-means : goal.returns-clause-means
 returns-clause-means c limit =

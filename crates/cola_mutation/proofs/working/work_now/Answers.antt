@@ -1,7 +1,6 @@
 -- The turn of a level that works.
 use Rattle.std.proofs.Common.{◌≡◌, ℕ, suc, ◌+◌, ◌-◌, true, sym, ap, subst, add-one, ◌∙◌, arith}
 use Rattle.cola_clock.specs.Clock.{works}
-use Rattle.cola_merge.specs.declared.aims.Aim.{Aim}
 use Rattle.cola_merge.specs.Heads.{IsReady}
 use Rattle.cola_level.specs.Marks.{all_marks_of}
 use Rattle.cola_level.specs.Aims.{aim_at}
@@ -17,11 +16,10 @@ back n = omega arith
 answer : (t n : ℕ) → works t (n + 1) ≡ true → works t (suc n) ≡ true
 answer t n e = ap (λ (x : ℕ). works t x) (sym (add-one n)) ∙ e
 
-pub work-requires : goal.work-requires
-work-requires g c =
-    let w = answer c.args.clock c.args.upper c.requires.works in
-    let e = c.aim_of-aim.ensures ∙ ap (λ (n : ℕ). aim_at c.args.clock n c.args.level.now.visible c.args.above (all_marks_of c.args.below.now)) (back c.args.upper) in
-    subst (λ (a : Aim). IsReady (g.W.CellSource.state c.args.work.now).held a c.args.level.now.merger) (sym e) (c.requires.fits.ready w)
+pub work_by-requires-clause-ready : goal.work_by-requires-clause-ready
+work_by-requires-clause-ready g c =
+    subst (λ (n : ℕ). IsReady (g.W.CellSource.state c.args.work.now).held (aim_at c.args.clock n c.args.level.now.visible c.args.above (all_marks_of c.args.below.now)) c.args.level.now.merger) (sym (back c.args.upper))
+    (c.requires.fits.ready (answer c.args.clock c.args.upper c.requires.works))
 
 pub returns-clause-turn : goal.returns-clause-turn
 returns-clause-turn g c =
@@ -30,8 +28,6 @@ returns-clause-turn g c =
     let above = c.args.above in
     let below = all_marks_of c.args.below.now in
     let s = state_of (g.W.CellSource.state c.args.work.now) c.args.steps.now in
-    let u = state_of (g.W.CellSource.state c.work.new.work) c.work.new.steps in
-    let w = answer t i c.requires.works in
-    let e : c.aim_of-aim.result ≡ aim_at t i c.args.level.now.visible above below = c.aim_of-aim.ensures ∙ ap (λ (n : ℕ). aim_at t n c.args.level.now.visible above below) (back i) in
-    turn_works c.work.result t i above s u c.args.level.now c.work.new.self below w c.requires.fits
-    (subst (λ (a : Aim). Works a (object_of s) (object_of u) c.args.level.now c.work.new.self s.steps u.steps c.work.result) e c.work.ensures.works)
+    let u = state_of (g.W.CellSource.state c.work_by.new.work) c.work_by.new.steps in
+    turn_works c.work_by.result t i above s u c.args.level.now c.work_by.new.level below (answer t i c.requires.works) c.requires.fits
+    (subst (λ (n : ℕ). Works (aim_at t n c.args.level.now.visible above below) (object_of s) (object_of u) c.args.level.now c.work_by.new.level s.steps u.steps c.work_by.result) (back i) c.work_by.ensures.works)

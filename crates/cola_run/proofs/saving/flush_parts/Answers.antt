@@ -1,28 +1,25 @@
-use Rattle.std.proofs.Common.{◌≡◌, ◌≤◌, ◌+◌, ◌-◌, ◌*◌, ◌^◌, ℕ, List, length, Option, Result, Ok, Err, refl, sym, ap, subst, ◌∙◌, arith}
+use Rattle.std.proofs.Common.{◌≡◌, ◌≤◌, ◌+◌, ◌-◌, ◌*◌, ◌^◌, ℕ, List, length, Option, Result, Ok, Err, refl, sym, subst, arith}
 use Rattle.std.specs.Prelude.{IfSome, OnOk}
 use Rattle.cola_outside.specs.Told.{Both}
-use Rattle.cola_cell.specs.declared.format.Format.{Format}
-use Rattle.cola_cell.specs.Format.{width}
-use Rattle.cola_cell.specs.Held.{Spots}
 use Rattle.cola_device.specs.declared.device.DeviceFault.{DeviceFault}
+use Rattle.cola_device.specs.declared.device.Device as device
+use Rattle.cola_device.specs.Bytes.{Wrote}
+use Rattle.cola_cell.specs.declared.sink.Shadow.{Shadow}
 use Rattle.cola_device.specs.Settling.{IsSettled}
 use Rattle.cola_cache.specs.Blocks.{Blocks}
-use Rattle.cola_front.specs.Front.{block_size, image}
+use Rattle.cola_front.specs.Front.{FrontCells, IsFront, InOrder, image}
+use Rattle.cola_layout.specs.declared.geometry.Geometry.{Geometry}
 use Rattle.cola_layout.proofs.Powers.{power-le}
-use Rattle.cola_run.specs.Cells.{Cells, Lower, AreCells, cells_by, block_bytes, file_blocks, spots_of, IsShape, IsBacked}
+use Rattle.cola_run.specs.Cells.{Lower, AreCells, cells_by, block_bytes, file_blocks, spots_of, IsShape, IsBacked}
 use Rattle.cola_run.specs.Store.{lower_of}
-use Rattle.cola_run.specs.Saving.{IsFlushed, SameFront, IsFrontLast, SettlesTwice}
-use Rattle.cola_run.specs.Loading.{SameCells}
+use Rattle.cola_run.specs.Saving.{IsFlushed, IsFirstLast, SameLevels, SameFront, IsFrontLast, SettlesTwice}
+use Rattle.cola_run.specs.Loading.{SameCells, StaySound, StayRead, AreSavedBelow}
 use Rattle.cola_run.proofs.Finishes.{ends-within}
-use Rattle.cola_run.proofs.Flushes.{image-many, same-two, same-read, same-head, front-waits, levels-saved, flushed-by, settles-twice}
+use Rattle.cola_run.proofs.Flushes.{image-fits, same-two, same-read, same-head, front-waits, levels-saved, flushed-by, settles-twice}
 use Rattle.cola_run.proofs.Firsts.{first-refused, first-written, front-unbegun, front-waited}
+use Rattle.cola_run.proofs.Spots.{on-ok}
 use Rattle.cola_run.proofs.Heads.{heads-backed, heads-levels}
 use Rattle.cola_run.proofs.saving.flush_parts.Goals as goal
-
--- a fact is one on Ok
-on-ok : {T E P : Type 0} (result : Result T E) → P → OnOk result P
-on-ok (Ok x) p = p
-on-ok (Err e) p = tt
 
 pub save_tails-requires-clause-shape : goal.save_tails-requires-clause-shape
 save_tails-requires-clause-shape g c = λ level on unsaved. ends-within c.args.geometry.now c.args.front.now c.args.shadows.now c.args.tails.now level c.requires.shape on unsaved
@@ -36,128 +33,128 @@ save_front-requires-clause-many g c =
     let third = c.requires.many in
     omega (arith, more, first, second, third)
 
--- what lies below the front at first, and the cells at the end: where the front was written and settled
-abbrev begin-settled : (g : _) → goal.After-settle-in-Ok-save_front g → Lower
-begin-settled g c = lower_of g.D.Device.bytes c.args.buffers.now c.args.shadows.now c.args.tails.now
+-- what a flush leaves of the cells, and the order of its writes
+abbrev Ends : {D : Type 0} (d : device.Ghosts D) (geometry : Geometry) (front : FrontCells) (first shadows : List Shadow) (tails : List ℕ) (begin now : Blocks D) → Type 0
+Ends d geometry front first shadows tails begin now =
+    AreCells (cells_by geometry front (lower_of d.bytes now shadows tails))
+    × SameCells geometry front (lower_of d.bytes begin first tails) (lower_of d.bytes now shadows tails)
+    × IsFrontLast d geometry (spots_of (cells_by geometry front (lower_of d.bytes now shadows tails))) begin.cache.device now.cache.device
 
-abbrev end-settled : (g : _) → goal.After-settle-in-Ok-save_front g → Blocks g.row.D.Denot → Cells
-end-settled g c buffers = cells_by c.args.geometry.now c.args.front.now (lower_of g.D.Device.bytes buffers c.save_tails.new.shadows c.args.tails.now)
+-- the tails were written, or were to be
+module _ {D : Type 0} (d : device.Ghosts D) (geometry : Geometry) (front : FrontCells) (first shadows : List Shadow) (tails : List ℕ) (begin saved : Blocks D)
+    (old-shape : IsShape geometry front first tails) (old-backed : IfSome (d.bytes begin.cache.device) (IsBacked geometry first tails)) (many : length shadows ≡ length first)
+    (sound : StaySound geometry (lower_of d.bytes begin first tails) (lower_of d.bytes saved shadows tails))
+    (stays : StayRead geometry (lower_of d.bytes begin first tails) (lower_of d.bytes saved shadows tails)) where
+  abbrev old : Lower
+  old = lower_of d.bytes begin first tails
+
+  abbrev lower : Option (List ℕ) → Lower
+  lower told = record { told = told; shadows = shadows; tails = tails }
+
+  shape : IsShape geometry front shadows tails
+  shape = sound.shape front old-shape
+
+  module _ (settled : Blocks D) (same : d.bytes settled.cache.device ≡ d.bytes saved.cache.device) where
+    backed : IfSome (d.bytes settled.cache.device) (IsBacked geometry shadows tails)
+    backed = subst (λ (x : Option (List ℕ)). IfSome x (IsBacked geometry shadows tails)) (sym same) (sound.backed front old-shape old-backed)
+
+    reads : SameCells geometry front old (lower (d.bytes settled.cache.device))
+    reads = subst (λ (x : Option (List ℕ)). SameCells geometry front old (lower x)) (sym same) (same-read geometry front old (lower_of d.bytes saved shadows tails) old-shape old-backed many stays)
+
+    waits : Both old.told (d.bytes saved.cache.device) (SameFront geometry)
+    waits = front-waits geometry old.told (d.bytes saved.cache.device) stays.told (stays.beside_stays front old-shape old-backed)
+
+    -- nothing was written behind them
+    unwritten : Ends d geometry front first shadows tails begin settled
+    unwritten = (
+      record { shape = shape; backed = backed },
+      reads,
+      front-unbegun d geometry begin.cache.device saved.cache.device settled.cache.device same (spots_of (cells_by geometry front (lower_of d.bytes settled shadows tails))) waits,
+    )
+
+    -- the levels settled, and the front was written, or was to be
+    module _ {T E : Type 0} (header : List ℕ) (now : Blocks D) (result : Result T E) (is : IsFront front) (head : length header ≡ 512) (all : AreSavedBelow geometry shadows (geometry.bottom + 1))
+        (levels-settled : d.settles saved.cache.device (Ok (tt {0})) settled.cache.device) (wrote : Wrote result 0 (image front header) (d.bytes settled.cache.device) (d.bytes now.cache.device)) where
+      within : 0 + length (image front header) ≤ 2 * block_bytes geometry
+      within = image-fits geometry front shadows tails header shape is head
+
+      file : IfSome (d.bytes now.cache.device) (IsBacked geometry shadows tails)
+      file = heads-backed geometry shape.block shadows tails result 0 (image front header) within (d.bytes settled.cache.device) (d.bytes now.cache.device) wrote backed
+
+      levels : Both (d.bytes settled.cache.device) (d.bytes now.cache.device) (SameLevels geometry)
+      levels = heads-levels geometry shape.block shadows tails result 0 (image front header) within (d.bytes settled.cache.device) (d.bytes now.cache.device) wrote backed
+
+      front-stays : Both old.told (d.bytes settled.cache.device) (SameFront geometry)
+      front-stays = subst (λ (x : Option (List ℕ)). Both old.told x (SameFront geometry)) (sym same) waits
+
+      written-reads : SameCells geometry front old (lower (d.bytes now.cache.device))
+      written-reads =
+          same-two geometry front old (lower (d.bytes settled.cache.device)) (lower (d.bytes now.cache.device)) reads
+          (same-head geometry front shadows tails result 0 (image front header) (d.bytes settled.cache.device) (d.bytes now.cache.device) shape.block within backed wrote)
+
+      between : IsSettled d settled.cache.device
+      between = record { before = saved.cache.device; after = settled.cache.device; settled = levels-settled; bytes_stay = same; writes_stay = refl }
+
+      written : (last : Blocks D) → d.bytes last.cache.device ≡ d.bytes now.cache.device
+          → Both old.told (d.bytes now.cache.device) (IsFirstLast geometry (spots_of (cells_by geometry front (lower (d.bytes now.cache.device))))) → Ends d geometry front first shadows tails begin last
+      written last final ordered = (
+        record { shape = shape; backed = subst (λ (x : Option (List ℕ)). IfSome x (IsBacked geometry shadows tails)) (sym final) file },
+        subst (λ (x : Option (List ℕ)). SameCells geometry front old (lower x)) (sym final) written-reads,
+        front-waited d geometry begin.cache.device now.cache.device last.cache.device final (λ x. spots_of (cells_by geometry front (lower x))) settled.cache.device between front-stays levels
+            (levels-saved geometry front shadows tails (d.bytes now.cache.device) file all) ordered,
+      )
+
+      refused-by : (fault : E) → Both (d.bytes settled.cache.device) (d.bytes now.cache.device) (InOrder {T = Unit {0}} (Err fault) front) → Ends d geometry front first shadows tails begin now
+      refused-by fault ordered =
+          written now refl
+          (first-refused geometry front shadows tails header shape is head all (Unit {0}) fault old.told (d.bytes settled.cache.device) (d.bytes now.cache.device) file front-stays ordered)
+
+      written-by : (value : T) → Wrote {E = E} (Ok value) 0 (image front header) (d.bytes settled.cache.device) (d.bytes now.cache.device)
+          → (settle : Result (Unit {0}) DeviceFault) (last : Blocks D) → d.bytes last.cache.device ≡ d.bytes now.cache.device → d.settles now.cache.device settle last.cache.device
+          → Ends d geometry front first shadows tails begin last
+          × IfSome (d.bytes last.cache.device) (IsFlushed geometry header (spots_of (cells_by geometry front (lower (d.bytes last.cache.device)))))
+          × OnOk settle (SettlesTwice d geometry begin.cache.device last.cache.device)
+      written-by value exact settle last final settles =
+          let flushed : IfSome (d.bytes now.cache.device) (IsFlushed geometry header (spots_of (cells_by geometry front (lower (d.bytes now.cache.device))))) =
+          flushed-by T E value geometry front shadows tails header (d.bytes settled.cache.device) (d.bytes now.cache.device) shape is head backed all exact in (
+            written last final (first-written geometry header (spots_of (cells_by geometry front (lower (d.bytes now.cache.device)))) old.told (d.bytes now.cache.device) written-reads.behind flushed),
+            subst (λ (x : Option (List ℕ)). IfSome x (IsFlushed geometry header (spots_of (cells_by geometry front (lower x))))) (sym final) flushed,
+            settles-twice d geometry settle begin.cache.device settled.cache.device now.cache.device last.cache.device between front-stays levels settles final,
+          )
 
 settled : (g : _) (c : goal.After-settle-in-Ok-save_front g) →
-    AreCells (end-settled g c c.settle-in-Ok-save_front.new.self)
-    × SameCells c.args.geometry.now c.args.front.now (begin-settled g c) (end-settled g c c.settle-in-Ok-save_front.new.self).lower
-    × IsFrontLast g.D.Device c.args.geometry.now (spots_of (end-settled g c c.settle-in-Ok-save_front.new.self)) c.args.buffers.now.cache.device c.settle-in-Ok-save_front.new.self.cache.device
-    × IfSome (g.D.Device.bytes c.settle-in-Ok-save_front.new.self.cache.device) (IsFlushed c.args.geometry.now c.args.header.now (spots_of (end-settled g c c.settle-in-Ok-save_front.new.self)))
+    Ends g.D.Device c.args.geometry.now c.args.front.now c.args.shadows.now c.save_tails.new.shadows c.args.tails.now c.args.buffers.now c.settle-in-Ok-save_front.new.self
+    × IfSome (g.D.Device.bytes c.settle-in-Ok-save_front.new.self.cache.device) (IsFlushed c.args.geometry.now c.args.header.now
+    (spots_of (cells_by c.args.geometry.now c.args.front.now (lower_of g.D.Device.bytes c.settle-in-Ok-save_front.new.self c.save_tails.new.shadows c.args.tails.now))))
     × OnOk c.settle-in-Ok-save_front.result (SettlesTwice g.D.Device c.args.geometry.now c.args.buffers.now.cache.device c.settle-in-Ok-save_front.new.self.cache.device)
 settled g c =
-    let geometry = c.args.geometry.now in
-    let front = c.args.front.now in
-    let told = g.D.Device.bytes in
-    let shadows = c.save_tails.new.shadows in
-    let tails = c.args.tails.now in
-    let begin = c.args.buffers.now.cache.device in
-    let saved = c.save_tails.new.buffers.cache.device in
-    let shape : IsShape geometry front shadows tails = c.save_tails.ensures.sound.shape front c.requires.shape in
-    let backed : IfSome (told saved) (IsBacked geometry shadows tails) = c.save_tails.ensures.sound.backed front c.requires.shape c.requires.backed in
-    let reads : SameCells geometry front (begin-settled g c) (lower_of told c.save_tails.new.buffers shadows tails) =
-    same-read geometry front (begin-settled g c) (lower_of told c.save_tails.new.buffers shadows tails) c.requires.shape c.requires.backed c.save_tails.auto.shadows c.save_tails.ensures.stays in
-    let waits : Both (told begin) (told saved) (SameFront geometry) = front-waits geometry (told begin) (told saved) c.save_tails.ensures.stays.told (c.save_tails.ensures.stays.beside_stays front c.requires.shape c.requires.backed) in
-    let settled = c.settle.new.self.cache.device in
-    let written = c.save_front.new.buffers.cache.device in
-    let bytes : List ℕ = image front c.args.header.now in
-    let sound = c.save_front.ensures.sound in
-    let head : length c.args.header.now ≡ 512 = omega (arith, c.told-header) in
-    let many : length bytes ≡ 2 * block_size front = image-many front c.args.header.now sound head in
-    let size : block_size front ≡ block_bytes geometry = ap (λ (f : Format). width f * front.block) shape.format ∙ ap (λ (n : ℕ). width geometry.format * n) shape.front_block in
-    let within : 0 + length bytes ≤ 2 * block_bytes geometry = omega (arith, many, size) in
-    let same : told settled ≡ told saved = c.settle.ensures.bytes_stay in
-    let there : IfSome (told settled) (IsBacked geometry shadows tails) = subst (λ (x : Option (List ℕ)). IfSome x (IsBacked geometry shadows tails)) (sym same) backed in
-    let front_stays : Both (told begin) (told settled) (SameFront geometry) = subst (λ (x : Option (List ℕ)). Both (told begin) x (SameFront geometry)) (sym same) waits in
-    let file : IfSome (told written) (IsBacked geometry shadows tails) = heads-backed geometry shape.block shadows tails c.save_front.result 0 bytes within (told settled) (told written) c.save_front.ensures.wrote there in
-    let levels = heads-levels geometry shape.block shadows tails c.save_front.result 0 bytes within (told settled) (told written) c.save_front.ensures.wrote there in
-    let there_reads : SameCells geometry front (begin-settled g c) (lower_of told c.settle.new.self shadows tails) =
-    subst (λ (x : Option (List ℕ)). SameCells geometry front (begin-settled g c) (record { told = x; shadows = shadows; tails = tails })) (sym same) reads in
-    let written_reads : SameCells geometry front (begin-settled g c) (lower_of told c.save_front.new.buffers shadows tails) =
-    same-two geometry front (begin-settled g c) (lower_of told c.settle.new.self shadows tails) (lower_of told c.save_front.new.buffers shadows tails) there_reads
-    (same-head geometry front shadows tails c.save_front.result 0 bytes (told settled) (told written) shape.block within there c.save_front.ensures.wrote) in
-    let spots : Option (List ℕ) → Spots = (λ x. spots_of (cells_by geometry front (record { told = x; shadows = shadows; tails = tails }))) in
-    let between : IsSettled g.D.Device settled = record { before = saved; after = settled; settled = c.in-Ok-settle.ensures.settled; bytes_stay = same; writes_stay = refl } in
-    let last = c.settle-in-Ok-save_front.new.self.cache.device in
-    let final : told last ≡ told written = c.settle-in-Ok-save_front.ensures.bytes_stay in
-    let flushed : IfSome (told written) (IsFlushed geometry c.args.header.now (spots (told written))) =
-    flushed-by (Unit {0}) DeviceFault c.in-Ok-save_front.field-0 geometry front shadows tails c.args.header.now (told settled) (told written) shape sound head there c.in-Ok.ensures.saved c.in-Ok-save_front.ensures.wrote in (
-      record { shape = shape; backed = subst (λ (x : Option (List ℕ)). IfSome x (IsBacked geometry shadows tails)) (sym final) file },
-      subst (λ (x : Option (List ℕ)). SameCells geometry front (begin-settled g c) (record { told = x; shadows = shadows; tails = tails })) (sym final) written_reads,
-      front-waited g.D.Device geometry begin written last final spots settled between front_stays levels (levels-saved geometry front shadows tails (told written) file c.in-Ok.ensures.saved)
-          (first-written geometry c.args.header.now (spots (told written)) (told begin) (told written) written_reads.behind flushed),
-      subst (λ (x : Option (List ℕ)). IfSome x (IsFlushed geometry c.args.header.now (spots x))) (sym final) flushed,
-      settles-twice g.D.Device geometry c.settle-in-Ok-save_front.result begin settled written last between front_stays levels c.settle-in-Ok-save_front.ensures.settled final,
-    )
+    written-by g.D.Device c.args.geometry.now c.args.front.now c.args.shadows.now c.save_tails.new.shadows c.args.tails.now c.args.buffers.now
+    c.save_tails.new.buffers c.requires.shape c.requires.backed c.save_tails.auto.shadows c.save_tails.ensures.sound c.save_tails.ensures.stays c.settle.new.self c.settle.ensures.bytes_stay c.args.header.now
+    c.save_front.new.buffers c.save_front.result c.save_front.ensures.sound (omega (arith, c.told-header))
+    c.in-Ok.ensures.saved c.in-Ok-settle.ensures.settled c.save_front.ensures.wrote c.in-Ok-save_front.field-0 c.in-Ok-save_front.ensures.wrote
+    c.settle-in-Ok-save_front.result c.settle-in-Ok-save_front.new.self c.settle-in-Ok-save_front.ensures.bytes_stay c.settle-in-Ok-save_front.ensures.settled
 
 pub returns-in-Ok-save_front-clause-flushed : goal.returns-in-Ok-save_front-clause-flushed
-returns-in-Ok-save_front-clause-flushed g c = on-ok c.settle-in-Ok-save_front.result (settled g c).3
+returns-in-Ok-save_front-clause-flushed g c = on-ok c.settle-in-Ok-save_front.result (settled g c).1
 
 pub returns-in-Ok-save_front-clause-cells : goal.returns-in-Ok-save_front-clause-cells
-returns-in-Ok-save_front-clause-cells g c = (settled g c).0
+returns-in-Ok-save_front-clause-cells g c = (settled g c).0.0
 
 pub returns-in-Ok-save_front-clause-reads : goal.returns-in-Ok-save_front-clause-reads
-returns-in-Ok-save_front-clause-reads g c = (settled g c).1
+returns-in-Ok-save_front-clause-reads g c = (settled g c).0.1
 
 pub returns-in-Ok-save_front-clause-order : goal.returns-in-Ok-save_front-clause-order
-returns-in-Ok-save_front-clause-order g c = (settled g c).2
+returns-in-Ok-save_front-clause-order g c = (settled g c).0.2
 
 pub returns-in-Ok-save_front-clause-settles : goal.returns-in-Ok-save_front-clause-settles
-returns-in-Ok-save_front-clause-settles g c = (settled g c).4
+returns-in-Ok-save_front-clause-settles g c = (settled g c).2
 
--- the same where the front was not written
-abbrev begin-refused : (g : _) → goal.In-Err-save_front g → Lower
-begin-refused g c = lower_of g.D.Device.bytes c.args.buffers.now c.args.shadows.now c.args.tails.now
-
-abbrev end-refused : (g : _) → goal.In-Err-save_front g → Blocks g.row.D.Denot → Cells
-end-refused g c buffers = cells_by c.args.geometry.now c.args.front.now (lower_of g.D.Device.bytes buffers c.save_tails.new.shadows c.args.tails.now)
-
-refused : (g : _) (c : goal.In-Err-save_front g) →
-    AreCells (end-refused g c c.save_front.new.buffers)
-    × SameCells c.args.geometry.now c.args.front.now (begin-refused g c) (end-refused g c c.save_front.new.buffers).lower
-    × IsFrontLast g.D.Device c.args.geometry.now (spots_of (end-refused g c c.save_front.new.buffers)) c.args.buffers.now.cache.device c.save_front.new.buffers.cache.device
+refused : (g : _) (c : goal.In-Err-save_front g) → Ends g.D.Device c.args.geometry.now c.args.front.now c.args.shadows.now c.save_tails.new.shadows c.args.tails.now c.args.buffers.now c.save_front.new.buffers
 refused g c =
-    let geometry = c.args.geometry.now in
-    let front = c.args.front.now in
-    let told = g.D.Device.bytes in
-    let shadows = c.save_tails.new.shadows in
-    let tails = c.args.tails.now in
-    let begin = c.args.buffers.now.cache.device in
-    let saved = c.save_tails.new.buffers.cache.device in
-    let shape : IsShape geometry front shadows tails = c.save_tails.ensures.sound.shape front c.requires.shape in
-    let backed : IfSome (told saved) (IsBacked geometry shadows tails) = c.save_tails.ensures.sound.backed front c.requires.shape c.requires.backed in
-    let reads : SameCells geometry front (begin-refused g c) (lower_of told c.save_tails.new.buffers shadows tails) =
-    same-read geometry front (begin-refused g c) (lower_of told c.save_tails.new.buffers shadows tails) c.requires.shape c.requires.backed c.save_tails.auto.shadows c.save_tails.ensures.stays in
-    let waits : Both (told begin) (told saved) (SameFront geometry) = front-waits geometry (told begin) (told saved) c.save_tails.ensures.stays.told (c.save_tails.ensures.stays.beside_stays front c.requires.shape c.requires.backed) in
-    let settled = c.settle.new.self.cache.device in
-    let written = c.save_front.new.buffers.cache.device in
-    let bytes : List ℕ = image front c.args.header.now in
-    let sound = c.save_front.ensures.sound in
-    let head : length c.args.header.now ≡ 512 = omega (arith, c.told-header) in
-    let many : length bytes ≡ 2 * block_size front = image-many front c.args.header.now sound head in
-    let size : block_size front ≡ block_bytes geometry = ap (λ (f : Format). width f * front.block) shape.format ∙ ap (λ (n : ℕ). width geometry.format * n) shape.front_block in
-    let within : 0 + length bytes ≤ 2 * block_bytes geometry = omega (arith, many, size) in
-    let same : told settled ≡ told saved = c.settle.ensures.bytes_stay in
-    let there : IfSome (told settled) (IsBacked geometry shadows tails) = subst (λ (x : Option (List ℕ)). IfSome x (IsBacked geometry shadows tails)) (sym same) backed in
-    let front_stays : Both (told begin) (told settled) (SameFront geometry) = subst (λ (x : Option (List ℕ)). Both (told begin) x (SameFront geometry)) (sym same) waits in
-    let file : IfSome (told written) (IsBacked geometry shadows tails) = heads-backed geometry shape.block shadows tails c.save_front.result 0 bytes within (told settled) (told written) c.save_front.ensures.wrote there in
-    let levels = heads-levels geometry shape.block shadows tails c.save_front.result 0 bytes within (told settled) (told written) c.save_front.ensures.wrote there in
-    let there_reads : SameCells geometry front (begin-refused g c) (lower_of told c.settle.new.self shadows tails) =
-    subst (λ (x : Option (List ℕ)). SameCells geometry front (begin-refused g c) (record { told = x; shadows = shadows; tails = tails })) (sym same) reads in
-    let written_reads : SameCells geometry front (begin-refused g c) (lower_of told c.save_front.new.buffers shadows tails) =
-    same-two geometry front (begin-refused g c) (lower_of told c.settle.new.self shadows tails) (lower_of told c.save_front.new.buffers shadows tails) there_reads
-    (same-head geometry front shadows tails c.save_front.result 0 bytes (told settled) (told written) shape.block within there c.save_front.ensures.wrote) in
-    let spots : Option (List ℕ) → Spots = (λ x. spots_of (cells_by geometry front (record { told = x; shadows = shadows; tails = tails }))) in
-    let between : IsSettled g.D.Device settled = record { before = saved; after = settled; settled = c.in-Ok-settle.ensures.settled; bytes_stay = same; writes_stay = refl } in (
-      record { shape = shape; backed = file },
-      written_reads,
-      front-waited g.D.Device geometry begin written written refl spots settled between front_stays levels (levels-saved geometry front shadows tails (told written) file c.in-Ok.ensures.saved)
-          (first-refused geometry front shadows tails c.args.header.now shape sound head c.in-Ok.ensures.saved (Unit {0}) c.in-Err-save_front.fault (told begin) (told settled) (told written) file front_stays c.in-Err-save_front.ensures.in_order),
-    )
+    refused-by g.D.Device c.args.geometry.now c.args.front.now c.args.shadows.now c.save_tails.new.shadows c.args.tails.now c.args.buffers.now
+    c.save_tails.new.buffers c.requires.shape c.requires.backed c.save_tails.auto.shadows c.save_tails.ensures.sound c.save_tails.ensures.stays c.settle.new.self c.settle.ensures.bytes_stay c.args.header.now
+    c.save_front.new.buffers c.save_front.result c.save_front.ensures.sound (omega (arith, c.told-header))
+    c.in-Ok.ensures.saved c.in-Ok-settle.ensures.settled c.save_front.ensures.wrote c.in-Err-save_front.fault c.in-Err-save_front.ensures.in_order
 
 pub returns-in-Err-save_front-clause-cells : goal.returns-in-Err-save_front-clause-cells
 returns-in-Err-save_front-clause-cells g c = (refused g c).0
@@ -168,35 +165,10 @@ returns-in-Err-save_front-clause-reads g c = (refused g c).1
 pub returns-in-Err-save_front-clause-order : goal.returns-in-Err-save_front-clause-order
 returns-in-Err-save_front-clause-order g c = (refused g c).2
 
--- the same where the levels did not settle
-abbrev begin-unsettled : (g : _) → goal.In-Err-settle g → Lower
-begin-unsettled g c = lower_of g.D.Device.bytes c.args.buffers.now c.args.shadows.now c.args.tails.now
-
-abbrev end-unsettled : (g : _) → goal.In-Err-settle g → Blocks g.row.D.Denot → Cells
-end-unsettled g c buffers = cells_by c.args.geometry.now c.args.front.now (lower_of g.D.Device.bytes buffers c.save_tails.new.shadows c.args.tails.now)
-
-unsettled : (g : _) (c : goal.In-Err-settle g) →
-    AreCells (end-unsettled g c c.settle.new.self)
-    × SameCells c.args.geometry.now c.args.front.now (begin-unsettled g c) (end-unsettled g c c.settle.new.self).lower
-    × IsFrontLast g.D.Device c.args.geometry.now (spots_of (end-unsettled g c c.settle.new.self)) c.args.buffers.now.cache.device c.settle.new.self.cache.device
+unsettled : (g : _) (c : goal.In-Err-settle g) → Ends g.D.Device c.args.geometry.now c.args.front.now c.args.shadows.now c.save_tails.new.shadows c.args.tails.now c.args.buffers.now c.settle.new.self
 unsettled g c =
-    let geometry = c.args.geometry.now in
-    let front = c.args.front.now in
-    let told = g.D.Device.bytes in
-    let shadows = c.save_tails.new.shadows in
-    let tails = c.args.tails.now in
-    let begin = c.args.buffers.now.cache.device in
-    let saved = c.save_tails.new.buffers.cache.device in
-    let shape : IsShape geometry front shadows tails = c.save_tails.ensures.sound.shape front c.requires.shape in
-    let backed : IfSome (told saved) (IsBacked geometry shadows tails) = c.save_tails.ensures.sound.backed front c.requires.shape c.requires.backed in
-    let reads : SameCells geometry front (begin-unsettled g c) (lower_of told c.save_tails.new.buffers shadows tails) =
-    same-read geometry front (begin-unsettled g c) (lower_of told c.save_tails.new.buffers shadows tails) c.requires.shape c.requires.backed c.save_tails.auto.shadows c.save_tails.ensures.stays in
-    let waits : Both (told begin) (told saved) (SameFront geometry) = front-waits geometry (told begin) (told saved) c.save_tails.ensures.stays.told (c.save_tails.ensures.stays.beside_stays front c.requires.shape c.requires.backed) in
-    let same : told c.settle.new.self.cache.device ≡ told saved = c.settle.ensures.bytes_stay in (
-      record { shape = shape; backed = subst (λ (x : Option (List ℕ)). IfSome x (IsBacked geometry shadows tails)) (sym same) backed },
-      subst (λ (x : Option (List ℕ)). SameCells geometry front (begin-unsettled g c) (record { told = x; shadows = shadows; tails = tails })) (sym same) reads,
-      front-unbegun g.D.Device geometry begin saved c.settle.new.self.cache.device same (spots_of (end-unsettled g c c.settle.new.self)) waits,
-    )
+    unwritten g.D.Device c.args.geometry.now c.args.front.now c.args.shadows.now c.save_tails.new.shadows c.args.tails.now c.args.buffers.now
+    c.save_tails.new.buffers c.requires.shape c.requires.backed c.save_tails.auto.shadows c.save_tails.ensures.sound c.save_tails.ensures.stays c.settle.new.self c.settle.ensures.bytes_stay
 
 pub returns-in-Err-settle-clause-cells : goal.returns-in-Err-settle-clause-cells
 returns-in-Err-settle-clause-cells g c = (unsettled g c).0
@@ -207,31 +179,10 @@ returns-in-Err-settle-clause-reads g c = (unsettled g c).1
 pub returns-in-Err-settle-clause-order : goal.returns-in-Err-settle-clause-order
 returns-in-Err-settle-clause-order g c = (unsettled g c).2
 
--- the same where a tail was not written
-abbrev begin-unsaved : (g : _) → goal.In-Err g → Lower
-begin-unsaved g c = lower_of g.D.Device.bytes c.args.buffers.now c.args.shadows.now c.args.tails.now
-
-abbrev end-unsaved : (g : _) → goal.In-Err g → Blocks g.row.D.Denot → Cells
-end-unsaved g c buffers = cells_by c.args.geometry.now c.args.front.now (lower_of g.D.Device.bytes buffers c.save_tails.new.shadows c.args.tails.now)
-
-unsaved : (g : _) (c : goal.In-Err g) →
-    AreCells (end-unsaved g c c.save_tails.new.buffers)
-    × SameCells c.args.geometry.now c.args.front.now (begin-unsaved g c) (end-unsaved g c c.save_tails.new.buffers).lower
-    × IsFrontLast g.D.Device c.args.geometry.now (spots_of (end-unsaved g c c.save_tails.new.buffers)) c.args.buffers.now.cache.device c.save_tails.new.buffers.cache.device
+unsaved : (g : _) (c : goal.In-Err g) → Ends g.D.Device c.args.geometry.now c.args.front.now c.args.shadows.now c.save_tails.new.shadows c.args.tails.now c.args.buffers.now c.save_tails.new.buffers
 unsaved g c =
-    let geometry = c.args.geometry.now in
-    let front = c.args.front.now in
-    let told = g.D.Device.bytes in
-    let shadows = c.save_tails.new.shadows in
-    let tails = c.args.tails.now in
-    let begin = c.args.buffers.now.cache.device in
-    let saved = c.save_tails.new.buffers.cache.device in
-    let shape : IsShape geometry front shadows tails = c.save_tails.ensures.sound.shape front c.requires.shape in
-    let backed : IfSome (told saved) (IsBacked geometry shadows tails) = c.save_tails.ensures.sound.backed front c.requires.shape c.requires.backed in
-    let reads : SameCells geometry front (begin-unsaved g c) (lower_of told c.save_tails.new.buffers shadows tails) =
-    same-read geometry front (begin-unsaved g c) (lower_of told c.save_tails.new.buffers shadows tails) c.requires.shape c.requires.backed c.save_tails.auto.shadows c.save_tails.ensures.stays in
-    let waits : Both (told begin) (told saved) (SameFront geometry) = front-waits geometry (told begin) (told saved) c.save_tails.ensures.stays.told (c.save_tails.ensures.stays.beside_stays front c.requires.shape c.requires.backed) in
-    (record { shape = shape; backed = backed }, reads, front-unbegun g.D.Device geometry begin saved saved refl (spots_of (end-unsaved g c c.save_tails.new.buffers)) waits)
+    unwritten g.D.Device c.args.geometry.now c.args.front.now c.args.shadows.now c.save_tails.new.shadows c.args.tails.now c.args.buffers.now
+    c.save_tails.new.buffers c.requires.shape c.requires.backed c.save_tails.auto.shadows c.save_tails.ensures.sound c.save_tails.ensures.stays c.save_tails.new.buffers refl
 
 pub returns-in-Err-clause-cells : goal.returns-in-Err-clause-cells
 returns-in-Err-clause-cells g c = (unsaved g c).0

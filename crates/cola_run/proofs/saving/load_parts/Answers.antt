@@ -1,5 +1,4 @@
-use Rattle.std.proofs.Common.{◌≡◌, ◌≤◌, ◌+◌, ◌-◌, ◌^◌, Option, Some, None, sym, ap, ◌∙◌, arith}
-use Rattle.std.specs.Prelude.{IfSome}
+use Rattle.std.proofs.Common.{◌≡◌, ◌≤◌, ◌+◌, ◌-◌, ◌^◌, sym, ap, ◌∙◌, arith}
 use Rattle.cola_layout.specs.declared.geometry.Geometry.{Geometry}
 use Rattle.cola_layout.proofs.Powers.{power-le}
 use Rattle.cola_run.specs.Cells.{file_blocks}
@@ -7,12 +6,8 @@ use Rattle.cola_run.specs.Saving.{AreFrontRunsSpelled, IsLowestBad}
 use Rattle.cola_layout.specs.Cells.{file_spots}
 use Rattle.cola_front.specs.Front.{IsLoaded as IsFrontLoaded}
 use Rattle.cola_run.proofs.Fronts.{runs-spelled, lowest-bad, runs-fit}
+use Rattle.cola_run.proofs.Spots.{if-so}
 use Rattle.cola_run.proofs.saving.load_parts.Goals as goal
-
--- of a content that is told
-if-so : {A : Type 0} (x : Option A) (P Q : A → Type 0) → ((a : A) → P a → Q a) → IfSome x P → IfSome x Q
-if-so None P Q f h = tt
-if-so (Some a) P Q f h = f a h
 
 pub load_front-requires-clause-many : goal.load_front-requires-clause-many
 load_front-requires-clause-many g c =

@@ -10,7 +10,8 @@ use Rattle.cola_cache.specs.Blocks.{last_in}
 use Rattle.cola_run.specs.Cells.{IsOnDevice, block_cells, block_bytes, block_number}
 use Rattle.cola_run.specs.Parts.{OneShadow}
 use Rattle.cola_run.proofs.Calls.{one-again}
-use Rattle.cola_run.proofs.Loads.{sound-shadow, sound-filled, zero-rest}
+use Rattle.std.proofs.Math.Nat.{zero-mod}
+use Rattle.cola_run.proofs.Loads.{sound-shadow, sound-filled}
 use Rattle.cola_run.proofs.saving.load_shadow.Goals as goal
 
 pub returns-then-shadow-cells_of_block-eq0-clause-sound : goal.returns-then-shadow-cells_of_block-eq0-clause-sound
@@ -74,4 +75,4 @@ returns-in-Err-clause-sound g c =
     let one : OneShadow c.args.shadows.now c.set_shadow.new.shadows c.args.level (emptied c.args.shadow.slot) = subst (λ (x : Shadow). OneShadow c.args.shadows.now c.set_shadow.new.shadows c.args.level x) c.empty_in.ensures c.set_shadow.ensures in
     sound-shadow geometry (record { told = told; shadows = c.args.shadows.now; tails = c.args.tails.now }) (record { told = now; shadows = c.set_shadow.new.shadows; tails = c.args.tails.now })
     c.args.level (emptied c.args.shadow.slot) c.turn_to.ensures.bytes_stay refl one (record { slot_in = c.requires.stands.slot_in; within = omega arith })
-    (λ on. (refl, zero-rest (block_cells geometry)))
+    (λ on. (refl, zero-mod (block_cells geometry)))

@@ -1,4 +1,4 @@
-use Rattle.cola_check.proofs.WalkBlocks.{beside-began}
+use Rattle.cola_check.proofs.RunBlocks.{beside-began}
 use Rattle.cola_check.proofs.carried.Beside.begin.Goals as goal
 
 pub returns-clause-blocks : goal.returns-clause-blocks

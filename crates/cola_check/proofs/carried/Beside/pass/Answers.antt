@@ -1,4 +1,4 @@
-use Rattle.cola_check.proofs.WalkBlocks.{beside-reads}
+use Rattle.cola_check.proofs.RunBlocks.{beside-reads}
 use Rattle.cola_check.proofs.carried.Beside.pass.Goals as goal
 
 pub returns-clause-blocks : goal.returns-clause-blocks

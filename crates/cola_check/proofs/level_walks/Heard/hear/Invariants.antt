@@ -1,6 +1,6 @@
 use Rattle.std.proofs.Common.{◌+◌, ◌≤◌}
 use Rattle.cola_check.specs.Walks.{Turns, ReadsOn, unread, ahead}
-use Rattle.cola_check.proofs.Hearing.{Hearing}
+use Rattle.cola_check.proofs.Fronts.{Hearing}
 use Rattle.cola_look.proofs.Looking.{Looked}
 use Rattle.cola_check.proofs.level_walks.Heard.hear.Given as goal
 

@@ -8,9 +8,9 @@ use Rattle.cola_check.specs.declared.tally.Said.TheVariants.{Nothing}
 use Rattle.cola_check.specs.Walks.{unbegun, ReadsOn}
 use Rattle.cola_check.specs.Reading.{PassCause}
 use Rattle.cola_check.specs.LevelWalks.{shadow_run, with_shadow}
-use Rattle.cola_check.proofs.LevelBlocks.{level-began}
-use Rattle.cola_check.proofs.LevelLists.{refused, cause_later, shadow_has, shadow_bad, shadow_cells, none_unread}
-use Rattle.cola_check.proofs.Turning.{turns_then}
+use Rattle.cola_check.proofs.RunBlocks.{level-began}
+use Rattle.cola_check.proofs.Levels.{refused, cause_later, shadow_has, shadow_bad, shadow_cells, none_unread}
+use Rattle.cola_check.proofs.Fronts.{turns_then}
 use Rattle.cola_check.proofs.level_walks.LevelWalks.begin.Goals as goal
 
 pub returns-clause-blocks : goal.returns-clause-blocks
@@ -47,12 +47,10 @@ returns-in_err-shadow-clause-reads g c =
           (cause_later mid held (shadow_run level ∷ []) runs faults between now fault first.looks.cells_stay first.looks.calm (λ n. shadow_bad held n level.shadow level.visible)
           (subst (λ (r : Run). PassCause mid (r ∷ []) between now fault) c.shadow_run-shadow_run.ensures second.cause));
       unread =
-          let a = first.reads.unread in
-          let b = second.unread in
           let d = shadow_cells level.shadow level.visible [] in
           let e = none_unread c.from_residual-in_err-shadow.result fault c.from_residual-in_err-shadow.ensures.1 in
           let f = ap (λ (r : Run). r.len) c.shadow_run-shadow_run.ensures in
-          omega (arith, a, b, d, e, f);
+          omega (arith, first.reads.unread, second.unread, d, e, f);
       turns = turns_then first.reads.turns second.turns;
     }
 
@@ -62,10 +60,8 @@ returns-clause-reads g c =
     record {
       cause = tt;
       unread =
-          let a = c.in_ok-visible.ensures.reads.unread in
-          let b = c.in_ok-shadow.ensures.reads.unread in
           let d = shadow_cells level.shadow level.visible [] in
           let f = ap (λ (r : Run). r.len) c.shadow_run-shadow_run.ensures in
-          omega (arith, a, b, d, f);
+          omega (arith, c.in_ok-visible.ensures.reads.unread, c.in_ok-shadow.ensures.reads.unread, d, f);
       turns = turns_then c.in_ok-visible.ensures.reads.turns c.in_ok-shadow.ensures.reads.turns;
     }

@@ -1,5 +1,5 @@
 use Rattle.std.proofs.Common.{rules}
-use Rattle.cola_check.proofs.LevelBlocks.{levels-read, second-cause}
+use Rattle.cola_check.proofs.RunBlocks.{levels-read, second-cause}
 use Rattle.cola_check.proofs.level_walks.LevelWalks.pass.Goals as goal
 
 pub returns-clause-blocks : goal.returns-clause-blocks

@@ -3,9 +3,8 @@ use Rattle.cola_cell.specs.Held.{Held}
 use Rattle.cola_look.proofs.Looking.{looks_then}
 use Rattle.cola_check.specs.declared.walk.Found.{Found}
 use Rattle.cola_check.specs.Walks.{unread, found_or, found_of, Fetches}
-use Rattle.cola_check.proofs.Fronts.{Passing, passing_goes_on, passing_ends, unread_behind, has_room}
-use Rattle.cola_check.proofs.Turning.{turns_then}
-use Rattle.cola_check.proofs.WalkBlocks.{reads-then}
+use Rattle.cola_check.proofs.Fronts.{Passing, passing_goes_on, passing_ends, unread_behind, has_room, turns_then}
+use Rattle.cola_check.proofs.RunBlocks.{reads-then}
 use Rattle.cola_check.proofs.walk.Walk.pass.Goals as goal
 
 pub loop-self-preserved : goal.loop-self-preserved
@@ -16,11 +15,10 @@ loop-self-preserved g c =
     let P : Found → Type 0 = λ x. Passing (g.W.CellSource.state c.args.work.now).held c.args.key.now c.args.self.now c.fetch.new.self x in
     let found : found_or c.loop-self.found (found_of c.loop-self.self.head) ≡ c.or-found.result = cc (c.or-found.ensures, c.found.ensures) in
     let behind : unread c.advance.new.self ≤ unread c.loop-self.self = unread_behind c.loop-self.self c.advance.new.self c.advance.ensures.run c.advance.ensures.at c.advance.ensures.head in
-    let left = c.in_ok-fetch.ensures.reads.unread in
     record {
       looks = looks_then i.looks c.in_ok-fetch.ensures.looks;
       turns = turns_then i.turns c.in_ok-fetch.ensures.reads.turns;
-      unread = let l = i.unread in omega arith;
+      unread = let l = i.unread in omega (arith, c.in_ok-fetch.ensures.reads.unread);
       blocks = reads-then i.blocks i.passing.run_is i.passing.reader_is c.advance.ensures.run c.advance.ensures.reader c.advance.ensures.at (has_room c.args.key.now i.passing.fits has) c.in_ok-fetch.ensures.blocks;
       passing = subst P found
           (passing_goes_on i.passing has c.advance.ensures.run c.advance.ensures.reader c.advance.ensures.at (subst F i.looks.cells_stay c.in_ok-fetch.ensures.fetches));

@@ -1,4 +1,4 @@
-use Rattle.std.proofs.Common.{◌≡◌, ◌+◌, ◌≤◌}
+use Rattle.std.proofs.Common.{◌+◌, ◌≤◌}
 use Rattle.cola_check.specs.Walks.{Turns, ReadsOn, unread, ahead}
 use Rattle.cola_check.proofs.Fronts.{Passing}
 use Rattle.cola_look.proofs.Looking.{Looked}

@@ -3,7 +3,7 @@ use Rattle.cola_outside.specs.Told.{Both}
 use Rattle.cola_device.specs.declared.device.DeviceFault.{DeviceFault}
 use Rattle.cola_load.specs.Filled.{Row}
 use Rattle.cola_load.specs.Loading.{Loading, Pushes}
-use Rattle.cola_load.proofs.Pushed.{pushes-by}
+use Rattle.cola_load.proofs.Saving.{pushes-by}
 use Rattle.cola_load.proofs.loader.Loader.push.Goals as goal
 
 pub returns-in-Ok-clause-pushes : goal.returns-in-Ok-clause-pushes

@@ -8,12 +8,8 @@ use Rattle.cola_load.proofs.loader.Loader.write_tails.Goals as goal
 pub returns-clause-saves : goal.returns-clause-saves
 returns-clause-saves g c =
     let self = c.args.self.now in
-    let over = c.loop-level-test.false in
-    let end = c.levels-level-end.ensures.value in
-    let front = c.front_levels-level.ensures.within in
-    let most = c.loop-level.auto.level-end in
     let deep : c.self.inside.geometry.bottom ≡ self.geometry.bottom = ap (λ (z : Loading). z.geometry.bottom) c.self.view_is in
-    let at : c.loop-level.level ≡ self.geometry.bottom + 1 = omega (arith, over, end, front, most, deep) in
+    let at : c.loop-level.level ≡ self.geometry.bottom + 1 = omega (arith, c.loop-level-test.false, c.levels-level-end.ensures.value, c.front_levels-level.ensures.within, c.loop-level.auto.level-end, deep) in
     subst (λ (k : ℕ). Both (g.D.Device.bytes c.args.device.now) (g.D.Device.bytes c.loop-level.device) (HasSaved self k)) at c.loop-level.invariant.saved
 
 pub returns-in-Err-clause-front_stays : goal.returns-in-Err-clause-front_stays

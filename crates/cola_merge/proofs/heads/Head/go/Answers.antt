@@ -1,5 +1,5 @@
 -- A head that goes on by cells of a window.
-use Rattle.std.proofs.Common.{◌≡◌, ◌+◌, ◌*◌, ℕ, true, false, Option, Some, None, List, drop, ap, sym, refl, ◌∙◌}
+use Rattle.std.proofs.Common.{◌≡◌, ◌+◌, ◌*◌, ℕ, false, Option, Some, None, List, drop, ap, sym, refl, ◌∙◌}
 use Rattle.std.specs.Prelude.{is_some}
 use Rattle.cola_cell.specs.declared.cell.Cell.{Cell}
 use Rattle.cola_merge.specs.Fetched.{Head}

@@ -1,14 +1,14 @@
 -- Source cells are consumed until one is given.
 use Rattle.std.proofs.Common.{◌+◌, ◌<◌, ◌≤◌, refl, sym, subst, ◌∙◌}
 use Rattle.cola_cell.specs.Held.{Held}
-use Rattle.cola_merge.specs.Heads.{with_head, HasHeads}
+use Rattle.cola_merge.specs.Heads.{HasHeads}
 use Rattle.cola_merge.specs.Fetched.{Head}
 use Rattle.cola_merge.specs.Rules.{HeadFits}
 use Rattle.cola_merge.specs.States.{state}
-use Rattle.cola_merge.proofs.Reading.{with_passed, err_is}
+use Rattle.cola_merge.proofs.Reading.{err_is}
 use Rattle.cola_merge.proofs.Stepping.{small_after}
 use Rattle.cola_merge.proofs.Taking.{chosen_is}
-use Rattle.cola_merge.proofs.Pulling.{gave_none, gave_then, gave_chosen, given_by, given_fits, given_gave, suits_by, consumed_chosen, ended_at, drawn_some, none_given, stopped_at, fewer_left}
+use Rattle.cola_merge.proofs.Pulling.{gave_none, gave_then, gave_chosen, given_fits, suits_by, consumed_chosen, ended_at, drawn_some, none_given, stopped_at, fewer_left}
 use Rattle.cola_merge.proofs.merging.Merger.draw.Goals as goal
 
 pub loop-next-init : goal.loop-next-init
@@ -41,12 +41,13 @@ returns-then-is_some-clause-drawn g c =
     let s = chosen_is c.in_ok-next.field-0 c.in-Some.next c.in-Some.is c.in_ok-next.ensures.next in
     drawn_some c.given-cell.result (sym c.is_some.ensures ∙ c.if-is_some.true)
     (subst (λ (h : Held). HeadFits h.fixed.format c.given-cell.result) c.loop-next.invariant.gave.cells_stay (given_fits c.in-Some.next s c.given-cell.result (c.given-cell.ensures.fits _) c.head_mut-head.ensures.value))
-    (given_gave c.next.new.self c.in-Some.next c.given-cell.result (c.given-cell.ensures.value ∙ given_by c.next.new.self c.in-Some.next c.head_mut-head.ensures.value) (gave_then c.loop-next.invariant.gave (gave_chosen c.in-Some.next s (with_head c.next.new.self c.in-Some.next.head c.pass.new.self) (with_passed c.next.new.self c.in-Some.next.head c.head_mut-head.result.now c.pass.new.self c.head_mut-head.ensures.value c.pass.ensures))))
+    (gave_then c.loop-next.invariant.gave (gave_chosen c.in-Some.next s c.head_mut-head.ensures.value c.pass.ensures c.given-cell.result c.given-cell.ensures.value))
 
 pub loop-next-smaller : goal.loop-next-smaller
 loop-next-smaller g c =
     let s = chosen_is c.in_ok-next.field-0 c.in-Some.next c.in-Some.is c.in_ok-next.ensures.next in
-    fewer_left c.loop-next.self (gave_chosen c.in-Some.next s (with_head c.next.new.self c.in-Some.next.head c.pass.new.self) (with_passed c.next.new.self c.in-Some.next.head c.head_mut-head.result.now c.pass.new.self c.head_mut-head.ensures.value c.pass.ensures)).heads (consumed_chosen c.in-Some.next s (with_head c.next.new.self c.in-Some.next.head c.pass.new.self) (with_passed c.next.new.self c.in-Some.next.head c.head_mut-head.result.now c.pass.new.self c.head_mut-head.ensures.value c.pass.ensures))
+    let gave = gave_chosen c.in-Some.next s c.head_mut-head.ensures.value c.pass.ensures c.given-cell.result c.given-cell.ensures.value in
+    fewer_left c.loop-next.self gave.heads (consumed_chosen c.in-Some.next s c.head_mut-head.ensures.value c.pass.ensures)
 
 pub loop-next-preserved : goal.loop-next-preserved
 loop-next-preserved g c =
@@ -54,7 +55,7 @@ loop-next-preserved g c =
     record {
       kept = c.in_ok-next.ensures.kept ∙ c.loop-next.invariant.kept;
       gave = gave_then c.loop-next.invariant.gave (none_given c.given-cell.result (sym c.is_some.ensures ∙ c.if-is_some.false)
-          (given_gave c.next.new.self c.in-Some.next c.given-cell.result (c.given-cell.ensures.value ∙ given_by c.next.new.self c.in-Some.next c.head_mut-head.ensures.value) (gave_chosen c.in-Some.next s (with_head c.next.new.self c.in-Some.next.head c.pass.new.self) (with_passed c.next.new.self c.in-Some.next.head c.head_mut-head.result.now c.pass.new.self c.head_mut-head.ensures.value c.pass.ensures))));
+          (gave_chosen c.in-Some.next s c.head_mut-head.ensures.value c.pass.ensures c.given-cell.result c.given-cell.ensures.value));
     }
 
 pub returns-clause-drawn : goal.returns-clause-drawn

@@ -1,10 +1,9 @@
 -- Steps of a quota, of which the object takes many at a time.
 use Rattle.cola_merge.proofs.Reading.{err_is}
-use Rattle.std.proofs.Common.{◌≡◌, ◌+◌, ◌-◌, ◌≤◌, ◌<◌, ℕ, refl, sym, subst, ap, ◌∙◌, arith}
+use Rattle.std.proofs.Common.{◌≡◌, ◌-◌, ◌≤◌, ◌<◌, ℕ, refl, sym, subst, ◌∙◌, arith}
 use Rattle.cola_cell.specs.Held.{Fixed}
 use Rattle.cola_merge.specs.States.{Took, state}
-use Rattle.cola_merge.proofs.Sums.{took_none, took_then}
-use Rattle.cola_merge.proofs.Taking.{took_more, all_ran, done_ran, refused_ran, was_taken}
+use Rattle.cola_merge.proofs.Taking.{took_none, took_more, all_ran, done_ran, refused_ran, was_taken}
 use Rattle.cola_merge.proofs.merging.Merger.run.Goals as goal
 
 pub loop-left-init : goal.loop-left-init

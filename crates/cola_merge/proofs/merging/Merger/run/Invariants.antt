@@ -1,5 +1,5 @@
 -- As many steps were taken as are not left.
-use Rattle.std.proofs.Common.{◌≡◌, ◌-◌, ◌≤◌, ℕ}
+use Rattle.std.proofs.Common.{◌≡◌, ◌-◌, ◌≤◌}
 use Rattle.cola_merge.specs.States.{Took, state}
 use Rattle.cola_merge.proofs.merging.Merger.run.Given as goal
 

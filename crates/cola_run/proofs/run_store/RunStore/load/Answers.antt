@@ -11,6 +11,7 @@ use Rattle.std.specs.Vec.{with_items}
 use Rattle.cola_front.specs.Front.{IsLoaded as IsFrontLoaded}
 use Rattle.cola_run.specs.Loading.{StaySound, AreSavedBelow}
 use Rattle.cola_run.proofs.Heads.{saved-told}
+use Rattle.cola_run.proofs.Sinks.{shape-with}
 use Rattle.cola_run.proofs.run_store.RunStore.load.Goals as goal
 
 -- a fact is one on Ok
@@ -50,16 +51,7 @@ cells g c =
     let kept = c.load_parts.ensures.shape in
     let same : IsShape i.geometry i.front now.shadows now.tails = stays.shape i.front c.self.invariant.cells.shape in
     record {
-      shape = record {
-        block = same.block;
-        shallow = same.shallow;
-        format = kept.format ∙ same.format;
-        front_block = kept.block ∙ same.front_block;
-        shadows_many = same.shadows_many;
-        shadows_fit = same.shadows_fit;
-        tails_many = same.tails_many;
-        unsaved = same.unsaved;
-      };
+      shape = shape-with kept.format kept.block same;
       backed = stays.backed i.front c.self.invariant.cells.shape c.self.invariant.cells.backed;
     }
 

@@ -1,5 +1,7 @@
 use Rattle.std.proofs.Common.{◌≤◌, ◌+◌, ◌*◌, ℕ, List, [], ◌∷◌, length, Option, sym, ap, subst, ◌∙◌, arith}
 use Rattle.std.specs.Prelude.{IfSome}
+use Rattle.cola_layout.specs.declared.geometry.Geometry.{Geometry}
+use Rattle.cola_layout.specs.Geometry.{IsBlock}
 use Rattle.cola_run.specs.Cells.{block_bytes, spots_of, IsBacked}
 use Rattle.cola_run.specs.Store.{Store, cells_of}
 use Rattle.std.proofs.lemmas.List.{length-map}
@@ -8,18 +10,21 @@ use Rattle.cola_device.proofs.SettlingLemmas.{settled-by}
 use Rattle.cola_run.proofs.Heads.{heads-backed, heads-spots, block-least}
 use Rattle.cola_run.proofs.run_store.RunStore.mark_in_use.Goals as goal
 
+-- the byte lies in the first two blocks
+fits : (g : Geometry) → IsBlock g.block_exp g.bottom → 14 + 1 ≤ 2 * block_bytes g
+fits g block = let large = block-least g block in omega (arith, large)
+
 pub invariant_of-self : goal.invariant_of-self
 invariant_of-self g c =
     let i = c.self.inside in
     let told = g.D.Device.bytes in
     let shape = c.self.invariant.cells.shape in
-    let backed = c.self.invariant.cells.backed in
-    let large = block-least i.geometry shape.block in
-    let within : 14 + 1 ≤ 2 * block_bytes i.geometry = omega (arith, large) in
     record {
       cells = record {
         shape = shape;
-        backed = subst (λ (x : Option (List ℕ)). IfSome x (IsBacked i.geometry i.shadows.items.items i.tails)) (sym c.settle.ensures.bytes_stay) (heads-backed i.geometry shape.block i.shadows.items.items i.tails c.write_byte.result 14 (1 ∷ []) within (told i.buffers.cache.device) (told c.write_byte.new.self.cache.device) c.write_byte.ensures.wrote backed);
+        backed = subst (λ (x : Option (List ℕ)). IfSome x (IsBacked i.geometry i.shadows.items.items i.tails)) (sym c.settle.ensures.bytes_stay)
+            (heads-backed i.geometry shape.block i.shadows.items.items i.tails c.write_byte.result 14 (1 ∷ []) (fits i.geometry shape.block)
+            (told i.buffers.cache.device) (told c.write_byte.new.self.cache.device) c.write_byte.ensures.wrote c.self.invariant.cells.backed);
       };
       size = c.settle.ensures.stays.size ∙ c.write_byte.ensures.stays.size ∙ c.self.invariant.size;
       many = c.settle.ensures.stays.many ∙ c.write_byte.ensures.stays.many ∙ c.self.invariant.many;
@@ -31,13 +36,11 @@ invariant_of-self-in-Err g c =
     let i = c.self.inside in
     let told = g.D.Device.bytes in
     let shape = c.self.invariant.cells.shape in
-    let backed = c.self.invariant.cells.backed in
-    let large = block-least i.geometry shape.block in
-    let within : 14 + 1 ≤ 2 * block_bytes i.geometry = omega (arith, large) in
     record {
       cells = record {
         shape = shape;
-        backed = heads-backed i.geometry shape.block i.shadows.items.items i.tails c.write_byte.result 14 (1 ∷ []) within (told i.buffers.cache.device) (told c.write_byte.new.self.cache.device) c.write_byte.ensures.wrote backed;
+        backed = heads-backed i.geometry shape.block i.shadows.items.items i.tails c.write_byte.result 14 (1 ∷ []) (fits i.geometry shape.block)
+            (told i.buffers.cache.device) (told c.write_byte.new.self.cache.device) c.write_byte.ensures.wrote c.self.invariant.cells.backed;
       };
       size = c.write_byte.ensures.stays.size ∙ c.self.invariant.size;
       many = c.write_byte.ensures.stays.many ∙ c.self.invariant.many;
@@ -49,12 +52,10 @@ returns-in-Ok-clause-cells_stay g c =
     let i = c.self.inside in
     let told = g.D.Device.bytes in
     let shape = c.self.invariant.cells.shape in
-    let backed = c.self.invariant.cells.backed in
-    let large = block-least i.geometry shape.block in
-    let within : 14 + 1 ≤ 2 * block_bytes i.geometry = omega (arith, large) in
     λ l s j.
     ap (λ (x : Option (List ℕ)). spots_of (record { geometry = i.geometry; front = i.front; lower = record { told = x; shadows = i.shadows.items.items; tails = i.tails } }) l s j) c.settle.ensures.bytes_stay
-    ∙ heads-spots i.geometry shape.block i.shadows.items.items i.tails c.write_byte.result 14 (1 ∷ []) within i.front (told i.buffers.cache.device) (told c.write_byte.new.self.cache.device) c.write_byte.ensures.wrote backed l s j
+    ∙ heads-spots i.geometry shape.block i.shadows.items.items i.tails c.write_byte.result 14 (1 ∷ []) (fits i.geometry shape.block) i.front
+    (told i.buffers.cache.device) (told c.write_byte.new.self.cache.device) c.write_byte.ensures.wrote c.self.invariant.cells.backed l s j
     ∙ ap (λ (x : Store _). spots_of (cells_of (told x.buffers.cache.device) x) l s j) c.self.view_is
 
 pub returns-in-Err-clause-cells_stay : goal.returns-in-Err-clause-cells_stay
@@ -62,11 +63,9 @@ returns-in-Err-clause-cells_stay g c =
     let i = c.self.inside in
     let told = g.D.Device.bytes in
     let shape = c.self.invariant.cells.shape in
-    let backed = c.self.invariant.cells.backed in
-    let large = block-least i.geometry shape.block in
-    let within : 14 + 1 ≤ 2 * block_bytes i.geometry = omega (arith, large) in
     λ l s j.
-    heads-spots i.geometry shape.block i.shadows.items.items i.tails c.write_byte.result 14 (1 ∷ []) within i.front (told i.buffers.cache.device) (told c.write_byte.new.self.cache.device) c.write_byte.ensures.wrote backed l s j
+    heads-spots i.geometry shape.block i.shadows.items.items i.tails c.write_byte.result 14 (1 ∷ []) (fits i.geometry shape.block) i.front
+    (told i.buffers.cache.device) (told c.write_byte.new.self.cache.device) c.write_byte.ensures.wrote c.self.invariant.cells.backed l s j
     ∙ ap (λ (x : Store _). spots_of (cells_of (told x.buffers.cache.device) x) l s j) c.self.view_is
 
 pub returns-in-Ok-clause-settled : goal.returns-in-Ok-clause-settled

@@ -1,5 +1,5 @@
 -- What a weave leaves of a store, into a level on the device.
-use Rattle.std.proofs.Common.{◌≡◌, ◌<◌, ◌+◌, ◌%◌, ◌^◌, ℕ, List, Option, Some, None, IfSome, true, inl, inr, refl, ap, sym, subst, ◌∙◌, arith}
+use Rattle.std.proofs.Common.{◌≡◌, ◌<◌, ◌+◌, ◌%◌, ◌^◌, ℕ, List, true, inl, inr, refl, ap, sym, subst, ◌∙◌, arith}
 use Rattle.std.proofs.lemmas.List.{with_items_is}
 use Rattle.std.specs.Vec.{with_items}
 use Rattle.cola_cell.specs.declared.sink.Shadow.{Shadow}
@@ -8,7 +8,7 @@ use Rattle.cola_run.proofs.Shown.{found_shown}
 use Rattle.cola_run.proofs.Sounding.{woven_shape, woven_backed, woven_cell, woven_stays}
 use Rattle.cola_run.proofs.Sinks.{sound-by, around-by}
 use Rattle.cola_run.proofs.Reading.{span-is}
-use Rattle.cola_run.proofs.Spots.{both-same}
+use Rattle.cola_run.proofs.Spots.{both-same, if-so}
 use Rattle.std.proofs.Math.Nat.{mod-lt}
 use Rattle.std.proofs.lemmas.Nat.{pow_pos}
 use Rattle.std.proofs.Common.{Bool}
@@ -31,10 +31,6 @@ view-new g c = record (view-old g c) {
   tails = (with_items c.tails.inside.bytes.items c.weave_on_device-woven.new.tails).items;
   ticked = (c.self.inside.ticked + c.in-Some.passed.ticks) % 2 ^ 64;
 }
-
-if-some : {X : Type 0} (x : Option X) (P Q : X → Type 0) → ((b : X) → P b → Q b) → IfSome x P → IfSome x Q
-if-some None P Q f h = tt
-if-some (Some b) P Q f h = f b h
 
 below : (g : _) (c : goal.After-tick_all g) →
     WoveBelow g.M.WindowMerge.wove g.D.Device.lends (g.D.Device.bytes c.self.inside.buffers.cache.device) c.self.inside.geometry c.self.inside.front (view-old g c).shadows (view-new g c).shadows (view-old g c).tails (view-new g c).tails
@@ -64,7 +60,7 @@ invariant_of-self g c =
     let w = below g c in
     sound-by g.D.Device.bytes old now c.self.invariant refl refl
     (woven_shape i.geometry i.front old.shadows now.shadows old.tails now.tails c.args.level c.in-Some.passed.cells w.room (on-device g c) c.self.invariant.cells.shape w.shadow w.few w.room_is w.tails_are)
-    (if-some (g.D.Device.bytes i.buffers.cache.device) (IsBacked i.geometry old.shadows old.tails) (IsBacked i.geometry now.shadows now.tails)
+    (if-so (g.D.Device.bytes i.buffers.cache.device) (IsBacked i.geometry old.shadows old.tails) (IsBacked i.geometry now.shadows now.tails)
     (woven_backed i.geometry i.front old.shadows now.shadows old.tails now.tails c.args.level c.in-Some.passed.cells w.room (on-device g c) c.self.invariant.cells.shape w.shadow w.few w.room_is w.tails_are)
     c.self.invariant.cells.backed)
     refl refl refl
@@ -94,7 +90,7 @@ invariant_of-self-in-None g c =
 shown-of : (g : _) (c : goal.After-tick_all g) (reach : Reach) (window : List ℕ) (last : Bool) → IsFound g.D.Device.lends (g.D.Device.bytes c.self.inside.buffers.cache.device) c.self.inside.geometry c.self.inside.front reach window last →
     IsReach (held_of g.D.Device.bytes (view-old g c)) c.args.level reach → is_at_hand c.self.inside.geometry (view-old g c).shadows reach ≡ true → IsShown (held_of g.D.Device.bytes (view-old g c)) reach window last
 shown-of g c reach window last found req hand =
-    found_shown g.D.Device.bytes (view-old g c) g.D.Device.lends reach window last c.self.invariant found (λ there. record { level_in = (req there).level_in; slot_in = (req there).slot_in; within = (req there).within }) hand
+    found_shown g.D.Device.bytes (view-old g c) g.D.Device.lends reach window last c.self.invariant found (λ there. record { level_in = (req there).level_in; slot_in = (req there).slot_in; within = (req there).within; some = there }) hand
 
 grown-of : (g : _) (c : goal.After-tick_all g) → Grown (held_of g.D.Device.bytes (view-old g c)) (held_of g.D.Device.bytes (view-new g c)) c.args.level (below g c).room c.in-Some.passed.cells
 grown-of g c =

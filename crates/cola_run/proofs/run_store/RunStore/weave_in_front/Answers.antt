@@ -60,7 +60,7 @@ shown-of : (g : _) (c : goal.After-tick_all g) (reach : Reach) (window : List �
 shown-of g c reach window last found req hand =
     let r : IsReach (held_of g.D.Device.bytes (view-old g c)) c.args.level reach = subst (λ (s : Store _). IsReach (held_of g.D.Device.bytes s) c.args.level reach) (sym c.self.view_is) req in
     let h : is_at_hand c.self.inside.geometry (view-old g c).shadows reach ≡ true = subst (λ (s : Store _). is_at_hand s.geometry s.shadows reach ≡ true) (sym c.self.view_is) hand in
-    found_shown g.D.Device.bytes (view-old g c) g.D.Device.lends reach window last c.self.invariant found (λ there. record { level_in = (r there).level_in; slot_in = (r there).slot_in; within = (r there).within }) h
+    found_shown g.D.Device.bytes (view-old g c) g.D.Device.lends reach window last c.self.invariant found (λ there. record { level_in = (r there).level_in; slot_in = (r there).slot_in; within = (r there).within; some = there }) h
 
 pub returns-in-Some-clause-weaves : goal.returns-in-Some-clause-weaves
 returns-in-Some-clause-weaves g c =
